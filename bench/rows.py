@@ -156,7 +156,7 @@ def structures(runs):
 
 
 def text(kind, size):
-    """A file of so many letters, of words from a list or of the letters of a genome, drawn at random."""
+    """A file of `size` letters, drawn at random: words of a list, or the letters of a genome."""
     drawn, path = random.Random(kind), ROOM / f"{kind}.{size}"
     with open(WORDS, encoding="utf-8") as file:
         items = [f"{it} " for it in file.read().split()] if kind == "words" else list("acgt")

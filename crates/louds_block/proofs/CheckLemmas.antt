@@ -221,11 +221,11 @@ held_of_tree b n short tight tree = held_of b n zeros short tight
 
 -- ---- word by word
 
--- so many ones at most
+-- the ones before a place are at most as many as the bits before it
 pub ones_few : (words : List ℕ) (p : ℕ) → p ≤ 64 * length words → ones_before (bits_of words) p ≤ p
 ones_few words p within = omega (arith, ones_and_zeros (bits_of words) p (omega (arith, within, bits_are_counted words)))
 
--- and no fewer than zeros
+-- and at least as many as the zeros
 pub ones_left : (words : List ℕ) (q : ℕ) → q ≤ length words → Leads (bits_of words) (64 * q) → 64 * q ≤ 2 * ones_before (bits_of words) (64 * q)
 ones_left words q within leads = lead_left (bits_of words) (64 * q) (omega (arith, within, bits_are_counted words)) leads
 

@@ -8,7 +8,7 @@ use Rattle.bitm.specs.Count.{ones_before}
 abbrev pub Leads : List Bool → ℕ → Type 0
 Leads b m = (p : ℕ) → p < m → item b p ≡ false → p < 2 * ones_before b p
 
--- where so many more ones than zeros stand before the m lowest digits of v, each zero among these has more ones before
--- it than zeros
+-- where `lead` more ones than zeros stand before the m lowest digits of v, each zero among these has more ones before it
+-- than zeros
 abbrev pub KeepsLead : ℕ → ℕ → ℕ → Type 0
 KeepsLead v m lead = (j : ℕ) → j < m → bit_at v j ≡ 0 → j < lead + 2 * count_ones (v % 2 ^ j)
