@@ -1,7 +1,9 @@
 pub mod BackLemmas
 pub mod ColumnLemmas
 pub mod CountLemmas
+pub mod DecodeLemmas
 pub mod FilterLemmas
+pub mod KeptLemmas
 pub mod MakeLemmas
 pub mod ManyLemmas
 pub mod MatrixLemmas

@@ -10,6 +10,7 @@
 // - `asking`: a number by its index, and the ranks of a number
 // - `digits`: the bits of a number
 // - `many`: many queries, side by side
+// - `numbers`: numbers of 64 or 32 bits, of which levels are written
 // - `ranges`: queries of ranges over any source
 // - `ranking`: ranks on the levels, by quarters or by the index alone
 // - `selecting`: the indices of a number
@@ -19,6 +20,7 @@
 mod asking;
 mod digits;
 mod many;
+mod numbers;
 mod ranges;
 mod ranking;
 mod selecting;
@@ -27,5 +29,6 @@ mod walk;
 mod writing;
 
 pub use digits::{all_fit, digit_of, fits, known_for};
+pub use numbers::LevelNumber;
 pub use walk::Levels;
-pub use writing::{make_levels, quarters_unless, write_levels};
+pub use writing::{make_levels, quarters_unless, write_levels, write_levels_of};

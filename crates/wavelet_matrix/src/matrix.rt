@@ -3,10 +3,11 @@ ghost use Rattle.std.specs.Prelude.{◌≡◌, ◌==◌, ◌+◌, ◌*◌, ◌^�
 ghost use Rattle.std.specs.Prelude.{slice_index};
 ghost use Rattle.std.specs.Box.{boxed_slice_items};
 ghost use Rattle.std.specs.Int.{div_ceil};
+ghost use Rattle.bitm.specs.Bits.{bits_of};
 ghost use Rattle.bitm.specs.Reads.{none_read};
 ghost use Rattle.bitm.specs.Size.{saturated_size};
 ghost use Rattle.matrix_levels.specs.Levels.{known_of};
-ghost use Rattle.matrix_levels.specs.Matrix.{IsMatrix, numbers_in, quarters_for, words_of};
+ghost use Rattle.matrix_levels.specs.Matrix.{IsMatrix, items_of, numbers_in, quarters_for, words_of};
 ghost use Rattle.matrix_levels.specs.Numbers.{count_before, GetsEach, PicksItem, RanksEach, IsItemRank, IsItemSelect};
 
 use bitm::{
@@ -127,12 +128,49 @@ impl<S: SelectForRank101111, S0: Select0ForRank101111> WaveletMatrix<S, S0> {
         ensures compact { IfOk result (λ made. made.compact ≡ compact) }
     {
         let content = make_levels(alloc, numbers, width)?;
+        Self::from_levels(alloc, content, numbers.len(), width, compact)
+    }
+
+    /// A matrix of the numbers whose levels the words have from the first bit on, as `matrix_levels::write_levels`
+    /// writes them; the words are kept. Any bits are the levels of some numbers: level by level each bit says where
+    /// the item goes, and the bits that it meets on its way are those of its number.
+    ///
+    /// # Conditions
+    /// The width is 1 to 64, all bits together are fewer than 2^63, and the words are as many as these take.
+    /// # Errors
+    /// `AllocError` if memory was refused; nothing is left.
+    /// # Cost
+    /// One pass over the words, and two ranks for each level. What it allocates it keeps: the index, the tables of the
+    /// levels, and unless the matrix is compact the quarters.
+    ///
+    /// ```
+    /// let mut words = BoxedSlice::with_zeroed_bits(alloc, 3 * 6)?;
+    /// let mut numbers = [3u32, 1, 4, 1, 5, 1];
+    /// write_levels_of(words.as_mut_slice(), numbers.as_mut_slice(), [0u32; 6].as_mut_slice(), 3);
+    /// WaveletMatrix::from_levels(alloc, words, 6, 3, false)?;   // of 3, 1, 4, 1, 5, 1
+    /// ```
+    pub fn from_levels(
+        alloc: Global,
+        content: BoxedSlice<u64, Global>,
+        len: usize,
+        width: u8,
+        compact: bool,
+    ) -> Result<Self, AllocError>
+        requires some { 1 ≤ width }
+        requires most { width ≤ 64 }
+        requires short { width * len < 2 ^ 63 }
+        requires words { length (boxed_slice_items content) ≡ words_of len width }
+        ensures items { IfOk result (λ made.
+            made.items ≡ items_of (bits_of (boxed_slice_items content)) width len) }
+        ensures width { IfOk result (λ made. made.width ≡ width) }
+        ensures compact { IfOk result (λ made. made.compact ≡ compact) }
+    {
         let Ok((index, _ones)) = RankSelect101111::build(alloc, content) else {
             return Err(AllocError);
         };
         let quarters = quarters_unless(alloc, &mut index.probe(), compact)?;
-        let mut levels = Levels::new(alloc, &index, numbers.len(), width, compact, quarters)?;
-        let known = known_for(numbers.len(), width);
+        let mut levels = Levels::new(alloc, &index, len, width, compact, quarters)?;
+        let known = known_for(len, width);
         levels.keep_starts(alloc, &mut index.probe(), known)?;
         Ok(WaveletMatrix { levels, index })
     }

@@ -14,6 +14,7 @@ use Rattle.bitm.specs.Count.{count_before, ones_before, zeros_before}
 use Rattle.bitm.proofs.BitLaws.{bits_are_counted, count_in_stretch, item_of_stretch, ones_and_zeros}
 use Rattle.matrix_levels.specs.Levels.{has_digit, partition, column, columns, level, known_of, level_place, partition_place}
 use Rattle.matrix_levels.specs.Matrix.{LevelTables, IsMatrix, IsMatrixOf, IsTight, quarters_for, words_of, digit_place, items_of, low_part, next_place, numbers_in}
+use Rattle.matrix_levels.proofs.lemmas.DecodeLemmas.{any-levels, items-fit, items-len}
 use Rattle.matrix_levels.proofs.lemmas.ColumnLemmas.{column-at, length-level, length-column, count-column, item-column}
 use Rattle.matrix_levels.proofs.lemmas.PartLemmas.{item-moved, moved-inside}
 use Rattle.matrix_levels.proofs.lemmas.StartLemmas.{starts-from-begins, starts-of-none}
@@ -180,6 +181,20 @@ made-matrix xs l b w len width some most short fit room levels ones_len zeros_le
       no_quarters = no_quarters;
     }))))
 
+-- and any bits are the levels of numbers
+pub made-of-bits : (l : LevelTables) (b : List Bool) (w n : ℕ) → l.len ≡ n → l.width ≡ w → 1 ≤ w → w ≤ 64 → w * n < 2 ^ 63 → w * n ≤ length b
+    → length l.ones ≡ w → length l.zeros ≡ w → l.known ≡ 0 → l.starts ≡ 0 ∷ [] → (l.compact ≡ false → AreQuartersOf b l.quarters)
+    → (l.compact ≡ true → length l.quarters ≡ 0) → ((d : ℕ) → d < w → get_or l.ones d 0 ≡ ones_before b (d * n))
+    → ((d : ℕ) → d < w → zeros_before b (d * n) + get_or l.zeros d 0 ≡ zeros_before b (d * n + n)) → IsMatrixOf (items_of b w n) l b
+made-of-bits l b w n len width some most short room ones_len zeros_len known starts quarters no_quarters ones zeros =
+    let xs = items_of b w n in
+    let count : length xs ≡ n = items-len b w n room in
+    let bits : w * length xs ≡ w * n = ap (λ m. w * m) count in
+    made-matrix xs l b w (len ∙ sym count) width some most (omega (arith, bits, short)) (items-fit b w n room) (omega (arith, bits, room))
+    (ap (λ m. take m b) bits ∙ any-levels b w n room) ones_len zeros_len known starts quarters no_quarters
+    (λ d less. ones d less ∙ ap (λ m. ones_before b (d * m)) (sym count))
+    (λ d less. ap (λ m. zeros_before b (d * m) + get_or l.zeros d 0) count ∙ zeros d less ∙ ap (λ m. zeros_before b (d * m + m)) (sym count))
+
 -- and so they are with starts
 pub matrix-with-starts : (xs : List ℕ) (l : LevelTables) (b : List Bool) (known : ℕ) (starts : List ℕ) → IsMatrixOf xs l b
     → known ≤ l.width → length starts ≡ 2 ^ known
@@ -232,10 +247,10 @@ matrix-from xs l other lists ws words h k =
     subst Q (items_of-is xs l.width l.len (bits_of ws) h.count h.room h.levels h.fit) (subst P words k)
 
 -- as many words and known digits as were made
-pub tight : (xs : List ℕ) (w : ℕ) (l : LevelTables) (words : List ℕ) → length words ≡ words_of (length xs) w → l.known ≡ known_of (length xs) w
-    → l.len ≡ length xs → l.width ≡ w → IsTight l words
-tight xs w l words few known len width =
-    let P : ℕ → Type 0 = λ n. (length words ≡ words_of n l.width) × (l.known ≡ known_of n l.width) in
-    let Q : ℕ → Type 0 = λ v. (length words ≡ words_of (length xs) v) × (l.known ≡ known_of (length xs) v) in
+pub tight : (n w : ℕ) (l : LevelTables) (words : List ℕ) → length words ≡ words_of n w → l.known ≡ known_of n w → l.len ≡ n → l.width ≡ w
+    → IsTight l words
+tight n w l words few known len width =
+    let P : ℕ → Type 0 = λ m. (length words ≡ words_of m l.width) × (l.known ≡ known_of m l.width) in
+    let Q : ℕ → Type 0 = λ v. (length words ≡ words_of n v) × (l.known ≡ known_of n v) in
     let both = subst P (sym len) (subst Q (sym width) (few, known)) in
     record { words = both.0; known = both.1 }
