@@ -117,7 +117,7 @@ fn is_counted(alloc: Global, text: &[u64], letters: u32) -> Result<bool, Fail> {
 
 /// Whether an index of no letters counts what stands in no text.
 fn is_empty_counted(alloc: Global) -> Result<bool, Fail> {
-    let index = TextIndex::build(alloc, [].as_slice(), 0, 4)?;
+    let index = TextIndex::build(alloc, [0u64; 0].as_slice(), 0, 4)?;
     let rows: [(&[u64], usize); 2] = [(&[], 1), (&[0], 0)];
     Ok(index.is_empty() & counts_rows(&index, rows.as_slice()))
 }
@@ -180,6 +180,25 @@ fn is_long_draw_counted(alloc: Global) -> Result<bool, Fail> {
     let index = TextIndex::build(alloc, drawn.as_slice(), 256, 4)?;
     let piece = &drawn.as_slice()[77..79];
     Ok(index.count(piece) == walk(drawn.as_slice(), piece))
+}
+
+/// Whether indexes of abracadabra as bytes and as numbers of 32 bits count as by hand.
+fn are_narrow_counted(alloc: Global) -> Result<bool, Fail> {
+    let bytes = TextIndex::build(alloc, b"abracadabra".as_slice(), 256, 4)?;
+    let numbers = [97u32, 98, 114, 97, 99, 97, 100, 97, 98, 114, 97];
+    let wide = TextIndex::build(alloc, numbers.as_slice(), 256, 4)?;
+    let mut right = true;
+    for index in [&bytes, &wide] {
+        right &= index.count([97u64, 98].as_slice()) == 2 && index.count([97u64].as_slice()) == 5;
+        right &= index.count([98u64, 97].as_slice()) == 0;
+    }
+    Ok(right)
+}
+
+#[test]
+fn texts_of_bytes_are_counted_as_by_hand(rt: HostRuntime) -> Result<(), Fail> {
+    assert!(rt; are_narrow_counted(rt.alloc())?);
+    Ok(())
 }
 
 #[test]
