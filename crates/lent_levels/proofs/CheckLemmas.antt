@@ -1,5 +1,5 @@
 -- Tables of levels that are counted in the words are those of a matrix.
-use Rattle.std.proofs.Common.{◌≡◌, ℕ, ◌*◌, ◌≤◌, Bool, true, false, List, length, refl, sym, subst, arith}
+use Rattle.std.proofs.Common.{◌≡◌, ℕ, ◌*◌, ◌≤◌, Bool, false, List, length, refl, sym, subst, arith}
 use Rattle.std.proofs.lemmas.Bool.{true≢false}
 use Rattle.bitm.specs.Tables.{bits_in, IsIndexed, Lists}
 use Rattle.matrix_levels.specs.Matrix.{items_of, IsMatrix, LevelTables}
@@ -7,7 +7,7 @@ use Rattle.matrix_levels.proofs.lemmas.MatrixLemmas.{count-whole}
 use Rattle.matrix_levels.proofs.lemmas.StartLemmas.{starts-of-none}
 use Rattle.lent_levels.specs.Levels.{levels_of, HasLevels}
 use Rattle.lent_levels.specs.Check.{AreCounts}
-use Rattle.lent_levels.proofs.DecodeLemmas.{any-levels, items-fit, items-len}
+use Rattle.matrix_levels.proofs.lemmas.DecodeLemmas.{any-levels, items-fit, items-len}
 
 -- the counts are right exactly where words with their tables hold a matrix
 abbrev pub TellsMatrix : LevelTables → Lists → Type 0

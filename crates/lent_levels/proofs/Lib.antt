@@ -1,5 +1,5 @@
 pub mod CheckLemmas
-pub mod DecodeLemmas
 pub mod NextLemmas
 pub mod RangeLemmas
 pub mod StepLemmas
+pub mod WalkLemmas

@@ -2,3 +2,4 @@ pub mod Answers
 pub mod Check
 pub mod Levels
 pub mod Ranges
+pub mod Walk

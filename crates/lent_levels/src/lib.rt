@@ -14,6 +14,8 @@
 // - `bounds`: the numbers of a range beside a bound or between two
 // - `checking`: whether the tables of levels are those of the words
 // - `levels`: the tables of levels, which may hold anything
+// - `many`: many numbers by their indices at once
+// - `many_ranks`: many ranks of numbers at once
 // - `quantiles`: the numbers of a range in order
 // - `queries`: a number by its index, and ranks
 // - `ranges`: queries of ranges
@@ -22,6 +24,8 @@
 mod bounds;
 mod checking;
 mod levels;
+mod many;
+mod many_ranks;
 mod quantiles;
 mod queries;
 mod ranges;

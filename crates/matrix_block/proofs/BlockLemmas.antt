@@ -1,16 +1,13 @@
 -- Sections that stand one after another are those of the block.
-use Rattle.std.proofs.Common.{◌≡◌, ℕ, ◌+◌, ◌-◌, ◌*◌, ◌<◌, ◌≤◌, List, ◌++◌, length, take, drop, get_or, slice_index, append_assoc, length-append, refl, sym, ap, ◌∙◌, subst, arith}
+use Rattle.std.proofs.Common.{◌≡◌, ℕ, ◌+◌, ◌*◌, ◌≤◌, List, ◌++◌, length, take, slice_index, append_assoc, length-append, refl, sym, ap, ◌∙◌, subst, arith}
 use Rattle.std.proofs.lemmas.Bool.{true≢false}
-use Rattle.std.proofs.Math.Seq.{take-append_seam, drop-append_seam}
 use Rattle.std.specs.List.{slice_range}
 use Rattle.bitm.specs.Bits.{bits_of}
 use Rattle.bitm.specs.Tables.{IsIndexed}
 use Rattle.bitm.proofs.BitLaws.{bits_are_counted}
-use Rattle.bitm_block.proofs.HeaderLemmas.{section_at, sections_len}
 use Rattle.bitm_block.proofs.PartsLemmas.{count_is, cut, entry_is, section_is}
-use Rattle.bitm_block.specs.Header.{begin_in, count_in, entry_in, section_in}
+use Rattle.bitm_block.specs.Header.{section_in}
 use Rattle.bitm_block.specs.Layout.{begin_of}
-use Rattle.bitm_block.specs.Layout.{words_of as item_words_of}
 use Rattle.bitm_block.specs.Written.{IsSealed}
 use Rattle.bitm_block.specs.declared.head.Head.{Head}
 use Rattle.bitm_block.specs.declared.layout.Section.{Section}

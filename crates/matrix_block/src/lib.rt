@@ -28,11 +28,13 @@
 // What is in each file, over the levels of `lent_levels`:
 // - `building`: the block of a matrix, written into the caller's memory
 // - `error`: why no block was written
+// - `lists`: lists of numbers of a view
 // - `matrix`: the view of a block, and its queries
 // - `range_queries`: the queries of ranges of a view
 // - `sections`: the sections of the block of a matrix
 mod building;
 mod error;
+mod lists;
 mod matrix;
 mod range_queries;
 mod sections;
