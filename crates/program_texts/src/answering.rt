@@ -4,7 +4,8 @@ ghost use Rattle.std.specs.Io.KnownBytes.{Appends};
 ghost use Rattle.std.specs.List.{flat_map};
 ghost use Rattle.program_texts.specs.Answers.{line_of, Wrote, WroteCount, WroteLines, WroteOfFile, WrotePositions};
 ghost use Rattle.program_texts.specs.File.{IsTextFile};
-ghost use Rattle.text_block.specs.Block.{text_of_parts, HoldsIndex};
+ghost use Rattle.text_block.specs.Block.{HoldsIndex};
+ghost use Rattle.text_block.specs.Bytes.{bytes_of_parts};
 ghost use Rattle.text_index.specs.Text.{occurrences};
 
 use crate::command::Asked;
@@ -130,7 +131,7 @@ fn answer_by<W: Write>(
     out: &mut W,
 ) -> Result<(), Failure>
     requires { HoldsIndex text.now }
-    ensures written { OnOk result (Wrote asked (text_of_parts text.now) pattern.now
+    ensures written { OnOk result (Wrote asked (bytes_of_parts text.now) pattern.now
         (W.contents out.old) (W.contents out.new)) }
     ensures wrong { ¬ (IsErrOf result Failure.WrongBlock) }
 {
@@ -155,7 +156,7 @@ fn write_count<W: Write>(
 ) -> Result<(), CannotWrite>
     requires { HoldsIndex text.now }
     ensures { OnOk result (Appends (W.contents out.old) (W.contents out.new)
-        (line_of (occurrences (text_of_parts text.now) pattern.now))) }
+        (line_of (occurrences (bytes_of_parts text.now) pattern.now))) }
 {
     let count = count_in(text, pattern);
     writeln!(out, "{count}")?;

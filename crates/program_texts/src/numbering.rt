@@ -2,7 +2,8 @@
 ghost use Rattle.std.specs.Prelude.{◌≡◌, ◌<◌, ◌^◌, IfOk, length};
 ghost use Rattle.std.specs.List.Sorted.{IsNonDecreasing};
 ghost use Rattle.program_texts.specs.Lines.{line_among, AreLinesOf, LinesWith};
-ghost use Rattle.text_block.specs.Block.{text_of_parts, HoldsIndex};
+ghost use Rattle.text_block.specs.Block.{HoldsIndex};
+ghost use Rattle.text_block.specs.Bytes.{bytes_of_parts};
 
 use crate::places::positions;
 use std::alloc::{AllocError, Global};
@@ -15,7 +16,7 @@ pub(crate) fn lines_with(
     pattern: &[u8],
 ) -> Result<Vec<usize>, AllocError>
     requires { HoldsIndex text.now }
-    ensures { IfOk result (λ lines. LinesWith pattern.now (text_of_parts text.now) lines.items) }
+    ensures { IfOk result (λ lines. LinesWith pattern.now (bytes_of_parts text.now) lines.items) }
 {
     let ends = positions(alloc, text, b"\n".as_slice())?;
     let places = positions(alloc, text, pattern)?;

@@ -59,6 +59,51 @@ fn all_bytes_are_letters(rt: HostRuntime) -> Result<(), Fail> {
 }
 
 #[test]
+fn a_byte_that_the_text_does_not_use_stands_nowhere(rt: HostRuntime) -> Result<(), Fail> {
+    let file = built(&rt, b"banana".as_slice())?;
+    let file = file.as_slice();
+    for byte in 0..=255u8 {
+        if byte != b'a' && byte != b'b' && byte != b'n' {
+            expect_found(&rt, file, (&[byte], "0\n", ""))?;
+            expect_found(&rt, file, (&[b'a', byte], "0\n", ""))?;
+            expect_found(&rt, file, (&[byte, b'n'], "0\n", ""))?;
+        }
+    }
+    Ok(())
+}
+
+#[test]
+fn each_of_256_bytes_stands_where_it_is(rt: HostRuntime) -> Result<(), Fail> {
+    let mut text = [0u8; 256];
+    for at in 0..256usize {
+        text[at] = 255 - at as u8;
+    }
+    let file = built(&rt, text.as_slice())?;
+    for at in 0..256usize {
+        let position = format!(in rt.alloc(); "{at}\n")?;
+        expect_found(
+            &rt,
+            file.as_slice(),
+            (&text[at..at + 1], "1\n", position.as_str()),
+        )?;
+    }
+    Ok(())
+}
+
+#[test]
+fn a_text_of_one_byte_has_no_other(rt: HostRuntime) -> Result<(), Fail> {
+    for byte in [0u8, 63, 64, 127, 128, 255] {
+        let file = built(&rt, &[byte; 3])?;
+        let file = file.as_slice();
+        expect_found(&rt, file, (&[byte], "3\n", "0\n1\n2\n"))?;
+        expect_found(&rt, file, (&[byte; 3], "1\n", "0\n"))?;
+        expect_found(&rt, file, (&[byte ^ 1], "0\n", ""))?;
+        expect_found(&rt, file, (&[byte ^ 128], "0\n", ""))?;
+    }
+    Ok(())
+}
+
+#[test]
 fn positions_rise_in_a_text_of_one_letter(rt: HostRuntime) -> Result<(), Fail> {
     let file = built(&rt, &[b'x'; 12])?;
     let positions = "0\n1\n2\n3\n4\n5\n6\n7\n8\n9\n10\n";

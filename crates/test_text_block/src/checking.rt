@@ -1,4 +1,5 @@
 //! Blocks that are checked: those of a program in Python are accepted, and changed ones refused.
+use crate::banana::BANANA;
 use crate::empty::EMPTY;
 use crate::mississippi::MISSISSIPPI;
 use crate::texts::TEXT;
@@ -32,6 +33,7 @@ fn blocks_of_texts_are_accepted(rt: HostRuntime) -> Result<(), Fail> {
     assert!(rt; is_accepted(EMPTY.as_slice()));
     assert!(rt; is_accepted(TEXT.as_slice()));
     assert!(rt; is_accepted(MISSISSIPPI.as_slice()));
+    assert!(rt; is_accepted(BANANA.as_slice()));
     Ok(())
 }
 
@@ -43,23 +45,23 @@ fn each_changed_byte_is_refused(rt: HostRuntime) -> Result<(), Fail> {
     Ok(())
 }
 
-/// Writes the checksums of a block with twelve sections anew.
-fn seal_anew(words: &mut [u64; 160]) {
-    for i in 0..12usize {
+/// Writes the checksums of a block with thirteen sections anew.
+fn seal_anew(words: &mut [u64; 168]) {
+    for i in 0..13usize {
         let at = (words[17 + 4 * i] / 8) as usize;
         let count = words[18 + 4 * i] as usize;
-        if at <= 160 && count <= 160 - at {
+        if at <= 168 && count <= 168 - at {
             words[19 + 4 * i] = checksum_of(&words[at..at + count]);
         }
     }
-    words[14] = checksum_of(&words[16..64]);
+    words[14] = checksum_of(&words[16..72]);
     words[15] = checksum_of(&words[..15]);
 }
 
 /// How many blocks with one of eight bits of a word flipped are accepted, with right checksums.
-fn accepted_anew(words: &[u64; 160], from: usize, to: usize) -> usize {
+fn accepted_anew(words: &[u64; 168], from: usize, to: usize) -> usize {
     let mut accepted = 0usize;
-    for i in from..to.min(160) {
+    for i in from..to.min(168) {
         for bit in [0u32, 1, 2, 5, 31, 32, 33, 63] {
             let mut changed = *words;
             changed[i] ^= 1u64 << bit;
@@ -76,16 +78,16 @@ fn no_other_bits_hold_an_index(rt: HostRuntime) -> Result<(), Fail> {
     seal_anew(&mut same);
     assert!(rt; same == MISSISSIPPI);
     assert!(rt; accepted_anew(&TEXT, 8, 10) == 0);
-    assert!(rt; accepted_anew(&TEXT, 64, 160) == 0);
+    assert!(rt; accepted_anew(&TEXT, 72, 168) == 0);
     assert!(rt; accepted_anew(&MISSISSIPPI, 8, 10) == 0);
-    assert!(rt; accepted_anew(&MISSISSIPPI, 64, 160) == 0);
+    assert!(rt; accepted_anew(&MISSISSIPPI, 72, 168) == 0);
     Ok(())
 }
 
 #[test]
 fn no_prefix_is_accepted(rt: HostRuntime) -> Result<(), Fail> {
     let mut opened = 0usize;
-    for len in 0..160usize {
+    for len in 0..168usize {
         opened = opened.wrapping_add(is_accepted(&TEXT[..len]) as usize);
     }
     assert!(rt; opened == 0);

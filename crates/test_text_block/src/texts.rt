@@ -5,10 +5,10 @@ use text_block::{Answer, TextView};
 
 /// The block of the index of the text 1, 0, 2, 0, 2, 0 with a sample each four letters, as a program in Python made it
 /// from the tables of docs/FORMAT.md.
-pub(crate) const TEXT: [u64; 160] = [
+pub(crate) const TEXT: [u64; 168] = [
     0x036261746d746962,
     0x0000000000000008,
-    0x0000000000000500,
+    0x0000000000000540,
     0x0000000000000006,
     0x0000000000000002,
     0x0000000000000000,
@@ -17,59 +17,67 @@ pub(crate) const TEXT: [u64; 160] = [
     0x0000000000000004,
     0x0000000000000004,
     0x0000000000000000,
-    0x000000000000000c,
+    0x000000000000000d,
     0x0000000000000000,
     0x0000000000000000,
-    0x87de7f9ec8de0f35,
-    0x4edb2f3c634f8137,
+    0x6e7cf66048255f46,
+    0xc1d7dba65ae78ab0,
     0x0000000000000001,
-    0x0000000000000200,
+    0x0000000000000240,
     0x0000000000000001,
     0x6f4130d24f065fc1,
     0x0000000000000002,
-    0x0000000000000240,
+    0x0000000000000280,
     0x0000000000000001,
     0x9e3779b9e17d05ac,
     0x0000000000000003,
-    0x0000000000000280,
+    0x00000000000002c0,
     0x0000000000000001,
     0x2778e5f8583299ed,
     0x000000000000000b,
-    0x00000000000002c0,
+    0x0000000000000300,
     0x0000000000000002,
     0x1351b4ce195732ac,
     0x000000000000000c,
-    0x0000000000000300,
+    0x0000000000000340,
     0x0000000000000002,
     0xebff6ea84eba7e77,
     0x000000000000000d,
-    0x0000000000000340,
+    0x0000000000000380,
     0x0000000000000003,
     0x706d5a8cd40c24e4,
     0x0000000000000001,
-    0x0000000000000380,
+    0x00000000000003c0,
     0x0000000000000001,
     0x489e4c8115df8c84,
     0x0000000000000002,
-    0x00000000000003c0,
+    0x0000000000000400,
     0x0000000000000001,
     0x9e3779b9e17d05ac,
     0x0000000000000003,
-    0x0000000000000400,
+    0x0000000000000440,
     0x0000000000000001,
     0x4f0dc1e33047bdf6,
     0x000000000000000b,
-    0x0000000000000440,
+    0x0000000000000480,
     0x0000000000000001,
     0x9e3779b9e17d05ac,
     0x000000000000000c,
-    0x0000000000000480,
+    0x00000000000004c0,
     0x0000000000000001,
     0x78dde6e585f416b1,
     0x000000000000000e,
-    0x00000000000004c0,
+    0x0000000000000500,
     0x0000000000000002,
     0x7dfce179276e4b71,
+    0x0000000000000010,
+    0x0000000000000540,
+    0x0000000000000000,
+    0x0000000000000000,
+    0x0000000000000000,
+    0x0000000000000000,
+    0x0000000000000000,
+    0x0000000000000000,
     0x0000000000000086,
     0x0000000000000000,
     0x0000000000000000,
@@ -205,7 +213,7 @@ fn are_within(counts: &[usize]) -> bool {
 /// How many flipped bits of the sections give a count that no text of six letters could have.
 fn impossible_counts(words: &mut [u64]) -> usize {
     let mut impossible = 0usize;
-    for i in 64..words.len() {
+    for i in 72..words.len() {
         for bit in 0..64u32 {
             words[i] ^= 1u64 << bit;
             if let Some(text) = TextView::open(&*words) {
@@ -224,7 +232,7 @@ fn opened(words: &mut [u64]) -> usize {
     for len in 0..words.len() {
         opened = opened.wrapping_add(TextView::open(&words[..len]).is_some() as usize);
     }
-    for i in 0..words.len().min(64) {
+    for i in 0..words.len().min(72) {
         for bit in 0..64u32 {
             words[i] ^= 1u64 << bit;
             opened = opened.wrapping_add(TextView::open(&*words).is_some() as usize);

@@ -7,7 +7,8 @@ use crate::texts::TEXT;
 use std::alloc::Global;
 use std::process::Abort;
 use std::test::Fail;
-use text_block::{Answer, BuildError, TextView, size, write};
+use text_block::{Answer, TextView};
+use text_build::{BuildError, size, size_of_bytes, write};
 use text_index::TextIndex;
 
 /// The letters of mississippi; i is 0, m 1, p 2 and s 3.
@@ -52,11 +53,11 @@ fn refused(index: &TextIndex, words: &mut [u64]) -> usize {
 #[test]
 fn other_lengths_are_refused(rt: HostRuntime) -> Result<(), Fail> {
     let index = TextIndex::build(rt.alloc(), LETTERS.as_slice(), 4, 3)?;
-    let mut words = [7u64; 160];
-    let mut longer = [7u64; 161];
-    assert!(rt; refused(&index, words.as_mut_slice()) == 160);
+    let mut words = [7u64; 168];
+    let mut longer = [7u64; 169];
+    assert!(rt; refused(&index, words.as_mut_slice()) == 168);
     assert!(rt; write(&index, longer.as_mut_slice()) == Err(BuildError::WrongLength));
-    assert!(rt; longer == [7u64; 161]);
+    assert!(rt; longer == [7u64; 169]);
     assert!(rt; write(&index, words.as_mut_slice()) == Ok(()));
     assert!(rt; words == MISSISSIPPI);
     Ok(())
@@ -64,11 +65,11 @@ fn other_lengths_are_refused(rt: HostRuntime) -> Result<(), Fail> {
 
 #[test]
 fn sizes_are_those_of_the_sections(rt: HostRuntime) -> Result<(), Fail> {
-    assert!(rt; size(6, 2, 3, 4) == Some(160));
-    assert!(rt; size(11, 2, 4, 3) == Some(160));
-    assert!(rt; size(0, 1, 1, 1) == Some(136));
-    // 64 and 1000 + 8 + 32 + 64 + 64, then 1000, then 16 + 8 + 8 + 8 + 8, then 1000
-    assert!(rt; size(999, 64, 1000, 1) == Some(3280));
+    assert!(rt; size(6, 2, 3, 4) == Some(168));
+    assert!(rt; size(11, 2, 4, 3) == Some(168));
+    assert!(rt; size(0, 1, 1, 1) == Some(144));
+    // 72 and 1000 + 8 + 32 + 64 + 64, then 1000, then 16 + 8 + 8 + 8 + 8, then 1000
+    assert!(rt; size(999, 64, 1000, 1) == Some(3288));
     assert!(rt; size((1 << 32) - 2, 64, 0, 1).is_some());
     assert!(rt; size((1 << 32) - 1, 64, 0, 1) == None);
     assert!(rt; size(6, 0, 3, 4) == None);
@@ -76,6 +77,24 @@ fn sizes_are_those_of_the_sections(rt: HostRuntime) -> Result<(), Fail> {
     assert!(rt; size(6, 2, (1 << 58) - 1, 4).is_some());
     assert!(rt; size(6, 2, 1 << 58, 4) == None);
     assert!(rt; size(6, 2, 3, 0) == None);
+    Ok(())
+}
+
+#[test]
+fn sizes_of_bytes_are_those_of_the_sections(rt: HostRuntime) -> Result<(), Fail> {
+    // 72 and 8 + 8 + 8 + 8 + 8, then 8, then 8 + 8 + 8 + 8 + 8, then 8, then 8
+    assert!(rt; size_of_bytes(6, 3, 32) == Some(176));
+    // 72 and 0 + 0 + 0 + 8 + 8, then 0, then 8 + 8 + 8 + 8 + 8, then 8, then 8
+    assert!(rt; size_of_bytes(0, 0, 1) == Some(144));
+    // 72 and 32 + 8 + 8 + 8 + 8, then 256, then 8 + 8 + 8 + 8 + 8, then 16, then 8
+    assert!(rt; size_of_bytes(256, 256, 32) == Some(456));
+    // 2 bits a letter of four: 72 and 16 + 8 + 8 + 8 + 8, then 8, then 16 + 8 + 8 + 8 + 8, then 8, then 8
+    assert!(rt; size_of_bytes(512, 4, 512) == Some(192));
+    // 3 bits a letter of five: 24 words in place of 16
+    assert!(rt; size_of_bytes(512, 5, 512) == Some(200));
+    assert!(rt; size_of_bytes(256, 257, 32) == None);
+    assert!(rt; size_of_bytes(6, 3, 0) == None);
+    assert!(rt; size_of_bytes((1 << 32) - 1, 3, 32) == None);
     Ok(())
 }
 

@@ -4,15 +4,16 @@ use Rattle.program_blocks.specs.Bytes.{words_of_bytes}
 use Rattle.program_texts.specs.Answers.{Wrote, WroteOfFile}
 use Rattle.program_texts.specs.File.{IsTextFile}
 use Rattle.program_texts.specs.declared.command.Asked.{Asked}
-use Rattle.text_block.specs.Block.{parts_in, text_of_parts, IsSoundBlock, TextParts}
+use Rattle.text_block.specs.Block.{parts_in, IsSoundBlock, TextParts}
+use Rattle.text_block.specs.Bytes.{bytes_of_parts}
 
 file_of : (bytes block : List ℕ) (parts : TextParts) → words_of_bytes bytes ≡ Some block → IsSoundBlock block → parts ≡ parts_in block
-    → IsTextFile bytes (text_of_parts parts)
-file_of bytes block parts words sound same = record { block = block; words = words; sound = sound; text_is = ap text_of_parts same }
+    → IsTextFile bytes (bytes_of_parts parts)
+file_of bytes block parts words sound same = record { block = block; words = words; sound = sound; text_is = ap bytes_of_parts same }
 
 pub wrote_of_file : {T E : Type 0} (r : Result T E) (asked : Asked) (bytes block pattern : List ℕ) (parts : TextParts) (a b : Option (List ℕ))
-    → words_of_bytes bytes ≡ Some block → IsSoundBlock block → parts ≡ parts_in block → OnOk r (Wrote asked (text_of_parts parts) pattern a b)
+    → words_of_bytes bytes ≡ Some block → IsSoundBlock block → parts ≡ parts_in block → OnOk r (Wrote asked (bytes_of_parts parts) pattern a b)
     → OnOk r (WroteOfFile asked bytes pattern a b)
 wrote_of_file (Ok x) asked bytes block pattern parts a b words sound same wrote =
-    record { text = text_of_parts parts; file = file_of bytes block parts words sound same; wrote = wrote }
+    record { text = bytes_of_parts parts; file = file_of bytes block parts words sound same; wrote = wrote }
 wrote_of_file (Err e) asked bytes block pattern parts a b words sound same wrote = tt
