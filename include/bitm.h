@@ -116,8 +116,8 @@ enum bitm_status {
     BITM_NONE = 1,     /* there is no such position, bit or number */
     BITM_BAD_SIZE = 2, /* a length is wrong: see each call; bitm_index_fault, bitm_sequence_fault, .. say which one */
     BITM_WRONG = 3,    /* the tables or samples are not those of the words, the parts not those of a sequence, the
-                        * header or the block is not one, the degrees are those of no tree, or a number has more bits
-                        * than the width */
+                        * header or the block is not one, the degrees are those of no tree, a number has more bits
+                        * than the width, or a letter is outside its alphabet */
     BITM_UNSORTED = 4  /* a number is less than the one before it */
 };
 
@@ -1349,7 +1349,8 @@ BITM_MUST_USE uint32_t bitm_matrix_select(const struct bitm_matrix *matrix, uint
 
 /* The numbers at a list of indices, as bitm_matrix_get answers them, up to the first for which it does not return
  * BITM_OK; written is how many these are, and the rest of out stays as it was. BITM_BAD_SIZE also if out_len is not
- * indices_len. out and written may not overlap each other or what the call reads.
+ * indices_len. out and written may not overlap each other or what the call reads. 32 of them go from level to level
+ * together, so that they wait for memory side by side (evident from the code).
  *
  *     const uint64_t at_each[3] = {4, 0, 6};
  *     if (bitm_matrix_get_list(&matrix, at_each, 3, of_each, 3, &written) != BITM_OK || written != 2 ||
@@ -1360,7 +1361,7 @@ BITM_MUST_USE uint32_t bitm_matrix_get_list(const struct bitm_matrix *matrix, co
 /* bitm_matrix_rank of each numbers[i] before indices[i], and bitm_matrix_select of each numbers[i] with ranks[i]:
  * out[i] is the answer, or BITM_NO_ANSWER for BITM_NONE and BITM_WRONG_TABLES for BITM_WRONG; counts says how many of
  * each there are. BITM_BAD_SIZE also if out_len, or indices_len or ranks_len, is not numbers_len. out and counts may
- * overlap neither each other nor what the call reads.
+ * overlap neither each other nor what the call reads. 32 ranks go from level to level together (evident from the code).
  *
  *     const uint64_t asked[3] = {1, 5, 2}, before[3] = {4, 6, 7}, its[3] = {2, 0, 0};
  *     if (bitm_matrix_rank_list(&matrix, asked, 3, before, 3, of_each, 3, &of_codes) != BITM_OK || of_each[0] != 2 ||
@@ -1728,24 +1729,30 @@ BITM_MUST_USE uint32_t bitm_hash_block_check(const uint64_t *block, size_t block
 /* ---- texts: where a pattern stands, by an index in one block of memory
  *
  * The index of a text (an FM-index: Ferragina and Manzini, FOCS 2000) is all that is needed: the text can be put away. A
- * pattern is counted in two ranks for each of its letters, however long the text is. Letters are numbers of at most
- * `width` bits; calls that end in _bytes take a text whose letters are bytes.
+ * pattern is counted in two ranks for each of its letters, however long the text is.
  *
- * A block is made by the program `bitm text build` (docs/PROGRAM.md), or in Rattle by text_block::write: no call here
- * makes one, since the suffixes have to be sorted. This one is of banana:
+ * Letters are numbers below a bound, the alphabet, each of as many bits as the largest letter of the alphabet has. A text
+ * of bytes keeps which bytes it uses, so that a letter has no more bits than these need, two for the four letters of a
+ * genome: letter c is the c-th byte of those that are used, and calls that end in _bytes take and write the bytes.
  *
- *     #include <stdio.h>
- *     static uint64_t of_text[512]; // or a mapped file
- *     FILE *banana = fopen("banana.block", "rb");
- *     const size_t text_len = banana ? fread(of_text, 8, 512, banana) : 0;
+ *     uint64_t text_len, scratch_len;
+ *     const uint8_t *const banana = (const uint8_t *)"banana"; // a letter takes 2 bits: a, b and n are 0, 1 and 2
+ *     if (bitm_text_size_bytes(banana, 6, 32, &text_len, &scratch_len) != BITM_OK) return 1;
+ *     uint64_t *of_text = malloc(8 * text_len); // or a mapped file
+ *     uint32_t *order = malloc(4 * scratch_len);
+ *     if (!of_text || !order ||
+ *         bitm_text_build_bytes(banana, 6, 32, order, scratch_len, of_text, text_len) != BITM_OK) return 1;
+ *     free(order);
  *     struct bitm_text text = {0};
  *     if (bitm_text_open(of_text, text_len, &text) != BITM_OK || bitm_text_len(&text, &value) != BITM_OK || value != 6 ||
  *         bitm_text_count_bytes(&text, (const uint8_t *)"ana", 3, &value) != BITM_OK || value != 2) return 1;
  *
+ * The program `bitm text build` (docs/PROGRAM.md) makes the same block.
+ *
  * Over any block that bitm_text_open takes, a stale or hostile one too, a query returns within the reads that are named
  * below, a count is at most one more than the text has letters, a position is one of the text's, or its end, and a
- * letter has no more bits than the width. If bitm_text_check passes the block, and it did not change afterwards, the
- * answers are those of one text, and no query returns BITM_WRONG. */
+ * letter has no more bits than the width. If bitm_text_build or bitm_text_build_bytes wrote the block or bitm_text_check
+ * passes it, and it did not change afterwards, the answers are those of one text, and no query returns BITM_WRONG. */
 struct bitm_text {
     struct bitm_matrix letters; /* the letters of the text, in another order */
     struct bitm_matrix marks;   /* which of their places are sampled */
@@ -1755,15 +1762,57 @@ struct bitm_text {
     size_t samples_len;
     size_t first;         /* where the whole text stands in that order */
     uint64_t step;        /* each how many letters a position is sampled */
+    const uint64_t *used; /* which bytes letters stand for, 256 bits; no words where letters are numbers */
+    size_t used_len;
     uint64_t reserved[2]; /* 0: not read */
 };
 
 /* How many words the block of `len` letters of `width` bits takes, of an alphabet of that many letters, with a sample
- * each `step` letters. BITM_BAD_SIZE if len is 2^32 - 1 or more, width is not 1 to 64, letters is 2^58 or more, or step
- * is 0.
+ * each `step` letters. BITM_BAD_SIZE if len is 2^32 - 1 or more, width is not 1 to 64, letters is 2^58 or more, or step is 0.
  *
- *     if (bitm_text_size(6, 8, 256, 32, &value) != BITM_OK || value != text_len) return 1; // six bytes */
+ *     if (bitm_text_size(6, 2, 3, 32, &value) != BITM_OK) return 1; // six letters that are 0, 1 or 2 */
 BITM_MUST_USE uint32_t bitm_text_size(size_t len, uint32_t width, size_t letters, uint32_t step, uint64_t *out);
+
+/* How many words the block of a text of `len` letters below `letters` takes, with a sample each `step` letters, and how
+ * many numbers of 32 bits bitm_text_build needs while it works: two for each letter and two more, and of a short text with
+ * a large alphabet more, which is two for each letter of the alphabet. BITM_BAD_SIZE if len is 2^32 - 1 or more, or step
+ * is 0. block_len and scratch_len may not overlap.
+ *
+ *     if (bitm_text_size_letters(6, 3, 32, &value, &scratch_len) != BITM_OK || scratch_len != 14) return 1; */
+BITM_MUST_USE uint32_t bitm_text_size_letters(size_t len, uint32_t letters, uint32_t step, uint64_t *block_len,
+                                              uint64_t *scratch_len);
+
+/* Writes the block of the index of a text of letters below `letters`, with a sample each `step` letters: the more letters
+ * apart, the less memory, and the more steps for each position and each part of the text. BITM_WRONG exactly if text_len
+ * is fewer than 2^32 - 1, and a letter is not below `letters`. Else BITM_BAD_SIZE if bitm_text_size_letters does not take
+ * text_len and step, or block_len or scratch_len is not what it says. What scratch holds is overwritten. Allocates
+ * nothing. Text, scratch and block may not overlap one another. Time grows linearly with the text (tested, not proved).
+ *
+ *     const uint64_t as_numbers[6] = {1, 0, 2, 0, 2, 0}; // banana
+ *     uint32_t working[14];
+ *     if (bitm_text_size_letters(6, 3, 32, &value, &scratch_len) != BITM_OK || scratch_len != 14) return 1;
+ *     uint64_t *of_letters = malloc(8 * value);
+ *     struct bitm_text letters = {0};
+ *     if (!of_letters || bitm_text_build(as_numbers, 6, 3, 32, working, 14, of_letters, value) != BITM_OK ||
+ *         bitm_text_build(as_numbers, 6, 2, 32, working, 14, of_letters, value) != BITM_WRONG || // no letter 2
+ *         bitm_text_open(of_letters, value, &letters) != BITM_OK ||
+ *         bitm_text_count(&letters, as_numbers + 1, 3, &value) != BITM_OK || value != 2) return 1; // from 1, and from 3
+ *     free(of_letters); */
+BITM_MUST_USE uint32_t bitm_text_build(const uint64_t *text, size_t text_len, uint32_t letters, uint32_t step,
+                                       uint32_t *scratch, size_t scratch_len, uint64_t *block, size_t block_len);
+
+/* How many words the block of a text of bytes takes, with a sample each `step` bytes, and how many numbers of 32 bits
+ * bitm_text_build_bytes needs while it works: eight bytes for each byte of the text, and 2 KiB more for a short one. The
+ * text is read twice, to see which bytes it uses. BITM_BAD_SIZE if text_len is 2^32 - 1 or more, or step is 0. */
+BITM_MUST_USE uint32_t bitm_text_size_bytes(const uint8_t *text, size_t text_len, uint32_t step, uint64_t *block_len,
+                                            uint64_t *scratch_len);
+
+/* bitm_text_build of bytes, of which those are kept that the text uses. BITM_BAD_SIZE exactly if bitm_text_size_bytes does
+ * not take the text and the step, or a length is not what it says.
+ *
+ *     if (bitm_text_build_bytes(banana, 6, 32, working, 13, of_text, text_len) != BITM_BAD_SIZE) return 1; */
+BITM_MUST_USE uint32_t bitm_text_build_bytes(const uint8_t *text, size_t text_len, uint32_t step, uint32_t *scratch,
+                                             size_t scratch_len, uint64_t *block, size_t block_len);
 
 /* Opens a block: writes the index that queries take, which points into the block. *text has to be zeros, or an index
  * whose block is still there. BITM_WRONG exactly if the header or the directory of the block is not right, or is that
@@ -1789,10 +1838,11 @@ BITM_MUST_USE uint32_t bitm_text_check(const uint64_t *block, size_t block_len);
  * How many letters the text has. */
 BITM_MUST_USE uint32_t bitm_text_len(const struct bitm_text *text, uint64_t *out);
 
-/* At how many positions of the text a pattern stands; one of no letters at each position, the end too. Reads for each
- * letter of the pattern, and for each bit of the width, at most four upper entries, four lower entries and 36 words.
+/* At how many positions of the text a pattern stands; one of no letters at each position, the end too. A letter or a
+ * byte that the text does not have stands nowhere. Reads for each letter of the pattern, and for each bit of the width,
+ * at most four upper entries, four lower entries and 36 words.
  *
- *     const uint64_t ana[3] = {'a', 'n', 'a'};
+ *     const uint64_t ana[3] = {0, 2, 0}; // of a, b and n
  *     if (bitm_text_count(&text, ana, 3, &value) != BITM_OK || value != 2) return 1; // from 1 and from 3 on */
 BITM_MUST_USE uint32_t bitm_text_count(const struct bitm_text *text, const uint64_t *pattern, size_t pattern_len,
                                        uint64_t *out);
@@ -1816,14 +1866,15 @@ BITM_MUST_USE uint32_t bitm_text_locate_bytes(const struct bitm_text *text, cons
                                               size_t from, uint64_t *out, size_t out_len, uint64_t *written);
 
 /* Writes the out_len letters of the text from position `from` on. BITM_NONE exactly if the text has fewer, and out is as
- * it was then. Where BITM_WRONG is returned, out may have been written to. BITM_BAD_SIZE for bytes also if the width is
- * more than 8. Reads for each letter, and for at most `step` more, three upper entries, three lower entries and 27 words
- * for each bit of the width, and at most a sample.
+ * it was then. Where BITM_WRONG is returned, out may have been written to. BITM_BAD_SIZE for bytes also if letters are
+ * numbers that may have more than 8 bits. Reads for each letter, and for at most `step` more, three upper entries, three
+ * lower entries and 27 words for each bit of the width, and at most a sample.
  *
  *     uint8_t nan[3];
  *     if (bitm_text_extract_bytes(&text, 2, nan, 3) != BITM_OK || nan[0] != 'n' || nan[1] != 'a' ||
  *         bitm_text_extract(&text, 4, places, 3) != BITM_NONE || bitm_text_extract(&text, 4, places, 2) != BITM_OK ||
- *         places[0] != 'n' || places[1] != 'a') return 1; */
+ *         places[0] != 2 || places[1] != 0) return 1;
+ *     free(of_text); */
 BITM_MUST_USE uint32_t bitm_text_extract(const struct bitm_text *text, size_t from, uint64_t *out, size_t out_len);
 BITM_MUST_USE uint32_t bitm_text_extract_bytes(const struct bitm_text *text, size_t from, uint8_t *out, size_t out_len);
 

@@ -323,6 +323,31 @@ static void query_a_matrix(uint64_t *one)
     }
 }
 
+/* The index of a text is built in memory that is as long as it has to be, of numbers and of bytes. */
+static void build_a_text(uint64_t *one)
+{
+    enum { LEN = 5000, LETTERS = 5, STEP = 8 };
+    uint64_t *numbers = placed(OF_LOW, 8 * LEN);
+    for (size_t i = 0; i < LEN; i++) numbers[i] = draw() % LETTERS;
+    TOUCHES_ANY(bitm_text_size(LEN, 3, LETTERS, STEP, one));
+    uint64_t words = *one, same, *block = placed(OF_WORDS, 8 * words);
+    TOUCHES_ANY(bitm_text_size_letters(LEN, LETTERS, STEP, &same, one));
+    MUST(same == words);
+    uint32_t *scratch = placed(OF_OUT, 4 * *one);
+    TOUCHES_ANY(bitm_text_build(numbers, LEN, LETTERS, STEP, scratch, *one, block, words));
+    TOUCHES_ANY(bitm_text_check(block, words));
+    struct bitm_text *text = placed(OF_STARTS, sizeof *text);
+    *text = (struct bitm_text){0};
+    TOUCHES(2, 0, 0, bitm_text_open(block, words, text));
+    uint8_t *bytes = placed(OF_LOW, LEN);
+    uint64_t *len = placed(OF_COUNTS, 8);
+    for (size_t i = 0; i < LEN; i++) bytes[i] = (uint8_t)(draw() % LETTERS * 60);
+    TOUCHES_ANY(bitm_text_size_bytes(bytes, LEN, STEP, len, one));
+    words = *len, block = placed(OF_WORDS, 8 * words), scratch = placed(OF_OUT, 4 * *one);
+    TOUCHES_ANY(bitm_text_build_bytes(bytes, LEN, STEP, scratch, *one, block, words));
+    TOUCHES_ANY(bitm_text_check(block, words));
+}
+
 /* The index of a text that is one letter again and again, so that the order of its suffixes is known: the shorter ones
  * are first. The words of its letters take 32 pages, those of its marks 8, and the starts and the samples 16 and more.
  * A count ranks at two ends, at one place of each level: a page for each, where those of the marks would be 8 more; a
@@ -436,6 +461,7 @@ static void query_everything(void)
     query_a_sequence(one);
     open_sparse_bits(one);
     query_a_matrix(one);
+    build_a_text(one);
     query_a_text(one);
     query_a_dictionary(one);
     query_a_file();

@@ -1,7 +1,11 @@
-/* The index of a text beside one scan of the text: scanned TEXT BLOCK PATTERNS, where `bitm text build` made the block of
- * the text. Patterns of several lengths are drawn, half of them from the text and half with another letter at one place.
- * One scan for each length counts all patterns of that length, as `grep -o` would if matches could overlap; the index
- * has to count the same. Of a few patterns it has to answer all positions: each has the pattern, and none comes twice. */
+/* The index of a text, built here, beside one scan of the text. Patterns of several lengths are drawn, half of them
+ * from the text and half with another letter at one place. One scan for each length counts all patterns of that length,
+ * as `grep -o` would if matches could overlap; the index has to count the same. Of a few patterns it has to answer all
+ * positions: each has the pattern, and none comes twice.
+ *
+ *     scanned PATTERNS file TEXT [BLOCK]   of a file; its block is that in the other file, of `bitm text build`
+ *     scanned PATTERNS four N              of 2^N drawn letters a, c, g and t, with long repetitions
+ *     scanned PATTERNS words LIST N        of 2^N letters: words drawn from the lines of a file */
 #define _GNU_SOURCE
 #include "common.h"
 
@@ -11,7 +15,7 @@
 #include <sys/stat.h>
 #include <unistd.h>
 
-enum { LOCATED = 2000, MOST_PLACES = 4096, FACTOR = 0x2F0B4C47 };
+enum { LOCATED = 2000, MOST_PLACES = 4096, FACTOR = 0x2F0B4C47, STEP = 32, MOST_CHECKED = 1 << 28 };
 
 struct mapped {
     const unsigned char *bytes;
@@ -43,10 +47,7 @@ static uint64_t hashed(const unsigned char *letters, size_t len)
     return hash;
 }
 
-static size_t slot_of(uint64_t hash, unsigned log2)
-{
-    return (size_t)(hash * 0x9E3779B97F4A7C15u >> (64 - log2));
-}
+static size_t slot_of(uint64_t hash, unsigned log2) { return (size_t)(hash * 0x9E3779B97F4A7C15u >> (64 - log2)); }
 
 /* The patterns of one length: their letters one after another, and a table of 2^log2 slots, each of one or none. */
 struct patterns {
@@ -108,13 +109,15 @@ static int compare(const void *one, const void *other)
 }
 
 /* All positions of a pattern, in lists of 1000: each has it, and no two are the same, so they are those of a scan. */
-static void locate(struct mapped text, const struct bitm_text *index, const unsigned char *letters, size_t len, uint64_t count)
+static void locate(struct mapped text, const struct bitm_text *index, const unsigned char *letters, size_t len,
+                   uint64_t count)
 {
     static uint64_t places[MOST_PLACES];
     uint64_t done = 0, written = 0;
     do {
         const uint64_t room = count - done < 1000 ? count - done : 1000;
-        MUST(bitm_text_locate_bytes(index, letters, len, done, places + done, room, &written) == BITM_OK && written == room);
+        MUST(bitm_text_locate_bytes(index, letters, len, done, places + done, room, &written) == BITM_OK &&
+             written == room);
         done += written;
     } while (done < count);
     MUST(bitm_text_locate_bytes(index, letters, len, done, places, 0, &written) == BITM_OK && written == 0);
@@ -125,18 +128,83 @@ static void locate(struct mapped text, const struct bitm_text *index, const unsi
     }
 }
 
+/* Memory that starts a page; much of it lies in huge pages. */
+static void *room_for(size_t size)
+{
+    void *at = mmap(NULL, size + 1, PROT_READ | PROT_WRITE, MAP_PRIVATE | MAP_ANONYMOUS, -1, 0);
+    MUST(at != MAP_FAILED);
+    (void)madvise(at, size + 1, MADV_HUGEPAGE);
+    return at;
+}
+
+/* Letters, of which a part now and then repeats what stands before, but for a letter in 64. */
+static struct mapped four_letters(unsigned log2)
+{
+    const size_t len = (size_t)1 << log2;
+    unsigned char *const text = room_for(len);
+    for (size_t at = 0; at < len;) {
+        size_t left = 1 + draw() % 20000, from = at > 0 && draw() % 4 == 0 ? draw() % at : len;
+        for (; left > 0 && at < len; left--, at++, from++)
+            text[at] = from < at && draw() % 64 > 0 ? text[from] : (unsigned char)"acgt"[draw() % 4];
+    }
+    return (struct mapped){text, len};
+}
+
+/* Words from the lines of a list, each as likely as any other, with a space after each. */
+static struct mapped drawn_words(const char *path, unsigned log2)
+{
+    const struct mapped list = map(path);
+    const size_t len = (size_t)1 << log2;
+    unsigned char *const text = room_for(len);
+    for (size_t at = 0; at < len;) {
+        size_t from = draw() % list.len;
+        while (from > 0 && list.bytes[from - 1] != '\n') from--;
+        for (; from < list.len && list.bytes[from] != '\n' && at < len; from++) text[at++] = list.bytes[from];
+        if (at < len) text[at++] = ' ';
+    }
+    return (struct mapped){text, len};
+}
+
+/* The block of the text, of words; what building needed is given back. */
+static struct mapped built(struct mapped text)
+{
+    uint64_t words, room;
+    MUST(bitm_text_size_bytes(text.bytes, text.len, STEP, &words, &room) == BITM_OK);
+    uint64_t *const block = room_for(8 * words);
+    uint32_t *const scratch = room_for(4 * room);
+    MUST(bitm_text_build_bytes(text.bytes, text.len, STEP, scratch, room, block, words) == BITM_OK);
+    MUST(munmap(scratch, 4 * room + 1) == 0);
+    return (struct mapped){(const unsigned char *)block, 8 * words};
+}
+
+static struct mapped text_of(int argc, char **argv)
+{
+    if (argc == 4 && strcmp(argv[2], "four") == 0) return four_letters((unsigned)atoi(argv[3]));
+    if (argc == 5 && strcmp(argv[2], "words") == 0) return drawn_words(argv[3], (unsigned)atoi(argv[4]));
+    MUST(argc >= 4 && strcmp(argv[2], "file") == 0);
+    return map(argv[3]);
+}
+
+/* A walk through all letters, which takes long. */
+static bool is_checked(const struct mapped block, size_t len)
+{
+    return len > MOST_CHECKED || bitm_text_check((const uint64_t *)(const void *)block.bytes, block.len / 8) == BITM_OK;
+}
+
 int main(int argc, char **argv)
 {
     static const size_t lens[] = {1, 2, 3, 4, 6, 8, 12, 20, 32, 100};
     enum { LENS = sizeof lens / sizeof *lens };
-    MUST(argc == 4);
-    const struct mapped text = map(argv[1]), block = map(argv[2]);
-    const size_t count = strtoull(argv[3], NULL, 10) / LENS;
-    const uint64_t *const words = (const uint64_t *)(const void *)block.bytes;
-    struct bitm_text index;
+    const struct mapped text = text_of(argc, argv), block = built(text);
+    const size_t count = strtoull(argv[1], NULL, 10) / LENS;
+    struct bitm_text index = {0};
     uint64_t out, asked = 0, found = 0, located = 0;
-    MUST(bitm_text_open(words, block.len / 8, &index) == BITM_OK && bitm_text_check(words, block.len / 8) == BITM_OK);
-    MUST(bitm_text_len(&index, &out) == BITM_OK && out == text.len);
+    if (argc == 5 && strcmp(argv[2], "file") == 0) {
+        const struct mapped other = map(argv[4]);
+        MUST(other.len == block.len && memcmp(other.bytes, block.bytes, block.len) == 0);
+    }
+    MUST(bitm_text_open((const uint64_t *)(const void *)block.bytes, block.len / 8, &index) == BITM_OK);
+    MUST(is_checked(block, text.len) && bitm_text_len(&index, &out) == BITM_OK && out == text.len);
     for (size_t k = 0; k < LENS && lens[k] <= text.len; k++) {
         struct patterns of = drawn(text, lens[k], count);
         scan(text, &of);

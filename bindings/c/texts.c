@@ -1,167 +1,7 @@
-/* Indexes of texts in blocks: the answers beside a plain comparison at each position; blocks of which each byte is
- * changed, each prefix, and blocks whose words hold random numbers. The blocks are written here by docs/FORMAT.md. Each
- * array, and each number that is written, is once where a page ends and once where one begins, beside a page that may
- * not be touched: a read or write of one number outside, on either side, ends the program. */
+/* Indexes of texts in blocks, of numbers and of bytes: the answers beside a plain comparison at each position; blocks
+ * of which each byte is changed, each prefix, and blocks whose words hold random numbers. */
 #define _DEFAULT_SOURCE
-#include "guard.h"
-
-#include <string.h>
-
-enum { LETTERS = 300, ROOM = 3000, LIST = 64, PATTERN = 12, SECTIONS = 12, HEAD = 64 };
-
-/* A text, of letters less than `alphabet`, each of at most `width` bits; a sample each `step` letters. */
-struct plain {
-    size_t len, alphabet;
-    uint32_t width, step;
-    uint64_t letters[LETTERS];
-};
-
-enum { OF_BLOCK, OF_STRUCT, OF_PATTERN, OF_OUT, OF_LIST, PLACES };
-
-static struct guarded places[PLACES];
-static bool at_the_end;
-
-static void *placed(unsigned place, size_t size)
-{
-    return at_the_end ? ends_at_the_guard(&places[place], size) : places[place].page;
-}
-
-static uint64_t *out_at_the_guard(void)
-{
-    uint64_t *out = placed(OF_OUT, sizeof *out);
-    *out = UNTOUCHED;
-    return out;
-}
-
-/* Room for a list, of which each byte is UNTOUCHED. */
-static void *list_at_the_guard(size_t size) { return memset(placed(OF_LIST, size), UNTOUCHED, size); }
-
-static bool is_untouched(const void *list, size_t size)
-{
-    for (size_t i = 0; i < size; i++)
-        if (((const unsigned char *)list)[i] != UNTOUCHED) return false;
-    return true;
-}
-
-/* What the call answers; the number is as it was where the status is not BITM_OK. */
-#define ANSWER(call)                                                                                                   \
-    do {                                                                                                               \
-        out = out_at_the_guard();                                                                                      \
-        status = (call);                                                                                               \
-        MUST(status == BITM_OK || *out == UNTOUCHED);                                                                  \
-    } while (0)
-
-/* ---- the same by comparison at each position */
-
-static bool plain_stands(const struct plain *plain, const uint64_t *pattern, size_t len, size_t at)
-{
-    return len <= plain->len - at && memcmp(plain->letters + at, pattern, 8 * len) == 0;
-}
-
-static size_t plain_count(const struct plain *plain, const uint64_t *pattern, size_t len)
-{
-    size_t count = 0;
-    for (size_t at = 0; at <= plain->len; at++) count += plain_stands(plain, pattern, len, at);
-    return count;
-}
-
-static const struct plain *sorted;
-
-/* The order of the suffixes that begin at two positions. */
-static int by_suffix(const void *left, const void *right)
-{
-    size_t a = *(const size_t *)left, b = *(const size_t *)right;
-    for (; a < sorted->len && b < sorted->len; a++, b++)
-        if (sorted->letters[a] != sorted->letters[b]) return sorted->letters[a] < sorted->letters[b] ? -1 : 1;
-    return a == b ? 0 : a > b ? -1 : 1; /* the shorter one is first */
-}
-
-/* The positions in the order of their suffixes, that of the empty one first. */
-static void sort_suffixes(const struct plain *plain, size_t *positions)
-{
-    for (size_t i = 0; i <= plain->len; i++) positions[i] = i;
-    sorted = plain;
-    qsort(positions, plain->len + 1, sizeof *positions, by_suffix);
-}
-
-/* ---- blocks */
-
-static uint64_t checksum(const uint64_t *words, size_t len)
-{
-    uint64_t sum = len;
-    for (size_t i = 0; i < len; i++) {
-        sum = (sum ^ words[i]) * 0x9e3779b97f4a7c15u;
-        sum ^= sum >> 32;
-    }
-    return sum;
-}
-
-/* Writes a section and its entry of the directory; returns where the next one begins. */
-static size_t put(uint64_t *block, size_t section, uint64_t role, size_t at, const uint64_t *words, size_t len)
-{
-    uint64_t *entry = block + 16 + 4 * section;
-    MUST(at + len <= ROOM);
-    if (len > 0) memcpy(block + at, words, 8 * len);
-    entry[0] = role, entry[1] = 8 * at, entry[2] = len, entry[3] = checksum(block + at, len);
-    return at + (len + 7) / 8 * 8;
-}
-
-/* Writes the five sections of a matrix of these numbers. */
-static size_t put_matrix(uint64_t *block, size_t section, size_t at, const uint64_t *numbers, size_t len,
-                         uint32_t width)
-{
-    static uint64_t room[ROOM], scratch[2 * LETTERS + 2];
-    struct bitm_matrix it = {0};
-    uint64_t words;
-    MUST(bitm_matrix_size(len, width, &words) == BITM_OK && words <= ROOM);
-    MUST(bitm_matrix_build(numbers, len, width, scratch, 2 * len, room, words) == BITM_OK);
-    MUST(bitm_matrix_open(room, words, &it) == BITM_OK);
-    at = put(block, section, 1, at, it.words, it.words_len);
-    at = put(block, section + 1, 2, at, it.upper, it.upper_len);
-    at = put(block, section + 2, 3, at, it.lower, it.lower_len);
-    at = put(block, section + 3, 11, at, it.ones, it.ones_len);
-    return put(block, section + 4, 12, at, it.zeros, it.zeros_len);
-}
-
-/* The checksums of the directory and of the header. */
-static void seal(uint64_t *block)
-{
-    block[14] = checksum(block + 16, HEAD - 16);
-    block[15] = checksum(block, 15);
-}
-
-/* Writes the block of the text; returns how many words it has. */
-static size_t write_block(const struct plain *plain, uint64_t *block)
-{
-    static size_t positions[LETTERS + 1];
-    static uint64_t before[LETTERS], marks[LETTERS + 1], starts[LETTERS], samples[LETTERS + 1];
-    size_t letters = 0, sampled = 0, first = 0, at = HEAD;
-    sort_suffixes(plain, positions);
-    for (size_t letter = 0; letter < plain->alphabet; letter++) {
-        starts[letter] = 1; /* after the empty suffix, and those that begin with a lesser letter */
-        for (size_t i = 0; i < plain->len; i++) starts[letter] += plain->letters[i] < letter;
-    }
-    memset(samples, 0, sizeof samples);
-    for (size_t row = 0; row <= plain->len; row++) {
-        const size_t position = positions[row];
-        if (position > 0)
-            before[letters++] = plain->letters[position - 1];
-        else
-            first = row;
-        marks[row] = position % plain->step == 0;
-        if (marks[row]) samples[sampled++] |= position, samples[position / plain->step] |= (uint64_t)row << 32;
-    }
-    memset(block, 0, 8 * ROOM);
-    at = put_matrix(block, 0, at, before, plain->len, plain->width);
-    at = put(block, 5, 13, at, starts, plain->alphabet);
-    at = put_matrix(block, 6, at, marks, plain->len + 1, 1);
-    at = put(block, 11, 14, at, samples, sampled);
-    memcpy(block, "bitmtab\3", 8);
-    block[1] = 8, block[2] = 8 * at, block[3] = plain->len, block[4] = plain->width;
-    block[8] = first, block[9] = plain->step, block[11] = SECTIONS;
-    seal(block);
-    return at;
-}
+#include "plain_texts.h"
 
 /* The block of the text, which ends at the guard. */
 static uint64_t *built(const struct plain *plain, size_t *words)
@@ -169,30 +9,22 @@ static uint64_t *built(const struct plain *plain, size_t *words)
     static uint64_t room[ROOM];
     uint64_t *out;
     uint32_t status;
-    *words = write_block(plain, room);
+    *words = write_block(plain, plain->len % 3, room);
     ANSWER(bitm_text_size(plain->len, plain->width, plain->alphabet, plain->step, out));
-    MUST(status == BITM_OK && *out == *words);
+    MUST(status == BITM_OK && *out + (plain->is_of_bytes ? 8 : 0) == *words);
     return memcpy(placed(OF_BLOCK, 8 * *words), room, 8 * *words);
-}
-
-/* A drawn text, with long repetitions: some of it is a copy of what stands before. */
-static void draw_text(struct plain *plain, size_t len, size_t alphabet, uint32_t width, uint32_t step)
-{
-    plain->len = len, plain->alphabet = alphabet, plain->width = width, plain->step = step;
-    for (size_t i = 0; i < len; i++) plain->letters[i] = draw() % alphabet;
-    for (size_t i = 1; i < len; i++)
-        if (draw() % 4 > 0) plain->letters[i] = plain->letters[draw() % 16 > 0 ? i - 1 - i % 3 % i : draw() % i];
 }
 
 /* ---- queries */
 
-/* The bytes of a pattern where each of its letters is one. */
-static const uint8_t *as_bytes(const uint64_t *pattern, size_t len)
+/* The bytes of a pattern where each of its letters stands for one. */
+static const uint8_t *as_bytes(const struct plain *plain, const uint64_t *pattern, size_t len)
 {
     static uint8_t bytes[PATTERN];
     for (size_t i = 0; i < len; i++) {
-        if (pattern[i] > 255) return NULL;
-        bytes[i] = (uint8_t)pattern[i];
+        const unsigned byte = byte_of(plain, pattern[i]);
+        if (byte > 255) return NULL;
+        bytes[i] = (uint8_t)byte;
     }
     return bytes;
 }
@@ -210,7 +42,7 @@ static void located_as(const struct plain *plain, const struct bitm_text *text, 
                        size_t from, size_t room)
 {
     static size_t positions[LETTERS + 1];
-    const uint8_t *const bytes = as_bytes(pattern, len);
+    const uint8_t *const bytes = as_bytes(plain, pattern, len);
     uint64_t *out;
     uint32_t status;
     sort_suffixes(plain, positions);
@@ -232,7 +64,7 @@ static void located_as(const struct plain *plain, const struct bitm_text *text, 
 static void pattern_as(const struct plain *plain, const struct bitm_text *text, const uint64_t *pattern, size_t len)
 {
     const size_t count = plain_count(plain, pattern, len);
-    const uint8_t *const bytes = as_bytes(pattern, len);
+    const uint8_t *const bytes = as_bytes(plain, pattern, len);
     uint64_t *out;
     uint32_t status;
     ANSWER(bitm_text_count(text, pattern_at(pattern, 8 * len), len, out));
@@ -254,9 +86,9 @@ static void part_as(const struct plain *plain, const struct bitm_text *text, siz
     MUST(is_there ? len == 0 || memcmp(list, plain->letters + from, 8 * len) == 0 : is_untouched(list, 8 * len));
     uint8_t *const bytes = list_at_the_guard(len);
     const uint32_t status = bitm_text_extract_bytes(text, from, bytes, len);
-    MUST(status == (plain->width > 8 ? BITM_BAD_SIZE : is_there ? BITM_OK : BITM_NONE));
+    MUST(status == (plain->width > 8 && !plain->is_of_bytes ? BITM_BAD_SIZE : is_there ? BITM_OK : BITM_NONE));
     if (status != BITM_OK) MUST(is_untouched(bytes, len));
-    for (size_t i = 0; status == BITM_OK && i < len; i++) MUST(bytes[i] == plain->letters[from + i]);
+    for (size_t i = 0; status == BITM_OK && i < len; i++) MUST(bytes[i] == byte_of(plain, plain->letters[from + i]));
 }
 
 static void answers_as(const struct plain *plain, const struct bitm_text *text)
@@ -297,7 +129,7 @@ static void bytes_within(const struct bitm_text *text, const uint8_t *pattern, s
     for (size_t k = 0; status == BITM_OK && k < *out; k++) MUST(list[k] <= letters);
     uint8_t *const part = list_at_the_guard(room);
     status = bitm_text_extract_bytes(text, from, part, room);
-    if (text->letters.width > 8)
+    if (text->letters.width > 8 && text->used_len == 0)
         MUST(status == BITM_BAD_SIZE);
     else
         MUST(is_there ? status == BITM_OK || status == BITM_WRONG : status == BITM_NONE);
@@ -327,8 +159,9 @@ static void answers_within(const struct bitm_text *text)
         MUST(from <= len && room <= len - from ? status == BITM_OK || status == BITM_WRONG : status == BITM_NONE);
         MUST(status != BITM_NONE || is_untouched(part, 8 * room));
         for (size_t k = 0; status == BITM_OK && width < 64 && k < room; k++) MUST(part[k] >> width == 0);
-        const uint8_t *const bytes = as_bytes(pattern, i);
-        if (bytes) bytes_within(text, bytes, i, from, room);
+        uint8_t bytes[PATTERN];
+        for (size_t k = 0; k < PATTERN; k++) bytes[k] = (uint8_t)pattern[k];
+        bytes_within(text, bytes, i, from, room);
     }
 }
 
@@ -336,11 +169,12 @@ static void answers_within(const struct bitm_text *text)
 static void is_over(const uint64_t *block, const struct bitm_text *text)
 {
     const struct bitm_matrix *const l = &text->letters, *const m = &text->marks;
-    const uint64_t *const starts[SECTIONS] = {l->words, l->upper, l->lower, l->ones, l->zeros, text->starts,
-                                              m->words, m->upper, m->lower, m->ones, m->zeros, text->samples};
-    const size_t lens[SECTIONS] = {l->words_len, l->upper_len,     l->lower_len, l->ones_len,
-                                   l->zeros_len, text->starts_len, m->words_len, m->upper_len,
-                                   m->lower_len, m->ones_len,      m->zeros_len, text->samples_len};
+    const uint64_t *const starts[SECTIONS] = {l->words,     l->upper,      l->lower,  l->ones,  l->zeros,
+                                              text->starts, m->words,      m->upper,  m->lower, m->ones,
+                                              m->zeros,     text->samples, text->used};
+    const size_t lens[SECTIONS] = {l->words_len,     l->upper_len,      l->lower_len,  l->ones_len,  l->zeros_len,
+                                   text->starts_len, m->words_len,      m->upper_len,  m->lower_len, m->ones_len,
+                                   m->zeros_len,     text->samples_len, text->used_len};
     MUST(l->len == block[3] && l->width == block[4] && m->len == block[3] + 1 && m->width == 1);
     MUST(text->first == block[8] && text->step == block[9]);
     for (size_t i = 0; i < SECTIONS; i++)
@@ -357,6 +191,7 @@ static void drawn_texts(void)
         size_t words;
         draw_text(&plain, i < 30 ? i / 6 : draw() % LETTERS, of_alphabet[i % 6], of_width[i % 6], of_step[i % 5]);
         if (i % 18 == 5) plain.width = 64;
+        if (i % 4 == 1 && plain.alphabet <= 250) use_bytes(&plain, i % 6, plain.alphabet <= 26 ? 9 : 1);
         const uint64_t *const block = built(&plain, &words);
         struct bitm_text *const text = placed(OF_STRUCT, sizeof *text);
         *text = (struct bitm_text){0};
@@ -393,12 +228,13 @@ static bool opens(const uint64_t *block, size_t words, struct bitm_text *text)
 }
 
 /* Each byte of a small block changed, and each prefix of it; and the block of a matrix. */
-static void changed_blocks(void)
+static void changed_blocks(bool is_of_bytes)
 {
     static struct plain plain;
     struct bitm_text text;
     size_t words, opened = 0, tries = 0;
     draw_text(&plain, 20, 4, 2, 4);
+    if (is_of_bytes) use_bytes(&plain, 'a', 5);
     uint64_t *block = built(&plain, &words);
     unsigned char *const bytes = (unsigned char *)block;
     for (size_t at = 0; at < 8 * words; at++)
@@ -435,6 +271,7 @@ static void random_blocks(void)
     for (size_t turn = 0; turn < 300; turn++) {
         size_t words;
         draw_text(&plain, 1 + draw() % 200, 1 + draw() % 30, 5, 1 + (uint32_t)turn % 40);
+        if (turn % 3 == 1) use_bytes(&plain, 0, 8);
         uint64_t *const block = built(&plain, &words);
         const uint64_t share = turn % 8;
         for (size_t at = HEAD; at < words; at++)
@@ -460,7 +297,8 @@ static void other_headers(void)
     struct bitm_text text;
     size_t words;
     draw_text(&plain, 50, 4, 2, 4);
-    for (size_t i = 0; i < 8; i++) {
+    use_bytes(&plain, 'a', 5);
+    for (size_t i = 0; i < 10; i++) {
         uint64_t *const block = built(&plain, &words);
         if (i == 0) block[1] = 6;
         if (i == 1) block[3] += 64;
@@ -470,8 +308,13 @@ static void other_headers(void)
         if (i == 5) block[9] = (uint64_t)1 << 32;
         if (i == 6) block[3] = UINT64_MAX;
         if (i == 7) block[4] = 258;
+        if (i == 8) block[18 + 4 * 12] = 1; /* of a section of that length the same words */
+        if (i == 9) block[18 + 4 * 12] = 0, block[2] -= 64, words -= 8;
         seal(block);
-        MUST(!opens(block, words, &text) && bitm_text_check(block, words) == BITM_WRONG);
+        if (i == 9)
+            MUST(opens(block, words, &text) && text.used_len == 0); /* of numbers */
+        else
+            MUST(!opens(block, words, &text) && bitm_text_check(block, words) == BITM_WRONG);
     }
 }
 
@@ -488,7 +331,7 @@ static void other_structs(void)
     const uint64_t *const block = built(&plain, &words);
     struct bitm_text text = {0};
     MUST(bitm_text_open(block, words, &text) == BITM_OK);
-    for (size_t i = 0; i < 17; i++) {
+    for (size_t i = 0; i < 20; i++) {
         struct bitm_text bad = text;
         if (i == 0) bad.letters.len = SIZE_MAX;
         if (i == 1) bad.letters.len++;
@@ -507,6 +350,7 @@ static void other_structs(void)
         if (i == 14) bad.step = (uint64_t)1 << 32;
         if (i == 15) bad.step += (uint64_t)1 << 32;
         if (i == 16) bad.marks = bad.letters;
+        if (i >= 17) bad.used = text.starts, bad.used_len = (const size_t[3]){1, 3, 5}[i - 17];
         uint64_t *const list = list_at_the_guard(8 * LIST);
         ANSWER(bitm_text_len(&bad, out));
         MUST(status == BITM_BAD_SIZE);
@@ -540,7 +384,8 @@ int main(int argc, char **argv)
         at_the_end = end;
         drawn_texts();
         no_texts();
-        changed_blocks();
+        changed_blocks(false);
+        changed_blocks(true);
         random_blocks();
         other_headers();
         other_structs();

@@ -7,6 +7,7 @@
 #include <cstdio>
 #include <cstdlib>
 #include <random>
+#include <set>
 #include <sstream>
 #include <string>
 #include <thread>
@@ -46,11 +47,22 @@ static Words places(const std::string &text, const std::string &pattern)
     return found;
 }
 
+// The letters of a pattern in the index of a text: of bytes their places among those that the text uses.
+template <class T> static Words letters_of(const T &t, const std::string &text, const std::string &pattern)
+{
+    const std::set<unsigned char> used(text.begin(), text.end());
+    Words letters;
+    for (const char it : pattern) {
+        const auto byte = static_cast<unsigned char>(it);
+        const auto place = static_cast<u64>(std::distance(used.begin(), used.find(byte)));
+        letters.push_back(t.raw().used_len == 0 ? byte : used.count(byte) ? place : 256);
+    }
+    return letters;
+}
+
 template <class T> static void one_pattern(const T &t, const std::string &text, const std::string &pattern)
 {
-    const Words wanted = places(text, pattern);
-    Words letters;
-    for (const char it : pattern) letters.push_back(static_cast<unsigned char>(it));
+    const Words wanted = places(text, pattern), letters = letters_of(t, text, pattern);
     MUST(t.count(pattern) == wanted.size() && t.try_count(pattern).value() == wanted.size());
     MUST(t.count_letters(letters) == wanted.size() && t.try_count_letters(letters).value() == wanted.size());
     for (const u64 from : {u64{0}, u64{1}, u64{wanted.size()}, ~u64{}}) {
@@ -77,10 +89,10 @@ template <class T> static void same(const T &t, const std::string &text)
             const std::string part = text.substr(from, count);
             Words letters(count);
             t.letters(from, letters);
-            MUST(t.text(from, count) == part && std::equal(letters.begin(), letters.end(), part.begin()));
+            MUST(t.text(from, count) == part && letters == letters_of(t, text, part));
         }
     for (std::size_t at = 0; at < text.size(); at++)
-        MUST(t[at] == static_cast<u64>(text[at]) && t.at(at) == t[at] && t.try_at(at).value() == t[at]);
+        MUST(t[at] == static_cast<unsigned char>(text[at]) && t.at(at) == t[at] && t.try_at(at).value() == t[at]);
     for (const u64 at : {u64{text.size()}, ~u64{}}) {
         MUST(throws<std::out_of_range>([&] { (void)t[at]; }) && t.try_at(at).error().code == bitm::errc::outside);
         MUST(throws<std::out_of_range>([&] { (void)t.text(at, 1); }));
@@ -101,7 +113,38 @@ static void owners(const Text &given)
     a = copy, copy = Text(), same(copy, ""), same(a, verse);
     swap(a, copy), same(a, ""), same(copy, verse);
     a = std::move(copy), same(a, verse), same(copy, "");
-    MUST(a.width() == 8 && none.bytes().size() == 0);
+    MUST(a.width() == 4 && none.bytes().size() == 0);
+}
+
+// What is built of bytes and of numbers, beside plain searches, and what is refused.
+static void built(const Text &given)
+{
+    MUST(Text(verse) == given && Text::try_of(verse, 32).value() == given && Text(verse, 5) != given);
+    for (const u64 kinds : {u64{1}, u64{2}, u64{3}, u64{5}, u64{256}})
+        for (const std::uint32_t step : {1u, 3u, 32u, ~0u}) {
+            std::string text;
+            for (u64 left = draw() % 60; left > 0; left--) text.push_back(static_cast<char>(draw() % kinds + 97));
+            const Text made(text, step);
+            same(made, text), same(made.view(), text);
+        }
+    Words numbers, all(256, 1);
+    for (int i = 0; i < 200; i++) numbers.push_back(draw() % 3 * 400);
+    const Text wide = Text::of_letters(numbers, 801, 4),
+               of_bytes = Text::of_letters(letters_of(Text(), "", verse), 256);
+    wide.letters(0, all = Words(200)),
+        MUST(wide.check() && wide.width() == 10 && all == numbers && wide[7] == numbers[7]);
+    const auto some = numbers.begin() + 20;
+    const Words part(some, some + 4), none{5}, outside{801, ~u64{}};
+    MUST(wide.count_letters(part) >= 1 && wide.count_letters(none) == 0 && wide.count_letters(outside) == 0);
+    MUST(wide.try_text(0, 1).error().code == bitm::errc::bad_size && wide.count("\x01") == 0);
+    same(of_bytes, verse), MUST(of_bytes.width() == 8 && of_bytes != given);
+    MUST(Text::of_letters({}, 0).count_letters({}) == 1 && Text("").count("") == 1 && Text("").check());
+    for (const auto &made :
+         {Text::try_of(verse, 0), Text::try_of_letters(numbers, 801, 0), Text::try_of_letters(numbers, 800),
+          Text::try_of_letters(numbers, 0), Text::try_of_letters(outside, 801)})
+        MUST(!made && made.error().code == bitm::errc::bad_size);
+    MUST(throws<std::invalid_argument>([] { Text(verse, 0); }));
+    MUST(throws<std::invalid_argument>([&] { (void)Text::of_letters(numbers, 1); }));
 }
 
 static void files(const Text &given, const std::string &path)
@@ -180,7 +223,8 @@ static void threads(const Text &given)
 int main(int, char **argv)
 {
     const Text given = Text::load(argv[1], bitm::verify::yes);
-    same(given, verse), owners(given), files(given, argv[0] + std::string(".text")), spoilt(given), threads(given);
+    same(given, verse), owners(given), built(given), files(given, argv[0] + std::string(".text")), spoilt(given),
+        threads(given);
     std::puts("texts: ok");
     return 0;
 }

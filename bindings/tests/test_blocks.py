@@ -9,7 +9,7 @@ repository."""
 import re
 
 import pytest
-from blocks import as_bytes, of_text
+from blocks import as_bytes, of_bytes
 from checks import TOP
 from common import ARCHIVE, PYTHON
 from shell import bash, needs
@@ -114,7 +114,7 @@ def test_code(page, language, tmp_path, request):
             return
     for name, text in TEXTS.items():
         if any(name in it for it in parts):
-            (tmp_path / name).write_bytes(as_bytes(of_text(text)))
+            (tmp_path / name).write_bytes(as_bytes(of_bytes(text)))
     if language == "python" and any("import numpy" in it for it in parts):
         needs(f"{PYTHON}:numpy")
     needs({"c": "gcc", "cpp": "g++"}.get(language, "bash"))

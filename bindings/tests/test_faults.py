@@ -28,13 +28,13 @@ EXPORTS = {
     "B": "bits_count bits_and bits_or bits_xor bits_and_not index_build sequence_sizes hash_level hash_build"
         " stored_index stored_index_room stored_build stored_sequence prefix_sums tree_size matrix_size"
         " matrix_get_list matrix_rank_list matrix_select_list index_block_size index_block_build sequence_block_size"
-        " sparse_size text_size text_len"
+        " sparse_size text_size text_size_letters text_size_bytes text_build_bytes text_len"
         " hash_block_size hash_block_build dictionary_size",
     "- words": "bits_clear_from",
     "N": "bits_copy_range bits_equal_range bits_select_in_word",
     "B words other": "bits_intersects bits_is_subset",
     "N bytes": "bytes_get57 bytes_init57 bytes_set57 bytes_get25 bytes_init25 bytes_set25",
-    "BW": "index_check sequence_check tree_build matrix_build"
+    "BW": "index_check sequence_check tree_build matrix_build text_build"
         " dictionary_build",
     "BW words": "index_check_samples",
     "NBW words lower": "index_rank hash_get tree_parent tree_child tree_degree tree_is_leaf tree_next_sibling"

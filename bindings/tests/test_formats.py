@@ -2,7 +2,7 @@
 import struct
 import subprocess
 
-from blocks import as_bytes, of_bits, of_matrix, of_sequence, of_sparse, of_text
+from blocks import as_bytes, of_bits, of_bytes, of_matrix, of_sequence, of_sparse
 from checks import TOP
 from common import compiled
 from shell import needs
@@ -27,6 +27,6 @@ def test_blocks_are_those_of_the_format(tmp_path):
 
 def test_the_block_that_other_tests_read():
     """That of a text, which `bitm text build` and tests in C++, Rust and JavaScript have from here."""
-    made = as_bytes(of_text(b"she sells sea shells on the sea shore"))
+    made = as_bytes(of_bytes(b"she sells sea shells on the sea shore"))
     for folder in ("bindings/tests", "bindings/rust/tests/common"):
         assert (TOP / folder / "sea_shells.block").read_bytes() == made

@@ -1,7 +1,6 @@
-"""Indexes of texts from elsewhere beside one scan of each text in C: how often patterns stand in it, and where. With
-LARGE=1 a million patterns each, and a text of 2^26 letters, which takes 3 GB."""
+"""Indexes of texts that are built in C beside one scan of each text: how often patterns stand in it, and where. With LARGE=1 a
+million patterns each, and texts of 2^30 letters, which take 10 GB and up to 20 minutes."""
 import pathlib
-import random
 import shutil
 
 import pytest
@@ -10,16 +9,16 @@ from common import LARGE, compiled
 from programs import built
 from shell import bash, needs
 
-RANDOM = random.Random(1)
 WORDS = pathlib.Path("/usr/share/dict/words")  # Debian: wamerican
-LETTERS = 1 << (26 if LARGE else 20)
-TEXTS = {
+PATTERNS, LOG2 = (1000000, 30) if LARGE else (100000, 20)
+FILES = {
     "words": WORDS.read_bytes if WORDS.is_file() else None,
     "program": lambda: pathlib.Path(shutil.which("bash")).read_bytes(),
-    "four letters": lambda: bytes(RANDOM.choices(b"acgt", k=LETTERS)),
     "one letter": lambda: b"a" * (1 << 20),
+    "each byte": lambda: bytes(range(256)) * (1 << 10),
     "sources": lambda: b"".join(it.read_bytes() for it in sorted(TOP.glob("crates/*/src/**/*.rt"))),
 }
+DRAWN = {"four letters": f"four {LOG2}", "sentences": f"words {WORDS} {LOG2}"}
 
 
 @pytest.fixture(scope="module")
@@ -28,10 +27,18 @@ def program(tmp_path_factory):
     return compiled("gcc -std=c11 -O2", "bindings/c/scanned.c", tmp_path_factory.mktemp("scanned"))
 
 
-@pytest.mark.parametrize("name", TEXTS)
-def test_scanned(name, program, tmp_path):
-    if not TEXTS[name]:
+@pytest.mark.parametrize("name", FILES)
+def test_file(name, program, tmp_path):
+    """The program `bitm text build` makes the same block."""
+    if not FILES[name]:
         pytest.skip(f"no {WORDS}")
-    (tmp_path / "text").write_bytes(TEXTS[name]())
+    (tmp_path / "text").write_bytes(FILES[name]())
     bash(f"{built('program_bitm')} text build < text > block", tmp_path)
-    bash(f"{program} text block {1000000 if LARGE else 100000}", tmp_path)
+    bash(f"{program} {PATTERNS} file text block", tmp_path)
+
+
+@pytest.mark.parametrize("name", DRAWN)
+def test_drawn(name, program, tmp_path):
+    if name == "sentences" and not WORDS.is_file():
+        pytest.skip(f"no {WORDS}")
+    bash(f"timeout 1200 {program} {PATTERNS} {DRAWN[name]}", tmp_path)

@@ -1,14 +1,14 @@
 // Where a pattern stands in a text, by the index of the text in one block of memory: an owner, and a view of a block in
-// memory of the caller's. `bitm text build` makes the block.
+// memory of the caller's.
 //
-//     const bitm::text_index banana = bitm::text_index::map("banana.block", bitm::verify::yes);
+//     const bitm::text_index banana("banana");        // or map("book.block"), which save() or `bitm text build` wrote
 //     std::vector<std::uint64_t> where(4);
 //     std::cout << banana.count("ana") << ' ' << banana.locate("ana", where) << ' ' << where[0] << '\n'; // 2 2 3
 //     std::cout << banana.size() << ' ' << (banana.text(1, 3) == "ana") << '\n';                         // 6 1
 //
 // A pattern is counted in a time that does not depend on how long the text is; occurrences may overlap, and an empty
-// pattern stands at each position, the end too. Letters are bytes, or numbers of up to 64 bits, of which the calls that
-// end in _letters take patterns. The text itself is not needed.
+// pattern stands at each position, the end too. The text itself is not needed. Letters are bytes, or numbers, of which
+// the calls that end in _letters take patterns; in the index of bytes a letter is the place of a byte among those used.
 #ifndef BITM_TEXT_HPP
 #define BITM_TEXT_HPP
 
@@ -56,8 +56,8 @@ inline const std::uint8_t *bytes_of(std::string_view pattern) noexcept
 
 template <class Self> class text_calls {
 public:
-    // How many letters the text has, and whether it has none; how many bits a letter has at most; all of it as C takes
-    // it, and the block.
+    // How many letters the text has, and whether it has none; how many bits a letter takes; all of it as C takes it,
+    // and the block.
     std::uint64_t size() const noexcept { return raw().letters.len; }
     bool empty() const noexcept { return size() == 0; }
     std::uint64_t width() const noexcept { return raw().letters.width; }
@@ -118,15 +118,18 @@ public:
         if (status != BITM_OK) fail_status(status, from, size());
     }
 
-    // The letter at a position: fails past the end.
+    // The letter at a position, of the index of bytes the byte: fails past the end.
     std::uint64_t operator[](std::uint64_t position) const { return try_at(position).value(); }
     std::uint64_t at(std::uint64_t position) const { return try_at(position).value(); }
     result<std::uint64_t> try_at(std::uint64_t position) const noexcept
     {
         std::uint64_t out = 0;
-        const std::uint32_t status = bitm_text_extract(&raw(), position, &out, 1);
+        std::uint8_t byte = 0;
+        const bool is_byte = raw().used_len > 0;
+        const std::uint32_t status = is_byte ? bitm_text_extract_bytes(&raw(), position, &byte, 1)
+                                             : bitm_text_extract(&raw(), position, &out, 1);
         if (status != BITM_OK) return error_of(status, position, size());
-        return out;
+        return is_byte ? byte : out;
     }
 
     // Whether the block is as it was written and holds the index of a text: looks at all of it, and walks through it.
@@ -186,11 +189,45 @@ private:
     words_in block_;
 };
 
-// The index of a text that owns its block, which `bitm text build` made: loaded or mapped from a file.
+// The index of a text that owns its block: of a text, or loaded or mapped from a file that save() or `bitm text build`
+// wrote.
 class BITM_OWNER text_index : public detail::text_calls<text_index>, public detail::stored_calls<text_index> {
 public:
-    // Of no letters; a copy; or all of another, which has no letters then; an exchange.
+    // Of no letters; of bytes; of numbers below `letters`, the size of the alphabet, of each of which a word is kept. A
+    // position is kept each `step` letters: the fewer, the less memory, and the longer it takes to find a position or a
+    // part. Takes linear time, and eight bytes for each letter while it works. Fails where the step is 0, the text has
+    // 2^32 - 1 letters or more, or a number is not below `letters`.
     text_index() noexcept = default;
+    explicit text_index(std::string_view text, std::uint32_t step = 32) : text_index(try_of(text, step).value()) {}
+    static result<text_index> try_of(std::string_view text, std::uint32_t step = 32)
+    {
+        std::uint64_t len = 0, needed = 0;
+        if (bitm_text_size_bytes(detail::bytes_of(text), text.size(), step, &len, &needed) != BITM_OK)
+            return detail::bad_size("the step is 0, or the text has 2^32 - 1 letters or more");
+        detail::block all(len), scratch(needed / 2 + 1);
+        const std::uint32_t status = bitm_text_build_bytes(detail::bytes_of(text), text.size(), step,
+                                                           halves_of(scratch), needed, all.data(), all.size());
+        if (status != BITM_OK) return detail::error_of(status);
+        return opened(std::move(all), verify::no);
+    }
+    static text_index of_letters(words_in numbers, std::uint32_t letters, std::uint32_t step = 32)
+    {
+        return try_of_letters(numbers, letters, step).value();
+    }
+    static result<text_index> try_of_letters(words_in numbers, std::uint32_t letters, std::uint32_t step = 32)
+    {
+        std::uint64_t len = 0, needed = 0;
+        if (bitm_text_size_letters(numbers.size(), letters, step, &len, &needed) != BITM_OK)
+            return detail::bad_size("the step is 0, or the text has 2^32 - 1 letters or more");
+        detail::block all(len), scratch(needed / 2 + 1);
+        const std::uint32_t status = bitm_text_build(numbers.data(), numbers.size(), letters, step, halves_of(scratch),
+                                                     needed, all.data(), all.size());
+        if (status == BITM_WRONG) return detail::bad_size("a letter is not below the size of the alphabet");
+        if (status != BITM_OK) return detail::error_of(status);
+        return opened(std::move(all), verify::no);
+    }
+
+    // A copy; or all of another, which has no letters then; an exchange.
     text_index(const text_index &other) : text_calls(), stored_calls()
     {
         if (other.used_)
@@ -233,6 +270,10 @@ private:
     friend class detail::text_calls<text_index>;
     friend class detail::stored_calls<text_index>;
     words_in block_of() const noexcept { return {block_.data(), used_}; }
+    static std::uint32_t *halves_of(detail::block &scratch) noexcept
+    {
+        return reinterpret_cast<std::uint32_t *>(scratch.data());
+    }
     static std::size_t needed(const std::uint64_t *file, std::size_t have) noexcept
     {
         return detail::block_len(file, have);

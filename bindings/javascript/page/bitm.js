@@ -1,4 +1,4 @@
-// src/web.js and all that it imports, in one file: made by one_file.mjs. sha256 of the sources: a7c5e6e01eb0cb61767b30301091f684cfe52a9e2af980f7039994dc9ca5d908
+// src/web.js and all that it imports, in one file: made by one_file.mjs. sha256 of the sources: 02d3f6fb9eea5f9fc962c71a0983abf5d75e7545f0b9603099561da0ebd65f62
 
 // src/core.js
 var VERSION = "0.3.0";
@@ -208,7 +208,7 @@ var BITM_SPARSE = {
   bits_len: 96
 };
 var BITM_TEXT = {
-  bytes: 288,
+  bytes: 304,
   letters_len: 0,
   letters_width: 8,
   letters_words: 16,
@@ -238,7 +238,9 @@ var BITM_TEXT = {
   samples: 240,
   samples_len: 248,
   first: 256,
-  step: 264
+  step: 264,
+  used: 272,
+  used_len: 280
 };
 
 // src/memory.js
@@ -2017,31 +2019,86 @@ function checkedWidth(it) {
 var KIND5 = { name: "TextIndex", what: "the index of a text", open: "bitm_text_open", check: "bitm_text_check", layout: BITM_TEXT };
 var COUNT = { letters: "bitm_text_count", bytes: "bitm_text_count_bytes" };
 var LOCATE = { letters: "bitm_text_locate", bytes: "bitm_text_locate_bytes" };
-function withPattern(pattern, names, body) {
-  const bytes2 = typeof pattern === "string" ? new TextEncoder().encode(pattern) : pattern;
-  if (bytes2 instanceof Uint8Array) {
-    const from = bytesOf(bytes2, "the pattern"), n2 = from.length;
-    return withRoom(n2, (at) => {
-      bytesAt(at, n2).set(from);
-      return body(calls[names.bytes], at, n2);
-    });
-  }
+function encoded(given, name) {
+  const bytes2 = typeof given === "string" ? new TextEncoder().encode(given) : given;
+  return bytes2 instanceof Uint8Array ? bytesOf(bytes2, name) : void 0;
+}
+function withBytes(bytes2, body) {
+  const n = bytes2.length;
+  return withRoom(n, (at) => {
+    bytesAt(at, n).set(bytes2);
+    return body(at, n);
+  });
+}
+function withPattern(pattern, isOfBytes, names, body) {
+  const bytes2 = encoded(pattern, "the pattern");
+  if (bytes2)
+    return withBytes(bytes2, (at, n2) => body(calls[names.bytes], at, n2));
+  if (isOfBytes)
+    throw new TypeError("bitm: this is the index of bytes, and a pattern is a string or a Uint8Array");
   const { items } = numbersOf(pattern, "the pattern"), n = items.length;
   return withRoom(8 * n, (at) => {
     copyIn(items, at, "the pattern");
     return body(calls[names.letters], at, n);
   });
 }
+var Made = class {
+  constructor(words, fill) {
+    this.words = words;
+    this.fill = fill;
+  }
+};
+function stepOf(options) {
+  const step = place(options.step ?? 32, "step");
+  if (step < 1 || step >= 2 ** 32)
+    throw new RangeError(`bitm: the step must be 1 to 2^32 - 1, and is ${step}`);
+  return step;
+}
 var TextIndex = class {
   #held;
   #length;
   #width;
+  #isOfBytes;
   constructor(block) {
-    if (!(block instanceof Copied))
-      throw new TypeError("bitm: a TextIndex is opened: TextIndex.open(bytes)");
-    this.#held = new InBlock(KIND5, this, block);
+    if (block instanceof Made)
+      this.#held = new InBlock(KIND5, this, block.words, block.fill);
+    else if (block instanceof Copied)
+      this.#held = new InBlock(KIND5, this, block);
+    else
+      throw new TypeError("bitm: a TextIndex is made by TextIndex.of(text), or opened by TextIndex.open(bytes)");
     this.#length = this.#held.member("letters_len");
     this.#width = this.#held.member("letters_width");
+    this.#isOfBytes = this.#held.member("used_len") > 0;
+  }
+  /**
+   * The index of a text: a string, as its bytes in UTF-8, or bytes in a Uint8Array. Each `step` bytes (32) a position is kept:
+   * the fewer, the less memory, and the longer it takes to find a position or a part.
+   */
+  static of(text, options = {}) {
+    const step = stepOf(options), bytes2 = encoded(text, "the text");
+    if (!bytes2)
+      throw new TypeError("bitm: the text must be a string or a Uint8Array; TextIndex.ofLetters takes numbers");
+    return withBytes(bytes2, (at, n) => {
+      const room = orThrow(calls.bitm_text_size_bytes(at, n, step, BESIDE), "the text", n), words = numberAt(BESIDE);
+      return withRoom(4 * room, (scratch) => new TextIndex(new Made(words, (block) => {
+        must(calls.bitm_text_build_bytes(at, n, step, scratch, room, block, words), "the text");
+      })));
+    });
+  }
+  /** The index of numbers below `letters`, for each of which 8 bytes are kept. A pattern is then a list of numbers too. */
+  static ofLetters(numbers, letters, options = {}) {
+    const step = stepOf(options), most = 2 ** 32 - 1, below = upTo(letters, most, "letters");
+    const { items } = numbersOf(numbers, "numbers"), n = items.length;
+    const room = orThrow(calls.bitm_text_size_letters(n, below, step, BESIDE), "the numbers", n), words = numberAt(BESIDE);
+    return withRoom(8 * n, (at) => {
+      copyIn(items, at, "numbers");
+      return withRoom(4 * room, (scratch) => new TextIndex(new Made(words, (block) => {
+        const got = calls.bitm_text_build(at, n, below, step, scratch, room, block, words);
+        if (got === -STATUS.WRONG)
+          throw new RangeError(`bitm: a number is not below ${below}`);
+        must(got, "the numbers");
+      })));
+    });
   }
   /**
    * The index in the bytes of a block, which are copied once. Unless `check` is false, all of them are looked at, and
@@ -2055,7 +2112,7 @@ var TextIndex = class {
   get length() {
     return this.#length;
   }
-  /** How many bits a letter has at most: 8 of bytes. */
+  /** How many bits a letter takes: of bytes as many as the number of different bytes needs. */
   get width() {
     return this.#width;
   }
@@ -2063,10 +2120,10 @@ var TextIndex = class {
   get byteLength() {
     return this.#held.byteLength;
   }
-  /** At how many positions a pattern stands: a string (as UTF-8), bytes in a Uint8Array, or other numbers as letters. */
+  /** At how many positions a pattern stands: a string (as UTF-8) or bytes in a Uint8Array; of numbers a list of them. */
   count(pattern) {
     const text = this.#held.at;
-    return withPattern(pattern, COUNT, (call, at, n) => orThrow(call(text, at, n), "the pattern", n));
+    return withPattern(pattern, this.#isOfBytes, COUNT, (call, at, n) => orThrow(call(text, at, n), "the pattern", n));
   }
   /** Whether it stands anywhere. */
   has(pattern) {
@@ -2079,7 +2136,7 @@ var TextIndex = class {
   locate(pattern, options = {}) {
     const text = this.#held.at, from = place(options.from ?? 0, "from"), most = place(options.limit ?? Number.MAX_SAFE_INTEGER, "limit");
     const room = Math.min(this.count(pattern), most);
-    return withPattern(pattern, LOCATE, (call, at, n) => withRoom(8 * room, (out2) => {
+    return withPattern(pattern, this.#isOfBytes, LOCATE, (call, at, n) => withRoom(8 * room, (out2) => {
       const written = orThrow(call(text, at, n, from, out2, room), "the pattern", n);
       return copyOut(out2, written, "plain", false);
     }));
@@ -2088,10 +2145,14 @@ var TextIndex = class {
   findAll(pattern) {
     return this.locate(pattern).sort((a, b) => a - b);
   }
-  /** The letter at a position. */
+  /** The letter at a position, of bytes the byte. */
   get(position) {
     const at = place(position, "position");
     return withRoom(8, (out2) => {
+      if (this.#isOfBytes) {
+        must(calls.bitm_text_extract_bytes(this.#held.at, at, out2, 1), "position");
+        return bytesAt(out2, 1)[0];
+      }
       must(calls.bitm_text_extract(this.#held.at, at, out2, 1), "position");
       return numberAt(out2);
     });
@@ -2099,7 +2160,7 @@ var TextIndex = class {
   /** The letters from one position on and before another: as a Uint8Array where they are bytes, else as an array. */
   slice(from = 0, to = this.#length) {
     const end2 = upTo(to, this.#length, "to"), start2 = upTo(from, end2, "from"), n = end2 - start2, text = this.#held.at;
-    if (this.#width > 8) {
+    if (this.#width > 8 && !this.#isOfBytes) {
       return withRoom(8 * n, (out2) => {
         must(calls.bitm_text_extract(text, start2, out2, n), "from");
         return copyOut(out2, n, "plain", false);

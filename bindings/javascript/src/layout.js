@@ -214,7 +214,7 @@ export const BITM_DICTIONARY = {
     seed: 192,
 };
 export const BITM_TEXT = {
-    bytes: 288,
+    bytes: 304,
     letters_len: 0,
     letters_width: 8,
     letters_words: 16,
@@ -245,4 +245,6 @@ export const BITM_TEXT = {
     samples_len: 248,
     first: 256,
     step: 264,
+    used: 272,
+    used_len: 280,
 };

@@ -1,6 +1,6 @@
-import { bytesAt, calls, numberAt } from "./core.js";
+import { BESIDE, bytesAt, calls, numberAt } from "./core.js";
 import { Copied, InBlock, checked } from "./in_block.js";
-import { BITM_TEXT } from "./layout.js";
+import { BITM_TEXT, STATUS } from "./layout.js";
 import { bytesOf, copyIn, copyOut, numbersOf } from "./lists.js";
 import { dispose, withRoom } from "./memory.js";
 import { must, orThrow, place, upTo } from "./numbers.js";
@@ -10,16 +10,26 @@ const KIND = { name: "TextIndex", what: "the index of a text", open: "bitm_text_
 const COUNT = { letters: "bitm_text_count", bytes: "bitm_text_count_bytes" };
 const LOCATE = { letters: "bitm_text_locate", bytes: "bitm_text_locate_bytes" };
 
+/** The bytes of a string or of a Uint8Array; of anything else undefined. */
+function encoded(given, name) {
+    const bytes = typeof given === "string" ? new TextEncoder().encode(given) : given;
+    return bytes instanceof Uint8Array ? bytesOf(bytes, name) : undefined;
+}
+
+/** Copies bytes into memory and runs body(at, n). */
+function withBytes(bytes, body) {
+    const n = bytes.length;
+    return withRoom(n, at => {
+        bytesAt(at, n).set(bytes);
+        return body(at, n);
+    });
+}
+
 /** Copies a pattern into memory and runs body(call, at, n): of a string or bytes that of bytes, else that of letters. */
-function withPattern(pattern, names, body) {
-    const bytes = typeof pattern === "string" ? new TextEncoder().encode(pattern) : pattern;
-    if (bytes instanceof Uint8Array) {
-        const from = bytesOf(bytes, "the pattern"), n = from.length;
-        return withRoom(n, at => {
-            bytesAt(at, n).set(from);
-            return body(calls[names.bytes], at, n);
-        });
-    }
+function withPattern(pattern, isOfBytes, names, body) {
+    const bytes = encoded(pattern, "the pattern");
+    if (bytes) return withBytes(bytes, (at, n) => body(calls[names.bytes], at, n));
+    if (isOfBytes) throw new TypeError("bitm: this is the index of bytes, and a pattern is a string or a Uint8Array");
     const { items } = numbersOf(pattern, "the pattern"), n = items.length;
     return withRoom(8 * n, at => {
         copyIn(items, at, "the pattern");
@@ -27,17 +37,65 @@ function withPattern(pattern, names, body) {
     });
 }
 
-/** Where a pattern stands in a text, by the index of the text in one block, which `bitm text build` makes. */
+/** A block of so many words, which fill(at) writes. */
+class Made {
+    constructor(words, fill) {
+        this.words = words;
+        this.fill = fill;
+    }
+}
+
+/** Each how many letters a position is kept. */
+function stepOf(options) {
+    const step = place(options.step ?? 32, "step");
+    if (step < 1 || step >= 2 ** 32) throw new RangeError(`bitm: the step must be 1 to 2^32 - 1, and is ${step}`);
+    return step;
+}
+
+/** Where a pattern stands in a text, by the index of the text in one block, which is all that is needed. */
 export class TextIndex {
     #held;
     #length;
     #width;
+    #isOfBytes;
 
     constructor(block) {
-        if (!(block instanceof Copied)) throw new TypeError("bitm: a TextIndex is opened: TextIndex.open(bytes)");
-        this.#held = new InBlock(KIND, this, block);
+        if (block instanceof Made) this.#held = new InBlock(KIND, this, block.words, block.fill);
+        else if (block instanceof Copied) this.#held = new InBlock(KIND, this, block);
+        else throw new TypeError("bitm: a TextIndex is made by TextIndex.of(text), or opened by TextIndex.open(bytes)");
         this.#length = this.#held.member("letters_len");
         this.#width = this.#held.member("letters_width");
+        this.#isOfBytes = this.#held.member("used_len") > 0;
+    }
+
+    /**
+     * The index of a text: a string, as its bytes in UTF-8, or bytes in a Uint8Array. Each `step` bytes (32) a position is kept:
+     * the fewer, the less memory, and the longer it takes to find a position or a part.
+     */
+    static of(text, options = {}) {
+        const step = stepOf(options), bytes = encoded(text, "the text");
+        if (!bytes) throw new TypeError("bitm: the text must be a string or a Uint8Array; TextIndex.ofLetters takes numbers");
+        return withBytes(bytes, (at, n) => {
+            const room = orThrow(calls.bitm_text_size_bytes(at, n, step, BESIDE), "the text", n), words = numberAt(BESIDE);
+            return withRoom(4 * room, scratch => new TextIndex(new Made(words, block => {
+                must(calls.bitm_text_build_bytes(at, n, step, scratch, room, block, words), "the text");
+            })));
+        });
+    }
+
+    /** The index of numbers below `letters`, for each of which 8 bytes are kept. A pattern is then a list of numbers too. */
+    static ofLetters(numbers, letters, options = {}) {
+        const step = stepOf(options), most = 2 ** 32 - 1, below = upTo(letters, most, "letters");
+        const { items } = numbersOf(numbers, "numbers"), n = items.length;
+        const room = orThrow(calls.bitm_text_size_letters(n, below, step, BESIDE), "the numbers", n), words = numberAt(BESIDE);
+        return withRoom(8 * n, at => {
+            copyIn(items, at, "numbers");
+            return withRoom(4 * room, scratch => new TextIndex(new Made(words, block => {
+                const got = calls.bitm_text_build(at, n, below, step, scratch, room, block, words);
+                if (got === -STATUS.WRONG) throw new RangeError(`bitm: a number is not below ${below}`);
+                must(got, "the numbers");
+            })));
+        });
     }
 
     /**
@@ -50,16 +108,16 @@ export class TextIndex {
     /** How many letters the text has. */
     get length() { return this.#length; }
 
-    /** How many bits a letter has at most: 8 of bytes. */
+    /** How many bits a letter takes: of bytes as many as the number of different bytes needs. */
     get width() { return this.#width; }
 
     /** How many bytes the block has. */
     get byteLength() { return this.#held.byteLength; }
 
-    /** At how many positions a pattern stands: a string (as UTF-8), bytes in a Uint8Array, or other numbers as letters. */
+    /** At how many positions a pattern stands: a string (as UTF-8) or bytes in a Uint8Array; of numbers a list of them. */
     count(pattern) {
         const text = this.#held.at;
-        return withPattern(pattern, COUNT, (call, at, n) => orThrow(call(text, at, n), "the pattern", n));
+        return withPattern(pattern, this.#isOfBytes, COUNT, (call, at, n) => orThrow(call(text, at, n), "the pattern", n));
     }
 
     /** Whether it stands anywhere. */
@@ -72,7 +130,7 @@ export class TextIndex {
     locate(pattern, options = {}) {
         const text = this.#held.at, from = place(options.from ?? 0, "from"), most = place(options.limit ?? Number.MAX_SAFE_INTEGER, "limit");
         const room = Math.min(this.count(pattern), most);
-        return withPattern(pattern, LOCATE, (call, at, n) => withRoom(8 * room, out => {
+        return withPattern(pattern, this.#isOfBytes, LOCATE, (call, at, n) => withRoom(8 * room, out => {
             const written = orThrow(call(text, at, n, from, out, room), "the pattern", n);
             return copyOut(out, written, "plain", false);
         }));
@@ -81,10 +139,14 @@ export class TextIndex {
     /** All of them, in the order of the text. */
     findAll(pattern) { return this.locate(pattern).sort((a, b) => a - b); }
 
-    /** The letter at a position. */
+    /** The letter at a position, of bytes the byte. */
     get(position) {
         const at = place(position, "position");
         return withRoom(8, out => {
+            if (this.#isOfBytes) {
+                must(calls.bitm_text_extract_bytes(this.#held.at, at, out, 1), "position");
+                return bytesAt(out, 1)[0];
+            }
             must(calls.bitm_text_extract(this.#held.at, at, out, 1), "position");
             return numberAt(out);
         });
@@ -93,7 +155,7 @@ export class TextIndex {
     /** The letters from one position on and before another: as a Uint8Array where they are bytes, else as an array. */
     slice(from = 0, to = this.#length) {
         const end = upTo(to, this.#length, "to"), start = upTo(from, end, "from"), n = end - start, text = this.#held.at;
-        if (this.#width > 8) {
+        if (this.#width > 8 && !this.#isOfBytes) {
             return withRoom(8 * n, out => {
                 must(calls.bitm_text_extract(text, start, out, n), "from");
                 return copyOut(out, n, "plain", false);

@@ -83,7 +83,6 @@ test("the lines of README.md, against the packed package", { skip: !has("npm") &
         if (!value || /^(const|import) /.test(line) || /^(a|an)$/.test(value[1])) return line;
         return `if (shown(${call}) !== shown(${value[1].replace(/^NaN$/, "NaN")})) throw new Error(${JSON.stringify(line)} + ": " + shown(${call})); else count++;`;
     });
-    copyFileSync(join(root, "../tests/sea_shells.block"), join(folder, "sea_shells.block"));
     writeFileSync(join(folder, "readme.js"), `let count = 0; ${plain}\n${checked.join("\n")}\nconsole.log(count);`);
     const got = Number(withoutRepository(folder, ["readme.js"]));
     assert.ok(got >= 20, `${got} lines of README.md were compared`);
@@ -103,11 +102,13 @@ const matrix = new WaveletMatrix([3, 1n], { width: 9 }), median: number | bigint
 const before: Float64Array = matrix.rankList(Uint32Array.of(3), [1]), found: (number | undefined)[] = WaveletMatrix.open(matrix.toBytes()).selectList([3], [0]);
 const sparse = new SparseBits([3, 100n], 2n ** 40n), near: number | undefined = sparse.next0(3), bits: boolean[] = sparse.getList([3]);
 const text: TextIndex = TextIndex.open(new Uint8Array(0)), places: number[] = text.locate("she", { from: 1, limit: 2n }), part: Uint8Array | (number | bigint)[] = text.slice(1, 2);
-void [median, often, before, found, near, bits, places, part, text.has([1n, 2])];
+const made: TextIndex[] = [TextIndex.of("she"), TextIndex.of(new Uint8Array(1), { step: 3n }), TextIndex.ofLetters(new Set([1n]), 2, {})];
+void [median, often, before, found, near, bits, places, part, text.has([1n, 2]), made];
 void [rank, place, doubles, wide, list, all, least, flags, bytes, key, NO_ANSWER === 1n, WrongTables];
 `;
 const WRONG = ["index.rank('1')", "index.rank()", "const x: number = index.select(1)", "const x: number = numbers.at(0)", "new EliasFano('12')",
-    "new Index([1, 2])", "index.selectList([1]).byteLength", "open('name')", "new PerfectHash([{}])", "index.set(1)", "matrix.select(1)", "const y: number = matrix.get(0)"];
+    "new Index([1, 2])", "index.selectList([1]).byteLength", "open('name')", "new PerfectHash([{}])", "index.set(1)", "matrix.select(1)", "const y: number = matrix.get(0)", "TextIndex.of([1])",
+    "TextIndex.ofLetters([1])"];
 
 test("tsc takes the types, and refuses what is wrong", { skip: !(has("tsc") && has("npm")) && "tsc is not here" }, () => {
     const folder = installed(), base = ["--strict", "--noEmit", "--target", "es2022", "--lib", "es2022,dom"];

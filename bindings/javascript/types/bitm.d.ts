@@ -268,10 +268,17 @@ export interface LocateOptions {
     limit?: Whole;
 }
 
-/** Where a pattern stands in a text, by the index of the text in one block, which `bitm text build` makes. */
+/** Each how many letters a position is kept, 32 if not given: the fewer, the less memory, and the longer locate() and slice() take. */
+export interface StepOptions { step?: Whole }
+
+/** Where a pattern stands in a text, by the index of the text in one block, which is all that is needed. */
 export class TextIndex {
-    /** Opened alone: by open(). */
+    /** Made by of() and ofLetters(), or opened by open(). */
     constructor(block: never);
+    /** The index of a string, as its bytes in UTF-8, or of bytes. */
+    static of(text: string | Uint8Array, options?: StepOptions): TextIndex;
+    /** The index of numbers below `letters`, for each of which 8 bytes are kept. RangeError where a number is not below it. */
+    static ofLetters(numbers: Wholes, letters: Whole, options?: StepOptions): TextIndex;
     /** The index in the bytes of a block, which are copied once. */
     static open(bytes: Bytes, options?: OpenOptions): TextIndex;
 

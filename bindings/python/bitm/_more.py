@@ -202,8 +202,10 @@ def matrix_block(self: Any) -> memoryview:
 
 
 def text_over(cls: Any, block: Any) -> Any:
-    """The index of a text in a block that exists already, in a buffer that it holds, as `TextIndex(block)`.
+    """The index of a text in a block that exists already, in a buffer that it holds and does not copy. ValueError where
+    header or directory of the block are not right; the rest is not looked at: call `check`.
 
+    >>> block = TextIndex(b"banana").block
     >>> TextIndex.over(block).count(b"ana")
     2
     """
@@ -214,7 +216,7 @@ def text_open(cls: Any, path: Any) -> Any:
     """The index of a text in a file that `bitm text build` or `save` wrote, mapped and read where it lies. ValueError as
     `load`, and where the file is of another kind.
 
-    >>> TextIndex(block).save("book.block")
+    >>> TextIndex(b"banana").save("book.block")
     >>> with TextIndex.open("book.block") as index:
     ...     index.count(b"ana")
     2
@@ -226,10 +228,10 @@ def text_open(cls: Any, path: Any) -> Any:
 
 
 def text_block(self: Any) -> memoryview:
-    """The words of the block, to be read: what `TextIndex` takes, and the bytes of the file.
+    """The words of the block, to be read: what `TextIndex.over` takes, and the bytes of the file.
 
-    >>> bytes(TextIndex(block).block) == block
-    True
+    >>> list(TextIndex(b"banana").block[3:5])  # words of the header: the length and the width
+    [6, 2]
     """
     return memoryview(_core.parts(self)[1][0])
 
@@ -237,7 +239,7 @@ def text_block(self: Any) -> memoryview:
 def text_find_all(self: Any, pattern: Any) -> List[int]:
     """The positions at which a pattern stands, the first one first; they may overlap. Pattern as in `count`.
 
-    >>> TextIndex(block).find_all(b"ana")
+    >>> TextIndex(b"banana").find_all(b"ana")
     [1, 3]
     """
     return sorted(self.locate(pattern))

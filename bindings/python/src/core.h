@@ -340,6 +340,21 @@ PyObject *sparse_over(PyObject *type, Memory *memory);
 PyObject *dictionary_over(PyObject *type, Memory *memory);
 PyObject *text_over(PyObject *type, Memory *memory);
 
+/* ---- text.c, text_make.c */
+
+/* Opens the block of the memory: -1 and ValueError where it is not that of a text. */
+int text_opened(Memory *it);
+
+int text_init(PyObject *self, PyObject *args, PyObject *keywords);
+PyObject *text_of_letters(PyObject *type, PyObject *const *args, Py_ssize_t count, PyObject *keywords);
+
+/* Bytes that nobody changes: 1 and the object itself where it is bytes, or a copy of a buffer of bytes; 0 where it is
+ * none; -1 and an error. */
+int bytes_kept(PyObject *from, PyObject **bytes);
+
+/* The letters of a list of numbers, in room that is given back by free. -1 and an error. */
+int letters_take(PyObject *from, uint64_t **letters, size_t *len);
+
 /* What equals a whole number of 64 bits: 1 and the number, 0 where it cannot be one, -1 and an error. */
 int equal_number(PyObject *value, uint64_t *out);
 

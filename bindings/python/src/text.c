@@ -1,8 +1,7 @@
 /* bitm.TextIndex: where a pattern stands in a text, by the block of its index. */
 #include "core.h"
 
-/* Opens the block of the memory: -1 and ValueError where it is not that of a text. */
-static int opened(Memory *it)
+int text_opened(Memory *it)
 {
     if (bitm_text_open(it->block, it->block_len, &it->text) == BITM_OK)
         return 0;
@@ -12,95 +11,64 @@ static int opened(Memory *it)
 
 PyObject *text_over(PyObject *type, Memory *it)
 {
-    if (opened(it) == 0)
+    if (text_opened(it) == 0)
         return value_new(type, it);
     DROP(it);
     return NULL;
 }
 
-static int text_init(PyObject *self, PyObject *args, PyObject *keywords)
-{
-    static char *names[] = {"block", NULL};
-    PyObject *block;
-    const void *at = NULL;
-    if (!PyArg_ParseTupleAndKeywords(args, keywords, "O:TextIndex", names, &block))
-        return -1;
-    Memory *it = memory_new();
-    int failed = it == NULL || memory_items(it, block, 8, &at, &it->block_len);
-    if (!failed) {
-        it->block = at;
-        failed = opened(it);
-    }
-    if (failed)
-        DROP(it);
-    else
-        value_set(self, it);
-    return failed ? -1 : 0;
-}
-
 /* ---- patterns */
 
-/* The letters of a pattern: bytes of a buffer that is held, or numbers of its own. */
+/* The letters of a pattern: bytes, or numbers of its own. */
 typedef struct {
-    Py_buffer held;
-    int is_bytes;
+    PyObject *bytes; /* or NULL */
+    const uint8_t *at;
     uint64_t *letters;
     size_t len;
 } Pattern;
-
-/* The letters of a list of numbers. -1 and an error. */
-static int letters_take(Pattern *it, PyObject *from)
-{
-    Integers numbers;
-    if (integers_take(&numbers, from, "a letter"))
-        return -1;
-    it->len = numbers.len;
-    it->letters = room_for(numbers.len);
-    size_t good = it->letters == NULL ? 0 : integers_load(&numbers, 0, numbers.len, it->letters);
-    int failed = it->letters == NULL || good < numbers.len;
-    if (it->letters != NULL && failed)
-        integers_below(&numbers, good, "a letter");
-    integers_drop(&numbers);
-    if (failed)
-        free(it->letters);
-    return failed ? -1 : 0;
-}
 
 /* Bytes, or a list of numbers. -1 and an error. */
 static int pattern_take(Pattern *it, PyObject *from)
 {
     it->letters = NULL;
-    it->is_bytes = PyBytes_Check(from) || PyByteArray_Check(from);
     if (PyUnicode_Check(from)) {
         PyErr_SetString(PyExc_TypeError, "a pattern is bytes or a list of letters, no str: encode it as the text was");
         return -1;
     }
-    if (!it->is_bytes)
-        return letters_take(it, from);
-    if (PyObject_GetBuffer(from, &it->held, PyBUF_SIMPLE))
-        return -1;
-    it->len = (size_t)it->held.len;
+    int found = bytes_kept(from, &it->bytes);
+    if (found <= 0)
+        return found < 0 ? -1 : letters_take(from, &it->letters, &it->len);
+    it->at = (const uint8_t *)PyBytes_AsString(it->bytes);
+    it->len = (size_t)PyBytes_Size(it->bytes);
     return 0;
 }
 
 static void pattern_drop(Pattern *it)
 {
-    if (it->is_bytes)
-        PyBuffer_Release(&it->held);
+    Py_XDECREF(it->bytes);
     free(it->letters);
+}
+
+/* Whether the text can be asked for the pattern: TypeError for numbers where letters stand for bytes. */
+static int may_ask(const Memory *it, const Pattern *pattern)
+{
+    if (pattern->bytes != NULL || it->text.used_len == 0)
+        return 1;
+    PyErr_SetString(PyExc_TypeError, "this is the index of bytes, and a pattern is bytes too");
+    return 0;
 }
 
 static uint32_t count_of(const Memory *it, const Pattern *pattern, uint64_t *out)
 {
-    return pattern->is_bytes ? bitm_text_count_bytes(&it->text, pattern->held.buf, pattern->len, out)
-                             : bitm_text_count(&it->text, pattern->letters, pattern->len, out);
+    return pattern->bytes != NULL ? bitm_text_count_bytes(&it->text, pattern->at, pattern->len, out)
+                                  : bitm_text_count(&it->text, pattern->letters, pattern->len, out);
 }
 
 static uint32_t locate_of(const Memory *it, const Pattern *pattern, size_t from, uint64_t *out, size_t room,
                           uint64_t *written)
 {
-    return pattern->is_bytes
-               ? bitm_text_locate_bytes(&it->text, pattern->held.buf, pattern->len, from, out, room, written)
+    return pattern->bytes != NULL
+               ? bitm_text_locate_bytes(&it->text, pattern->at, pattern->len, from, out, room, written)
                : bitm_text_locate(&it->text, pattern->letters, pattern->len, from, out, room, written);
 }
 
@@ -108,22 +76,21 @@ static uint32_t locate_of(const Memory *it, const Pattern *pattern, size_t from,
 static int counted(PyObject *self, PyObject *query, uint64_t *out)
 {
     Pattern pattern;
-    uint32_t status;
+    uint32_t status = BITM_OK;
     if (pattern_take(&pattern, query))
         return -1;
     Memory *it = memory_kept(self);
-    if (it == NULL) {
-        pattern_drop(&pattern);
-        return -1;
+    int is_asked = it != NULL && may_ask(it, &pattern);
+    if (is_asked) {
+        Py_BEGIN_ALLOW_THREADS
+        status = count_of(it, &pattern, out);
+        Py_END_ALLOW_THREADS
+        if (status != BITM_OK)
+            (void)wrong();
     }
-    Py_BEGIN_ALLOW_THREADS
-    status = count_of(it, &pattern, out);
-    Py_END_ALLOW_THREADS
     pattern_drop(&pattern);
     DROP(it);
-    if (status != BITM_OK)
-        (void)wrong();
-    return status == BITM_OK ? 0 : -1;
+    return is_asked && status == BITM_OK ? 0 : -1;
 }
 
 static PyObject *text_count(PyObject *self, PyObject *query)
@@ -165,7 +132,7 @@ static PyObject *text_locate(PyObject *self, PyObject *const *args, Py_ssize_t c
         number_or(given[2], UINT64_MAX, "the limit", &most) || pattern_take(&pattern, given[0]))
         return NULL;
     Memory *it = memory_kept(self);
-    PyObject *found = it == NULL ? NULL : located(it, &pattern, from, most);
+    PyObject *found = it == NULL || !may_ask(it, &pattern) ? NULL : located(it, &pattern, from, most);
     pattern_drop(&pattern);
     DROP(it);
     return found;
@@ -179,10 +146,13 @@ static Py_ssize_t text_len(PyObject *self)
     return it == NULL ? -1 : (Py_ssize_t)it->text.letters.len; /* below 2^32 */
 }
 
+/* Whether letters are bytes, or stand for them. */
+static inline int has_bytes(const Memory *it) { return it->text.used_len > 0 || it->text.letters.width <= 8; }
+
 /* The letters from a position on: as bytes where each is one, else as a list. */
 static PyObject *part_of(const Memory *it, size_t from, size_t count)
 {
-    int is_bytes = it->text.letters.width <= 8;
+    int is_bytes = has_bytes(it);
     uint32_t status;
     PyObject *bytes = is_bytes ? PyBytes_FromStringAndSize(NULL, (Py_ssize_t)count) : NULL;
     uint64_t *letters = is_bytes ? NULL : room_for(count);
@@ -202,13 +172,17 @@ static PyObject *part_of(const Memory *it, size_t from, size_t count)
 static PyObject *letter_of(PyObject *self, Py_ssize_t index)
 {
     Memory *it = memory_of(self);
-    uint64_t out = 0;
+    uint64_t letter = 0;
+    uint8_t byte = 0;
     if (it == NULL)
         return NULL;
     const uint64_t len = it->text.letters.len;
-    uint32_t status = bitm_text_extract(&it->text, (size_t)from_front(index, len), &out, 1);
+    const size_t at = (size_t)from_front(index, len);
+    const int is_byte = has_bytes(it);
+    uint32_t status =
+        is_byte ? bitm_text_extract_bytes(&it->text, at, &byte, 1) : bitm_text_extract(&it->text, at, &letter, 1);
     if (LIKELY(status == BITM_OK))
-        return boxed(out);
+        return boxed(is_byte ? byte : letter);
     return status == BITM_NONE ? outside(index, len, "letters") : wrong();
 }
 
@@ -275,12 +249,12 @@ static PyObject *text_repr(PyObject *self)
                       : PyUnicode_FromFormat("<TextIndex of %zu letters>", it->text.letters.len);
 }
 
-#define OF(rest) EXAMPLE("TextIndex(block)" rest)
+#define OF(rest) EXAMPLE("TextIndex(b'banana')" rest)
 static PyMethodDef methods[] = {
-    METHOD(
-        "count", text_count, METH_O, "($self, pattern, /)",
-        "At how many positions of the text a pattern stands: bytes, or a list of letters. Occurrences may overlap; an "
-        "empty pattern stands at each position, the end too." OF(".count(b'ana')") PRINTS("2")),
+    METHOD("count", text_count, METH_O, "($self, pattern, /)",
+           "At how many positions of the text a pattern stands: bytes, or of a text of numbers a list of letters. "
+           "Occurrences "
+           "may overlap; an empty pattern stands at each position, the end too." OF(".count(b'ana')") PRINTS("2")),
     KEYWORDS("locate", text_locate, "($self, pattern, start=0, limit=None)",
              "The positions at which a pattern stands, in the order of the rest of the text from there on: without the "
              "first `start` of them, and at most `limit`. find_all() has them in the order of the text." OF(
@@ -289,21 +263,35 @@ static PyMethodDef methods[] = {
         "check", text_check, METH_NOARGS, "($self, /)",
         "Whether the block is as it was written and holds the index of a text: looks at all of it, and walks through "
         "the text." OF(".check()") PRINTS("True")),
+    METHOD("of_letters", text_of_letters, METH_FASTCALL | METH_KEYWORDS | METH_CLASS,
+           "($type, numbers, letters, step=32)",
+           "The index of a list of numbers that are below `letters`, or of an array. A pattern is then such a list "
+           "too, and a "
+           "part of the text a list. A word is kept for each letter of the alphabet; ValueError where a number is not "
+           "below `letters`." EXAMPLE("index = TextIndex.of_letters([1, 0, 2000, 0, 2000, 0], letters=2001)")
+               THEN("index.find_all([0, 2000]), index[4:6]") PRINTS("([1, 3], [2000, 0])")),
     VALUE_METHODS,
     {NULL, NULL, 0, NULL}};
 
 static PyGetSetDef attributes[] = {
-    {"width", text_width, NULL, DOC("How many bits a letter has at most: 8 of bytes." OF(".width") PRINTS("8")), NULL},
+    {"width", text_width, NULL,
+     DOC("How many bits a letter takes: of bytes as many as the number of different bytes needs." OF(".width")
+             PRINTS("2")),
+     NULL},
     VALUE_CLOSED,
     {NULL, NULL, NULL, NULL, NULL}};
 
 #define TEXT_DOC                                                                                                       \
-    "TextIndex(block)\n--\n\n"                                                                                         \
-    "The index of a text, in a block that `bitm text build` made: a buffer, which is held and not copied, or by "      \
-    "TextIndex.open() a file, which is mapped. A pattern is counted in a time that does not depend on the text's "     \
-    "length, and `index[from:to]` is a part of the text, as bytes where its letters are bytes. ValueError where "      \
-    "header or directory of the block are not right; the rest is not looked at: call check(). Here `block` is that "   \
-    "of the text banana:" EXAMPLE("index = TextIndex(block)")                                                          \
+    "TextIndex(text, step=32)\n--\n\n"                                                                                 \
+    "The index of a text of bytes, by which a pattern is counted in a time that does not depend on the text's "        \
+    "length. "                                                                                                         \
+    "The text is not needed any more: `index[from:to]` is a part of it. Each `step` bytes a position is kept: the "    \
+    "fewer, "                                                                                                          \
+    "the less memory, and the longer it takes to find a position or a part. Building takes linear time, and eight "    \
+    "bytes "                                                                                                           \
+    "for each of the text while it works. TextIndex.of_letters() takes a list of numbers, TextIndex.open() maps the "  \
+    "file that save() or the program `bitm text build` wrote, and TextIndex.over() takes its bytes." EXAMPLE(          \
+        "index = TextIndex(b'banana')")                                                                                \
         THEN("len(index), index.count(b'ana'), index.find_all(b'ana'), index[1:4], b'nab' in index")                   \
             PRINTS("(6, 2, [1, 3], b'ana', False)")
 

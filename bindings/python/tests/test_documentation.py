@@ -5,12 +5,9 @@ import inspect
 import pytest
 
 import bitm
-from blocks import as_bytes, of_text
-
 pytest.importorskip("numpy")
 KINDS = (bitm.BitVector, bitm.Index, bitm.EliasFano, bitm.SparseBits, bitm.PerfectHash, bitm.Dictionary, bitm.Shards, bitm.Tree,
          bitm.WaveletMatrix, bitm.TextIndex)
-BLOCK = {"block": as_bytes(of_text(b"banana"))}  # what the examples of a TextIndex open
 WALK = type(iter(bitm.EliasFano([1])))
 
 
@@ -30,14 +27,14 @@ def items():
 def test_the_example_of(name, item, tmp_path, monkeypatch):
     monkeypatch.chdir(tmp_path)
     text = inspect.getdoc(item)
-    names = {it: getattr(bitm, it) for it in bitm.__all__} | BLOCK
+    names = {it: getattr(bitm, it) for it in bitm.__all__}
     test = doctest.DocTestParser().get_doctest(text, names, name, None, None)
     assert test.examples, f"{name} has no example"
     assert doctest.DocTestRunner().run(test).failed == 0
 
 
 def test_the_examples_of_the_module():
-    assert doctest.testmod(bitm, extraglobs=BLOCK).failed == 0 and bitm.__doc__.count(">>>") > 3
+    assert doctest.testmod(bitm).failed == 0 and bitm.__doc__.count(">>>") > 3
 
 
 def test_signatures_are_those_that_are_shown():

@@ -1,13 +1,16 @@
 """TextIndex beside plain searches in bytes and lists; drawn texts and patterns by Hypothesis; files and buffers of blocks, of
-which bytes were changed or cut off. The blocks are written by docs/FORMAT.md."""
+which bytes were changed or cut off. What is built has the block that docs/FORMAT.md says."""
+import array
 import copy
 import gc
 import pickle
 import random
+import subprocess
+import sys
 import threading
 
 import pytest
-from blocks import as_bytes, of_text
+from blocks import as_bytes, of_bytes, of_text
 from hypothesis import given, settings, strategies as st
 
 import bitm
@@ -16,8 +19,9 @@ from bitm import TextIndex
 VERSE = b"she sells sea shells on the sea shore"
 
 
-def index_of(text, **how):
-    return TextIndex(as_bytes(of_text(text, **how)))
+def numbered(text, **how):
+    """The index of numbers of a block that was written here."""
+    return TextIndex.over(as_bytes(of_text(text, **how)))
 
 
 def places(text, pattern):
@@ -38,8 +42,9 @@ def as_plain(index, text, pattern):
 @pytest.mark.parametrize("text", [b"", b"a", b"\0", b"\xff\0\xff", b"banana", VERSE, b"ab" * 90, bytes(range(256))])
 @pytest.mark.parametrize("step", [1, 5, 32])
 def test_answers_are_those_of_plain_searches(text, step):
-    index = index_of(text, step=step)
-    assert len(index) == len(text) and index.check() and index.width == 8 and index[:] == text
+    index = TextIndex(text, step)
+    assert len(index) == len(text) and index.check() and index[:] == text and bytes(index.block) == as_bytes(of_bytes(text, step))
+    assert index.width == max(1, (max(len(set(text)), 1) - 1).bit_length())
     for pattern in (b"", b"a", b"she", b"sea sh", b"ana", b"abab", b"\xff", b"\0\xff", text, text + b"a", text[3:9], text[-2:]):
         as_plain(index, text, pattern)
 
@@ -48,7 +53,7 @@ def test_answers_are_those_of_plain_searches(text, step):
 @given(st.data())
 def test_any_text_and_any_pattern(data):
     text = data.draw(st.binary(max_size=60) | st.text("ab", max_size=60).map(str.encode))
-    index = index_of(text, step=data.draw(st.integers(1, 9)))
+    index = TextIndex(text, data.draw(st.integers(1, 9)))
     as_plain(index, text, data.draw(st.binary(max_size=3) | st.sampled_from([text[i:j] for i in range(0, len(text) + 1, 7) for j in (i + 1, i + 4)])))
     assert index[data.draw(st.slices(len(text)))] is not None
     some = data.draw(st.slices(len(text)))
@@ -56,7 +61,7 @@ def test_any_text_and_any_pattern(data):
 
 
 def test_slices_and_letters():
-    index = index_of(VERSE)
+    index = TextIndex(VERSE)
     for at in range(-len(VERSE), len(VERSE)):
         assert index[at] == VERSE[at]
     for start in (None, 0, 3, -5, 40, -90):
@@ -76,7 +81,8 @@ def test_slices_and_letters():
 def test_letters_that_are_no_bytes():
     draw = random.Random(3)
     text = [draw.randrange(3) * 400 for _ in range(90)]
-    index = index_of(text, width=10, letters=801, step=4)
+    index = TextIndex.of_letters(text, 801, step=4)
+    assert bytes(index.block) == as_bytes(of_text(text, 10, 801, 4))
     assert index.check() and index.width == 10 and index[:] == text and index[10:50:3] == text[10:50:3] and index[-1] == text[-1]
     for pattern in ([], [400], [400, 800], [5], [2**64 - 1], text[20:23]):
         as_plain(index, text, pattern)
@@ -84,15 +90,90 @@ def test_letters_that_are_no_bytes():
 
 
 def test_patterns_of_any_kind():
-    index = index_of(VERSE)
-    for pattern in (b"sea", bytearray(b"sea"), memoryview(b"sea"), [115, 101, 97], (115, 101, 97), iter([115, 101, 97])):
-        assert index.count(pattern) == 2
+    index, numbers = TextIndex(VERSE), TextIndex.of_letters(VERSE, 256)
+    assert numbers.block == numbered(VERSE).block and numbers.width == 8 and numbers[:] == VERSE
+    for pattern in (b"sea", bytearray(b"sea"), memoryview(b"sea"), memoryview(b"s.e.a")[::2], array.array("B", b"sea")):
+        assert index.count(pattern) == numbers.count(pattern) == 2 and index.find_all(pattern) == [10, 28]
+    for pattern in ([115, 101, 97], (115, 101, 97), iter([115, 101, 97]), array.array("Q", [115, 101, 97])):
+        assert numbers.count(pattern) == 2
+    for pattern in ([115, 101, 97], [], array.array("b", b"sea"), array.array("Q", [115, 101, 97])):
+        for ask in (index.count, index.locate, index.find_all, lambda it: it in index):
+            with pytest.raises(TypeError, match="bytes"):
+                ask(pattern)
     numpy = pytest.importorskip("numpy")
-    assert index.count(numpy.frombuffer(b"sea", dtype=numpy.uint8)) == index.count(numpy.array([115, 101, 97], dtype=">i4")) == 2
+    assert index.count(numpy.frombuffer(b"sea", dtype=numpy.uint8)) == numbers.count(numpy.array([115, 101, 97], dtype=">i4")) == 2
+
+
+def test_texts_of_any_kind():
+    wanted = TextIndex(VERSE).block
+    texts = [bytearray(VERSE), memoryview(VERSE), memoryview(b".".join(VERSE[i:i + 1] for i in range(37)))[::2], array.array("B", VERSE)]
+    for text in texts:
+        assert TextIndex(text).block == TextIndex(text=text, step=32).block == TextIndex(text, None).block == wanted
+    for text in ([1, 0, 2], (1, 0, 2), iter([1, 0, 2]), array.array("i", [1, 0, 2]), bytearray([1, 0, 2])):
+        index = TextIndex.of_letters(text, letters=3)
+        assert index.count([0, 2]) == 1 and index[:] == b"\1\0\2" and index.block == numbered([1, 0, 2], width=2, letters=3).block
+    numpy = pytest.importorskip("numpy")
+    assert TextIndex(numpy.frombuffer(VERSE, dtype=numpy.uint8)).block == wanted
+    many = numpy.arange(0, 60000, 3, dtype=numpy.int32)
+    index = TextIndex.of_letters(many, 60000, 7)
+    assert index.check() and index.find_all(many[40:43]) == [40] and index[5:8] == [15, 18, 21] and len(index) == 20000
+
+
+def test_texts_that_are_refused():
+    for text in ("text", 3, None, [1, 2], array.array("i", [1]), array.array("b", [1]), iter(b"a"), object()):
+        with pytest.raises(TypeError, match="a text is bytes"):
+            TextIndex(text)
+    for step, error in ((0, ValueError), (2**32, ValueError), (2**63, ValueError), (-1, OverflowError), (2**64, OverflowError), (1.0, TypeError), ("1", TypeError)):
+        with pytest.raises(error):
+            TextIndex(b"text", step)
+        with pytest.raises(error):
+            TextIndex.of_letters([1], 2, step)
+        with pytest.raises(error):
+            TextIndex.of_letters([1], letters=2, step=step)
+    assert TextIndex(VERSE, 2**32 - 1).find_all(b"sea") == [10, 28]
+    for numbers, letters, error in (([3], 3, ValueError), ([0, 2**64 - 1], 9, ValueError), ([0], 0, ValueError), ([0], 2**32, ValueError), ([0], -1, OverflowError),
+                                    ([0], 2**64, OverflowError), ([0], 1.0, TypeError), ([0], None, TypeError), ([-1], 3, OverflowError), ([2**64], 3, OverflowError),
+                                    (["s"], 3, TypeError), (3, 3, TypeError), (None, 3, TypeError), (array.array("d", [1.0]), 3, TypeError)):
+        with pytest.raises(error):
+            TextIndex.of_letters(numbers, letters)
+    for call in (lambda: TextIndex(), lambda: TextIndex(b"a", 1, 2), lambda: TextIndex(b"a", steps=1), lambda: TextIndex.of_letters([1]), lambda: TextIndex.of_letters(),
+                 lambda: TextIndex.of_letters([1], 2, 3, 4), lambda: TextIndex.of_letters([1], alphabet=2)):
+        with pytest.raises(TypeError):
+            call()
+    assert TextIndex.of_letters([], 0).count([]) == TextIndex(b"").count(b"") == 1 and TextIndex.of_letters([0, 0], 1).count([0]) == 2
+
+
+def test_a_value_that_closes_or_changes_what_is_read():
+    index = TextIndex(VERSE)
+    text = bytearray(VERSE)
+    changing = TextIndex(text)
+    text[:] = b"."
+    assert changing[:] == VERSE and len(changing) == 37
+
+    class Closing:
+        def __index__(self):
+            index.close()
+            return 1
+    with pytest.raises(ValueError, match="closed"):
+        index.locate(b"s", Closing())
+    index.__init__(b"anew", Closing())
+    assert index[:] == b"anew"
+    with pytest.raises(TypeError):
+        index.__init__("a")
+    assert index[:] == b"anew"
+
+
+def test_memory_that_is_refused():
+    """A new value is not there then, and one that is stays as it was."""
+    program = ("import resource, bitm\ntext = bytes(range(256)) * (1 << 16)\nindex = bitm.TextIndex(b'kept')\n"
+               "resource.setrlimit(resource.RLIMIT_AS, (1 << 27, -1))\n"
+               "for call in (lambda: bitm.TextIndex(text), lambda: index.__init__(text), lambda: bitm.TextIndex.of_letters([0], 1 << 31)):\n"
+               "    try:\n        call()\n    except MemoryError:\n        print(index[:])\n")
+    assert subprocess.run([sys.executable, "-c", program], capture_output=True, text=True, check=True).stdout == "b'kept'\n" * 3
 
 
 def test_wrong_arguments():
-    index = index_of(VERSE)
+    index = numbered(VERSE)
     for wrong, error in (("sea", TypeError), (1, TypeError), (None, TypeError), ([-1], OverflowError), ([2**64], OverflowError), (["s"], TypeError)):
         for ask in (index.count, index.locate, index.find_all, lambda it: it in index):
             with pytest.raises(error):
@@ -102,7 +183,7 @@ def test_wrong_arguments():
             index.locate(b"s", wrong)
         with pytest.raises(error):
             index.locate(b"s", limit=wrong)
-    for call in (lambda: index.locate(), lambda: index.locate(b"s", 0, 1, 2), lambda: index.locate(b"s", other=1), lambda: TextIndex(), index.count):
+    for call in (lambda: index.locate(), lambda: index.locate(b"s", 0, 1, 2), lambda: index.locate(b"s", other=1), index.count):
         with pytest.raises(TypeError):
             call()
     with pytest.raises(TypeError):
@@ -113,16 +194,16 @@ def test_wrong_arguments():
 def test_blocks_that_are_refused():
     for wrong, error in (("block", TypeError), (None, TypeError), (3, TypeError), (b"", ValueError), (b"123", TypeError), (bytes(640), ValueError)):
         with pytest.raises(error):
-            TextIndex(wrong)
+            TextIndex.over(wrong)
     with pytest.raises(ValueError, match="index of a text"):
-        TextIndex(bitm.WaveletMatrix([1, 2]).block)
+        TextIndex.over(bitm.WaveletMatrix([1, 2]).block)
     with pytest.raises(ValueError):
         bitm.WaveletMatrix.over(as_bytes(of_text(b"banana")))
 
 
 def test_files_and_copies(tmp_path):
-    data = as_bytes(of_text(VERSE))
-    index = TextIndex(data)
+    data = as_bytes(of_bytes(VERSE))
+    index = TextIndex(VERSE)
     index.save(tmp_path / "text")
     assert (tmp_path / "text").read_bytes() == data == bytes(index.block)
     others = [bitm.load(tmp_path / "text"), bitm.load(tmp_path / "text", mmap=True), bitm.loads(data), TextIndex.open(tmp_path / "text")]
@@ -146,15 +227,15 @@ def test_files_and_copies(tmp_path):
 def test_a_subclass_stays_one(tmp_path):
     class Own(TextIndex):
         pass
-    index_of(VERSE).save(tmp_path / "text")
-    for own in (Own(as_bytes(of_text(VERSE))), Own.over(as_bytes(of_text(VERSE))), Own.open(tmp_path / "text")):
+    Own(VERSE).save(tmp_path / "text")
+    for own in (Own(VERSE), Own.of_letters(VERSE, 256), Own.over(as_bytes(of_text(VERSE))), Own.open(tmp_path / "text")):
         assert type(own) is Own and own.count(b"she") == 2
 
 
 def test_the_block_lives_as_long_as_a_view_of_it():
-    block = index_of(VERSE).block
+    block = TextIndex(VERSE).block
     gc.collect()
-    assert TextIndex(block)[:] == VERSE
+    assert TextIndex.over(block)[:] == VERSE
     with pytest.raises(TypeError):
         block[0] = 1
 
@@ -162,7 +243,7 @@ def test_the_block_lives_as_long_as_a_view_of_it():
 def within(index):
     """Whatever the block holds, every call answers within its range, or says that the block is wrong."""
     draw, length = random.Random(1), len(index)
-    for pattern in (b"", b"s", b"se", bytes(draw.randrange(256) for _ in range(3)), [draw.randrange(2**64)]):
+    for pattern in (b"", b"s", b"se", bytes(draw.randrange(256) for _ in range(3))):
         try:
             assert 0 <= index.count(pattern) <= length + 1
             assert all(0 <= at <= length for at in index.locate(pattern))
@@ -174,37 +255,37 @@ def within(index):
         pass
 
 
-def test_each_changed_byte_and_each_prefix_is_seen():
-    data = as_bytes(of_text(b"mississippi", letters=120, step=3))
+@pytest.mark.parametrize("data", [as_bytes(of_text(b"mississippi", letters=120, step=3)), as_bytes(of_bytes(b"mississippi", 3))], ids=["numbers", "bytes"])
+def test_each_changed_byte_and_each_prefix_is_seen(data):
     for at in range(len(data)):
         changed = bytearray(data)
         changed[at] ^= 1 << at % 8
         try:
-            index = TextIndex(changed)
+            index = TextIndex.over(changed)
         except ValueError:
-            assert at < 512
+            assert at < 576
             continue
         assert not index.check()
         within(index)
     for end in range(0, len(data), 8):
         with pytest.raises(ValueError):
-            TextIndex(data[:end])
+            TextIndex.over(data[:end])
 
 
 def test_random_words_behind_a_right_header():
-    draw, data = random.Random(7), as_bytes(of_text(VERSE))
+    draw, data = random.Random(7), as_bytes(of_bytes(VERSE))
     for turn in range(60):
         changed = bytearray(data)
-        for at in range(512, len(data)):
+        for at in range(576, len(data)):
             if draw.randrange(4) > turn % 4:
                 changed[at] = draw.randrange(256) & draw.randrange(256)
-        index = TextIndex(changed)
+        index = TextIndex.over(changed)
         assert not index.check() or bytes(changed) == data
         within(index)
 
 
 def test_threads_ask_and_close_at_once():
-    index, wrong = index_of(VERSE * 20), []
+    index, wrong = TextIndex(VERSE * 20), []
 
     def ask():
         try:
@@ -218,6 +299,33 @@ def test_threads_ask_and_close_at_once():
     for each in threads:
         each.start()
     index.close()
+    for each in threads:
+        each.join()
+    assert not wrong
+
+
+def test_threads_build_and_close_at_once():
+    built, wrong = [], []
+
+    def build():
+        for turn in range(40):
+            made = TextIndex(VERSE * (1 + turn % 7), 1 + turn % 5)
+            built.append(made)
+            if made.count(b"sea") != 2 * (1 + turn % 7) or made[10:13] != b"sea":
+                wrong.append(turn)
+            built.pop(0).close()
+
+    def safely(run):
+        def call():
+            try:
+                run()
+            except ValueError as error:
+                if "closed" not in str(error):
+                    wrong.append(error)
+        return call
+    threads = [threading.Thread(target=safely(build)) for _ in range(4)]
+    for each in threads:
+        each.start()
     for each in threads:
         each.join()
     assert not wrong

@@ -27,6 +27,7 @@ sequence.contains_list(array); sequence.contains_list([1]); sequence.to_numpy();
 numbers["a"]; numbers.get("b"); numbers.get("b", "x"); numbers.get_list(["a"]); numbers.get_list(array); numbers.get_list(iter(["a"]), missing=5)
 shards[1]; shards[1:]; shards.rank(3); shards.select(3); shards.next_one(3); shards.find(3); list(shards.ones()); shards.parts; shards.shard(1)
 shards.rank_list([1]); shards.rank_list(array); shards.select_list([1]); shards.select_list(array); shards.select0_list(array, missing="error")
+bitm.TextIndex(b"a", 3).count(b"a"); bitm.TextIndex.of_letters([1], 2).locate([1]); bitm.TextIndex.of_letters(array, 9, step=1)[0]
 bitm.Shards.build([bits, (b"", 0)], "x"); shards.count(); shards.folder
 bitm.load("x"); bitm.load("x").check(); bitm.loads(b""); bitm.tables_of(b""); bitm.Index(b"").over(b"", b"", b"")""".replace("\n", "; ").split("; ")
 

@@ -1,4 +1,7 @@
 //! Why something is not made, taken or answered.
+mod build;
+
+pub use build::BuildError;
 use core::{error::Error, fmt};
 
 /// Memory was refused.
@@ -48,129 +51,6 @@ impl fmt::Display for WrongTables {
 }
 
 impl Error for WrongTables {}
-
-/// Why an index, a sequence, sparse bits, a hash, a tree or a list of numbers was not built.
-///
-/// ```
-/// use bitm_proved::{BuildError, EliasFano};
-/// let why = EliasFano::build(&[2, 5, 3]).unwrap_err();
-/// assert_eq!(why, BuildError::NotSorted { index: 2 });
-/// assert_eq!(why.to_string(), "number 2 is less than the one before it");
-/// ```
-#[derive(Clone, Copy, PartialEq, Eq, Debug)]
-#[non_exhaustive]
-pub enum BuildError {
-    /// There are more words, bits or numbers than there may be.
-    ///
-    /// ```
-    /// use bitm_proved::{BuildError, Index, Sampling};
-    /// let longer = Index::try_build([0u64], 65, Sampling::default()); // 65 bits of 64
-    /// assert_eq!(longer.err(), Some(BuildError::TooLong { len: 65 }));
-    /// ```
-    TooLong {
-        /// How many there are.
-        len: usize,
-    },
-    /// The number at an index is less than the one before it.
-    ///
-    /// ```
-    /// use bitm_proved::{BuildError, EliasFano};
-    /// assert_eq!(EliasFano::build(&[2, 5, 3]).err(), Some(BuildError::NotSorted { index: 2 }));
-    /// ```
-    NotSorted {
-        /// That index.
-        index: usize,
-    },
-    /// The position at an index is not greater than the one before it.
-    ///
-    /// ```
-    /// use bitm_proved::{BuildError, SparseBits};
-    /// assert_eq!(SparseBits::build(&[2, 5, 5], 9).err(), Some(BuildError::NotRising { index: 2 }));
-    /// ```
-    NotRising {
-        /// That index.
-        index: usize,
-    },
-    /// The position at an index is not less than the number of bits.
-    ///
-    /// ```
-    /// use bitm_proved::{BuildError, SparseBits};
-    /// assert_eq!(SparseBits::build(&[2, 5], 5).err(), Some(BuildError::PastEnd { index: 1 }));
-    /// ```
-    PastEnd {
-        /// The least such index.
-        index: usize,
-    },
-    /// Hashes of keys are equal.
-    ///
-    /// ```
-    /// use bitm_proved::{BuildError, PerfectHash};
-    /// assert_eq!(PerfectHash::build(vec![5, 7, 5]).err(), Some(BuildError::EqualHashes { left: 2 }));
-    /// ```
-    EqualHashes {
-        /// How many hashes got no number.
-        left: usize,
-    },
-    /// The degrees are those of no tree.
-    ///
-    /// ```
-    /// use bitm_proved::{BuildError, Tree};
-    /// assert_eq!(Tree::build(&[1, 1]).err(), Some(BuildError::NotATree)); // two children of two nodes
-    /// ```
-    NotATree,
-    /// The number at an index has more bits than the width.
-    ///
-    /// ```
-    /// use bitm_proved::{BuildError, WaveletMatrix};
-    /// assert_eq!(WaveletMatrix::build_with(&[3, 4], 2).err(), Some(BuildError::TooWide { index: 1 }));
-    /// ```
-    TooWide {
-        /// That index.
-        index: usize,
-    },
-    /// The width is not 1 to 64.
-    ///
-    /// ```
-    /// use bitm_proved::{BuildError, WaveletMatrix};
-    /// assert_eq!(WaveletMatrix::build_with(&[0], 0).err(), Some(BuildError::WrongWidth { width: 0 }));
-    /// ```
-    WrongWidth {
-        /// It.
-        width: u32,
-    },
-    /// Memory was refused.
-    ///
-    /// ```
-    /// use bitm_proved::{BitVec, BuildError};
-    /// let build = || Ok(Box::<[u64]>::try_with_zeroed_bits(1 << 62)?);
-    /// assert!(matches!(build(), Err(BuildError::NoMemory(_))));
-    /// ```
-    NoMemory(NoMemory),
-}
-
-impl fmt::Display for BuildError {
-    fn fmt(&self, f: &mut fmt::Formatter<'_>) -> fmt::Result {
-        match self {
-            BuildError::TooLong { len } => write!(f, "a length is too great: {len}"),
-            BuildError::NotSorted { index } => write!(f, "number {index} is less than the one before it"),
-            BuildError::NotRising { index } => write!(f, "position {index} is not greater than the one before it"),
-            BuildError::PastEnd { index } => write!(f, "position {index} is past the end"),
-            BuildError::EqualHashes { left } => write!(f, "{left} hashes are equal to others"),
-            BuildError::TooWide { index } => write!(f, "number {index} has more bits than the width"),
-            BuildError::WrongWidth { width } => write!(f, "a width is 1 to 64 bits, not {width}"),
-            BuildError::NotATree => f.write_str("the degrees are those of no tree"),
-            BuildError::NoMemory(why) => why.fmt(f),
-        }
-    }
-}
-
-impl Error for BuildError {}
-
-impl From<NoMemory> for BuildError {
-    fn from(why: NoMemory) -> Self {
-        BuildError::NoMemory(why)
-    }
-}
 
 /// Why words or bytes are not taken as a file, or something is not stored.
 ///

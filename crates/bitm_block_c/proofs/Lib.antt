@@ -1,4 +1,5 @@
 mod CodeLemmas
 mod IndexLemmas
+mod RankListLemmas
 mod SparseLemmas
 mod TextLemmas

@@ -3,7 +3,8 @@ use Rattle.std.specs.Prelude.{ℕ, ◌⊎◌, slice_range}
 use Rattle.bitm.specs.Answer.{Answer}
 use Rattle.bitm.specs.Answer.TheVariants.{Absent, Wrong}
 use Rattle.bitm_abi.specs.Status.{Exported}
-use Rattle.lent_levels.specs.Answers.{IsIndexOf, IsIndexWithin, IsNumberOf, IsNumberWithin, IsRankOf, IsRankWithin}
+use Rattle.lent_levels.specs.Answers.{IsIndexOf, IsIndexWithin}
+use Rattle.lent_levels.specs.Walk.{IsNumberAt, IsRankAt}
 use Rattle.lent_levels.specs.Ranges.{IsCountOf, IsCountWithin, IsNextOf, IsNextWithin, IsPreviousOf, IsPreviousWithin}
 use Rattle.lent_levels.specs.Ranges.{IsSmallestOf, IsSmallestWithin}
 use Rattle.lent_levels.specs.Levels.{levels_of}
@@ -23,14 +24,12 @@ matrix_parts matrix =
 
 -- number index: it has no more bits than the width, whatever the words and tables hold, and is that of the matrix where
 -- they hold one
-pub record IsNumber (index : ℕ) (parts : MatrixParts) (answer : Answer ℕ) : Type 0 where
-  pub inside : IsNumberWithin parts.levels.len parts.levels.width index answer
-  pub right : HoldsMatrix parts → IsNumberOf (items_in parts) index answer
+abbrev pub IsNumber : ℕ → MatrixParts → Answer ℕ → Type 0
+IsNumber index parts = IsNumberAt parts.levels parts.lists index
 
 -- how many of the numbers before an index are this one, likewise: at most the index
-pub record IsRank (number index : ℕ) (parts : MatrixParts) (answer : Answer ℕ) : Type 0 where
-  pub inside : IsRankWithin parts.levels.len index answer
-  pub right : HoldsMatrix parts → IsRankOf (items_in parts) number index answer
+abbrev pub IsRank : ℕ → ℕ → MatrixParts → Answer ℕ → Type 0
+IsRank number index parts = IsRankAt parts.levels parts.lists number index
 
 -- the index of this number with k such numbers before it, likewise: less than there are numbers
 pub record IsIndex (number k : ℕ) (parts : MatrixParts) (answer : Answer ℕ) : Type 0 where

@@ -26,7 +26,7 @@
 // - `sparse_making`: the block of sparse bits, written, opened and checked
 // - `sparse_queries`: a bit, ranks, selections and the nearest bits
 // - `text`: the index of a text as C passes it
-// - `text_making`: the block of the index of a text, opened and checked
+// - `text_making`: the block of the index of a text, opened, and its length
 // - `text_queries`: the positions of a pattern, and parts of the text, over letters and over bytes
 // - `tree`: a tree as C passes it
 mod dictionary;

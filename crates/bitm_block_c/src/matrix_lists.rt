@@ -12,6 +12,7 @@ use crate::matrix::Matrix;
 use bitm_abi::{BAD_SIZE, ListCounts, OK, report_list};
 use bitm_view::Answer;
 use matrix_block::MatrixView;
+use tuning::RANKS_SIDE_BY_SIDE;
 
 /// What is sought of a number.
 #[derive(Clone, Copy)]
@@ -20,26 +21,6 @@ pub enum Sought {
     Rank,
     /// The index where it stands for the given time.
     Index,
-}
-
-/// Writes the number at each index, up to the first that is not found, and returns how many were written.
-fn get_each(view: &MatrixView<'_>, indices: &[usize], out: &mut [u64]) -> usize
-    requires { length out.old ≡ length indices.now }
-    ensures most { result ≤ length indices.now }
-    ensures numbers { (j : ℕ) → j < result
-        → IsNumber (slice_index indices.now j) view.now (Found (slice_index out.new j)) }
-    ensures last { result < length indices.now
-        → IsUnanswered (slice_index indices.now result) view.now }
-    ensures behind { IsKeptFrom result out.old out.new }
-{
-    for at in 0..indices.len() {
-        match view.get(indices[at]) {
-            Answer::Found(number) => out[at] = number,
-            Answer::Absent => return at,
-            Answer::Wrong => return at,
-        }
-    }
-    indices.len()
 }
 
 /// Writes the numbers at a list of indices, up to the first that is not found, and how many were written.
@@ -66,19 +47,99 @@ pub extern "C" fn bitm_matrix_get_list(
     if out.len() != indices.len() {
         return BAD_SIZE;
     }
-    *written = get_each(&view, indices, out);
+    *written = view.get_list(indices, out);
     OK
 }
 
-/// What is sought of a number, by the codes of lists.
+/// How often each number stands before an index, of a group that goes from level to level together, with as many places
+/// to work with.
+fn rank_with(
+    view: &MatrixView<'_>,
+    numbers: &[u64],
+    indices: &[usize],
+    firsts: &mut [usize],
+    lasts: &mut [usize],
+    out: &mut [usize],
+)
+    requires room { length out.old ≡ length numbers.now }
+    requires indices { length indices.now ≡ length numbers.now }
+    requires firsts { length firsts.old ≡ length numbers.now }
+    requires lasts { length lasts.old ≡ length numbers.now }
+    ensures ranks { (j : ℕ) → j < length numbers.now → IsRank (slice_index numbers.now j)
+        (slice_index indices.now j) view.now (selected_by (slice_index out.new j)) }
+    ensures len { length out.new ≡ length out.old }
+{
+    let (levels, mut source) = view.parts();
+    levels.total_places_of_many_on(&mut source, numbers, indices, &mut *firsts, &mut *lasts);
+    for at in 0..numbers.len() {
+        let answer = levels.rank_between(numbers[at], indices[at], firsts[at], lasts[at]);
+        out[at] = code_of(answer);
+    }
+}
+
+/// How often each number stands before an index, of no more numbers than go from level to level together.
+fn rank_group(view: &MatrixView<'_>, numbers: &[u64], indices: &[usize], out: &mut [usize])
+    requires room { length out.old ≡ length numbers.now }
+    requires indices { length indices.now ≡ length numbers.now }
+    requires few { length numbers.now ≤ 32 }
+    ensures ranks { (j : ℕ) → j < length numbers.now → IsRank (slice_index numbers.now j)
+        (slice_index indices.now j) view.now (selected_by (slice_index out.new j)) }
+    ensures len { length out.new ≡ length out.old }
+{
+    // No zeros, which would be written by a call of C's `memset`: the archive calls nothing.
+    let mut firsts = [1usize; RANKS_SIDE_BY_SIDE];
+    let mut lasts = [1usize; RANKS_SIDE_BY_SIDE];
+    let count = numbers.len();
+    rank_with(
+        view,
+        numbers,
+        indices,
+        &mut firsts[..count],
+        &mut lasts[..count],
+        out,
+    );
+}
+
+/// How often each number stands before an index.
+fn rank_each(view: &MatrixView<'_>, numbers: &[u64], indices: &[usize], out: &mut [usize])
+    requires room { length out.old ≡ length numbers.now }
+    requires indices { length indices.now ≡ length numbers.now }
+    ensures ranks { (j : ℕ) → j < length numbers.now → IsRank (slice_index numbers.now j)
+        (slice_index indices.now j) view.now (selected_by (slice_index out.new j)) }
+    ensures len { length out.new ≡ length out.old }
+{
+    let mut from = 0;
+    while from < numbers.len() {
+        let to = from + (numbers.len() - from).min(RANKS_SIDE_BY_SIDE);
+        rank_group(
+            view,
+            &numbers[from..to],
+            &indices[from..to],
+            &mut out[from..to],
+        );
+        from = to;
+    }
+}
+
+/// The index of a number, by the codes of lists.
 #[inline(always)]
-fn sought_code(view: &MatrixView<'_>, sought: Sought, number: u64, k: usize) -> usize
-    ensures { Seeks sought number k view.now (selected_by result) }
+fn index_code(view: &MatrixView<'_>, number: u64, k: usize) -> usize
+    ensures { IsIndex number k view.now (selected_by result) }
 {
     let _ = view.parts(); // its clause makes the limit of the length known to the proof
-    match sought {
-        Sought::Rank => code_of(view.rank(number, k)),
-        Sought::Index => code_of(view.select(number, k)),
+    code_of(view.select(number, k))
+}
+
+/// The index of each number.
+fn select_each(view: &MatrixView<'_>, numbers: &[u64], ks: &[usize], out: &mut [usize])
+    requires room { length out.old ≡ length numbers.now }
+    requires ks { length ks.now ≡ length numbers.now }
+    ensures indices { (j : ℕ) → j < length numbers.now → IsIndex (slice_index numbers.now j)
+        (slice_index ks.now j) view.now (selected_by (slice_index out.new j)) }
+    ensures len { length out.new ≡ length out.old }
+{
+    for at in 0..numbers.len() {
+        out[at] = index_code(view, numbers[at], ks[at]);
     }
 }
 
@@ -95,8 +156,9 @@ fn seek_each(
     ensures { (j : ℕ) → j < length numbers.now → Seeks sought (slice_index numbers.now j)
         (slice_index ks.now j) view.now (selected_by (slice_index out.new j)) }
 {
-    for at in 0..numbers.len() {
-        out[at] = sought_code(view, sought, numbers[at], ks[at]);
+    match sought {
+        Sought::Rank => rank_each(view, numbers, ks, out),
+        Sought::Index => select_each(view, numbers, ks, out),
     }
 }
 

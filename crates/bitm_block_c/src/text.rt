@@ -23,6 +23,8 @@ pub struct Text<'a> {
     pub first: usize,
     /// Each how many letters a position is sampled.
     pub step: u64,
+    /// Which bytes the letters stand for, as 256 bits; no words where letters are numbers.
+    pub used: &'a [u64],
     /// Room for later versions; this one does not read it.
     pub reserved: [u64; 2],
 }
@@ -40,6 +42,7 @@ impl<'a> Text<'a> {
             samples: view.samples(),
             first: view.first(),
             step: view.step() as u64,
+            used: view.used(),
             reserved: [0; 2],
         }
     }
@@ -59,6 +62,7 @@ impl<'a> Text<'a> {
             marks,
             self.starts,
             self.samples,
+            self.used,
             self.first,
             self.step as u32,
         )

@@ -1,6 +1,7 @@
 //! Queries of a text in a block, over letters and over bytes.
 ghost use Rattle.std.specs.Prelude.{◌≡◌, ◌≢◌, ◌⊎◌, length};
-ghost use Rattle.bitm_block_c.specs.Text.{BytesAnswered, CountAnswered, PartAnswered, PositionsAnswered};
+ghost use Rattle.bitm_block_c.specs.Text.{BytesAnswered, CountAnswered, CountOfBytesAnswered, PartAnswered};
+ghost use Rattle.bitm_block_c.specs.Text.{PositionsAnswered, PositionsOfBytesAnswered};
 
 use crate::text::Text;
 use bitm_abi::{BAD_SIZE, report};
@@ -19,7 +20,7 @@ pub extern "C" fn bitm_text_count(text: &Text<'_>, pattern: &[u64], out: &mut us
 /// `bitm_text_count` of a pattern of bytes.
 #[unsafe(no_mangle)]
 pub extern "C" fn bitm_text_count_bytes(text: &Text<'_>, pattern: &[u8], out: &mut usize) -> u32
-    ensures { CountAnswered text.now pattern.now result out.old out.new }
+    ensures { CountOfBytesAnswered text.now pattern.now result out.old out.new }
 {
     match text.view() {
         Some(view) => report(view.count_bytes(pattern), out),
@@ -54,7 +55,8 @@ pub extern "C" fn bitm_text_locate_bytes(
     out: &mut [usize],
     written: &mut usize,
 ) -> u32
-    ensures answer { PositionsAnswered text.now pattern.now from out.old out.new result written.old written.new }
+    ensures answer { PositionsOfBytesAnswered text.now pattern.now from out.old out.new result
+        written.old written.new }
     ensures kept { result ≡ 2 → out.new ≡ out.old }
 {
     match text.view() {
@@ -76,7 +78,7 @@ pub extern "C" fn bitm_text_extract(text: &Text<'_>, from: usize, out: &mut [u64
     }
 }
 
-/// `bitm_text_extract` of letters that are bytes.
+/// `bitm_text_extract` of the text as bytes.
 #[unsafe(no_mangle)]
 pub extern "C" fn bitm_text_extract_bytes(text: &Text<'_>, from: usize, out: &mut [u8]) -> u32
     ensures answer { BytesAnswered text.now from out.new result }

@@ -123,10 +123,53 @@ pub struct bitm_text {
     pub samples_len: usize,
     pub first: usize,
     pub step: u64,
+    pub used: *const u64,
+    pub used_len: usize,
     pub reserved: [u64; 2usize],
 }
 extern "C" {
     pub fn bitm_text_size(len: usize, width: u32, letters: usize, step: u32, out: *mut u64) -> u32;
+}
+extern "C" {
+    pub fn bitm_text_size_letters(
+        len: usize,
+        letters: u32,
+        step: u32,
+        block_len: *mut u64,
+        scratch_len: *mut u64,
+    ) -> u32;
+}
+extern "C" {
+    pub fn bitm_text_build(
+        text: *const u64,
+        text_len: usize,
+        letters: u32,
+        step: u32,
+        scratch: *mut u32,
+        scratch_len: usize,
+        block: *mut u64,
+        block_len: usize,
+    ) -> u32;
+}
+extern "C" {
+    pub fn bitm_text_size_bytes(
+        text: *const u8,
+        text_len: usize,
+        step: u32,
+        block_len: *mut u64,
+        scratch_len: *mut u64,
+    ) -> u32;
+}
+extern "C" {
+    pub fn bitm_text_build_bytes(
+        text: *const u8,
+        text_len: usize,
+        step: u32,
+        scratch: *mut u32,
+        scratch_len: usize,
+        block: *mut u64,
+        block_len: usize,
+    ) -> u32;
 }
 extern "C" {
     pub fn bitm_text_open(block: *const u64, block_len: usize, text: *mut bitm_text) -> u32;

@@ -1,23 +1,25 @@
 //! Indexes of texts, each in one block of memory: views of borrowed blocks.
 pub(crate) mod owned;
 
-use crate::errors::{StoredError, WrongTables};
+use crate::errors::{BuildError, StoredError, WrongTables};
 use crate::ffi::matrix::*;
-use crate::sys::memory::{as_u64_mut, words_of};
+use crate::sys::memory::{as_u64_mut, words_of, zeroed};
 use crate::sys::tree::block_in;
-use crate::sys::{query, NONE, OK};
+use crate::sys::{query, NONE, OK, WRONG};
+use alloc::vec::Vec;
 use core::{fmt, ptr};
 
 /// The index of a text in a borrowed block, whose header is right. Its other words may hold anything; `check` tests it.
 ///
-/// `bitm text build` makes such a block. A pattern is counted in a time that does not depend on how long the text is;
-/// occurrences may overlap, and an empty pattern stands at each position, the end too. Each call is one proved call.
+/// `TextIndex` and `bitm text build` make such a block. A pattern is counted in a time that does not depend on how long
+/// the text is; occurrences may overlap, and an empty pattern stands at each position, the end too. Calls over letters are
+/// for texts of numbers; in the index of bytes a letter is the place of a byte among those that the text uses. Each call
+/// is one proved call.
 ///
 /// ```
-/// use bitm_proved::{words_from_bytes, TextIndexView};
-/// // of "she sells sea shells on the sea shore"
-/// let block = words_from_bytes(include_bytes!("../../tests/common/sea_shells.block"))?;
-/// let (text, mut positions, mut part) = (TextIndexView::from_words(&block)?, [0; 4], [0; 6]);
+/// use bitm_proved::{TextIndex, TextIndexView};
+/// let file = TextIndex::build(b"she sells sea shells on the sea shore", 32)?.into_owner();
+/// let (text, mut positions, mut part) = (TextIndexView::from_words(&file)?, [0; 4], [0; 6]);
 /// assert_eq!((text.count(b"sea")?, text.count(b"shop")?), (2, 0));
 /// assert_eq!((text.locate(b"sea", 0, &mut positions)?, &positions[..2]), (2, &[10, 28][..]));
 /// assert!(text.extract(14, &mut part)? && &part == b"shells");
@@ -56,6 +58,8 @@ const NO_TEXT: bitm_text = bitm_text {
     starts_len: 0,
     samples: ptr::null(),
     samples_len: 0,
+    used: ptr::null(),
+    used_len: 0,
     first: 0,
     step: 0,
     reserved: [0; 2],
@@ -107,7 +111,7 @@ impl<'a> TextIndexView<'a> {
     /// use bitm_proved::{words_from_bytes, TextIndexView};
     /// let mut file = words_from_bytes(include_bytes!("../../tests/common/sea_shells.block"))?;
     /// file.push(7); // no word of the block
-    /// assert_eq!(TextIndexView::from_words(&file)?.block().len(), 408);
+    /// assert_eq!(TextIndexView::from_words(&file)?.block().len(), 184);
     /// # Ok::<(), Box<dyn std::error::Error>>(())
     /// ```
     #[inline]
@@ -141,12 +145,12 @@ impl<'a> TextIndexView<'a> {
         self.len() == 0
     }
 
-    /// How many bits a letter has at most: 8 of bytes.
+    /// How many bits a letter takes: of bytes as many as the number of different bytes needs.
     ///
     /// ```
     /// use bitm_proved::{words_from_bytes, TextIndexView};
     /// let block = words_from_bytes(include_bytes!("../../tests/common/sea_shells.block"))?;
-    /// assert_eq!(TextIndexView::from_words(&block)?.width(), 8);
+    /// assert_eq!(TextIndexView::from_words(&block)?.width(), 4); // of 10 bytes
     /// # Ok::<(), Box<dyn std::error::Error>>(())
     /// ```
     #[inline]
@@ -189,7 +193,7 @@ impl<'a> TextIndexView<'a> {
     /// ```
     /// use bitm_proved::{words_from_bytes, TextIndexView};
     /// let block = words_from_bytes(include_bytes!("../../tests/common/sea_shells.block"))?;
-    /// assert_eq!(TextIndexView::from_words(&block)?.count_letters(&[115, 101]), Ok(3));
+    /// assert_eq!(TextIndexView::from_words(&block)?.count_letters(&[8, 2]), Ok(3)); // of " aehlnorst" those of "se"
     /// # Ok::<(), Box<dyn std::error::Error>>(())
     /// ```
     pub fn count_letters(&self, pattern: &[u64]) -> Result<usize, WrongTables> {
@@ -223,7 +227,7 @@ impl<'a> TextIndexView<'a> {
     /// use bitm_proved::{words_from_bytes, TextIndexView};
     /// let block = words_from_bytes(include_bytes!("../../tests/common/sea_shells.block"))?;
     /// let (text, mut out) = (TextIndexView::from_words(&block)?, [9; 4]);
-    /// assert_eq!((text.locate_letters(&[115, 101], 0, &mut out)?, out), (3, [10, 28, 4, 9]));
+    /// assert_eq!((text.locate_letters(&[8, 2], 0, &mut out)?, out), (3, [10, 28, 4, 9]));
     /// # Ok::<(), Box<dyn std::error::Error>>(())
     /// ```
     pub fn locate_letters(&self, pattern: &[u64], from: usize, out: &mut [usize]) -> Result<usize, WrongTables> {
@@ -235,8 +239,8 @@ impl<'a> TextIndexView<'a> {
     }
 
     /// Writes the bytes of the text from a position on, as many as there is room for; `false`, and nothing is written,
-    /// where the text has fewer. An error also where letters may have more than 8 bits (`width`). Where the tables are
-    /// wrong, letters may have been written.
+    /// where the text has fewer. An error also where letters are numbers that may have more than 8 bits (`width`). Where
+    /// the tables are wrong, letters may have been written.
     ///
     /// ```
     /// use bitm_proved::{words_from_bytes, TextIndexView};
@@ -257,7 +261,7 @@ impl<'a> TextIndexView<'a> {
     /// use bitm_proved::{words_from_bytes, TextIndexView};
     /// let block = words_from_bytes(include_bytes!("../../tests/common/sea_shells.block"))?;
     /// let (text, mut out) = (TextIndexView::from_words(&block)?, [0; 3]);
-    /// assert_eq!((text.extract_letters(0, &mut out)?, out), (true, [115, 104, 101]));
+    /// assert_eq!((text.extract_letters(0, &mut out)?, out), (true, [8, 3, 2]));
     /// # Ok::<(), Box<dyn std::error::Error>>(())
     /// ```
     pub fn extract_letters(&self, from: usize, out: &mut [u64]) -> Result<bool, WrongTables> {
@@ -270,4 +274,54 @@ impl fmt::Debug for TextIndexView<'_> {
     fn fmt(&self, f: &mut fmt::Formatter<'_>) -> fmt::Result {
         write!(f, "{} letters", self.len())
     }
+}
+
+/// The block of the index of bytes.
+pub(crate) fn build(text: &[u8], step: u32) -> Result<Vec<u64>, BuildError> {
+    let (from, len, mut words, mut room) = (text.as_ptr(), text.len(), 0, 0);
+    if step == 0 {
+        return Err(BuildError::WrongStep);
+    }
+    // SAFETY: a slice, and room for two numbers.
+    if unsafe { bitm_text_size_bytes(from, len, step, &mut words, &mut room) } != OK {
+        return Err(BuildError::TooLong { len });
+    }
+    let (mut scratch, mut block) = (zeroed::<u32>(room as usize)?, zeroed::<u64>(words as usize)?);
+    // SAFETY: a shared and two mutable slices, which do not overlap.
+    let status = unsafe {
+        let (order, to) = (scratch.as_mut_ptr(), block.as_mut_ptr());
+        bitm_text_build_bytes(from, len, step, order, scratch.len(), to, block.len())
+    };
+    match status {
+        OK => Ok(block),
+        _ => Err(BuildError::TooLong { len }),
+    }
+}
+
+/// The block of the index of numbers below `letters`.
+pub(crate) fn build_of_letters(text: &[u64], letters: u32, step: u32) -> Result<Vec<u64>, BuildError> {
+    let (from, len, mut words, mut room) = (text.as_ptr(), text.len(), 0, 0);
+    if step == 0 {
+        return Err(BuildError::WrongStep);
+    }
+    // SAFETY: numbers are passed, and room for two.
+    let status = unsafe { bitm_text_size_letters(len, letters, step, &mut words, &mut room) };
+    if status != OK {
+        return Err(BuildError::TooLong { len });
+    }
+    let (mut scratch, mut block) = (zeroed::<u32>(room as usize)?, zeroed::<u64>(words as usize)?);
+    // SAFETY: a shared and two mutable slices, which do not overlap.
+    let status = unsafe {
+        let (order, to) = (scratch.as_mut_ptr(), block.as_mut_ptr());
+        bitm_text_build(from, len, letters, step, order, scratch.len(), to, block.len())
+    };
+    match status {
+        OK => Ok(block),
+        WRONG => Err(BuildError::LetterOutside { index: outside(text, letters) }),
+        _ => Err(BuildError::TooLong { len }),
+    }
+}
+
+fn outside(text: &[u64], letters: u32) -> usize {
+    text.iter().position(|it| *it >= letters.into()).unwrap_or(0)
 }
