@@ -1,7 +1,9 @@
 // What a text or a list of numbers becomes: an index of bitm, the same as a plain array, and the queries of both.
-import { BitVector, EliasFano, Index } from "../../bindings/javascript/page/bitm.js";
+import { BitVector, EliasFano, Index, TextIndex } from "../../bindings/javascript/page/bitm.js";
 
 const CAP = 5_000_000;
+/** How many bytes a text has at most whose parts are looked for, and how many are shown on either side of one. */
+const SEARCHED = CAP, AROUND = 40;
 
 /** Of a text: its numbers if it has nothing else, or where its words begin. */
 export function indexed(text) {
@@ -39,25 +41,41 @@ function numberAnswers(sequence, x) {
         ["At least it", next === undefined ? "none" : count(next)], ["At most it", before === undefined ? "none" : count(before)]];
 }
 
-/** The bit of a position is 1 where a word begins. */
+/** The bit of a position is 1 where a word begins; and the index by which parts of the text are found. */
 function ofText(text) {
     if (text.length > 16 * CAP) throw new RangeError("This page takes texts of up to 80 million characters.");
     const starts = [];
     for (const it of text.matchAll(/\S+/g)) starts.push(it.index);
     const began = performance.now(), bits = BitVector.fromPositions(starts, text.length), index = new Index(bits), ms = performance.now() - began;
     bits.free();
-    const plain = Uint32Array.from(starts);
+    const plain = Uint32Array.from(starts), bytes = new TextEncoder().encode(text);
+    const parts = bytes.length <= SEARCHED ? TextIndex.of(bytes) : null, ofParts = parts ? [["text index, which has the text too", parts.byteLength, true]] : [];
     return {
         title: `${count(text.length)} characters, ${count(starts.length)} words`,
-        label: "A word by its number, from 1 on", example: (starts.length + 1) >> 1, ms,
-        memory: [["index: bits and tables", index.byteLength, true], ["Uint32Array of where words begin", plain.byteLength, false]],
-        answers: k => textAnswers(text, index, k),
+        label: "A word by its number, from 1 on, or what to find", example: (starts.length + 1) >> 1, ms, isText: true,
+        memory: [["index: bits and tables", index.byteLength, true], ["Uint32Array of where words begin", plain.byteLength, false], ...ofParts, ["the text", bytes.length, false]],
+        answers: (k, typed) => (Number.isNaN(k) ? partAnswers(parts, typed) : textAnswers(text, index, k)),
         queries: r => Math.floor(r() * (text.length + 1)),
         timed: [["words before a position, one call each", qs => each(qs, p => index.rank(p)), true],
             ["the same, one call for all", qs => index.rankList(qs), true],
             ["halving a Uint32Array", qs => each(qs, p => lowerBound(plain, p, plain.length)), false]],
-        free: () => index.free(),
+        free: () => {
+            index.free();
+            parts?.free();
+        },
     };
+}
+
+/** How often a part stands in the text, and what is around one of them, by the index alone. */
+function partAnswers(parts, part) {
+    if (!parts) return [["It stands there", `this page looks in texts of up to ${count(SEARCHED)} bytes`]];
+    const times = parts.count(part);
+    if (times === 0) return [["It stands there", "never"]];
+    const [at] = parts.locate(part, { limit: 1 }), end = at + new TextEncoder().encode(part).length;
+    // A letter of several bytes may be cut off at the ends.
+    const cut = (from, to) => parts.text(from, to).replace(/\s+/g, " ").replace(/^\ufffd+|\ufffd+$/g, "");
+    return [["It stands there", times === 1 ? "once" : `${count(times)} times`], ["At byte", count(at)],
+        ["There", [cut(Math.max(at - AROUND, 0), at), part, cut(end, Math.min(end + AROUND, parts.length))]]];
 }
 
 function textAnswers(text, index, k) {

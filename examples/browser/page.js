@@ -37,6 +37,7 @@ function show(made) {
     at("title").textContent = made.title;
     at("query-label").textContent = made.label;
     at("query").value = made.example;
+    at("query").inputMode = made.isText ? "text" : "numeric";
     at("result").hidden = false;
     at("times").replaceChildren();
     at("compared").textContent = "Timing ..";
@@ -48,7 +49,7 @@ function answer() {
     const text = at("query").value.replaceAll(/[\s\u202f,]/g, ""), x = Number(text);
     let rows;
     try {
-        rows = text === "" ? [] : current.answers(x);
+        rows = text === "" ? [] : current.answers(x, at("query").value);
     } catch (it) {
         rows = [["", `${text} is no whole number from 0 to 2^53 - 1`]];
     }

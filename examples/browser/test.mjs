@@ -101,6 +101,11 @@ async function texts(it) {
     assert.match(await query(it, "20002"), /there is none/);
     await fits(it, "a text");
     assert.match(await query(it, "10"), /Word\s+question\./);
+    const part = await query(it, "not to be: <b>");
+    for (const one of [/there\s+2\D?000 times/, /There\s+.*or not to be: <b>that<\/b>/]) assert.match(part, one);
+    assert.match(await query(it, "hamlet"), /there\s+never/);
+    await fits(it, "a part of a text");
+    assert.match(await query(it, "10"), /Word\s+question\./);
 }
 
 async function others(it) {
