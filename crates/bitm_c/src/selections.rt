@@ -4,10 +4,8 @@ ghost use Rattle.bitm_view.specs.Queries.{SelectsIn};
 ghost use Rattle.bitm_c.specs.Queries.{NextAnswered, PreviousAnswered, SelectAnswered};
 ghost use Rattle.bitm_abi.specs.Index.{cut_of};
 
-use bitm::Probe;
 use bitm_abi::{BAD_SIZE, Index, report};
 use bitm_view::{Answer, IndexView};
-use lent_tables::ByGuess;
 use tuning::WORDS_AT_HAND;
 
 /// `bitm_index_select` of 1 bits; of 0 bits where `BIT` is 0.
@@ -21,16 +19,13 @@ fn select_in<const BIT: u8>(index: &Index<'_>, rank: usize, out: &mut usize) -> 
     select_in_few::<BIT>(index, rank, out)
 }
 
-/// The position of the bit with a rank in an index, from the samples of its kind.
+/// The position of the bit with a rank in the view of an index, by the samples of its kind where there are any.
 #[inline(always)]
-fn select_by<const BIT: u8>(index: &Index<'_>, view: &IndexView<'_>, rank: usize) -> Answer<usize>
-    ensures { SelectsIn (as_bit BIT) view.now rank result }
+fn select_by<const BIT: u8>(index: &Index<'_>, view: IndexView<'_>, rank: usize) -> Answer<usize>
+    ensures { SelectsIn (as_bit BIT) view.entry rank result }
 {
-    let by_guess = ByGuess {
-        samples: index.samples::<BIT>(),
-    };
-    let source = &mut view.tables().probe();
-    view.select_on::<BIT, Probe<'_>, ByGuess<'_>>(source, &by_guess, rank)
+    let sampled = view.with_samples::<BIT>(index.samples::<BIT>());
+    sampled.select::<BIT>(rank)
 }
 
 /// `select_in` for few words.
@@ -39,7 +34,7 @@ fn select_in_few<const BIT: u8>(index: &Index<'_>, rank: usize, out: &mut usize)
     ensures { SelectAnswered (as_bit BIT) (cut_of index.now) rank result out.old out.new }
 {
     match index.few_view() {
-        Some(view) => report(select_by::<BIT>(index, &view, rank), out),
+        Some(view) => report(select_by::<BIT>(index, view, rank), out),
         None => select_in_many::<BIT>(index, rank, out),
     }
 }
@@ -50,7 +45,7 @@ fn select_in_many<const BIT: u8>(index: &Index<'_>, rank: usize, out: &mut usize
     ensures { SelectAnswered (as_bit BIT) (cut_of index.now) rank result out.old out.new }
 {
     match index.bare_view() {
-        Some(view) => report(select_by::<BIT>(index, &view, rank), out),
+        Some(view) => report(select_by::<BIT>(index, view, rank), out),
         None => BAD_SIZE,
     }
 }
