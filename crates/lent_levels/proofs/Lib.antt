@@ -1,5 +1,6 @@
 pub mod CheckLemmas
 pub mod NextLemmas
+pub mod PairLemmas
 pub mod RangeLemmas
 pub mod StepLemmas
 pub mod WalkLemmas

@@ -1,5 +1,5 @@
 -- What is answered of a matrix in memory that may hold anything, and in that of a matrix.
-use Rattle.std.specs.Prelude.{◌≡◌, ⊤, ℕ, ◌^◌, ◌<◌, ◌≤◌, List, length, slice_index}
+use Rattle.std.specs.Prelude.{◌≡◌, ⊤, ℕ, ◌^◌, ◌<◌, ◌≤◌, ◌⊎◌, List, length, slice_index}
 use Rattle.bitm.specs.Answer.{Answer}
 use Rattle.bitm.specs.Answer.TheVariants.{Found, Absent, Wrong}
 use Rattle.matrix_levels.specs.Numbers.{count_before, PicksItem}
@@ -43,3 +43,29 @@ IsIndexAmong xs items v k Wrong = ⊥
 -- the index of v with k such numbers before it, and Absent exactly where there are no more than k of them
 abbrev pub IsIndexOf : List ℕ → ℕ → ℕ → Answer ℕ → Type 0
 IsIndexOf xs = IsIndexAmong xs xs
+
+-- of n numbers of w bits: a number has no more bits, at most i before it are the same, and Absent is answered exactly where
+-- there is no number i
+abbrev pub IsItemWithin : ℕ → ℕ → ℕ → Answer (ℕ × ℕ) → Type 0
+IsItemWithin n w i (Found x) = (i < n) × (x.0 < 2 ^ w) × (x.1 ≤ i)
+IsItemWithin n w i Absent = n ≤ i
+IsItemWithin n w i Wrong = i < n
+
+-- number i and how many before it are the same, and Absent exactly where there is no such number
+abbrev pub IsItemOf : List ℕ → ℕ → Answer (ℕ × ℕ) → Type 0
+IsItemOf xs i (Found x) = (i < length xs) × (x.0 ≡ slice_index xs i) × (x.1 ≡ count_before xs x.0 i)
+IsItemOf xs i Absent = length xs ≤ i
+IsItemOf xs i Wrong = ⊥
+
+-- of n numbers: at most s of the first s and at most e of the first e are a number, and Absent is answered exactly where
+-- there are fewer than s or fewer than e
+abbrev pub AreRanksWithin : ℕ → ℕ → ℕ → Answer (ℕ × ℕ) → Type 0
+AreRanksWithin n s e (Found c) = (s ≤ n) × (e ≤ n) × (c.0 ≤ s) × (c.1 ≤ e)
+AreRanksWithin n s e Absent = (n < s) ⊎ (n < e)
+AreRanksWithin n s e Wrong = (s ≤ n) × (e ≤ n)
+
+-- how many of the first s numbers are v, and of the first e, and Absent exactly where there are fewer than s or than e
+abbrev pub AreRanksOf : List ℕ → ℕ → ℕ → ℕ → Answer (ℕ × ℕ) → Type 0
+AreRanksOf xs v s e (Found c) = (s ≤ length xs) × (e ≤ length xs) × (c.0 ≡ count_before xs v s) × (c.1 ≡ count_before xs v e)
+AreRanksOf xs v s e Absent = (length xs < s) ⊎ (length xs < e)
+AreRanksOf xs v s e Wrong = ⊥

@@ -16,6 +16,7 @@
 // - `levels`: the tables of levels, which may hold anything
 // - `many`: many numbers by their indices at once
 // - `many_ranks`: many ranks of numbers at once
+// - `pairs`: two answers of one walk
 // - `quantiles`: the numbers of a range in order
 // - `queries`: a number by its index, and ranks
 // - `ranges`: queries of ranges
@@ -26,6 +27,7 @@ mod checking;
 mod levels;
 mod many;
 mod many_ranks;
+mod pairs;
 mod quantiles;
 mod queries;
 mod ranges;

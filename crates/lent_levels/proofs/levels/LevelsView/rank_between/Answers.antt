@@ -1,13 +1,12 @@
 -- The number's items of the prefix stand side by side after the last level; a number of more bits than all is none.
-use Rattle.std.proofs.Common.{◌≡◌, ℕ, ◌^◌, ◌<◌, ◌≤◌, ◌==◌, Some, length, take, sym, subst, ◌∙◌, arith}
+use Rattle.std.proofs.Common.{◌≡◌, ℕ, ◌^◌, ◌<◌, ◌≤◌, Some, length, sym, subst, ◌∙◌, arith}
 use Rattle.std.proofs.lemmas.Bool.{true≢false}
-use Rattle.std.proofs.lemmas.List.{length-take-le}
-use Rattle.std.proofs.lemmas.List.Sums.{count_by-le-length}
 use Rattle.std.proofs.lemmas.Option.{none-some, same_Some}
 use Rattle.bitm.specs.Tables.{Lists}
 use Rattle.matrix_levels.specs.Matrix.{numbers_in, IsMatrix}
 use Rattle.matrix_levels.specs.Numbers.{count_before}
-use Rattle.matrix_levels.proofs.lemmas.WalkLemmas.{count_before-wide, rank-is, rank-order}
+use Rattle.matrix_levels.proofs.lemmas.WalkLemmas.{count_before-wide}
+use Rattle.lent_levels.proofs.PairLemmas.{few-before, rank-between}
 use Rattle.lent_levels.specs.Walk.{AreBothOnTheWay}
 use Rattle.lent_levels.proofs.levels.LevelsView.rank_between.Goals as goal
 use Rattle.lent_levels.proofs.levels.LevelsView.rank_between.Goals.{After-difference}
@@ -30,16 +29,15 @@ counted : (c : After-difference) (lists : Lists) → AreBothOnTheWay c.args.self
     → IsMatrix c.args.self.now lists → c.difference.result ≡ Some (count_before (numbers_in c.args.self.now lists) c.args.number c.args.end)
 counted c lists w h =
     let l = c.args.self.now in
-    let m = h.numbers in
     let xs = numbers_in l lists in
     let x = c.args.number in
     let i = c.args.end in
     let P : ℕ → Type 0 = λ k. x < 2 ^ k in
     let fit : x < 2 ^ l.width = subst P c.width.ensures.width (c.fits.ensures.0 c.if-not-fits.false) in
-    let inside : i ≤ length xs = omega (arith, c.if-end-len.false, c.len.ensures.len, m.count) in
+    let inside : i ≤ length xs = omega (arith, c.if-end-len.false, c.len.ensures.len, h.numbers.count) in
     c.difference.ensures.answer (count_before xs x i)
-    (omega (arith, w.first h, w.last h, rank-order xs l.width x m.fit fit i inside, rank-is xs l.width x m.fit fit i inside))
-    (omega (arith, count_by-le-length (λ y. y == x) (take i xs), length-take-le i xs inside))
+    (rank-between xs l.width x i c.args.first c.args.last h.numbers.fit fit inside (w.first h) (w.last h))
+    (few-before xs x i inside)
 
 pub returns-in-Some : goal.returns-in-Some
 returns-in-Some c = λ lists w.
