@@ -246,9 +246,9 @@ fn sets_have_the_bytes_of_a_text(rt: HostRuntime) -> Result<(), Fail> {
     let set = ByteSet::of(b"banana".as_slice());
     assert!(rt; set.words == [0u64, 0x4006_0000_0000, 0, 0]);
     assert!(rt; set.len() == 3 && set.width() == 2);
-    let mut codes = [0u16; 256];
+    let mut codes = [7u8; 256];
     set.write_codes(codes.as_mut_slice());
-    assert!(rt; codes[0] == 256 && codes[0x60] == 256 && codes[0x63] == 256 && codes[255] == 256);
+    assert!(rt; codes[0] == 0 && codes[0x60] == 0 && codes[0x63] == 2 && codes[255] == 3);
     assert!(rt; codes[0x61] == 0 && codes[0x62] == 1 && codes[0x6e] == 2);
     let letters = MappedBytes {
         bytes: b"nab".as_slice(),
