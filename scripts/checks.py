@@ -48,6 +48,11 @@ def crates():
     return {name: below.split() for name, below in lines}
 
 
+def exporting():
+    """The crates whose calls are the C library."""
+    return re.findall(r"^(\w+) staticlib:", read("crates.txt"), re.M)
+
+
 def below(name):
     """The repository's libraries below a crate, each after those below it."""
     listed, found = crates(), []
