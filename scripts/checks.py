@@ -18,6 +18,16 @@ def claim(is_so, text):
         print(text)
 
 
+def flat(text):
+    """A text on one line."""
+    return " ".join(text.split())
+
+
+def says(document, text):
+    """Counts whether a document says a text, wherever its lines break."""
+    claim(flat(text) in flat(read(document)), f"{document} does not say: {text}")
+
+
 def conclude():
     """Prints the last line, and returns the status."""
     print(f"{counts[0]} passed, {counts[1]} failed")
