@@ -34,6 +34,16 @@ def conclude():
     return int(counts[1] > 0)
 
 
+def counted(*command):
+    """Runs a command whose last line has counts, shows the others, and adds its counts; one without them has failed."""
+    made = subprocess.run(command, cwd=TOP, stdout=subprocess.PIPE, text=True, errors="replace", check=False)
+    lines = made.stdout.strip().split("\n")
+    found = LAST.fullmatch(lines[-1])
+    print("\n".join(lines[:-1] if found else lines), end="\n" if lines[1:] or not found else "")
+    for at, count in enumerate(found.groups() if found else (0, 1)):
+        counts[at] += int(count)
+
+
 def usage(text):
     """Prints what a script is for and ends, where it got a word that it does not know, or `--help`."""
     print(text)
