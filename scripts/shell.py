@@ -16,7 +16,8 @@ from checks import TOP, claim, conclude, counts
 def bash(line, folder=TOP, **variables):
     """Runs a line of bash, where a pipe fails as a part of it does, and returns what it prints."""
     how = {"cwd": folder, "env": {**os.environ, **variables}, "text": True, "errors": "replace", "check": False}
-    made = subprocess.run(["bash", "-euo", "pipefail", "-c", line], capture_output=True, stdin=subprocess.DEVNULL, **how)
+    command = ["bash", "-euo", "pipefail", "-c", line]
+    made = subprocess.run(command, capture_output=True, stdin=subprocess.DEVNULL, **how)
     assert made.returncode == 0, f"{line}\nstatus {made.returncode}\n{made.stdout[-3000:]}{made.stderr[-3000:]}"
     return made.stdout
 
@@ -50,8 +51,8 @@ def run_tests(folder, *words, before=()):
     command = [*before, "pytest", "-q", "--tb=short", "-p", "no:cacheprovider", *words]
     with tempfile.TemporaryDirectory() as room, concurrent.futures.ThreadPoolExecutor(len(paths)) as pool:
         def of_file(path):
-            report = f"--junitxml={room}/{path.stem}.xml"
-            return subprocess.run([*command, report, path], cwd=path.parent, capture_output=True, text=True, check=False)
+            words = [*command, f"--junitxml={room}/{path.stem}.xml", path]
+            return subprocess.run(words, cwd=path.parent, capture_output=True, text=True, check=False)
 
         for path, said in zip(paths, pool.map(of_file, paths)):
             # 5: no test of the file was chosen
