@@ -225,7 +225,6 @@ def seeks(sequence, numbers, value, steps):
     assert list(walk.seek(value)) == [it for it in left if it >= value]
 
 
-
 @given(st.lists(st.integers(0, 2**64 - 1) | st.integers(0, 50), max_size=700).map(sorted), st.data())
 def test_sequence(numbers, data):
     numbers += data.draw(st.sampled_from([[], [2**64 - 1], [2**64 - 2, 2**64 - 1]])) if numbers[-1:] != [2**64 - 1] else []
