@@ -84,17 +84,18 @@ def rank_and_select(rows, index, some):
         rows.whole("rank_list of int32", "Python", QUERIES, lambda: index.rank_list(queries))
 
 
+def set_each(it, asked):
+    def loop():
+        for at in asked:
+            it[at] = True
+
+    return loop
+
+
 def changes(rows, vector, some):
-    def set_each(it):
-        def loop():
-            for at in asked:
-                it[at] = True
-
-        return loop
-
     asked = [at % len(vector) for at in some[:SINGLE]]
     rows.item("vector[i]", "Python", vector, asked)
-    rows.add("vector[i] = True", "Python", SINGLE, set_each(vector.copy()), lambda: asked)
+    rows.add("vector[i] = True", "Python", SINGLE, set_each(vector.copy(), asked), lambda: asked)
     rows.single("vector.next_one", "Python", vector.next_one, asked)
     rows.whole("from_words", "Python", len(vector), lambda: [bitm.BitVector.from_words(vector).count()])
     positions = listed(list(vector.ones()))
@@ -113,7 +114,7 @@ def changes(rows, vector, some):
         rows.single("count before i", "bitarray", lambda at: bits.count(1, 0, at), asked[:64])
         rows.single("find from i", "bitarray", lambda at: bits.find(1, at), asked)
         rows.item("vector[i]", "bitarray", bits, asked)
-        rows.add("vector[i] = True", "bitarray", SINGLE, set_each(bits.copy()), lambda: asked)
+        rows.add("vector[i] = True", "bitarray", SINGLE, set_each(bits.copy(), asked), lambda: asked)
         rows.whole("vector[5:-5]", "bitarray", len(vector), lambda: [bits[5:-5].count()])
 
 

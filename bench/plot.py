@@ -38,19 +38,13 @@ def table(rows, kind, sizes):
     return "\n".join(lines)
 
 
-def draw(rows, kind, base, caption, total, path):
-    import matplotlib
-
-    matplotlib.use("svg")
-    matplotlib.rcParams.update({"svg.fonttype": "none", "svg.hashsalt": "bitm", "font.size": 9})
-    from matplotlib import pyplot, ticker
-
+def draw_series(rows, kind, base, times, quotients):
+    """The times of each series of rows, and their quotients by those of the base."""
     def line(name, by, of):
         return [(2**s, of(v[0], s)) for (n, b, k, s), v in sorted(rows.items(), key=lambda it: it[0][3]) if (n, b, k) == (name, by, kind)]
 
     series = [it for it in dict.fromkeys((r[0], r[1]) for r in rows if r[2] == kind) if it[0] in DRAWN]
     mine = [it for it in series if not base_of(it[1])]
-    figure, (times, quotients) = pyplot.subplots(1, 2, figsize=(11, 5))
     for k, (name, by) in enumerate(mine):
         look = {"color": COLOURS[k % 10], "marker": MARKERS[k % 10], "markersize": 5, "linewidth": 1.3}
         label = name if by == "library" else f"{name}, {by}"
@@ -63,7 +57,19 @@ def draw(rows, kind, base, caption, total, path):
                 times.plot(*zip(*line(name, rival, lambda v, _: v)), linestyle=":", **look)
             over = {s: v[0] for (n, b, c, s), v in rows.items() if (n, b, c) == (name, rival, kind)}
             quotients.plot(*zip(*line(name, by, lambda v, s: v / over[s])), label=label, **look)
-    for axes, title in ((times, "ns a query" + (f"; dotted: {BASES[base]}" if base else "")), (quotients, f"time / time of {BASES.get(base)}")):
+
+
+def draw(rows, kind, base, caption, total, path):
+    import matplotlib
+
+    matplotlib.use("svg")
+    matplotlib.rcParams.update({"svg.fonttype": "none", "svg.hashsalt": "bitm", "font.size": 9})
+    from matplotlib import pyplot, ticker
+
+    figure, (times, quotients) = pyplot.subplots(1, 2, figsize=(11, 5))
+    draw_series(rows, kind, base, times, quotients)
+    titles = ("ns a query" + (f"; dotted: {BASES[base]}" if base else ""), f"time / time of {BASES.get(base)}")
+    for axes, title in zip((times, quotients), titles):
         axes.set_xscale("log", base=2)
         axes.set_yscale("log")
         axes.set_title(title)
@@ -72,14 +78,11 @@ def draw(rows, kind, base, caption, total, path):
         axes.grid(True, which="both", color="#e4e4e4", linewidth=0.6)
         axes.yaxis.set_major_formatter(ticker.FormatStrFormatter("%g"))
         axes.yaxis.set_minor_formatter(ticker.NullFormatter())
+    (quotients if base else times).legend(fontsize=7, loc="upper left", bbox_to_anchor=(1.01, 1))
+    quotients.set_visible(bool(base))
     if base:
         quotients.axhline(1, color="#222222", linewidth=0.9)
-        marks = [0.2, 0.25, 0.33, 0.5, 0.7, 1, 1.4]
-        quotients.yaxis.set_major_locator(ticker.FixedLocator(marks))
-        quotients.legend(fontsize=7, loc="upper left", bbox_to_anchor=(1.01, 1))
-    else:
-        quotients.set_visible(False)
-        times.legend(fontsize=7, loc="upper left", bbox_to_anchor=(1.01, 1))
+        quotients.yaxis.set_major_locator(ticker.FixedLocator([0.2, 0.25, 0.33, 0.5, 0.7, 1, 1.4]))
     figure.text(0.01, 0.01, caption, fontsize=8)
     figure.tight_layout(rect=(0, 0.03, 1, 1))
     figure.savefig(path, metadata={"Date": None, "Description": f"rows {total}"})

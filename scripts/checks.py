@@ -18,10 +18,30 @@ def claim(is_so, text):
         print(text)
 
 
+def flat(text):
+    """A text on one line."""
+    return " ".join(text.split())
+
+
+def says(document, text):
+    """Counts whether a document says a text, wherever its lines break."""
+    claim(flat(text) in flat(read(document)), f"{document} does not say: {text}")
+
+
 def conclude():
     """Prints the last line, and returns the status."""
     print(f"{counts[0]} passed, {counts[1]} failed")
     return int(counts[1] > 0)
+
+
+def counted(*command):
+    """Runs a command whose last line has counts, shows the others, and adds its counts; one without them has failed."""
+    made = subprocess.run(command, cwd=TOP, stdout=subprocess.PIPE, text=True, errors="replace", check=False)
+    lines = made.stdout.strip().split("\n")
+    found = LAST.fullmatch(lines[-1])
+    print("\n".join(lines[:-1] if found else lines), end="\n" if lines[1:] or not found else "")
+    for at, count in enumerate(found.groups() if found else (0, 1)):
+        counts[at] += int(count)
 
 
 def usage(text):
@@ -46,6 +66,11 @@ def crates():
     """The crates of crates.txt in its order, each with the libraries that it lists."""
     lines = re.findall(r"^(\w+)[^:#\n]*:(.*)", read("crates.txt"), re.M)
     return {name: below.split() for name, below in lines}
+
+
+def exporting():
+    """The crates whose calls are the C library."""
+    return re.findall(r"^(\w+) staticlib:", read("crates.txt"), re.M)
 
 
 def below(name):

@@ -1,15 +1,69 @@
-"""Where the functions of a crate stand in its text, and its files without their bodies: for scripts/refused."""
+"""The functions of a file of Rattle, as `rt fmt` lays it out: where each stands, its contract and its body."""
 import re
+
+FN = re.compile(r'(\s*)(?:#\[.*?\] *)?(pub(?:\([a-z]+\))? )?(?:final )?(?:const )?(?:unsafe )?(?:extern "C" )?fn (\w+)')
+BLOCK = re.compile(r"(?:unsafe )?(pub )?(?:pub\([a-z]+\) )?(impl|trait)\b(.*)")
+CLAUSE = re.compile(r"^\s*(requires|ensures)\b([^{]*)\{", re.M)
+
+
+def closed(text, begin, marks):
+    """The end of a bracket that opens before `begin`."""
+    depth, at = 1, begin
+    while depth and at < len(text):
+        depth += (text[at] == marks[0]) - (text[at] == marks[1])
+        at += 1
+    return at
 
 
 class Function:
-    """Where a function stands: its file, its lines from the comments above it on, and its name below the crate."""
+    """A function: its file, the types that it is of (a trait's too), its name below the crate, and its lines: from the
+    comments above it on, its head, the brace that opens its body (0: there is none below the head) and its end."""
 
-    def __init__(self, file, name, first, last):
-        self.file, self.name, self.first, self.last = file, name, first, last
+    def __init__(self, file, lines, at, inside):
+        self.file, self.lines, self.at, self.inside = file, lines, at, inside
+        indent, public, self.own = FN.match(lines[at - 1]).groups()
+        # the functions of a trait, and of an impl of one, are as public as the trait
+        self.is_public = public == "pub " or not public and bool(indent) and inside.is_open
+        self.name = "::".join(it for it in (*inside.home, "".join(inside.types), self.own) if it)
+        self.first = at
+        while self.first > 1 and not re.search(r"^\s*$|\{$|\}$", lines[self.first - 2]):
+            self.first -= 1
+        self.opens, self.last = self.ends(indent)
 
-    def has(self, line):
-        return self.first <= line <= self.last
+    def ends(self, indent):
+        for at in range(self.at, len(self.lines) + 1):
+            line = self.lines[at - 1].rstrip()
+            if re.match(rf"{indent}(?! ).*\{{$", line):
+                return at, self.lines.index(f"{indent}}}", at) + 1
+            if line.endswith(";") or line == f"{indent}{{}}" or at == self.at and line.endswith("}"):
+                return 0, at
+        return 0, len(self.lines)
+
+    def clauses(self):
+        """Each clause as its kind, its label, and its words."""
+        text, found, at = "\n".join(self.lines[self.at - 1 : self.opens or self.last]), [], 0
+        while it := CLAUSE.search(text, at):
+            at = closed(text, it.end(), "{}")
+            found.append((it[1], it[2].strip(), " ".join(text[it.end() : at - 1].split())))
+        return found
+
+    def body(self):
+        """The lines between the braces."""
+        return self.lines[self.opens : self.last - 1] if self.opens else []
+
+
+class Inside:
+    """An impl or a trait: its types, the trait last, whether others may call its functions, and the module of these."""
+
+    def __init__(self, module, homes, head=None, text=""):
+        self.types, self.is_open, self.home = [], False, module
+        if head:
+            text = re.sub("->", "", text.split("{")[0])
+            text = text[closed(text, 1, "<>") :] if text.startswith("<") else text
+            trait, _, of = text.partition(" for ") if head[2] == "impl" else (text.split(":")[0], "", "")
+            self.types = [bare(it) for it in (of, trait) if it]
+            self.is_open = bool(of or head[2] == "trait" and head[1])
+            self.home = module if of else homes.get(self.types[0], module)
 
 
 def bare(words):
@@ -17,34 +71,6 @@ def bare(words):
     while re.search(r"<[^<>]*>", words):
         words = re.sub(r"<[^<>]*>", "", words)
     return words.split(" where ")[0].strip().lstrip("&").strip().split("::")[-1].strip()
-
-
-def end_of(lines, at):
-    """The last line of a function whose name stands on line `at`: its closing brace, or the semicolon in place of a body."""
-    indent, is_open = re.match(r"\s*", lines[at - 1])[0], False
-    for last in range(at, len(lines) + 1):
-        line = lines[last - 1].rstrip()
-        if line in (f"{indent}}}", f"{indent}{{}}") or not is_open and line.endswith(";") or last == at and line.endswith("}"):
-            return last
-        is_open = is_open or line == f"{indent}{{" or line.endswith("{") and (last == at or line.startswith(f"{indent})"))
-    return len(lines)
-
-
-def emptied(text, functions):
-    """The text of a file without the bodies of these functions, and the functions that had one."""
-    lines, had = text.split("\n"), []
-    for it in sorted(functions, key=lambda it: -it.first):
-        at = next(k for k in range(it.first, it.last + 1) if re.search(r"\bfn \w", lines[k - 1]))
-        indent = re.match(r"\s*", lines[at - 1])[0]
-        opens = next((k for k in range(at, it.last) if lines[k - 1].rstrip() == f"{indent}{{"), None)
-        if opens is None:
-            # no clauses: the header's own line ends in the brace, or the line that closes its arguments
-            opens = next((k for k in range(at, it.last) if re.match(rf"{indent}\S.*\{{$", lines[k - 1].rstrip())), None)
-        if opens and opens < it.last - 1 and lines[it.last - 1].rstrip() == f"{indent}}}" and "const fn" not in lines[at - 1]:
-            # as many lines as before: what is printed names them
-            lines[opens : it.last - 1] = [f"{indent}    unreachable!()", *[""] * (it.last - 2 - opens)]
-            had.append(it)
-    return "\n".join(lines), had
 
 
 def module_of(file):
@@ -55,37 +81,31 @@ def module_of(file):
 
 def homes_of(folder):
     """The module of each type of a crate, by which a method of its own is named wherever it is written."""
-    homes = {}
-    for path in (folder / "src").rglob("*.rt"):
-        for name in re.findall(r"^(?:pub(?:\([a-z]+\))? )?(?:struct|enum) (\w+)", path.read_text(encoding="utf-8"), re.M):
-            homes[name] = module_of(str(path.relative_to(folder)))
-    return homes
+    types = re.compile(r"^(?:pub(?:\([a-z]+\))? )?(?:struct|enum) (\w+)", re.M)
+    files = {str(it.relative_to(folder)): it.read_text(encoding="utf-8") for it in (folder / "src").rglob("*.rt")}
+    return {it: module_of(file) for file, text in files.items() for it in types.findall(text)}
 
 
-def functions_of(file, text, homes):
-    """The functions of a file, by their lines."""
-    module = module_of(file)
-    lines, found, inside, home = text.split("\n"), [], "", module
+def functions_of(file, text, homes=None):
+    """The functions of a file, of a crate whose types have these homes."""
+    lines, found, module = text.split("\n"), [], module_of(file)
+    inside = Inside(module, homes)
     for at, line in enumerate(lines, 1):
-        head = re.match(r"(?:unsafe )?(?:pub(?:\([a-z]+\))? )?(impl|trait)\b", line)
-        if head:
-            words = " ".join(lines[at - 1 : at + 6]).split("{")[0]
-            words = re.sub(r"->", "", re.sub(r"^.*?\b(impl|trait)\b", "", words, count=1))
-            depth = 0
-            for end, mark in enumerate(words if words.startswith("<") else ""):
-                depth += {"<": 1, ">": -1}.get(mark, 0)
-                if not depth:
-                    words = words[end + 1 :]
-                    break
-            trait, _, of = words.partition(" for ") if head[1] == "impl" else (words.split(":")[0], "", "")
-            inside = bare(of) + bare(trait) if of else bare(trait)
-            home = module if of else homes.get(inside, module)
-        elif line == "}":
-            inside, home = "", module
-        named = re.match(r"\s*(?:#\[.*?\] *)?(?:pub(?:\([a-z]+\))? )?(?:final )?(?:const )?(?:unsafe )?(?:extern \"C\" )?fn (\w+)", line)
-        if named:
-            first = at
-            while first > 1 and not re.search(r"^\s*$|\{$|\}$", lines[first - 2]):
-                first -= 1
-            found.append(Function(file, "::".join([*home, *([inside] if inside else []), named[1]]), first, end_of(lines, at)))
+        head = BLOCK.match(line)
+        if head or line == "}":
+            inside = Inside(module, homes or {}, head, " ".join([head[3], *lines[at : at + 6]]) if head else "")
+        if FN.match(line):
+            found.append(Function(file, lines, at, inside))
     return found
+
+
+def emptied(text, functions):
+    """The text of a file without the bodies of these functions, and the functions that had one."""
+    lines, had = text.split("\n"), []
+    for it in functions:
+        if it.opens and it.opens < it.last - 1 and "const fn" not in lines[it.at - 1]:
+            # as many lines as before: what is printed names them
+            indent = re.match(r"\s*", lines[it.at - 1])[0]
+            lines[it.opens : it.last - 1] = [f"{indent}    unreachable!()", *[""] * (it.last - 2 - it.opens)]
+            had.append(it)
+    return "\n".join(lines), had

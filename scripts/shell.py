@@ -1,5 +1,5 @@
-"""What the tests by pytest share: commands of bash, the tools that a test needs; and `shell.py FOLDER [WORD..]`, which runs
-the tests of a folder, with these words for pytest."""
+"""What the tests by pytest share: commands of bash, the tools that a test needs; and `shell.py FOLDER [WORD..]`, which
+runs the tests of a folder, with these words for pytest."""
 import concurrent.futures
 import os
 import pathlib
@@ -16,7 +16,8 @@ from checks import TOP, claim, conclude, counts
 def bash(line, folder=TOP, **variables):
     """Runs a line of bash, where a pipe fails as a part of it does, and returns what it prints."""
     how = {"cwd": folder, "env": {**os.environ, **variables}, "text": True, "errors": "replace", "check": False}
-    made = subprocess.run(["bash", "-euo", "pipefail", "-c", line], capture_output=True, stdin=subprocess.DEVNULL, **how)
+    command = ["bash", "-euo", "pipefail", "-c", line]
+    made = subprocess.run(command, capture_output=True, stdin=subprocess.DEVNULL, **how)
     assert made.returncode == 0, f"{line}\nstatus {made.returncode}\n{made.stdout[-3000:]}{made.stderr[-3000:]}"
     return made.stdout
 
@@ -32,11 +33,6 @@ def needs(*tools):
             pytest.skip(f"no {module}")
 
 
-def python_with_pytest():
-    there = [it for it in (sys.executable, "/usr/bin/python3") if pathlib.Path(it).exists()]
-    return next((it for it in there if not subprocess.run([it, "-c", "import pytest"], capture_output=True, check=False).returncode), None)
-
-
 def grouped(names):
     """The names of tests, with one name and a number for those that differ in their parameters."""
     groups = {}
@@ -46,27 +42,26 @@ def grouped(names):
 
 
 def run_tests(folder, *words, before=()):
-    """Runs each file of tests by a pytest of its own, side by side, after the words `before`, and shows what fails. Names
-    the tests that were run and those that were skipped, and counts them."""
-    python, run, skipped = python_with_pytest(), [], []
-    if not python:
+    """Runs each file of tests by a pytest of its own, side by side, after the words `before`, and shows what fails.
+    Names the tests that were run and those that were skipped, and counts them."""
+    if not shutil.which("pytest"):
         claim(False, "pytest is not here, so nothing was run")
         return conclude()
-    paths = sorted(pathlib.Path(folder).resolve().glob("test_*.py"))
+    paths, run, skipped = sorted(pathlib.Path(folder).resolve().glob("test_*.py")), [], []
+    command = [*before, "pytest", "-q", "--tb=short", "-p", "no:cacheprovider", *words]
     with tempfile.TemporaryDirectory() as room, concurrent.futures.ThreadPoolExecutor(len(paths)) as pool:
         def of_file(path):
-            command = [*before, python, "-m", "pytest", "-q", "--tb=short", "-p", "no:cacheprovider", f"--junitxml={room}/{path.stem}.xml", *words, path]
-            return path, subprocess.run(command, cwd=path.parent, capture_output=True, text=True, check=False)
+            words = [*command, f"--junitxml={room}/{path.stem}.xml", path]
+            return subprocess.run(words, cwd=path.parent, capture_output=True, text=True, check=False)
 
-        for path, said in pool.map(of_file, paths):
+        for path, said in zip(paths, pool.map(of_file, paths)):
             # 5: no test of the file was chosen
             if said.returncode not in (0, 5):
                 print(said.stdout[-20000:] + said.stderr[-3000:], flush=True)
             counts[1] += said.returncode not in (0, 1, 5)
             report = pathlib.Path(room, f"{path.stem}.xml")
-            for it in xml.etree.ElementTree.parse(report).getroot().iter("testcase") if report.is_file() else ():
-                name = f"{path.stem}/{it.get('name')}".replace("test_", "")
-                why = it.find("skipped")
+            for it in xml.etree.ElementTree.parse(report).iter("testcase") if report.is_file() else ():
+                name, why = f"{path.stem}/{it.get('name')}".replace("test_", ""), it.find("skipped")
                 if why is not None:
                     skipped.append(f"{name} ({why.get('message')})")
                 else:

@@ -74,9 +74,8 @@ def test_lines_of_the_readme():
             if command -v $it > /dev/null; then ln -sf "$(command -v $it)" {room()}/bin/$it; fi
         done""")
     text = (home / "vokhuliza/README.md").read_text()
-    own = os.path.expanduser("~")
-    how = {"HOME": str(home), "PATH": f"{room()}/bin", "PIP_NO_INDEX": "1", "PIP_NO_BUILD_ISOLATION": "0",
-           "RUSTUP_HOME": os.environ.get("RUSTUP_HOME", f"{own}/.rustup"), "CARGO_HOME": os.environ.get("CARGO_HOME", f"{own}/.cargo")}
+    how = {"HOME": str(home), "PATH": f"{room()}/bin", "PIP_NO_INDEX": "1", "PIP_NO_BUILD_ISOLATION": "0"}
+    how |= {f"{it}_HOME": os.environ.get(f"{it}_HOME", os.path.expanduser(f"~/.{it.lower()}")) for it in ("RUSTUP", "CARGO")}
 
     def line(begin):
         return re.search(f"`({re.escape(begin)}[^`]*)`", text)[1]

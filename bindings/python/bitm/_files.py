@@ -190,16 +190,21 @@ def load(source: Union[PathLike, int, BinaryIO], *, mmap: bool = False) -> Store
         return _loaded(_read(source, "the file object"), "the file object")
     shown = repr(source)
     with open(source, "rb", closefd=not isinstance(source, int)) as file:
-        status = os.fstat(file.fileno())
-        if not stat.S_ISREG(status.st_mode):
-            return _loaded(_read(file, shown), shown)
-        size = status.st_size // 8 * 8
-        _look(os.pread(file.fileno(), HEADER, 0), size, shown)
-        if mmap:
-            return _loaded(mapped.mmap(file.fileno(), size, access=mapped.ACCESS_READ), shown)
-        data = bytearray(size)
-        file.seek(0)  # of a descriptor, which may stand elsewhere
-        return _loaded(memoryview(data)[: file.readinto(data)], shown)  # fewer where it was cut meanwhile
+        return _loaded(_held(file, mmap, shown), shown)
+
+
+def _held(file: Any, mmap: bool, shown: str) -> Any:
+    """The bytes of an open file, in memory or mapped."""
+    status = os.fstat(file.fileno())
+    if not stat.S_ISREG(status.st_mode):
+        return _read(file, shown)
+    size = status.st_size // 8 * 8
+    _look(os.pread(file.fileno(), HEADER, 0), size, shown)
+    if mmap:
+        return mapped.mmap(file.fileno(), size, access=mapped.ACCESS_READ)
+    data = bytearray(size)
+    file.seek(0)  # of a descriptor, which may stand elsewhere
+    return memoryview(data)[: file.readinto(data)]  # fewer where it was cut meanwhile
 
 
 def _read(file: Any, shown: str) -> bytes:

@@ -139,6 +139,9 @@ def test_closed():
         with pytest.raises(ValueError):
             call()
             print(number)
+
+
+def test_made_anew():
     made = Index.__new__(Index)
     assert made.closed
     with pytest.raises(ValueError):
@@ -181,6 +184,9 @@ def test_wrong_tables():
     for tables in ((upper, lower[:0]), (upper[:0], lower), (lower + lower, lower)):
         with pytest.raises(ValueError):
             Index.over(words, *tables)
+
+
+def test_wrong_parts_of_a_sequence():
     width, low, bits, upper, lower = EliasFano(range(0, 100000, 100)).parts
     sequence = EliasFano.over(1000, width, low, memoryview(bytes(8 * len(bits))).cast("Q"), upper, lower)
     assert not sequence.check()

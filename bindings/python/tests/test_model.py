@@ -213,6 +213,18 @@ def test_buffers_of_every_kind(kind, step, values, offset):
         assert list(bitm.EliasFano(view)) == values
 
 
+def seeks(sequence, numbers, value, steps):
+    """A walk that has gone some steps goes on from a value."""
+    walk = iter(sequence)
+    for _ in range(steps):
+        next(walk, None)
+    left = list(walk)
+    walk = iter(sequence)
+    for _ in range(len(numbers) - len(left)):
+        next(walk)
+    assert list(walk.seek(value)) == [it for it in left if it >= value]
+
+
 @given(st.lists(st.integers(0, 2**64 - 1) | st.integers(0, 50), max_size=700).map(sorted), st.data())
 def test_sequence(numbers, data):
     numbers += data.draw(st.sampled_from([[], [2**64 - 1], [2**64 - 2, 2**64 - 1]])) if numbers[-1:] != [2**64 - 1] else []
@@ -226,14 +238,7 @@ def test_sequence(numbers, data):
         assert sequence.last_at_most(value) == (end - 1 if end else None)
         assert (sequence.rank(value), value in sequence, sequence.count(value)) == (at, value in numbers, numbers.count(value))
         assert list(sequence.from_value(value)) == numbers[at:]
-        walk = iter(sequence)
-        for _ in range(data.draw(st.integers(0, 5))):
-            next(walk, None)
-        left = list(walk)
-        walk = iter(sequence)
-        for _ in range(len(numbers) - len(left)):
-            next(walk)
-        assert list(walk.seek(value)) == [it for it in left if it >= value]
+        seeks(sequence, numbers, value, data.draw(st.integers(0, 5)))
     places = data.draw(st.lists(st.integers(0, len(numbers) - 1), max_size=20)) if numbers else []
     for kind in (list, iter, lambda it: numpy.array(it, "u2"), lambda it: array.array("q", it)):
         assert list(sequence.get_list(kind(places))) == [numbers[it] for it in places]

@@ -109,6 +109,10 @@ def test_wrong_arguments():
     for no_index in ("1", slice(0, 3), None):
         with pytest.raises(TypeError):
             bits[no_index]
+
+
+def test_arguments_that_are_too_large():
+    bits = SparseBits(EXAMPLE, 5000)
     for ask in (bits.rank, bits.rank0):
         with pytest.raises(IndexError, match="5001"):
             ask(5001)

@@ -141,6 +141,10 @@ def test_walks_over_sequences():
             assert list(sequence.from_value(value, reverse=True)) == [it for it in numbers if it <= value][::-1]
             assert list(sequence.items(2, 300).seek(value)) == [it for it in numbers[2:300] if it >= value]
             assert list(sequence.items(2, 300, reverse=True).seek(value)) == [it for it in numbers[2:300] if it <= value][::-1]
+
+
+def test_walks_that_are_refused():
+    sequence = EliasFano([1, 2])
     for walk, other in ((reversed(sequence), "next_geq"), (iter(sequence), "next_leq")):
         with pytest.raises(ValueError):
             getattr(walk, other)(3)
