@@ -1,7 +1,7 @@
 //! Two answers of one walk, over any source: a number and its rank, and the ranks of a number at two indices. Words and
 //! tables may hold anything.
 //!
-//! The places go from level to level together, so that each waits for memory while the others do.
+//! All positions go from level to level together, so that each waits for memory while the others do.
 ghost use Rattle.std.specs.Prelude.{◌≡◌, ◌*◌, ◌^◌, ◌<◌, ◌≤◌, IfSome, IsSomeAnd, length};
 ghost use Rattle.bitm.specs.Reads.{OnlyReads};
 ghost use Rattle.bitm.specs.Tables.{HasSizes, bits_in};
@@ -18,8 +18,8 @@ impl<'a> LevelsView<'a> {
     /// Number `i`, and how many of the numbers before it are the same.
     ///
     /// Whatever words and tables hold, the number has no more bits than the width, there are at most `i` before it, and
-    /// the answer is `Absent` exactly where there is no such number. Where they are those of a matrix, the answer is its
-    /// number and the count, and never `Wrong`.
+    /// the answer is `Absent` exactly where there is no such number. Where they are those of a matrix, the answer is
+    /// its number and the count, and never `Wrong`.
     ///
     /// # Conditions
     /// Those of `total_get_on`.
@@ -102,8 +102,8 @@ impl<'a> LevelsView<'a> {
 
     /// How many of the first `start` numbers are this one, and of the first `end`.
     ///
-    /// Whatever words and tables hold, they are at most as many, and the answer is `Absent` exactly where there are fewer
-    /// numbers. Where they are those of a matrix, the answer is the two counts, and never `Wrong`.
+    /// Whatever words and tables hold, they are at most as many, and the answer is `Absent` exactly where there are
+    /// fewer numbers. Where they are those of a matrix, the answer is the two counts, and never `Wrong`.
     ///
     /// # Conditions
     /// Those of `total_get_on`.
