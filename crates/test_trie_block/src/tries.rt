@@ -4,8 +4,8 @@ use std::process::Abort;
 use std::test::Fail;
 use trie_block::{Answer, BuildError, TrieView, build, size};
 
-/// The block of the words a, b and be, as a program in Python made it from the tables of docs/FORMAT.md: the tree of the
-/// degrees 2, 0, 1, 0, labels of eight bits, and an end at each node but the root.
+/// The block of the words a, b and be, as a program in Python made it from the tables of docs/FORMAT.md: the tree of
+/// the degrees 2, 0, 1, 0, labels of eight bits, and an end at each node but the root.
 const TRIE: [u64; 80] = [
     0x036261746d746962,
     0x0000000000000009,

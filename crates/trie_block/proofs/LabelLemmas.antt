@@ -1,12 +1,14 @@
 -- Labels in words, and children by their labels.
-use Rattle.std.proofs.Common.{◌≡◌, ◌≢◌, ℕ, zero, suc, ◌+◌, ◌-◌, ◌*◌, ◌^◌, ◌<◌, ◌≤◌, List, ◌∷◌, length, get_or, sym, ap, ◌∙◌, ⊎_elim, arith}
+use Rattle.std.proofs.Common.{◌≡◌, ◌≢◌, ℕ, zero, suc, ◌+◌, ◌-◌, ◌*◌, ◌^◌, ◌<◌, ◌≤◌, List, ◌∷◌, length, take, drop, get_or, sym, ap, ◌∙◌, ⊎_elim, subst, arith}
 use Rattle.std.proofs.Math.Nat.{mul-le-mul_left}
+use Rattle.std.proofs.Math.Seq.{drop-cons}
 use Rattle.std.proofs.lemmas.Bool.{cases_lt}
+use Rattle.std.proofs.lemmas.List.{take_more}
 use Rattle.std.proofs.lemmas.Nat.{row_fits}
 use Rattle.bitm.specs.Bits.{bits_of}
 use Rattle.bitm.specs.Number.{number_at, IsFragmentInRange}
-use Rattle.louds.proofs.lemmas.LabelLemmas.{between, child_between, labels_order, number_packed}
-use Rattle.louds.specs.Labels.{numbers_of, IsChildWith, Rise}
+use Rattle.louds.proofs.lemmas.LabelLemmas.{between, child_between, labels_order, leads_more, leads_rest, number_packed}
+use Rattle.louds.specs.Labels.{numbers_of, IsChildWith, Leads, Rise}
 use Rattle.louds.specs.Tree.{AreChildren}
 use Rattle.trie_block.specs.Labels.{labels_of, Grow, HasLabels, IsFirstFrom, IsShape}
 
@@ -57,3 +59,27 @@ module _ (d ls : List ℕ) (i first past : ℕ) (rise : Rise d ls) (are : AreChi
       let within : low < past = omega (arith, b.1, on) in
       other within (omega (arith, child.1, at.not_less low (omega arith) within, labels_order d ls i first past are rise low u from on b.1)))
       (cases_lt u low)
+
+-- ---- words
+
+module _ (d ls word : List ℕ) (i at : ℕ) (inside : i < length word) (on : (v : ℕ) → Leads d ls word 0 v → Leads d ls (drop i word) at v) where
+  rest : drop i word ≡ get_or word i 0 ∷ drop (i + 1) word
+  rest = let next : suc i ≡ i + 1 = omega arith in drop-cons word i 0 inside ∙ ap (λ k. get_or word i 0 ∷ drop k word) next
+
+  -- the labels so far and one more lead to the child that has it
+  pub down_more : (child : ℕ) → IsChildWith d ls at (get_or word i 0) child → Leads d ls (take i word) 0 at → Leads d ls (take (i + 1) word) 0 child
+  down_more child has down =
+      subst (λ (w : List ℕ). Leads d ls w 0 child) (sym (take_more word i 0 inside))
+      (leads_more d ls (take i word) (get_or word i 0) 0 at child down has)
+
+  -- and the word leads on from there
+  pub on_more : (child : ℕ) → Rise d ls → IsChildWith d ls at (get_or word i 0) child → (v : ℕ) → Leads d ls word 0 v
+      → Leads d ls (drop (i + 1) word) child v
+  on_more child rise has v leads =
+      leads_rest d ls (drop i word) (drop (i + 1) word) (get_or word i 0) at child v rise rest has (on v leads)
+
+  -- where no child has it, the word leads nowhere
+  pub leads_nowhere : ((u : ℕ) → IsChildWith d ls at (get_or word i 0) u → ⊥) → (v : ℕ) → Leads d ls word 0 v → ⊥
+  leads_nowhere none v leads =
+      let step = subst (λ (w : List ℕ). Leads d ls w at v) rest (on v leads) in
+      none step.0 step.1

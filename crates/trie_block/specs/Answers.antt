@@ -30,7 +30,7 @@ IsNodeOf d ls word (Found v) = Leads d ls word 0 v
 IsNodeOf d ls word Absent = (v : ℕ) → Leads d ls word 0 v → ⊥
 IsNodeOf d ls word Wrong = ⊥
 
--- whether a word ends at node v, whatever the memory holds, and Absent exactly where v is no node or nothing is told of ends
+-- whether a word ends at node v, whatever the memory holds, and Absent exactly where v is no node or there are no ends
 abbrev pub IsEndOf : TrieParts → ℕ → Answer Bool → Type 0
 IsEndOf parts v (Found ends) = (v < parts.tree.len) × (0 < length parts.ends) × (ends ≡ item (bits_of parts.ends) v)
 IsEndOf parts v Absent = (parts.tree.len ≤ v) ⊎ (length parts.ends ≡ 0)

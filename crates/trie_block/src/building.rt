@@ -122,17 +122,17 @@ fn refusal(degrees: &[usize], labels: &[u64], width: u8, ends: &[u64]) -> Option
     None
 }
 
-/// Writes the block of the trie of these degrees, which `TrieView::open` opens and `check` accepts. The labels are those
-/// of the nodes from 1 on, and those of the children of a node rise. The ends are no words, or a bit for each node,
-/// lowest bit first, which says whether a word ends there; they are copied as they are, with the bits after the last
-/// node.
+/// Writes the block of the trie of these degrees, which `TrieView::open` opens and `check` accepts. The labels are
+/// those of the nodes from 1 on, and those of the children of a node rise. The ends are no words, or a bit for each
+/// node, lowest bit first, which says whether a word ends there; they are copied as they are, with the bits after the
+/// last node.
 ///
 /// # Errors
 /// `TooLong` exactly where there are 2^57 degrees or more; else `WrongWidth` exactly where the width is not 1 to 63;
 /// else `NotATree` exactly where the degrees are those of no tree; else `NotLabels` exactly where these are no labels
-/// for its nodes; else `WrongEnds` exactly where the ends are neither no words nor as many as a bit for each node takes;
-/// else `WrongLength` exactly where the words of the block are not as many as it takes (`size`). These stay as they are
-/// then.
+/// for its nodes; else `WrongEnds` exactly where the ends are neither no words nor as many as a bit for each node
+/// takes; else `WrongLength` exactly where the words of the block are not as many as it takes (`size`). These stay as
+/// they are then.
 /// # Cost
 /// Three passes over the degrees and the labels, and four over the block (evident from the code). Nothing is allocated.
 ///

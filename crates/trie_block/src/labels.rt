@@ -54,6 +54,7 @@ impl<'a> LabelProbe<'a> {
     /// labels.label(4, 1);   // that of node 1
     /// ```
     #[inline(always)]
+    #[tactic(auto, using(crate::proofs::LabelLemmas::label_inside, crate::proofs::LabelLemmas::label_packed))]
     pub fn label(&mut self, len: usize, node: usize) -> u64
         requires labels { HasLabels self.old.words self.old.width len }
         requires some { 0 < node }
@@ -62,7 +63,6 @@ impl<'a> LabelProbe<'a> {
         ensures bound { result < 2 ^ self.old.width }
         ensures counted { self.new ≡ record self.old { read = self.old.read + 1 } }
     {
-        let _len = len;
         self.reads.read_word();
         words::get_fragment(self.words, node - 1, self.width)
     }

@@ -10,7 +10,7 @@ use louds_block::Lens;
 /// The kind of a trie.
 pub const TRIE: u64 = 9;
 
-/// Whether so many nodes can have labels of `width` bits.
+/// Whether the given number of nodes can have labels of `width` bits.
 #[inline(always)]
 pub(crate) fn is_shape(nodes: usize, width: usize) -> bool
     ensures { IsTrue result ↔ IsShape nodes width }
@@ -20,6 +20,7 @@ pub(crate) fn is_shape(nodes: usize, width: usize) -> bool
 
 /// How many words the labels of the given number of nodes have.
 #[inline(always)]
+#[tactic(auto, using(crate::proofs::LabelLemmas::bits_few))]
 pub(crate) fn label_words(nodes: usize, width: usize) -> usize
     requires { IsShape nodes width }
     ensures words { result ≡ label_words nodes width }

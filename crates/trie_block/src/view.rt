@@ -32,8 +32,8 @@ fn is_trie_block(block: &Block<'_>) -> bool
 
 /// A view of a trie in a block, of which header and directory are right.
 ///
-/// Contracts see its tree, the words of its labels, how many bits a label has, and the words of its ends. These may hold
-/// anything: a call says what it answers where they are those of a trie, and what it answers else.
+/// Contracts see its tree, the words of its labels, how many bits a label has, and the words of its ends. These may
+/// hold anything: a call says what it answers where they are those of a trie, and what it answers else.
 ///
 /// ```
 /// let Some(trie) = TrieView::open(&block) else { .. };
@@ -91,8 +91,8 @@ impl<'a> TrieView<'a> {
     }
 
     /// The trie in a block that is as it was written; `None` exactly where `open` says so, a section or the zeros after
-    /// it are not those that were written (`Block::verify`), or the sections hold no trie (`check`). So a block in which
-    /// one word was changed is refused, and every answer is that of the trie.
+    /// it are not those that were written (`Block::verify`), or the sections hold no trie (`check`). So a block in
+    /// which one word was changed is refused, and every answer is that of the trie.
     ///
     /// # Cost
     /// Four passes over the words (evident from the code).
@@ -216,8 +216,8 @@ impl<'a> TrieView<'a> {
         Answer::Found(label_of(self.labels, self.width, self.tree.len(), node))
     }
 
-    /// Whether a word ends at a node, whatever the block holds: `Absent` exactly where there is no such node or the block
-    /// has no ends, and never `Wrong`.
+    /// Whether a word ends at a node, whatever the block holds: `Absent` exactly where there is no such node or the
+    /// block has no ends, and never `Wrong`.
     ///
     /// # Cost
     /// At most one word (evident from the code).
@@ -256,9 +256,9 @@ impl<'a> TrieView<'a> {
         total_child_by_label_on(&mut source, &mut labels, self.tree.len(), node, label)
     }
 
-    /// The node to which a word leads from the root, label by label. Whatever the block holds, it is less than the number
-    /// of nodes. Where the block holds a trie, the answer is `Absent` exactly where the word leads to none, and never
-    /// `Wrong`.
+    /// The node to which a word leads from the root, label by label. Whatever the block holds, it is less than the
+    /// number of nodes. Where the block holds a trie, the answer is `Absent` exactly where the word leads to none, and
+    /// never `Wrong`.
     ///
     /// # Cost
     /// That of `total_find_on`.
