@@ -58,7 +58,7 @@ block_is d ls width ends old new trie sealed are =
     ap (λ (t : TreeParts). trie_of t (section_in new 3) (get_or new 4 0) (section_in new 4)) tree
     ∙ ap (λ l. trie_of (parts_of n words upper lower) l (get_or new 4 0) (section_in new 4)) (at 3 (omega arith))
     ∙ ap (λ (h : Head). trie_of (parts_of n words upper lower) labels h.width (section_in new 4)) sealed.head_is
-    ∙ ap (λ e. trie_of (parts_of n words upper lower) labels width e) (at 4 (omega arith) ∙ are.ends) in
+    ∙ ap (λ e. trie_of (parts_of n words upper lower) labels width e) (at 4 (omega arith) ∙ are.ends_kept) in
     let lengths : HasTrieLengths (trie_of (parts_of n words upper lower) labels width ends) = record {
       tree = record {
         short = omega (arith, trie.shape.few);
@@ -70,14 +70,14 @@ block_is d ls width ends old new trie sealed are =
         };
       };
       shape = trie.shape;
-      labels_len = are.labels.len;
-      ends_len = trie.ends;
+      labels_len = are.labels_held.len;
+      ends_len = trie.has_ends;
     } in
     let held : HoldsTrie (trie_of (parts_of n words upper lower) labels width ends) = record {
       tree = are.tree.louds;
       rise =
           subst (λ (xs : List ℕ). Rise xs (labels_of labels width n)) (sym are.tree.degrees_are)
-          (subst (λ (xs : List ℕ). Rise d xs) (sym are.labels.labels) trie.labels.rise);
+          (subst (λ (xs : List ℕ). Rise d xs) (sym are.labels_held.held) trie.are_labels.rise);
     } in
     record {
       sound = record {
@@ -98,7 +98,7 @@ block_is d ls width ends old new trie sealed are =
         trie = subst (λ (p : TrieParts). HoldsTrie p) (sym parts) held;
       };
       degrees_are = ap (λ (p : TrieParts). degrees_of_parts p) parts ∙ are.tree.degrees_are;
-      labels_are = ap (λ (p : TrieParts). labels_of_parts p) parts ∙ are.labels.labels;
+      labels_are = ap (λ (p : TrieParts). labels_of_parts p) parts ∙ are.labels_held.held;
       width_is = ap (λ (p : TrieParts). p.width) parts;
       ends_are = ap (λ (p : TrieParts). p.ends) parts;
     }

@@ -19,6 +19,13 @@ pub after_first : (xs : List ℕ) (x v : ℕ) → 0 < v → get_or (x ∷ xs) v 
 after_first xs x zero some = absurd (omega (arith, some))
 after_first xs x (suc v) some = let e : v ≡ suc v - 1 = omega arith in ap (λ k. get_or xs k 0) e
 
+-- two labels side by side
+pub two_labels : (xs : List ℕ) (v : ℕ) → 0 < v → (get_or (0 ∷ xs) v 0 ≡ get_or xs (v - 1) 0) × (get_or (0 ∷ xs) (v + 1) 0 ≡ get_or xs v 0)
+two_labels xs v some = (
+  after_first xs 0 v some,
+  after_first xs 0 (v + 1) (omega arith) ∙ (let e : v + 1 - 1 ≡ v = omega arith in ap (λ k. get_or xs k 0) e),
+)
+
 -- the label of a node is the fragment of the node before it
 pub label_packed : (words : List ℕ) (width n v : ℕ) → 0 < v → v < n
     → get_or (labels_of words width n) v 0 ≡ number_at (bits_of words) ((v - 1) * width) width

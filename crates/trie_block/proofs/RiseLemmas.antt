@@ -43,6 +43,10 @@ module _ (d ls : List ℕ) where
   pub root_alone : (w : ℕ) → IsNextSibling d 0 w → ⊥
   root_alone w next = omega (arith, next.2.number)
 
+  -- the label of a node is less than that of its next sibling
+  pub of_next : Rise d ls → (n : ℕ) → IsNextSibling d n (n + 1) → get_or ls n 0 < get_or ls (n + 1) 0
+  of_next rise n next = rise n (n + 1) next
+
   pub rise_all : (n : ℕ) → IsTree d → n ≡ length d → RiseTo d ls n → Rise d ls
   rise_all n tree all rise v w next = rise v w (omega (arith, all, child_inside d next.0 next.1 v tree next.2)) next
 

@@ -93,8 +93,8 @@ pub record IsSoundBlock (block : List ℕ) : Type 0 where
 pub record IsTrie (degrees labels : List ℕ) (width : ℕ) (ends : List ℕ) : Type 0 where
   pub shape : IsShape (length degrees) width
   pub tree : IsTree degrees
-  pub labels : AreLabels degrees (0 ∷ labels) width
-  pub ends : HasEnds ends (length degrees)
+  pub are_labels : AreLabels degrees (0 ∷ labels) width
+  pub has_ends : HasEnds ends (length degrees)
 
 -- and a block as long as theirs
 pub record CanHold (degrees labels : List ℕ) (width : ℕ) (ends block : List ℕ) : Type 0 where
@@ -120,13 +120,13 @@ IsReason d labels width ends block error = IsFault d labels width ends error
 -- words that hold these labels of the nodes from 1 on
 pub record AreLabelsOf (degrees labels : List ℕ) (width : ℕ) (words : List ℕ) : Type 0 where
   pub len : length words ≡ label_words (length degrees) width
-  pub labels : labels_of words width (length degrees) ≡ 0 ∷ labels
+  pub held : labels_of words width (length degrees) ≡ 0 ∷ labels
 
 -- the parts of this trie
 pub record AreParts (degrees labels : List ℕ) (width : ℕ) (ends words upper lower label_part end_part : List ℕ) : Type 0 where
   pub tree : IsTreeOf degrees words upper lower
-  pub labels : AreLabelsOf degrees labels width label_part
-  pub ends : end_part ≡ ends
+  pub labels_held : AreLabelsOf degrees labels width label_part
+  pub ends_kept : end_part ≡ ends
 
 -- they stand in a block where its sections are
 abbrev pub StandsIn : List ℕ → List ℕ → ℕ → List ℕ → List ℕ → Type 0

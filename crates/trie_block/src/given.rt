@@ -26,8 +26,8 @@ fn rise_between(labels: &[u64], first: usize, past: usize) -> bool
     ensures { IsTrue result ↔ ((v : ℕ) → first ≤ v → v + 1 < past
         → slice_index (0 ∷ labels.now) v < slice_index (0 ∷ labels.now) (v + 1)) }
 {
-    for next in first + 1..past {
-        if labels[next - 1] <= labels[next - 2] {
+    for node in first..past {
+        if node + 1 < past && labels[node] <= labels[node - 1] {
             return false;
         }
     }
@@ -58,5 +58,11 @@ pub(crate) fn are_labels(degrees: &[usize], labels: &[u64], width: u8) -> bool
     requires width { width ≤ 63 }
     ensures { IsTrue result ↔ AreLabels degrees.now (0 ∷ labels.now) width }
 {
-    labels.len() == degrees.len() - 1 && all_fit(labels, width) && rise(degrees, labels)
+    if labels.len() != degrees.len() - 1 {
+        return false;
+    }
+    if !all_fit(labels, width) {
+        return false;
+    }
+    rise(degrees, labels)
 }

@@ -107,11 +107,10 @@ impl<'a> TrieView<'a> {
         let Ok(block) = Block::open(words) else {
             return None;
         };
-        if block.verify() && view.check() {
-            Some(view)
-        } else {
-            None
+        if !block.verify() {
+            return None;
         }
+        if view.check() { Some(view) } else { None }
     }
 
     /// A tree with the words of labels, of the given number of bits each, and those of ends; `None` exactly where a

@@ -13,7 +13,7 @@ loop-i-preserved c =
     (AllWithin-from_all (λ x. x < 2 ^ width) xs c.requires.fit c.loop-i.i 0 (omega arith) c.loop-i-test.true)
     c.set_fragment.ensures
 
-pub returns : goal.returns
-returns c =
+pub returns-clause-labels : goal.returns-clause-labels
+returns-clause-labels c =
     let all : c.loop-i.i ≡ length c.args.labels.now = omega (arith, c.loop-i-test.false, c.loop-i.auto.i-end) in
-    record { labels = packed_all c.loop-i.words c.args.labels.now c.args.width _ all c.loop-i.invariant }
+    packed_all c.loop-i.words c.args.labels.now c.args.width _ all c.loop-i.invariant

@@ -48,3 +48,47 @@ loop-label-preserved g c =
       reads = selects_more T.lists T.reads c.args.source.now c.loop-label.source _ i inv.reads c.in-Found.ensures.reads;
       labels = labels_more c.args.labels.now c.loop-label.labels _ i (digit_count n + 1) inv.labels c.in-Found.ensures.labels;
     }
+
+pub returns-in-Absent-clause-answer : goal.returns-in-Absent-clause-answer
+returns-in-Absent-clause-answer g c =
+    let T = g.T.TableSource in
+    let n = c.args.len in
+    let old = T.lists c.args.source.now in
+    let ls = labels_of c.args.labels.now.words c.args.labels.now.width n in
+    let word = c.args.word.now in
+    let i = c.loop-label.label-index in
+    let inv = c.loop-label.invariant in
+    let none : HasNone n c.loop-label.at (get_or word i 0) old ls =
+    moved (HasNone n c.loop-label.at (get_or word i 0)) old (T.lists c.loop-label.source) ls _ inv.reads.same
+    (same_list c.args.labels.now c.loop-label.labels n inv.labels.words inv.labels.width) c.in-Absent.ensures.answer in
+    λ held rise. leads_nowhere (degrees_in n old) ls word i c.loop-label.at c.loop-label-test.true (inv.on held rise) (none held rise)
+
+pub returns-in-Absent-clause-reads : goal.returns-in-Absent-clause-reads
+returns-in-Absent-clause-reads g c =
+    let T = g.T.TableSource in
+    let i = c.loop-label.label-index in
+    let inv = c.loop-label.invariant in
+    selects_most T.lists T.reads c.args.source.now _ (i + 1) (length c.args.word.now)
+    (selects_more T.lists T.reads c.args.source.now c.loop-label.source _ i inv.reads c.in-Absent.ensures.reads) (omega (arith, c.loop-label-test.true))
+
+pub returns-in-Absent-clause-labels : goal.returns-in-Absent-clause-labels
+returns-in-Absent-clause-labels g c =
+    let i = c.loop-label.label-index in
+    let m = digit_count c.args.len + 1 in
+    labels_most c.args.labels.now _ (i + 1) (length c.args.word.now) m
+    (labels_more c.args.labels.now c.loop-label.labels _ i m c.loop-label.invariant.labels c.in-Absent.ensures.labels) (omega (arith, c.loop-label-test.true))
+
+pub returns-in-Wrong-clause-reads : goal.returns-in-Wrong-clause-reads
+returns-in-Wrong-clause-reads g c =
+    let T = g.T.TableSource in
+    let i = c.loop-label.label-index in
+    let inv = c.loop-label.invariant in
+    selects_most T.lists T.reads c.args.source.now _ (i + 1) (length c.args.word.now)
+    (selects_more T.lists T.reads c.args.source.now c.loop-label.source _ i inv.reads c.in-Wrong.ensures.reads) (omega (arith, c.loop-label-test.true))
+
+pub returns-in-Wrong-clause-labels : goal.returns-in-Wrong-clause-labels
+returns-in-Wrong-clause-labels g c =
+    let i = c.loop-label.label-index in
+    let m = digit_count c.args.len + 1 in
+    labels_most c.args.labels.now _ (i + 1) (length c.args.word.now) m
+    (labels_more c.args.labels.now c.loop-label.labels _ i m c.loop-label.invariant.labels c.in-Wrong.ensures.labels) (omega (arith, c.loop-label-test.true))
