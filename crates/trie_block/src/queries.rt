@@ -64,7 +64,10 @@ fn child_among(
     ensures reads { ReadsLabels labels.old labels.new (digit_count len + 1) }
 {
     let low = first_from(&mut *labels, len, first, past, label);
-    if low < past && labels.label(len, low) == label {
+    if low >= past {
+        return None;
+    }
+    if labels.label(len, low) == label {
         Some(low)
     } else {
         None

@@ -47,10 +47,6 @@ label_of-requires-2-clause-inside c =
     next_inside (degrees words c.args.len) c.args.len (bits_of words) c.requires.held c.args.place c.args.node c.requires.inside c.requires.is_one
     c.requires.before (sym c.if-not-get_bit.ensures)
 
-pub returns-then-label_of-label_of : goal.returns-then-label_of-label_of
-returns-then-label_of-label_of c =
-    ((λ _ next. omega (arith, c.label_of.ensures.label, c.label_of-2.ensures.label, c.if-label_of-label_of.true)), (λ _. refl))
-
 pub returns : goal.returns
 returns c =
     let words = c.args.bits.now in
@@ -58,5 +54,5 @@ returns c =
     is_next (degrees words c.args.len) c.args.len (bits_of words) c.requires.held c.args.place c.args.node c.requires.inside c.requires.is_one
     c.requires.before (sym c.if-not-get_bit.ensures) in (
       (λ no. let e : false ≡ true = no in cc),
-      (λ less. absurd (omega (arith, less next, c.label_of.ensures.label, c.label_of-2.ensures.label, c.if-label_of-label_of.false))),
+      (λ less. absurd (omega (arith, less next, c.label_of.ensures.label, c.label_of-2.ensures.label, c.if-label_of.false))),
     )

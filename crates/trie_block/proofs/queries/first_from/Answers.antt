@@ -10,8 +10,8 @@ label-requires-clause-labels c =
     let i = c.loop-low.invariant in
     same_labels c.args.labels.now c.loop-low.labels c.args.len i.words i.width c.requires.labels
 
-pub loop-low-preserved-then-label-label : goal.loop-low-preserved-then-label-label
-loop-low-preserved-then-label-label c =
+pub loop-low-preserved-then-label : goal.loop-low-preserved-then-label
+loop-low-preserved-then-label c =
     let i = c.loop-low.invariant in
     let ls = labels_of c.args.labels.now.words c.args.labels.now.width c.args.len in
     let left = c.loop-low.high - c.loop-low.low in
@@ -24,7 +24,7 @@ loop-low-preserved-then-label-label c =
       order = omega (arith, c.loop-low-test.true);
       to = i.to;
       less = λ grow v from below.
-          omega (arith, grow v middle from (omega arith) (omega (arith, i.to, c.loop-low-test.true)), value, c.if-label-label.true);
+          omega (arith, grow v middle from (omega arith) (omega (arith, i.to, c.loop-low-test.true)), value, c.if-label.true);
       not_less = i.not_less;
       reads =
           omega (
@@ -53,7 +53,7 @@ loop-low-preserved c =
       to = omega (arith, i.to, c.loop-low-test.true);
       less = i.less;
       not_less = λ grow v from to.
-          omega (arith, grow middle v (omega (arith, i.from)) from to, value, c.if-label-label.false);
+          omega (arith, grow middle v (omega (arith, i.from)) from to, value, c.if-label.false);
       reads =
           omega (
             arith,
