@@ -153,6 +153,8 @@ fn unseen_flips(words: &mut [u64]) -> usize {
                 unseen = unseen.wrapping_add(!are_within(answers(&trie).as_slice()) as usize);
                 let found = told(trie.find([98, 101].as_slice()));
                 unseen = unseen.wrapping_add((found < 1000 && found >= 4) as usize);
+                let labels = told(trie.word(3, [0u64; 4].as_mut_slice()));
+                unseen = unseen.wrapping_add((labels < 1000 && labels > 3) as usize);
             }
             words[i] ^= 1u64 << bit;
         }
@@ -206,6 +208,27 @@ fn words_lead_to_their_nodes(rt: HostRuntime) -> Result<(), Fail> {
     assert!(rt; told(trie.find([97, 101].as_slice())) == 1000);
     assert!(rt; told(trie.find([98, 101, 97].as_slice())) == 1000);
     assert!(rt; told(trie.find([99].as_slice())) == 1000);
+    Ok(())
+}
+
+#[test]
+fn nodes_have_their_words(rt: HostRuntime) -> Result<(), Fail> {
+    let words = TRIE;
+    let Some(trie) = TrieView::open(words.as_slice()) else {
+        assert!(rt; false, "not opened");
+        return Ok(());
+    };
+    let mut out = [7u64; 4];
+    assert!(rt; told(trie.word(3, out.as_mut_slice())) == 2);
+    assert!(rt; out == [7, 7, 98, 101]);
+    let mut out = [7u64; 4];
+    assert!(rt; told(trie.word(1, out.as_mut_slice())) == 1);
+    assert!(rt; out == [7, 7, 7, 97]);
+    assert!(rt; told(trie.word(0, out.as_mut_slice())) == 0);
+    assert!(rt; told(trie.word(4, out.as_mut_slice())) == 1000);
+    assert!(rt; out == [7, 7, 7, 97]);
+    // without room for all labels there is still their number
+    assert!(rt; told(trie.word(3, &mut out.as_mut_slice()[..1])) == 2);
     Ok(())
 }
 

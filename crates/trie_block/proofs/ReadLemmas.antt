@@ -42,6 +42,54 @@ module _ {S : Type 0} (lists_of : S → Lists) (reads_of : S → ReadCounts) whe
         same = next.same ∙ first.same;
       }
 
+  -- one selection more
+  pub selects_next : (s t r : S) (k : ℕ) → OnlySelects lists_of reads_of s t k 0 → OnlySelects lists_of reads_of t r 1 0
+      → OnlySelects lists_of reads_of s r (k + 1) 0
+  selects_next s t r k first next =
+      let each = by_halves (lists_of s) in
+      let other = by_halves (lists_of t) in
+      let upper : other.upper ≡ each.upper = ap (λ l. (by_halves l).upper) first.same in
+      record {
+        at_most = record {
+          upper = omega (arith, first.at_most.upper, next.at_most.upper, upper);
+          lower = omega (arith, first.at_most.lower, next.at_most.lower);
+          words = omega (arith, first.at_most.words, next.at_most.words);
+          upper_kept = omega (arith, first.at_most.upper_kept, next.at_most.upper_kept);
+          lower_kept = omega (arith, first.at_most.lower_kept, next.at_most.lower_kept);
+          words_kept = omega (arith, first.at_most.words_kept, next.at_most.words_kept);
+        };
+        same = next.same ∙ first.same;
+      }
+
+  pub selects_within : (s t : S) (k n : ℕ) → OnlySelects lists_of reads_of s t k 0 → k ≤ n → OnlySelects lists_of reads_of s t n 0
+  selects_within s t k n first within =
+      let each = by_halves (lists_of s) in
+      let upper = mul-le-mul_left each.upper within in
+      record {
+        at_most = record {
+          upper = omega (arith, first.at_most.upper, upper);
+          lower = omega (arith, first.at_most.lower, within);
+          words = omega (arith, first.at_most.words, within);
+          upper_kept = first.at_most.upper_kept;
+          lower_kept = first.at_most.lower_kept;
+          words_kept = first.at_most.words_kept;
+        };
+        same = first.same;
+      }
+
+  pub selects_nothing : (s : S) (k : ℕ) → OnlySelects lists_of reads_of s s k 0
+  selects_nothing s k = record {
+    at_most = record {
+      upper = omega arith;
+      lower = omega arith;
+      words = omega arith;
+      upper_kept = omega arith;
+      lower_kept = omega arith;
+      words_kept = omega arith;
+    };
+    same = refl;
+  }
+
   -- no more than as many as there are labels
   pub selects_most : (s t : S) (k n : ℕ) → OnlySelects lists_of reads_of s t (2 * k) 0 → k ≤ n → OnlySelects lists_of reads_of s t (2 * n) 0
   selects_most s t k n first within =

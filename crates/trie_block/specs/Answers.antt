@@ -1,5 +1,5 @@
 -- What is answered of a trie in memory that may hold anything, and in that of a trie.
-use Rattle.std.specs.Prelude.{◌≡◌, ⊤, ℕ, ◌^◌, ◌<◌, ◌≤◌, ◌⊎◌, Bool, List, length, slice_index}
+use Rattle.std.specs.Prelude.{◌≡◌, ⊤, ℕ, ◌-◌, ◌^◌, ◌<◌, ◌≤◌, ◌⊎◌, Bool, List, length, take, drop, slice_index}
 use Rattle.bitm.specs.Answer.{Answer}
 use Rattle.bitm.specs.Answer.TheVariants.{Found, Absent, Wrong}
 use Rattle.bitm.specs.Bits.{bits_of, item}
@@ -35,3 +35,19 @@ abbrev pub IsEndOf : TrieParts → ℕ → Answer Bool → Type 0
 IsEndOf parts v (Found ends) = (v < parts.tree.len) × (0 < length parts.ends) × (ends ≡ item (bits_of parts.ends) v)
 IsEndOf parts v Absent = (parts.tree.len ≤ v) ⊎ (length parts.ends ≡ 0)
 IsEndOf parts v Wrong = ⊥
+
+-- of n nodes: a word leads to node v with no more labels than v, and Absent is answered exactly where v is no node. Where
+-- there is room for the labels, the items before them are as they were
+abbrev pub IsWordWithin : ℕ → ℕ → List ℕ → List ℕ → Answer ℕ → Type 0
+IsWordWithin n v old new (Found k) =
+    (v < n) × (k ≤ v) × (length new ≡ length old) × (k ≤ length old → take (length old - k) new ≡ take (length old - k) old)
+IsWordWithin n v old new Absent = (n ≤ v) × (new ≡ old)
+IsWordWithin n v old new Wrong = (v < n) × (length new ≡ length old)
+
+-- a word of k labels leads from the root to node v, and where there is room for them they are the last items of the list;
+-- Absent exactly where v is no node
+abbrev pub IsWordOf : List ℕ → List ℕ → ℕ → List ℕ → Answer ℕ → Type 0
+IsWordOf d ls v out (Found k) =
+    (word : List ℕ) × (length word ≡ k) × Leads d ls word 0 v × (k ≤ length out → drop (length out - k) out ≡ word)
+IsWordOf d ls v out Absent = length d ≤ v
+IsWordOf d ls v out Wrong = ⊥

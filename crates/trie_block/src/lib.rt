@@ -28,6 +28,7 @@
 // - `queries`: children by their labels, and words, over any source
 // - `sections`: the sections of the block of a trie
 // - `view`: the view of a block, and its queries
+// - `words`: the word that leads to a node, over any source
 mod building;
 mod checking;
 mod error;
@@ -36,6 +37,7 @@ mod labels;
 mod queries;
 mod sections;
 mod view;
+mod words;
 
 pub use bitm::Answer;
 pub use building::build;
@@ -45,3 +47,4 @@ pub use louds_block::LoudsView;
 pub use queries::{total_child_by_label_on, total_find_on};
 pub use sections::{TRIE, size};
 pub use view::TrieView;
+pub use words::total_word_on;

@@ -2,6 +2,7 @@
 ghost use Rattle.std.specs.Prelude.{◌≡◌, ◌↔◌, IsTrue, SomeIff};
 ghost use Rattle.louds_block.specs.Answers.{IsChildWithin};
 ghost use Rattle.trie_block.specs.Answers.{IsChildByLabelOf, IsEndOf, IsLabelOf, IsNodeOf, IsNodeWithin};
+ghost use Rattle.trie_block.specs.Answers.{IsWordOf, IsWordWithin};
 ghost use Rattle.trie_block.specs.Block.{degrees_of_parts, labels_of_parts, trie_in, trie_of};
 ghost use Rattle.trie_block.specs.Block.{HasTrieLengths, HasTrieSections, HoldsTrie, IsSoundBlock, IsTrieBlock};
 
@@ -10,6 +11,7 @@ use crate::checking::{label_of, labels_rise};
 use crate::labels::LabelProbe;
 use crate::queries::{total_child_by_label_on, total_find_on};
 use crate::sections::{TRIE, is_shape, label_words};
+use crate::words::total_word_on;
 use bitm::{Answer, words};
 use bitm_block::Block;
 use louds_block::LoudsView;
@@ -274,5 +276,28 @@ impl<'a> TrieView<'a> {
         let mut labels = LabelProbe::new(self.labels, self.width);
         let mut source = self.tree.probe();
         total_find_on(&mut source, &mut labels, self.tree.len(), word)
+    }
+
+    /// How many labels the word has that leads from the root to a node. Where `out` has room for them, they are its last
+    /// items then, and the items before them stay as they are. Whatever the block holds, they are no more than the
+    /// number of the node, and the answer is `Absent` exactly where there is no such node. Where the block holds a trie,
+    /// the answer is never `Wrong`.
+    ///
+    /// # Cost
+    /// That of `total_word_on`.
+    ///
+    /// ```
+    /// let mut out = [0u64; 4];
+    /// trie.word(3, out.as_mut_slice());   // Found(2), and out is [0, 0, 98, 101]
+    /// ```
+    #[inline]
+    pub fn word(&self, node: usize, out: &mut [u64]) -> Answer<usize>
+        ensures inside { IsWordWithin self.now.tree.len node out.old out.new result }
+        ensures answer { HoldsTrie self.now → IsWordOf (degrees_of_parts self.now)
+            (labels_of_parts self.now) node out.new result }
+    {
+        let mut labels = LabelProbe::new(self.labels, self.width);
+        let mut source = self.tree.probe();
+        total_word_on(&mut source, &mut labels, self.tree.len(), node, out)
     }
 }
