@@ -1,17 +1,14 @@
 -- What is written for a trie is its block.
-use Rattle.std.proofs.Common.{◌≡◌, ℕ, zero, suc, ◌+◌, ◌^◌, ◌<◌, ◌≤◌, List, [], ◌∷◌, ◌++◌, length, get_or, All, sym, ap, ◌∙◌, subst, arith}
+use Rattle.std.proofs.Common.{◌≡◌, ℕ, ◌<◌, List, [], ◌∷◌, ◌++◌, length, get_or, sym, ap, ◌∙◌, subst, arith}
 use Rattle.std.proofs.lemmas.List.{append-nil}
-use Rattle.bitm.specs.Tables.{HasSizes, Lists}
 use Rattle.bitm_block.proofs.PartsLemmas.{count_is, entry_is, laid, part, part_is, section_is, HaveLengths, Part}
 use Rattle.bitm_block.specs.Header.{section_in}
-use Rattle.bitm_block.specs.Layout.{head_of, part_in, AreShort}
+use Rattle.bitm_block.specs.Layout.{head_of, part_in}
 use Rattle.bitm_block.specs.Written.{IsSealed}
 use Rattle.bitm_block.specs.declared.head.Head.{Head}
 use Rattle.bitm_block.specs.declared.layout.Section.{Section}
-use Rattle.louds.specs.Counted.{degrees_in, IsLouds}
-use Rattle.louds.specs.Held.{words_of}
 use Rattle.louds.specs.Labels.{Rise}
-use Rattle.louds_block.specs.Block.{parts_of, tree_in, HasLengths, TreeParts}
+use Rattle.louds_block.specs.Block.{parts_of, tree_in, TreeParts}
 use Rattle.trie_block.specs.Block.{degrees_of_parts, labels_of_parts, trie_head, trie_in, trie_of, trie_sections, AreParts, HasTrieLengths, HoldsTrie, IsBlockOf, IsTrie, StandsIn, TrieParts}
 use Rattle.trie_block.specs.Labels.{labels_of}
 

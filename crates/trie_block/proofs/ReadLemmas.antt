@@ -2,27 +2,12 @@
 use Rattle.std.proofs.Common.{◌≡◌, ℕ, ◌+◌, ◌*◌, ◌≤◌, List, refl, sym, ap, ◌∙◌, subst, arith}
 use Rattle.std.proofs.Math.Nat.{mul-le-mul_left}
 use Rattle.bitm.specs.ReadCounts.{ReadCounts}
-use Rattle.bitm.specs.Reads.{OnlyReads}
 use Rattle.bitm.specs.Tables.{Lists}
 use Rattle.bitm_selection.specs.Selection.{by_halves}
 use Rattle.louds.specs.Counted.{OnlySelects}
 use Rattle.trie_block.specs.Labels.{labels_of, HasLabels, LabelReads, ReadsLabels}
 
 module _ {S : Type 0} (lists_of : S → Lists) (reads_of : S → ReadCounts) where
-  -- nothing was read
-  pub selects_none : (s : S) → OnlySelects lists_of reads_of s s (2 * 0) 0
-  selects_none s = record {
-    at_most = record {
-      upper = omega arith;
-      lower = omega arith;
-      words = omega arith;
-      upper_kept = omega arith;
-      lower_kept = omega arith;
-      words_kept = omega arith;
-    };
-    same = refl;
-  }
-
   -- two selections more
   pub selects_more : (s t r : S) (k : ℕ) → OnlySelects lists_of reads_of s t (2 * k) 0 → OnlySelects lists_of reads_of t r 2 0
       → OnlySelects lists_of reads_of s r (2 * (k + 1)) 0
@@ -77,6 +62,7 @@ module _ {S : Type 0} (lists_of : S → Lists) (reads_of : S → ReadCounts) whe
         same = first.same;
       }
 
+  -- nothing was read
   pub selects_nothing : (s : S) (k : ℕ) → OnlySelects lists_of reads_of s s k 0
   selects_nothing s k = record {
     at_most = record {
@@ -114,9 +100,6 @@ labels_more s t r k m first next = record {
   words = next.words ∙ first.words;
   width = next.width ∙ first.width;
 }
-
-pub labels_none : (s : LabelReads) (m : ℕ) → ReadsLabels s s (0 * m)
-labels_none s m = record { at_most = omega arith; words = refl; width = refl }
 
 pub labels_most : (s t : LabelReads) (k n m : ℕ) → ReadsLabels s t (k * m) → k ≤ n → ReadsLabels s t (n * m)
 labels_most s t k n m first within = record {

@@ -1,10 +1,10 @@
 -- Labels that rise, by the bits of a tree.
-use Rattle.std.proofs.Common.{◌≡◌, ℕ, zero, suc, ◌+◌, ◌-◌, ◌*◌, ◌^◌, ◌<◌, ◌≤◌, Bool, true, false, if◌then◌else◌, List, length, take, get_or, refl, sym, ap, ◌∙◌, subst, ⊎_elim, arith}
+use Rattle.std.proofs.Common.{◌≡◌, ℕ, ◌+◌, ◌-◌, ◌*◌, ◌<◌, ◌≤◌, Bool, true, false, if◌then◌else◌, List, length, take, get_or, refl, sym, ap, ◌∙◌, subst, ⊎_elim, arith}
 use Rattle.std.proofs.lemmas.Bool.{cases_lt}
 use Rattle.std.specs.List.{sum}
 use Rattle.bitm.specs.Bits.{item}
 use Rattle.bitm.specs.Count.{ones_before, Picks}
-use Rattle.bitm.proofs.BitLaws.{count_after_item, counts_grow, none_before_the_first, ones_and_zeros}
+use Rattle.bitm.proofs.BitLaws.{count_after_item, counts_grow, ones_and_zeros}
 use Rattle.louds.proofs.lemmas.HeldLemmas.{last_of_one, next_of_one, one_is}
 use Rattle.louds.proofs.lemmas.LabelLemmas.{child_inside, next_number}
 use Rattle.louds.proofs.lemmas.TreeLemmas.{sum_all, sum_more, sum_order}
@@ -38,14 +38,6 @@ module _ (d ls : List ℕ) where
       let own = subst (λ (x : ℕ). IsNextSibling d n x) there (subst (λ (x : ℕ). IsNextSibling d x w) at next) in
       omega (arith, here own, ap (λ k. get_or ls k 0) at, ap (λ k. get_or ls k 0) there))
       (cases_lt v n)
-
-  -- the root has no sibling
-  pub root_alone : (w : ℕ) → IsNextSibling d 0 w → ⊥
-  root_alone w next = omega (arith, next.2.number)
-
-  -- the label of a node is less than that of its next sibling
-  pub of_next : Rise d ls → (n : ℕ) → IsNextSibling d n (n + 1) → get_or ls n 0 < get_or ls (n + 1) 0
-  of_next rise n next = rise n (n + 1) next
 
   pub rise_all : (n : ℕ) → IsTree d → n ≡ length d → RiseTo d ls n → Rise d ls
   rise_all n tree all rise v w next = rise v w (omega (arith, all, child_inside d next.0 next.1 v tree next.2)) next

@@ -1,5 +1,5 @@
 -- A 1 bit next to that of a node is that of its next sibling.
-use Rattle.std.proofs.Common.{◌≡◌, ℕ, ◌+◌, ◌*◌, ◌<◌, List, Bool, true, false, sym, refl, arith}
+use Rattle.std.proofs.Common.{◌≡◌, ℕ, List, true, false, sym, refl, arith}
 use Rattle.bitm.proofs.BitLaws.{bits_are_counted}
 use Rattle.bitm.specs.Bits.{bits_of}
 use Rattle.louds.specs.Held.{degrees_of}

@@ -1,5 +1,5 @@
 -- One bit more: a 1 bit is that of one node more.
-use Rattle.std.proofs.Common.{◌≡◌, ℕ, ◌+◌, ◌*◌, ◌<◌, ◌≤◌, List, true, false, length, sym, ap, ◌∙◌, refl, rules, subst, arith}
+use Rattle.std.proofs.Common.{◌≡◌, ℕ, ◌*◌, ◌<◌, List, true, length, sym, ap, refl, rules, subst, arith}
 use Rattle.bitm.proofs.BitLaws.{bits_are_counted, none_before_the_first}
 use Rattle.bitm.specs.Bits.{bits_of}
 use Rattle.bitm.specs.Count.{ones_before}

@@ -1,6 +1,5 @@
 -- One node more: its children stand side by side.
-use Rattle.std.proofs.Common.{◌≡◌, ℕ, List, true, false, ◌+◌, ◌<◌, ◌≤◌, ◌∷◌, length, take, get_or, refl, rules, subst, sym, arith}
-use Rattle.std.specs.List.{sum}
+use Rattle.std.proofs.Common.{◌≡◌, ℕ, List, true, false, ◌+◌, ◌<◌, ◌≤◌, ◌∷◌, length, get_or, refl, rules, arith}
 use Rattle.louds.proofs.lemmas.TreeLemmas.{sum_more}
 use Rattle.trie_block.proofs.RiseLemmas.{children_inside, of_rise, under_all, under_more, under_none}
 use Rattle.trie_block.proofs.given.rise.Goals as goal

@@ -1,6 +1,5 @@
 -- One label more is less than the next one.
-use Rattle.std.proofs.Common.{◌≡◌, ℕ, ◌+◌, ◌-◌, ◌<◌, ◌≤◌, ◌∷◌, get_or, ap, refl, arith, rules, ⊎_elim}
-use Rattle.std.proofs.lemmas.Bool.{cases_lt}
+use Rattle.std.proofs.Common.{refl, arith, rules}
 use Rattle.trie_block.proofs.LabelLemmas.{two_labels}
 use Rattle.trie_block.proofs.given.rise_between.Goals as goal
 

@@ -1,5 +1,5 @@
 -- The labels of children rise, so at most one of them has the label, and it is the first that is not less.
-use Rattle.std.proofs.Common.{◌≡◌, ℕ, ◌+◌, ◌-◌, ◌<◌, ◌≤◌, List, get_or, sym, ap, ◌∙◌, arith}
+use Rattle.std.proofs.Common.{◌≡◌, ℕ, ◌-◌, List, get_or, ap, ◌∙◌, arith}
 use Rattle.bit_lists.proofs.lemmas.DigitLemmas.{digit_count-mono}
 use Rattle.trie_block.specs.Labels.{labels_of, LabelReads}
 use Rattle.trie_block.proofs.LabelLemmas.{grow, is_child, no_child}

@@ -1,5 +1,5 @@
 -- The labels do not fall, so what holds at the middle holds on one side of it.
-use Rattle.std.proofs.Common.{◌≡◌, ℕ, ◌+◌, ◌-◌, ◌/◌, ◌<◌, ◌≤◌, get_or, ap, ◌∙◌, arith}
+use Rattle.std.proofs.Common.{◌≡◌, ◌+◌, ◌-◌, ◌/◌, ◌<◌, get_or, ap, ◌∙◌, arith}
 use Rattle.bit_lists.proofs.lemmas.DigitLemmas.{digit_count-mono, digit_count_half}
 use Rattle.trie_block.specs.Labels.{labels_of}
 use Rattle.trie_block.proofs.ReadLemmas.{same_labels, same_list}

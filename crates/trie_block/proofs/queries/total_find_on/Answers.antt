@@ -1,13 +1,12 @@
 -- One label more leads to the one child that has it.
-use Rattle.std.proofs.Common.{◌≡◌, ℕ, ◌+◌, ◌≤◌, List, length, get_or, take, drop, sym, ap, ◌∙◌, arith, subst}
-use Rattle.std.proofs.lemmas.List.{take_all}
+use Rattle.std.proofs.Common.{ℕ, ◌+◌, List, length, get_or, sym, arith, subst}
 use Rattle.bitm.specs.Bits.{digit_count}
 use Rattle.bitm.specs.Tables.{HasSizes, Lists}
 use Rattle.louds.specs.Counted.{degrees_in, IsLouds}
-use Rattle.louds.specs.Labels.{IsChildWith, Leads, Rise}
+use Rattle.louds.specs.Labels.{IsChildWith, Rise}
 use Rattle.trie_block.specs.Labels.{labels_of}
 use Rattle.trie_block.proofs.LabelLemmas.{down_more, leads_nowhere, on_more}
-use Rattle.trie_block.proofs.ReadLemmas.{labels_more, labels_most, labels_none, moved, same_labels, same_list, selects_more, selects_most, selects_none}
+use Rattle.trie_block.proofs.ReadLemmas.{labels_more, labels_most, moved, same_labels, same_list, selects_more, selects_most}
 use Rattle.trie_block.proofs.queries.total_find_on.Goals as goal
 
 -- what a child that was found says, in the source and the labels that were given

@@ -1,4 +1,4 @@
-use Rattle.std.proofs.Common.{ℕ, ◌+◌, ◌*◌, ◌<◌, length, take, drop}
+use Rattle.std.proofs.Common.{ℕ, ◌+◌, ◌*◌, ◌<◌, take, drop}
 use Rattle.bitm.specs.Bits.{digit_count}
 use Rattle.louds.specs.Counted.{degrees_in, IsLouds, OnlySelects}
 use Rattle.louds.specs.Labels.{Leads, Rise}

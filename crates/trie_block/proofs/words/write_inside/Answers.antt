@@ -1,5 +1,5 @@
 -- One item is set, and the others stay.
-use Rattle.std.proofs.Common.{◌≡◌, ◌+◌, ◌-◌, ◌<◌, ◌∷◌, length, take, drop, set, ap, ◌∙◌, arith}
+use Rattle.std.proofs.Common.{◌≡◌, ◌+◌, ◌-◌, ◌∷◌, length, take, drop, set, ap, ◌∙◌, arith}
 use Rattle.std.proofs.lemmas.List.{drop-set, take-set}
 use Rattle.trie_block.proofs.words.write_inside.Goals as goal
 

@@ -1,5 +1,5 @@
 -- The words are those of the tree, whose nodes have these labels.
-use Rattle.std.proofs.Common.{List, ℕ, sym, subst, rules}
+use Rattle.std.proofs.Common.{List, ℕ, sym, subst}
 use Rattle.bitm.specs.Bits.{bits_of}
 use Rattle.louds.specs.Held.{degrees_of}
 use Rattle.louds.specs.Labels.{Rise}
