@@ -76,22 +76,9 @@ module _ {S : Type 0} (lists_of : S → Lists) (reads_of : S → ReadCounts) whe
     same = refl;
   }
 
-  -- no more than as many as there are labels
+  -- no more than two for each label
   pub selects_most : (s t : S) (k n : ℕ) → OnlySelects lists_of reads_of s t (2 * k) 0 → k ≤ n → OnlySelects lists_of reads_of s t (2 * n) 0
-  selects_most s t k n first within =
-      let each = by_halves (lists_of s) in
-      let upper = mul-le-mul_left each.upper within in
-      record {
-        at_most = record {
-          upper = omega (arith, first.at_most.upper, upper);
-          lower = omega (arith, first.at_most.lower, within);
-          words = omega (arith, first.at_most.words, within);
-          upper_kept = first.at_most.upper_kept;
-          lower_kept = first.at_most.lower_kept;
-          words_kept = first.at_most.words_kept;
-        };
-        same = first.same;
-      }
+  selects_most s t k n first within = selects_within s t (2 * k) (2 * n) first (omega (arith, within))
 
 -- labels that were read one after another
 pub labels_more : (s t r : LabelReads) (k m : ℕ) → ReadsLabels s t (k * m) → ReadsLabels t r m → ReadsLabels s r ((k + 1) * m)

@@ -22,8 +22,8 @@ pub(crate) fn label_of(labels: &[u64], width: u8, len: usize, node: usize) -> u6
     LabelProbe::new(labels, width).label(len, node)
 }
 
-/// Whether the label of a node, whose 1 bit stands at `place`, is less than that of its next sibling, if it has one: there
-/// is one where a 1 bit stands next.
+/// Whether the label of a node, whose 1 bit stands at `place`, is less than that of its next sibling, if it has one:
+/// there is one where a 1 bit stands next.
 #[inline(always)]
 fn is_less_than_next(
     bits: &[u64],

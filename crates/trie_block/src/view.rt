@@ -278,10 +278,10 @@ impl<'a> TrieView<'a> {
         total_find_on(&mut source, &mut labels, self.tree.len(), word)
     }
 
-    /// How many labels the word has that leads from the root to a node. Where `out` has room for them, they are its last
-    /// items then, and the items before them stay as they are. Whatever the block holds, they are no more than the
-    /// number of the node, and the answer is `Absent` exactly where there is no such node. Where the block holds a trie,
-    /// the answer is never `Wrong`.
+    /// How many labels the word has that leads from the root to a node. Where `out` has room for them, they are its
+    /// last items then, and the items before them stay as they are. Whatever the block holds, they are no more than the
+    /// number of the node, and the answer is `Absent` exactly where there is no such node. Where the block holds a
+    /// trie, the answer is never `Wrong`.
     ///
     /// # Cost
     /// That of `total_word_on`.

@@ -36,8 +36,8 @@ fn write_before(out: &mut [u64], count: usize, label: u64)
     }
 }
 
-/// The word that leads from the root to a node: how many labels it has. Where `out` has room for them, they are its last
-/// items then, and the items before them stay as they are.
+/// The word that leads from the root to a node: how many labels it has. Where `out` has room for them, they are its
+/// last items then, and the items before them stay as they are.
 ///
 /// Whatever the source and the labels hold, a word has no more labels than the number of its node, and the answer is
 /// `Absent` exactly where there is no such node. Where they hold a tree with labels, the answer is never `Wrong`.
