@@ -10,7 +10,7 @@ use std::marker::Model;
 /// The words may hold anything. The count has no greatest number and takes no bytes at run time; only clauses see it.
 ///
 /// ```
-/// LabelProbe::new(words, 8).label(1);   // the first eight bits
+/// LabelProbe::new(words, 8).label(4, 1);   // of four nodes that of node 1: the first eight bits
 /// ```
 #[derive(Drop)]
 pub struct LabelProbe<'a> {
