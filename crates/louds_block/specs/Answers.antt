@@ -2,7 +2,7 @@
 use Rattle.std.specs.Prelude.{◌≡◌, ⊤, ℕ, ◌+◌, ◌<◌, ◌≤◌, ◌⊎◌, ◌==◌, Bool, List, length, slice_index}
 use Rattle.bitm.specs.Answer.{Answer}
 use Rattle.bitm.specs.Answer.TheVariants.{Found, Absent, Wrong}
-use Rattle.louds.specs.Tree.{IsChild, IsFirst, IsLast, IsNextSibling}
+use Rattle.louds.specs.Tree.{AreChildren, IsChild, IsFirst, IsLast, IsNextSibling}
 
 -- of n nodes: a parent is a node before v, and Absent is answered exactly at the root and where v is no node
 abbrev pub IsParentWithin : ℕ → ℕ → Answer ℕ → Type 0
@@ -27,6 +27,19 @@ abbrev pub IsChildOf : List ℕ → ℕ → ℕ → Answer ℕ → Type 0
 IsChildOf d i k (Found c) = IsChild d i k c
 IsChildOf d i k Absent = (length d ≤ i) ⊎ (slice_index d i ≤ k)
 IsChildOf d i k Wrong = ⊥
+
+-- of n nodes: the nodes from the first of the two numbers on, and before the second, are nodes after i, and Absent is
+-- answered exactly where i is no node
+abbrev pub AreChildrenWithin : ℕ → ℕ → Answer (ℕ × ℕ) → Type 0
+AreChildrenWithin n i (Found run) = (i < run.0) × (run.0 ≤ run.1) × (run.1 ≤ n)
+AreChildrenWithin n i Absent = n ≤ i
+AreChildrenWithin n i Wrong = i < n
+
+-- they are the children of node i, in their order, and Absent exactly where i is no node
+abbrev pub AreChildrenOf : List ℕ → ℕ → Answer (ℕ × ℕ) → Type 0
+AreChildrenOf d i (Found run) = AreChildren d i run.0 run.1
+AreChildrenOf d i Absent = length d ≤ i
+AreChildrenOf d i Wrong = ⊥
 
 -- of n nodes: a node has fewer children, and Absent is answered exactly where i is no node
 abbrev pub IsDegreeWithin : ℕ → ℕ → Answer ℕ → Type 0

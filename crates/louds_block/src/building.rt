@@ -15,8 +15,19 @@ use block_tables::fill_tables;
 use lent_tables::clear;
 use louds::is_tree;
 
-/// Writes the bits of a tree, where all bits are 0, and their tables.
-fn write_tree(degrees: &[usize], words: &mut [u64], upper: &mut [u64], lower: &mut [u64])
+/// Writes the bits of a tree, where all bits are 0, and their tables: the sections of its block, of which those of a
+/// block of another kind may be the first.
+///
+/// # Conditions
+/// There are fewer than 2^60 degrees, they are those of a tree, and the words and tables have the lengths that these
+/// need (`Lens`).
+/// # Cost
+/// One pass over the degrees, and one over the words (evident from the code).
+///
+/// ```
+/// write_tree(&[2, 0, 1, 0], words, upper, lower);   // words: 0b001001101, from the lowest bit on 10 110 0 10 0
+/// ```
+pub fn write_tree(degrees: &[usize], words: &mut [u64], upper: &mut [u64], lower: &mut [u64])
     requires short { length degrees.now < 2 ^ 60 }
     requires tree { IsTree degrees.now }
     requires clear { words.old ≡ replicate (words_of (length degrees.now)) 0 }

@@ -21,6 +21,7 @@
 // What is in each file:
 // - `building`: the block of a tree, written into the caller's memory
 // - `checking`: whether words hold a tree
+// - `children`: the children of a node, side by side, over any source
 // - `error`: why no block was written
 // - `queries`: parents, children and degrees over any source
 // - `sections`: the sections of the block of a tree
@@ -29,6 +30,7 @@
 // - `writing`: the bits of a tree
 mod building;
 mod checking;
+mod children;
 mod error;
 mod queries;
 mod sections;
@@ -37,10 +39,11 @@ mod tree;
 mod writing;
 
 pub use bitm::Answer;
-pub use building::build;
+pub use building::{build, write_tree};
+pub use children::total_children_on;
 pub use error::BuildError;
 pub use queries::{total_child_on, total_degree_on, total_parent_on};
-pub use sections::{LOUDS, size};
+pub use sections::{LOUDS, Lens, size};
 pub use siblings::{
     total_child_rank_on, total_is_leaf_on, total_next_sibling_on, total_previous_sibling_on,
 };

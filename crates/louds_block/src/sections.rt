@@ -11,17 +11,31 @@ use lent_tables::{lower_len, upper_len};
 pub const LOUDS: u64 = 7;
 
 /// How many words the sections of a tree have.
+///
+/// ```
+/// Lens::of(4);   // one word, one upper and one lower entry
+/// ```
 #[derive(Clone, Copy)]
-pub(crate) struct Lens {
-    pub(crate) words: usize,
-    pub(crate) upper: usize,
-    pub(crate) lower: usize,
+pub struct Lens {
+    /// Words of the bits of the tree.
+    pub words: usize,
+    /// Entries of the upper table.
+    pub upper: usize,
+    /// Entries of the lower table.
+    pub lower: usize,
 }
 
 impl Lens {
     /// Those of the given number of nodes.
+    ///
+    /// # Conditions
+    /// There are fewer than 2^60 nodes.
+    ///
+    /// ```
+    /// Lens::of(1000).words;   // 32: 2001 bits
+    /// ```
     #[inline(always)]
-    pub(crate) fn of(nodes: usize) -> Lens
+    pub fn of(nodes: usize) -> Lens
         requires { nodes < 2 ^ 60 }
         ensures words { result.words ≡ words_of nodes }
         ensures upper { result.upper ≡ upper_of_nodes nodes }

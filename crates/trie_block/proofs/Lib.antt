@@ -1,0 +1,4 @@
+pub mod BlockLemmas
+pub mod LabelLemmas
+pub mod ReadLemmas
+pub mod RiseLemmas

@@ -1,0 +1,122 @@
+-- Labels that rise, by the bits of a tree.
+use Rattle.std.proofs.Common.{◌≡◌, ℕ, ◌+◌, ◌-◌, ◌*◌, ◌<◌, ◌≤◌, Bool, true, false, if◌then◌else◌, List, length, take, get_or, refl, sym, ap, ◌∙◌, subst, ⊎_elim, arith}
+use Rattle.std.proofs.lemmas.Bool.{cases_lt}
+use Rattle.std.specs.List.{sum}
+use Rattle.bitm.specs.Bits.{item}
+use Rattle.bitm.specs.Count.{ones_before, Picks}
+use Rattle.bitm.proofs.BitLaws.{count_after_item, counts_grow, ones_and_zeros}
+use Rattle.louds.proofs.lemmas.HeldLemmas.{last_of_one, next_of_one, one_is}
+use Rattle.louds.proofs.lemmas.LabelLemmas.{child_inside, next_number}
+use Rattle.louds.proofs.lemmas.TreeLemmas.{sum_all, sum_more, sum_order}
+use Rattle.louds.specs.Held.{zero_place, IsHeld, IsOneOf}
+use Rattle.louds.specs.Labels.{Rise}
+use Rattle.louds.specs.Tree.{IsChild, IsNextSibling, IsTree}
+
+-- a one more, or none
+pub one_more : (b : List Bool) (p : ℕ) → p < length b → item b p ≡ true → ones_before b (p + 1) ≡ ones_before b p + 1
+one_more b p inside is = count_after_item b true p inside ∙ ap (λ x. ones_before b p + (if x then 1 else 0)) is
+
+pub none_more : (b : List Bool) (p : ℕ) → p < length b → item b p ≡ false → ones_before b (p + 1) ≡ ones_before b p
+none_more b p inside is = count_after_item b true p inside ∙ ap (λ x. ones_before b p + (if x then 1 else 0)) is ∙ omega arith
+
+-- the labels of siblings rise, of the first v nodes
+abbrev pub RiseTo : List ℕ → List ℕ → ℕ → Type 0
+RiseTo d ls n = (v w : ℕ) → v < n → IsNextSibling d v w → get_or ls v 0 < get_or ls w 0
+
+module _ (d ls : List ℕ) where
+  pub rise_none : RiseTo d ls 0
+  rise_none v w less next = absurd (omega (arith, less))
+
+  -- one node more
+  pub rise_more : (n : ℕ) → RiseTo d ls n → (IsNextSibling d n (n + 1) → get_or ls n 0 < get_or ls (n + 1) 0) → RiseTo d ls (n + 1)
+  rise_more n rise here v w less next =
+      ⊎_elim
+      (λ before. rise v w before next)
+      (λ last.
+      let at : v ≡ n = omega arith in
+      let there : w ≡ n + 1 = omega (arith, at, next_number d v w next) in
+      let own = subst (λ (x : ℕ). IsNextSibling d n x) there (subst (λ (x : ℕ). IsNextSibling d x w) at next) in
+      omega (arith, here own, ap (λ k. get_or ls k 0) at, ap (λ k. get_or ls k 0) there))
+      (cases_lt v n)
+
+  pub rise_all : (n : ℕ) → IsTree d → n ≡ length d → RiseTo d ls n → Rise d ls
+  rise_all n tree all rise v w next = rise v w (omega (arith, all, child_inside d next.0 next.1 v tree next.2)) next
+
+module _ (d : List ℕ) (n : ℕ) (b : List Bool) (h : IsHeld d n b) where
+  pub room : 2 * n < length b
+  room = omega (arith, h.tight)
+
+  -- all nodes have a one before the last zero
+  pub ones_all : ones_before b (2 * n) ≡ n
+  ones_all =
+      let last = h.zeros n (omega arith) in
+      let at : zero_place d n ≡ 2 * n = omega (arith, h.count, sum_all d n h.count, h.tree.count) in
+      omega (arith, ones_and_zeros b (2 * n) (omega (arith, room)), subst (λ (p : ℕ). Picks b false n p) at last)
+
+  -- a one before it is that of a node
+  module _ (p v : ℕ) (inside : p < 2 * n) (is : item b p ≡ true) (before : v ≡ ones_before b p) where
+    pub node_inside : v < n
+    node_inside = omega (arith, before, ones_all, one_more b p (omega (arith, inside, room)) is, counts_grow b true (p + 1) (2 * n) (omega (arith, inside)))
+
+    one : IsOneOf d v p
+    one = one_is d n b h v p node_inside (record { inside = omega (arith, inside, room); item = is; before = sym before })
+
+    pub is_next : item b (p + 1) ≡ true → IsNextSibling d v (v + 1)
+    is_next next = next_of_one d n b h v p node_inside one next
+
+    pub next_inside : item b (p + 1) ≡ true → v + 1 < n
+    next_inside next = let own = is_next next in omega (arith, h.count, child_inside d own.0 (own.1 + 1) (v + 1) h.tree own.3)
+
+    pub no_next : item b (p + 1) ≡ false → IsNextSibling d v (v + 1) → ⊥
+    no_next none next =
+        let last = last_of_one d n b h v p node_inside one none in
+        omega (arith, last next.0 next.1 next.2, next.3.some)
+
+-- ---- by the degrees of a tree
+
+-- the labels of the children of the first n nodes rise
+abbrev pub RiseUnder : List ℕ → List ℕ → ℕ → Type 0
+RiseUnder d ls n = (i k v w : ℕ) → i < n → IsChild d i k v → IsChild d i (k + 1) w → get_or ls v 0 < get_or ls w 0
+
+module _ (d ls : List ℕ) where
+  pub under_none : RiseUnder d ls 0
+  under_none i k v w less a b = absurd (omega (arith, less))
+
+  -- those of one node more
+  pub under_more : (n : ℕ) → RiseUnder d ls n
+      → ((v : ℕ) → 1 + sum (take n d) ≤ v → v + 1 < 1 + sum (take n d) + get_or d n 0 → get_or ls v 0 < get_or ls (v + 1) 0)
+      → RiseUnder d ls (n + 1)
+  under_more n rise here i k v w less a b =
+      ⊎_elim
+      (λ before. rise i k v w before a b)
+      (λ last.
+      let at : i ≡ n = omega arith in
+      let sums : sum (take i d) ≡ sum (take n d) = ap (λ j. sum (take j d)) at in
+      let degree : get_or d i 0 ≡ get_or d n 0 = ap (λ j. get_or d j 0) at in
+      let next : w ≡ v + 1 = omega (arith, a.number, b.number) in
+      omega (
+        arith,
+        here v (omega (arith, a.number, sums)) (omega (arith, a.number, b.some, sums, degree)),
+        ap (λ j. get_or ls j 0) next,
+      ))
+      (cases_lt i n)
+
+  pub under_all : (n : ℕ) → n ≡ length d → RiseUnder d ls n → Rise d ls
+  under_all n all rise v w next = rise next.0 next.1 v w (omega (arith, all, next.2.node)) next.2 next.3
+
+  -- the labels of each node's children rise where those of siblings do
+  pub of_rise : (n v : ℕ) → n < length d → Rise d ls → 1 + sum (take n d) ≤ v → v + 1 < 1 + sum (take n d) + get_or d n 0
+      → get_or ls v 0 < get_or ls (v + 1) 0
+  of_rise n v inside rise from to =
+      let k = v - 1 - sum (take n d) in
+      rise v (v + 1) (
+        n,
+        k,
+        record { node = inside; some = omega arith; number = omega arith },
+        record { node = inside; some = omega arith; number = omega arith },
+      )
+
+  -- the children of the first nodes are nodes
+  pub children_inside : (n : ℕ) → IsTree d → n < length d → 1 + sum (take n d) + get_or d n 0 ≤ length d
+  children_inside n tree inside =
+      omega (arith, sum_more d n inside, sum_order d (n + 1) (length d) (omega arith) (omega arith), sum_all d (length d) refl, tree.count)

@@ -1,0 +1,143 @@
+-- A block that holds a trie: a tree, a label for each node but the root, and a bit for each node.
+use Rattle.std.specs.Prelude.{◌≡◌, ◌≢◌, ◌⊎◌, ℕ, ◌^◌, ◌<◌, ◌≤◌, List, [], ◌∷◌, length, slice_index}
+use Rattle.std.specs.Int.{div_ceil}
+use Rattle.bitm_block.specs.Header.{count_in, section_in, IsBlock, IsVerified}
+use Rattle.bitm_block.specs.Layout.{end_of, part_in}
+use Rattle.bitm_block.specs.declared.head.Head.{Head}
+use Rattle.bitm_block.specs.declared.layout.Section.{Section}
+use Rattle.block_tables.specs.Sections.{section_of}
+use Rattle.louds.specs.Counted.{degrees_in, IsLouds}
+use Rattle.louds.specs.Held.{words_of}
+use Rattle.louds.specs.Labels.{AreLabels, Rise}
+use Rattle.louds.specs.Tree.{IsTree}
+use Rattle.louds_block.specs.Block.{lower_of_nodes, tree_in, upper_of_nodes, HasLengths, IsTreeOf, TreeParts}
+use Rattle.trie_block.specs.Labels.{label_words, labels_of, IsShape, IsWidth}
+use Rattle.trie_block.specs.declared.error.BuildError.{BuildError}
+use Rattle.trie_block.specs.declared.error.BuildError.TheVariants.{TooLong, WrongWidth, NotATree, NotLabels, WrongEnds, WrongLength}
+
+-- how many words a bit for each of n nodes takes
+abbrev pub end_words : ℕ → ℕ
+end_words n = div_ceil n 64
+
+-- no words, or a bit for each of n nodes
+abbrev pub HasEnds : List ℕ → ℕ → Type 0
+HasEnds ends n = (length ends ≡ 0) ⊎ (length ends ≡ end_words n)
+
+-- the numbers of the header of a trie of n nodes, whose labels have `width` bits
+abbrev pub trie_head : ℕ → ℕ → Head
+trie_head n width = record { kind = 9; len = n; width = width; ones_log2 = 0; zeros_log2 = 0; a = 0; b = 0; c = 0 }
+
+-- its sections: the three of its tree, labels, and ends in the given number of words
+abbrev pub trie_sections : ℕ → ℕ → ℕ → List Section
+trie_sections n width ends =
+    section_of 1 (words_of n) ∷ section_of 2 (upper_of_nodes n) ∷ section_of 3 (lower_of_nodes n) ∷ section_of 17 (label_words n width)
+    ∷ section_of 18 ends ∷ []
+
+-- a tree, the words of its labels, the bits of a label, and the words of its ends: bit v of these says whether a word ends
+-- at node v
+pub record TrieParts : Type 0 where
+  pub tree : TreeParts
+  pub labels : List ℕ
+  pub width : ℕ
+  pub ends : List ℕ
+
+abbrev pub trie_of : TreeParts → List ℕ → ℕ → List ℕ → TrieParts
+trie_of tree labels width ends = record { tree = tree; labels = labels; width = width; ends = ends }
+
+-- the trie whose parts are the first five sections
+abbrev pub trie_in : List ℕ → TrieParts
+trie_in block = trie_of (tree_in block) (section_in block 3) (slice_index block 4) (section_in block 4)
+
+-- the degrees and the labels of the nodes that the parts hold
+abbrev pub degrees_of_parts : TrieParts → List ℕ
+degrees_of_parts parts = degrees_in parts.tree.len parts.tree.lists
+
+abbrev pub labels_of_parts : TrieParts → List ℕ
+labels_of_parts parts = labels_of parts.labels parts.width parts.tree.len
+
+-- the parts are as long as those of the number of nodes: nothing is said of what they hold
+pub record HasTrieLengths (parts : TrieParts) : Type 0 where
+  pub tree : HasLengths parts.tree
+  pub shape : IsShape parts.tree.len parts.width
+  pub labels_len : length parts.labels ≡ label_words parts.tree.len parts.width
+  pub ends_len : HasEnds parts.ends parts.tree.len
+
+-- the block is of the kind of a trie, and its first five sections are those of one
+pub record HasTrieSections (block : List ℕ) : Type 0 where
+  pub kind : slice_index block 1 ≡ 9
+  pub five : 5 ≤ count_in block
+  pub words : slice_index block 16 ≡ 1
+  pub upper : slice_index block 20 ≡ 2
+  pub lower : slice_index block 24 ≡ 3
+  pub labels : slice_index block 28 ≡ 17
+  pub ends : slice_index block 32 ≡ 18
+
+-- header and directory are right, and the sections are as long as those of the number of nodes
+pub record IsTrieBlock (block : List ℕ) : Type 0 where
+  pub is_block : IsBlock block
+  pub sections : HasTrieSections block
+  pub lengths : HasTrieLengths (trie_in block)
+
+-- the parts hold a tree, and the labels of siblings rise
+pub record HoldsTrie (parts : TrieParts) : Type 0 where
+  pub tree : IsLouds parts.tree.len parts.tree.lists
+  pub rise : Rise (degrees_of_parts parts) (labels_of_parts parts)
+
+-- the block is as it was written, and holds a trie
+pub record IsSoundBlock (block : List ℕ) : Type 0 where
+  pub trie_block : IsTrieBlock block
+  pub verified : IsVerified block
+  pub trie : HoldsTrie (trie_in block)
+
+-- the degrees of a tree of few enough nodes, labels for the nodes from 1 on, and ends
+pub record IsTrie (degrees labels : List ℕ) (width : ℕ) (ends : List ℕ) : Type 0 where
+  pub shape : IsShape (length degrees) width
+  pub tree : IsTree degrees
+  pub are_labels : AreLabels degrees (0 ∷ labels) width
+  pub has_ends : HasEnds ends (length degrees)
+
+-- and a block as long as theirs
+pub record CanHold (degrees labels : List ℕ) (width : ℕ) (ends block : List ℕ) : Type 0 where
+  pub trie : IsTrie degrees labels width ends
+  pub room : length block ≡ end_of (trie_sections (length degrees) width (length ends))
+
+-- why these are the parts of no trie: the first of these that holds
+abbrev pub IsFault : List ℕ → List ℕ → ℕ → List ℕ → BuildError → Type 0
+IsFault d labels width ends TooLong = 2 ^ 57 ≤ length d
+IsFault d labels width ends WrongWidth = (length d < 2 ^ 57) × (¬ (IsWidth width))
+IsFault d labels width ends NotATree = IsShape (length d) width × (¬ (IsTree d))
+IsFault d labels width ends NotLabels = IsShape (length d) width × IsTree d × (¬ (AreLabels d (0 ∷ labels) width))
+IsFault d labels width ends WrongEnds =
+    IsShape (length d) width × IsTree d × AreLabels d (0 ∷ labels) width × (¬ (HasEnds ends (length d)))
+IsFault d labels width ends WrongLength = ⊥
+
+-- why no block was written: the first of these that holds
+abbrev pub IsReason : List ℕ → List ℕ → ℕ → List ℕ → List ℕ → BuildError → Type 0
+IsReason d labels width ends block WrongLength =
+    IsTrie d labels width ends × (length block ≢ end_of (trie_sections (length d) width (length ends)))
+IsReason d labels width ends block error = IsFault d labels width ends error
+
+-- words that hold these labels of the nodes from 1 on
+pub record AreLabelsOf (degrees labels : List ℕ) (width : ℕ) (words : List ℕ) : Type 0 where
+  pub len : length words ≡ label_words (length degrees) width
+  pub held : labels_of words width (length degrees) ≡ 0 ∷ labels
+
+-- the parts of this trie
+pub record AreParts (degrees labels : List ℕ) (width : ℕ) (ends words upper lower label_part end_part : List ℕ) : Type 0 where
+  pub tree : IsTreeOf degrees words upper lower
+  pub labels_held : AreLabelsOf degrees labels width label_part
+  pub ends_kept : end_part ≡ ends
+
+-- they stand in a block where its sections are
+abbrev pub StandsIn : List ℕ → List ℕ → ℕ → List ℕ → List ℕ → Type 0
+StandsIn degrees labels width ends block =
+    let ss = trie_sections (length degrees) width (length ends) in
+    AreParts degrees labels width ends (part_in ss block 0) (part_in ss block 1) (part_in ss block 2) (part_in ss block 3) (part_in ss block 4)
+
+-- the block is that of this trie
+pub record IsBlockOf (degrees labels : List ℕ) (width : ℕ) (ends block : List ℕ) : Type 0 where
+  pub sound : IsSoundBlock block
+  pub degrees_are : degrees_of_parts (trie_in block) ≡ degrees
+  pub labels_are : labels_of_parts (trie_in block) ≡ 0 ∷ labels
+  pub width_is : (trie_in block).width ≡ width
+  pub ends_are : (trie_in block).ends ≡ ends

@@ -1,0 +1,4 @@
+pub mod Answers
+pub mod Block
+pub mod Error
+pub mod Labels

@@ -1,0 +1,165 @@
+//! The block of a trie, written into the caller's memory.
+ghost use Rattle.std.specs.Prelude.{◌≡◌, ◌^◌, ◌<◌, ◌↔◌, All, IfErr, IfOk, IsOk, IsTrue, MatchOption, length};
+ghost use Rattle.bitm_block.specs.Layout.{end_of};
+ghost use Rattle.bitm_block.specs.Written.{IsSealed};
+ghost use Rattle.louds.specs.Labels.{HasRoom, numbers_of};
+ghost use Rattle.trie_block.specs.Block.{trie_head, trie_sections};
+ghost use Rattle.trie_block.specs.Block.{CanHold, HasEnds, IsBlockOf, IsFault, IsReason, IsTrie, StandsIn};
+ghost use Rattle.trie_block.specs.Labels.{IsShape};
+
+use crate::error::BuildError;
+use crate::given::are_labels;
+use crate::sections::{block_len, is_shape, label_words, trie_head, trie_sections};
+use bitm::words;
+use bitm_block::{aligned, seal};
+use lent_tables::clear;
+use louds::is_tree;
+use louds_block::{Lens, write_tree};
+
+/// Copies the words.
+fn copy_words(to: &mut [u64], from: &[u64])
+    requires { length to.old ≡ length from.now }
+    ensures { to.new ≡ from.now }
+{
+    let len = from.len();
+    // A loop over single words would be compiled to a call of C's `memcpy`, and the archive for C calls nothing.
+    for pair in 0..len / 2 {
+        to[2 * pair] = from[2 * pair];
+        to[2 * pair + 1] = from[2 * pair + 1];
+    }
+    if len % 2 == 1 {
+        to[len - 1] = from[len - 1];
+    }
+}
+
+/// Writes each label at its index.
+fn write_labels(words: &mut [u64], labels: &[u64], width: u8)
+    requires room { HasRoom words.old width (length labels.now) }
+    requires fit { All (λ x. x < 2 ^ width) labels.now }
+    ensures labels { numbers_of words.new width (length labels.now) ≡ labels.now }
+    ensures len { length words.new ≡ length words.old }
+{
+    for (i, label) in labels.iter().enumerate() {
+        words::set_fragment(words, i, *label, width);
+    }
+}
+
+/// Writes the sections of a trie where its block has them.
+fn write_parts(degrees: &[usize], labels: &[u64], width: u8, ends: &[u64], block: &mut [u64])
+    requires { CanHold degrees.now labels.now width ends.now block.old }
+    ensures { StandsIn degrees.now labels.now width ends.now block.new }
+{
+    let lens = Lens::of(degrees.len());
+    let labels_len = label_words(degrees.len(), width as usize);
+    clear(&mut *block);
+    let (_head, rest) = block.split_at_mut(40);
+    let (room, rest) = rest.split_at_mut(aligned(lens.words));
+    let (words, _gap) = room.split_at_mut(lens.words);
+    let (room, rest) = rest.split_at_mut(aligned(lens.upper));
+    let (upper, _gap) = room.split_at_mut(lens.upper);
+    let (room, rest) = rest.split_at_mut(aligned(lens.lower));
+    let (lower, _gap) = room.split_at_mut(lens.lower);
+    write_tree(degrees, words, upper, lower);
+    let (room, rest) = rest.split_at_mut(aligned(labels_len));
+    let (label_part, _gap) = room.split_at_mut(labels_len);
+    write_labels(label_part, labels, width);
+    let (end_part, _gap) = rest.split_at_mut(ends.len());
+    copy_words(end_part, ends);
+}
+
+/// Writes the header and the directory of a trie.
+fn seal_trie(nodes: usize, width: usize, ends: usize, block: &mut [u64])
+    requires shape { IsShape nodes width }
+    requires ends { ends < 2 ^ 52 }
+    requires room { length block.old ≡ end_of (trie_sections nodes width ends) }
+    ensures { IsSealed (trie_head nodes width) (trie_sections nodes width ends)
+        block.old block.new }
+{
+    let sections = trie_sections(nodes, width, ends);
+    match seal(&trie_head(nodes, width), sections.as_slice(), block) {
+        Ok(()) => {}
+        Err(_) => unreachable!(),
+    }
+}
+
+/// Writes the block of a trie.
+fn write_block(degrees: &[usize], labels: &[u64], width: u8, ends: &[u64], block: &mut [u64])
+    requires { CanHold degrees.now labels.now width ends.now block.old }
+    ensures { IsBlockOf degrees.now labels.now width ends.now block.new }
+{
+    write_parts(degrees, labels, width, ends, &mut *block);
+    seal_trie(degrees.len(), width as usize, ends.len(), block);
+}
+
+/// Whether these are no words, or as many as a bit for each node takes.
+#[inline(always)]
+pub(crate) fn has_ends(ends: &[u64], nodes: usize) -> bool
+    ensures { IsTrue result ↔ HasEnds ends.now nodes }
+{
+    ends.len() == 0 || ends.len() == nodes.div_ceil(64)
+}
+
+/// Why these are the parts of no trie; `None` where they are those of one.
+fn refusal(degrees: &[usize], labels: &[u64], width: u8, ends: &[u64]) -> Option<BuildError>
+    ensures { MatchOption result (IsTrie degrees.now labels.now width ends.now)
+        (IsFault degrees.now labels.now width ends.now) }
+{
+    if degrees.len() >= 1 << 57 {
+        return Some(BuildError::TooLong);
+    }
+    if !is_shape(degrees.len(), width as usize) {
+        return Some(BuildError::WrongWidth);
+    }
+    if !is_tree(degrees) {
+        return Some(BuildError::NotATree);
+    }
+    if !are_labels(degrees, labels, width) {
+        return Some(BuildError::NotLabels);
+    }
+    if !has_ends(ends, degrees.len()) {
+        return Some(BuildError::WrongEnds);
+    }
+    None
+}
+
+/// Writes the block of the trie of these degrees, which `TrieView::open` opens and `check` accepts. The labels are
+/// those of the nodes from 1 on, and those of the children of a node rise. The ends are no words, or a bit for each
+/// node, lowest bit first, which says whether a word ends there; they are copied as they are, with the bits after the
+/// last node.
+///
+/// # Errors
+/// `TooLong` exactly where there are 2^57 degrees or more; else `WrongWidth` exactly where the width is not 1 to 63;
+/// else `NotATree` exactly where the degrees are those of no tree; else `NotLabels` exactly where these are no labels
+/// for its nodes; else `WrongEnds` exactly where the ends are neither no words nor as many as a bit for each node
+/// takes; else `WrongLength` exactly where the words of the block are not as many as it takes (`size`). These stay as
+/// they are then.
+/// # Cost
+/// Three passes over the degrees and the labels, and four over the block (evident from the code). Nothing is allocated.
+///
+/// ```
+/// let mut block = [0u64; 80];              // size(4, 8, true) words
+/// // the words a, b and be: nodes 1 to 3 have the letters a, b and e, and a word ends at each of them
+/// build(&[2, 0, 1, 0], &[97, 98, 101], 8, &[0b1110], block.as_mut_slice());   // Ok(())
+/// ```
+pub fn build(
+    degrees: &[usize],
+    labels: &[u64],
+    width: u8,
+    ends: &[u64],
+    block: &mut [u64],
+) -> Result<(), BuildError>
+    ensures error { IfErr result
+        (IsReason degrees.now labels.now width ends.now block.old) }
+    ensures ok { IsOk result ↔ CanHold degrees.now labels.now width ends.now block.old }
+    ensures block { IfOk result (λ _. IsBlockOf degrees.now labels.now width ends.now block.new) }
+    ensures kept { IfErr result (λ _. block.new ≡ block.old) }
+{
+    if let Some(error) = refusal(degrees, labels, width, ends) {
+        return Err(error);
+    }
+    if block.len() != block_len(degrees.len(), width as usize, ends.len()) {
+        return Err(BuildError::WrongLength);
+    }
+    write_block(degrees, labels, width, ends, block);
+    Ok(())
+}

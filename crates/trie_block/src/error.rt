@@ -1,0 +1,42 @@
+//! Why no block of a trie was written.
+
+use std::error::Error;
+use std::fmt;
+
+/// Why no block of a trie was written; the words are as they were.
+#[derive(Clone, Copy, Debug, PartialEq, Eq)]
+pub enum BuildError {
+    /// There are 2^57 degrees or more.
+    TooLong,
+    /// The width is not 1 to 63 bits.
+    WrongWidth,
+    /// The degrees are those of no tree.
+    NotATree,
+    /// There is not one label for each node but the root, or one has more bits than the width, or those of the children
+    /// of a node do not rise.
+    NotLabels,
+    /// The ends are neither no words, nor as many as a bit for each node takes.
+    WrongEnds,
+    /// The words are not as many as the block takes.
+    WrongLength,
+}
+
+impl fmt::Display for BuildError {
+    ghost use Rattle.std.specs.Prelude.{Some};
+    ghost use Rattle.trie_block.specs.Error.{build_error_text};
+
+    ghost output = { λ e. Some (build_error_text e) };
+
+    fn fmt<W: fmt::Write>(&self, f: &mut fmt::Formatter<W>) -> fmt::Result {
+        match self {
+            BuildError::TooLong => write!(f, "there are 2^57 degrees or more"),
+            BuildError::WrongWidth => write!(f, "the width is not 1 to 63"),
+            BuildError::NotATree => write!(f, "the degrees are those of no tree"),
+            BuildError::NotLabels => write!(f, "the labels are none for this tree"),
+            BuildError::WrongEnds => write!(f, "the ends are not a bit for each node"),
+            BuildError::WrongLength => write!(f, "not as long as the block"),
+        }
+    }
+}
+
+impl Error for BuildError {}

@@ -1,0 +1,159 @@
+//! Children by their labels, and words, over any source: its words and tables, and the labels, may hold anything.
+ghost use Rattle.std.specs.Prelude.{◌≡◌, ◌+◌, ◌-◌, ◌*◌, ◌<◌, ◌≤◌, IfSome, length, ℕ, List};
+ghost use Rattle.bitm.specs.Bits.{digit_count};
+ghost use Rattle.bitm.specs.Tables.{HasSizes};
+ghost use Rattle.louds.specs.Counted.{degrees_in, IsLouds, OnlySelects};
+ghost use Rattle.louds.specs.Labels.{MatchesChildWith, Rise};
+ghost use Rattle.louds.specs.Tree.{AreChildren};
+ghost use Rattle.louds_block.specs.Answers.{IsChildWithin};
+ghost use Rattle.trie_block.specs.Answers.{IsChildByLabelOf, IsNodeOf, IsNodeWithin};
+ghost use Rattle.trie_block.specs.Labels.{labels_of, Grow, HasLabels, IsFirstFrom, ReadsLabels};
+
+use crate::labels::LabelProbe;
+use bitm::{Answer, TableSource};
+use louds_block::total_children_on;
+
+/// Of the nodes from `first` on and before `past`, the first whose label is not less than the given one, by halving;
+/// `past` where each is less.
+fn first_from(
+    labels: &mut LabelProbe<'_>,
+    len: usize,
+    first: usize,
+    past: usize,
+    label: u64,
+) -> usize
+    requires labels { HasLabels labels.old.words labels.old.width len }
+    requires some { 0 < first }
+    requires order { first ≤ past }
+    requires inside { past ≤ len }
+    ensures from { first ≤ result }
+    ensures to { result ≤ past }
+    ensures answer { Grow (labels_of labels.old.words labels.old.width len) first past
+        → IsFirstFrom (labels_of labels.old.words labels.old.width len) first past label result }
+    ensures reads { ReadsLabels labels.old labels.new (digit_count (past - first)) }
+{
+    let mut low = first;
+    let mut high = past;
+    while low < high {
+        let middle = low + (high - low) / 2;
+        if labels.label(len, middle) < label {
+            low = middle + 1;
+        } else {
+            high = middle;
+        }
+    }
+    low
+}
+
+/// The child with the given label of a node whose children are the nodes from `first` on and before `past`.
+fn child_among(
+    labels: &mut LabelProbe<'_>,
+    len: usize,
+    first: usize,
+    past: usize,
+    label: u64,
+) -> Option<usize>
+    requires labels { HasLabels labels.old.words labels.old.width len }
+    requires some { 0 < first }
+    requires order { first ≤ past }
+    requires inside { past ≤ len }
+    ensures inside { IfSome result (λ child. (first ≤ child) × (child < past)) }
+    ensures answer { (d : List ℕ) (node : ℕ) → Rise d (labels_of labels.old.words labels.old.width len)
+        → AreChildren d node first past
+        → MatchesChildWith d (labels_of labels.old.words labels.old.width len) node label result }
+    ensures reads { ReadsLabels labels.old labels.new (digit_count len + 1) }
+{
+    let low = first_from(&mut *labels, len, first, past, label);
+    if low >= past {
+        return None;
+    }
+    if labels.label(len, low) == label {
+        Some(low)
+    } else {
+        None
+    }
+}
+
+/// The child of a node with this label, by its number.
+///
+/// Whatever the source and the labels hold, a child is more than the node and less than the number of nodes. Where they
+/// hold a trie, the answer is the child, `Absent` exactly where none has the label, and never `Wrong`.
+///
+/// # Conditions
+/// There are fewer than 2^58 words, and the tables and the labels have the right lengths. They may hold anything.
+/// # Cost
+/// What two selections by binary search read, and as many labels as the number of nodes has binary digits, and one,
+/// whatever they hold.
+///
+/// ```
+/// total_child_by_label_on(&mut source, &mut labels, 4, 0, 7);   // Found(2), Absent or Wrong
+/// ```
+pub fn total_child_by_label_on<T: TableSource>(
+    source: &mut T,
+    labels: &mut LabelProbe<'_>,
+    len: usize,
+    node: usize,
+    label: u64,
+) -> Answer<usize>
+    requires sized { HasSizes (T.lists source.old) }
+    requires labels { HasLabels labels.old.words labels.old.width len }
+    ensures inside { IsChildWithin len node result }
+    ensures answer { IsLouds len (T.lists source.old)
+        → Rise (degrees_in len (T.lists source.old)) (labels_of labels.old.words labels.old.width len)
+        → IsChildByLabelOf (degrees_in len (T.lists source.old))
+        (labels_of labels.old.words labels.old.width len) node label result }
+    ensures reads { OnlySelects T.lists T.reads source.old source.new 2 0 }
+    ensures labels { ReadsLabels labels.old labels.new (digit_count len + 1) }
+{
+    match total_children_on(source, len, node) {
+        Answer::Found((first, past)) => match child_among(labels, len, first, past, label) {
+            Some(child) => Answer::Found(child),
+            None => Answer::Absent,
+        },
+        Answer::Absent => Answer::Absent,
+        Answer::Wrong => Answer::Wrong,
+    }
+}
+
+/// The node to which a word leads from the root, label by label.
+///
+/// Whatever the source and the labels hold, it is less than the number of nodes. Where they hold a trie, the answer is
+/// that node, `Absent` exactly where the word leads to none, and never `Wrong`.
+///
+/// # Conditions
+/// There are fewer than 2^58 words, and the tables and the labels have the right lengths. They may hold anything.
+/// # Cost
+/// For each label of the word what `total_child_by_label_on` reads, whatever they hold.
+///
+/// ```
+/// total_find_on(&mut source, &mut labels, 4, &[7, 2]);   // Found(3), Absent or Wrong
+/// ```
+pub fn total_find_on<T: TableSource>(
+    source: &mut T,
+    labels: &mut LabelProbe<'_>,
+    len: usize,
+    word: &[u64],
+) -> Answer<usize>
+    requires sized { HasSizes (T.lists source.old) }
+    requires labels { HasLabels labels.old.words labels.old.width len }
+    ensures inside { IsNodeWithin len result }
+    ensures answer { IsLouds len (T.lists source.old)
+        → Rise (degrees_in len (T.lists source.old)) (labels_of labels.old.words labels.old.width len)
+        → IsNodeOf (degrees_in len (T.lists source.old))
+        (labels_of labels.old.words labels.old.width len) word.now result }
+    ensures reads { OnlySelects T.lists T.reads source.old source.new (2 * length word.now) 0 }
+    ensures labels { ReadsLabels labels.old labels.new (length word.now * (digit_count len + 1)) }
+{
+    if len == 0 {
+        return Answer::Wrong;
+    }
+    let mut at = 0;
+    for label in word {
+        match total_child_by_label_on(&mut *source, &mut *labels, len, at, *label) {
+            Answer::Found(child) => at = child,
+            Answer::Absent => return Answer::Absent,
+            Answer::Wrong => return Answer::Wrong,
+        }
+    }
+    Answer::Found(at)
+}
