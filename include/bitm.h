@@ -14,7 +14,8 @@
  *     if (bitm_index_select(&index, true, 4, &position) != BITM_OK || position != 64) return 1;
  *
  * NAMES. The prefix says what is queried: bitm_bits_ (words without tables), bitm_index_ (words with tables),
- * bitm_sequence_, bitm_sparse_, bitm_hash_, bitm_dictionary_, bitm_tree_, bitm_matrix_, bitm_text_, bitm_stored_.
+ * bitm_sequence_, bitm_cursor_, bitm_sparse_, bitm_hash_, bitm_dictionary_, bitm_tree_, bitm_matrix_, bitm_text_,
+ * bitm_stored_.
  * `bool one` says which bits are meant: true the 1 bits, false the 0 bits. A position counts from 0; the rank of a bit
  * is how many bits of its kind there are before it.
  *
@@ -23,8 +24,8 @@
  *
  * Promised, and proved of each call, for all arguments that keep the duties below:
  *   - it returns, and reads and writes only the memory that it is passed, WHATEVER the tables hold;
- *   - a status other than BITM_OK leaves all that the call could have written unchanged, but for the list of positions
- *     or letters of a text where it is BITM_WRONG;
+ *   - a status other than BITM_OK leaves all that the call could have written unchanged, but for cursors, which may have
+ *     moved, and for the list of positions or letters of a text and that of cursors where it is BITM_WRONG;
  *   - over any tables, stale and hostile ones too, a rank is at most its position and a selection finds a position that
  *     is inside and holds the requested bit; BITM_WRONG says that the tables are not those of the words, but BITM_OK
  *     does not say that they are;
@@ -732,6 +733,49 @@ BITM_MUST_USE static inline uint32_t bitm_sequence_walk_to(struct bitm_sequence_
     *out = walk->numbers[walk->at];
     return BITM_OK;
 }
+
+/* ---- cursors over sequences: what several share, and what any of them has (posting lists)
+ *
+ *     struct bitm_cursor lists[2] = {{.sequence = primes}, {.sequence = primes}};
+ *     if (bitm_cursor_start(&lists[0]) != BITM_OK || bitm_cursor_start(&lists[1]) != BITM_OK ||
+ *         bitm_cursor_next(&lists[0], 4, &item) != BITM_OK || item != 5 ||
+ *         bitm_cursors_intersect(lists, 2, 0, found, 8, &written) != BITM_OK || written != 3 ||
+ *         found[2] != 11) return 1; */
+
+/* A position in a sequence, which moves forward only: at a number, or at the end, where index is that of no number. You
+ * give the sequence, and bitm_cursor_start the rest. A cursor keeps a copy of the struct of the sequence, and is memory
+ * of yours as any other: it is for one thread. Over parts of one sequence, with a cursor that these calls alone moved,
+ * the answers are those of the numbers; whatever parts and cursor hold, each call returns. */
+struct bitm_cursor {
+    struct bitm_sequence sequence;
+    size_t index;    /* of the number at the cursor */
+    size_t position; /* of that number's 1 bit in words */
+    uint64_t number;
+};
+
+/* Sets a cursor to the first number of its sequence, or to the end if there is none. BITM_WRONG if the parts turn out
+ * not to be those of a sequence. Reads what three selections read, and low as bitm_sequence_first_at_least does. */
+BITM_MUST_USE uint32_t bitm_cursor_start(struct bitm_cursor *cursor);
+
+/* Moves a cursor to the first number from there on that is at least at_least, and writes the number; a cursor whose
+ * number is stays. BITM_NONE if each is less: the cursor is at the end then, and remains there. BITM_WRONG if the parts
+ * turn out not to be those of a sequence: the cursor stays. Any number that is written is at least at_least, whatever
+ * parts and cursor hold. Reads nothing if the cursor stays. Else reads up to 25 words, and 8 fragments of low; and also
+ * what bitm_cursor_start reads, unless the number is near: one of the eight after the 0 bits to skip, which end in the
+ * eight words from position on. */
+BITM_MUST_USE uint32_t bitm_cursor_next(struct bitm_cursor *cursor, uint64_t at_least, uint64_t *out);
+
+/* Writes the numbers from from on that stand in each of the sequences, or in any of them, from the cursors on: rising,
+ * each once, as many as there are and out has room for, and to written how many; the rest of out stays as it was. If out
+ * is full, a call with one more than its last number for from goes on. BITM_WRONG if the parts of a cursor's sequence
+ * turn out not to be those of a sequence, or have a wrong length; out may have some of the numbers then. BITM_BAD_SIZE
+ * if there is no cursor to intersect. Moves each cursor at most once for each number that is written and once more; the
+ * intersection for each number of the first sequence and once more, so the shortest is best first. The cursors, out and
+ * written may not overlap one another or the parts; cursors may share parts. */
+BITM_MUST_USE uint32_t bitm_cursors_intersect(struct bitm_cursor *cursors, size_t cursors_len, uint64_t from,
+                                              uint64_t *out, size_t out_len, uint64_t *written);
+BITM_MUST_USE uint32_t bitm_cursors_union(struct bitm_cursor *cursors, size_t cursors_len, uint64_t from,
+                                          uint64_t *out, size_t out_len, uint64_t *written);
 
 /* ---- minimal perfect hashes
  *

@@ -34,7 +34,7 @@ EXPORTS = {
     "N": "bits_copy_range bits_equal_range bits_select_in_word",
     "B words other": "bits_intersects bits_is_subset",
     "N bytes": "bytes_get57 bytes_init57 bytes_set57 bytes_get25 bytes_init25 bytes_set25",
-    "BW": "index_check sequence_check tree_build matrix_build text_build"
+    "BW": "index_check sequence_check tree_build matrix_build text_build cursor_start cursors_intersect"
         " dictionary_build",
     "BW words": "index_check_samples",
     "NBW words lower": "index_rank hash_get tree_parent tree_child tree_degree tree_is_leaf tree_next_sibling"
@@ -51,7 +51,7 @@ EXPORTS = {
     "B words low": "sequence_items sequence_get_list sequence_first_at_least_list sequence_last_at_most_list"
         " sequence_contains_list sparse_get_list sparse_rank_list sparse_select_list",
     "W file": "stored_read",
-    "W": "prefix_sums_check tree_check matrix_check index_block_check sequence_block_check"
+    "W": "cursors_union prefix_sums_check tree_check matrix_check index_block_check sequence_block_check"
         " sparse_check text_check text_open"
         " hash_block_check dictionary_check",
     "NBW bits ones": "shards_find",
@@ -61,7 +61,7 @@ EXPORTS = {
         " hash_block_open dictionary_open",
     "NBW words": "matrix_get matrix_rank matrix_select matrix_count_less matrix_quantile"
         " dictionary_find",
-    "NBW": "matrix_next_value matrix_previous_value",
+    "NBW": "matrix_next_value matrix_previous_value cursor_next",
     "BW words starts": "text_count text_count_bytes",
     "BW words starts samples": "text_locate text_locate_bytes",
     "NBW words starts samples": "text_extract text_extract_bytes",
@@ -75,15 +75,16 @@ BESIDE = {
     "bitm_bits_flip_range": ("from", "to"),
 }
 # Arrays of which nothing is said after a call: all of them, or what is after those that are left.
-SCRATCH, LEFT = ("again", "room", "scratch"), ("hashes",)
+SCRATCH, LEFT = ("again", "room", "scratch", "cursors"), ("hashes",)
 # The statuses with which a list may hold anything.
-SPOILS = {"W": "text_locate text_locate_bytes text_extract text_extract_bytes"}
+SPOILS = {"W": "text_locate text_locate_bytes text_extract text_extract_bytes cursors_union", "BW": "cursors_intersect"}
 # What no answer of these may be, whatever the tables hold, where they would say that the tables are wrong; a list's i-th answer.
 OUTSIDE = {
     "position + 1": "index_rank shards_rank sparse_rank",
     "positions[i] + 1": "index_rank_list shards_rank_list sparse_rank_list",
     "index->bits_len": "index_select index_select_list index_next index_previous",
     "sequence->len": "sequence_first_at_least sequence_last_at_most sequence_first_at_least_list sequence_last_at_most_list",
+    "at_least - 1": "cursor_next",
     "2": "sequence_contains sequence_contains_list tree_is_leaf sparse_get sparse_get_list",
     "node": "tree_parent",
     "nodes[i]": "tree_parent_list",
@@ -102,7 +103,7 @@ OUTSIDE = {
     "shards->counts.bits[shards->shards_len]": "shards_select shards_next shards_previous shards_select_list",
 }
 # The programs that have to see such an answer by themselves, before any other is run.
-HOSTILE = ["hostile", "guarded", "hashes", "shards", "trees", "matrices", "matrix_ranges", "sparse", "texts", "dictionaries"]
+HOSTILE = ["hostile", "cursors", "guarded", "hashes", "shards", "trees", "matrices", "matrix_ranges", "sparse", "texts", "dictionaries"]
 PROGRAMS = list(dict.fromkeys(["statuses", "pages", *IN_C]))
 for one in ("walks", "lengths", "careless"):
     PROGRAMS.remove(one)

@@ -72,6 +72,22 @@ export const BITM_SEQUENCE_WALK = {
     len: 112,
     numbers: 120,
 };
+export const BITM_CURSOR = {
+    bytes: 120,
+    sequence_len: 0,
+    sequence_width: 8,
+    sequence_low: 16,
+    sequence_low_len: 24,
+    sequence_words: 32,
+    sequence_words_len: 40,
+    sequence_upper: 48,
+    sequence_upper_len: 56,
+    sequence_lower: 64,
+    sequence_lower_len: 72,
+    index: 96,
+    position: 104,
+    number: 112,
+};
 export const BITM_HASH = {
     bytes: 176,
     index_words: 0,

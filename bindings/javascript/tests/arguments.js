@@ -210,6 +210,20 @@ function ofTextBuilt(ofBytes) {
     return { text: slot(86), text_len: n, letters: r() % 7 ? 4 : 3, step, scratch: slot(87), scratch_len, block: slot(88), block_len };
 }
 
+/** Two cursors over the sequence in slot 8, in slot 90: at the first number, or anywhere. */
+function cursors() {
+    const size = structs.get("bitm_cursor").size, sequence = structs.get("bitm_sequence").size;
+    for (let k = 0; k < 2; k++) {
+        const at = slot(90) + k * size;
+        arena().copyWithin(at - START, slot(8) - START, slot(8) - START + sequence);
+        put(at, "bitm_cursor", { index: r() % 70, position: r() % 300, number: r() % 3000 });
+        if (r() % 5) library.bitm_cursor_start(BigInt(at));
+    }
+    return slot(90);
+}
+const ofCursor = () => ({ cursor: cursors(), at_least: r() % 3200 });
+const ofCursors = () => ({ cursors: cursors(), cursors_len: r() % 7 ? 1 + (r() % 2) : 0, from: r() % 3000, out: slot(91), out_len: r() % 70 });
+
 const ofTextBlock = () => ({ block: slot(62), block_len: text(r() % 3 === 0) - (r() % 7 ? 0 : 1), text: slot(67) });
 
 /** A dictionary of 40 numbers: its parts with the struct in slot 76; its block in slot 78, of which a word may be wrong, with
@@ -297,6 +311,10 @@ const FITTING = {
     bitm_matrix_get_list: ofMatrices,
     bitm_matrix_rank_list: ofMatrices,
     bitm_matrix_select_list: ofMatrices,
+    bitm_cursor_start: ofCursor,
+    bitm_cursor_next: ofCursor,
+    bitm_cursors_intersect: ofCursors,
+    bitm_cursors_union: ofCursors,
     bitm_sparse_build: () => ({ positions: slot(55), positions_len: 60, bits_len: r() % 7 ? BITS + 4000 : 9, block: slot(61), block_len: sparse(false) - (r() % 7 ? 0 : 1) }),
     bitm_sparse_open: ofSparseBlock,
     bitm_sparse_check: ofSparseBlock,

@@ -2,13 +2,13 @@
 use Rattle.std.proofs.Common.{◌≡◌, ◌≢◌, ℕ, ◌+◌, ◌^◌, ◌<◌, ◌≤◌, inl, inr, List, length, get_or, set, sym, ap, ◌∙◌, subst, arith, ⊎_elim}
 use Rattle.std.proofs.lemmas.Bool.{cases_lt}
 use Rattle.std.proofs.lemmas.List.{get_or-set_same, get_or-set_other}
-use Rattle.postings.specs.Shared.{KeepsFrom, AskedAtMost}
+use Rattle.postings.specs.Shared.{KeepsFrom}
 use Rattle.postings.specs.Joined.{AreJoined, IsInSome, IsJoining, IsLeastOf}
 use Rattle.postings.proofs.SharingLemmas.{keeps_all, keeps_less, keeps_through}
 
 -- nothing is written yet
-pub joining_none : (old : List (List ℕ)) (calls : List ℕ) (from : ℕ) (ys : List ℕ) → IsJoining old calls from 0 ys old calls from
-joining_none old calls from ys = record {
+pub joining_none : (old : List (List ℕ)) (from : ℕ) (ys : List ℕ) → IsJoining old from 0 ys old from
+joining_none old from ys = record {
   order = omega arith;
   keeps = keeps_all old from;
   rising = λ j k l m. absurd (omega arith);
@@ -16,7 +16,6 @@ joining_none old calls from ys = record {
   below = λ k l. absurd (omega arith);
   in_some = λ k l. absurd (omega arith);
   found = λ x l m. absurd (omega arith);
-  at_most = λ i. omega arith;
 }
 
 -- a number from low on stays in the list where it stands
@@ -26,8 +25,8 @@ kept_in_some old now low x keeps from c = (c.0, omega (arith, c.1, keeps.count),
 back_in_some : (old now : List (List ℕ)) (low x : ℕ) → KeepsFrom old now low → IsInSome now x → IsInSome old x
 back_in_some old now low x keeps c = (c.0, omega (arith, c.1, keeps.count), keeps.back c.0 x c.2)
 
-module _ (old now : List (List ℕ)) (asked calls : List ℕ) (from n low room : ℕ) (ys : List ℕ)
-    (was : IsJoining old asked from n ys now calls low) (fits : n ≤ room) where
+module _ (old now : List (List ℕ)) (from n low room : ℕ) (ys : List ℕ)
+    (was : IsJoining old from n ys now low) (fits : n ≤ room) where
   -- a number of a list that was not written is at least low
   not_written : (x : ℕ) → from ≤ x → IsInSome old x → ((k : ℕ) → k < n → get_or ys k 0 < x) → low ≤ x
   not_written x l some more = ⊎_elim
@@ -60,9 +59,9 @@ module _ (old now : List (List ℕ)) (asked calls : List ℕ) (from n low room :
   pub joined_full : room ≤ n → AreJoined old from n room ys
   joined_full full = joined (λ x l s some. (omega (arith, full, fits), λ k less. omega (arith, was.below k less, l)))
 
-module _ (old now next : List (List ℕ)) (asked calls later : List ℕ) (from n low v : ℕ) (ys : List ℕ)
-    (was : IsJoining old asked from n ys now calls low) (inside : n < length ys)
-    (least : IsLeastOf now (length now) low v) (moved : KeepsFrom now next low) (once : AskedAtMost calls later 1) where
+module _ (old now next : List (List ℕ)) (from n low v : ℕ) (ys : List ℕ)
+    (was : IsJoining old from n ys now low) (inside : n < length ys)
+    (least : IsLeastOf now (length now) low v) (moved : KeepsFrom now next low) where
   kept : (k : ℕ) → k < n → get_or (set ys n v) k 0 ≡ get_or ys k 0
   kept k l = let d : k ≢ n = λ e. omega (arith, e, l) in get_or-set_other ys n k v 0 d
 
@@ -78,7 +77,7 @@ module _ (old now next : List (List ℕ)) (asked calls later : List ℕ) (from n
       subst (λ (m : ℕ). P (get_or (set ys n v) m 0)) e (subst P (sym last) here))
       (cases_lt k n)
 
-  pub turn_joined : IsJoining old asked from (n + 1) (set ys n v) next later (v + 1)
+  pub turn_joined : IsJoining old from (n + 1) (set ys n v) next (v + 1)
   turn_joined = record {
     order = omega (arith, was.order, least.from);
     keeps = keeps_less old next low (v + 1) (omega (arith, least.from)) (keeps_through old now next low was.keeps moved);
@@ -99,5 +98,4 @@ module _ (old now next : List (List ℕ)) (asked calls later : List ℕ) (from n
         let most : v ≤ x = least.least x past (kept_in_some old now low x was.keeps past some) in
         (n, omega arith, omega (arith, last, most, less)))
         (cases_lt x low);
-    at_most = λ i. omega (arith, was.at_most i, once i);
   }

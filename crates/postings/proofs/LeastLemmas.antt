@@ -1,5 +1,5 @@
 -- The least number of several lists, one list after another.
-use Rattle.std.proofs.Common.{◌≡◌, ℕ, ◌+◌, ◌<◌, ◌≤◌, ◌⊎◌, inl, inr, List, Option, Some, None, sym, subst, arith, ⊎_elim}
+use Rattle.std.proofs.Common.{◌≡◌, ℕ, ◌+◌, ◌<◌, ◌≤◌, ◌⊎◌, inl, inr, List, Option, Some, None, refl, sym, subst, arith, ⊎_elim}
 use Rattle.std.proofs.lemmas.Bool.{cases_lt}
 use Rattle.std.specs.Prelude.{MatchOption}
 use Rattle.postings.specs.Next.{IsNextAtLeast}
@@ -71,3 +71,8 @@ least_with old now i v o p q new keeps h next e = lesser old i v o p q h (head_o
 -- no lists have no numbers
 pub least_none : (xss : List (List ℕ)) (v : ℕ) → IsLeastFrom xss 0 v None
 least_none xss v = λ y from c. absurd (let l : c.0 < 0 = c.1 in omega (arith, l))
+
+-- of a number and none the lesser is the number
+pub lesser_none : (o : Option ℕ) → IsLesser o None o
+lesser_none None = refl
+lesser_none (Some x) = refl

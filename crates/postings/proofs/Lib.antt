@@ -1,6 +1,9 @@
+pub mod AskLemmas
 pub mod HeldLemmas
 pub mod JoiningLemmas
 pub mod LeastLemmas
+pub mod MergeLemmas
+pub mod MoveLemmas
 pub mod NextLemmas
 pub mod PartLemmas
 pub mod SharingLemmas

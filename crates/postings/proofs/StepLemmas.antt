@@ -6,8 +6,8 @@ use Rattle.postings.specs.Next.{IsNextAtLeast}
 use Rattle.postings.specs.Shared.{list_at, KeepsFrom, AskedAtMost}
 use Rattle.postings.proofs.SharingLemmas.{keeps_next, at_other, at_same}
 
-module _ {C : Type 0} (left : C → List ℕ) (calls : C → ℕ) (lists : List C) (i : ℕ) (was now : C) (inside : i < length lists) (v : ℕ) (o : _)
-    (next : IsNextAtLeast (left (get_or lists i was)) v o (left now)) (counted : calls now ≡ calls (get_or lists i was) + 1) where
+module _ {C : Type 0} (left : C → List ℕ) (lists : List C) (i : ℕ) (was now : C) (inside : i < length lists) (v : ℕ) (o : _)
+    (next : IsNextAtLeast (left (get_or lists i was)) v o (left now)) where
   there : i < length (map left lists)
   there = omega (arith, length-map lists left, inside)
 
@@ -24,7 +24,12 @@ module _ {C : Type 0} (left : C → List ℕ) (calls : C → ℕ) (lists : List 
   pub step_other : (j : ℕ) → j ≢ i → list_at (map left (set lists i now)) j ≡ list_at (map left lists) j
   step_other j d = ap (λ (l : List (List ℕ)). list_at l j) (map-set left lists i now) ∙ at_other (map left lists) i j (left now) d
 
-  pub step_calls : get_or (map calls (set lists i now)) i 0 ≡ get_or (map calls lists) i 0 + 1
+  pub step_next_there : IsNextAtLeast (list_at (map left lists) i) v o (list_at (map left (set lists i now)) i)
+  step_next_there = subst (λ (l : List ℕ). IsNextAtLeast (list_at (map left lists) i) v o l) (sym step_same) step_next
+
+module _ {C : Type 0} (calls : C → ℕ) (lists : List C) (i : ℕ) (was now : C) (inside : i < length lists)
+    (counted : calls now ≤ calls (get_or lists i was) + 1) where
+  pub step_calls : get_or (map calls (set lists i now)) i 0 ≤ get_or (map calls lists) i 0 + 1
   step_calls =
       let inside' : i < length (map calls lists) = omega (arith, length-map lists calls, inside) in
       omega (arith, ap (λ (l : List ℕ). get_or l i 0) (map-set calls lists i now), get_or-set_same (map calls lists) i (calls now) 0 inside', counted, get_or-map calls lists i was 0 inside)
@@ -41,9 +46,6 @@ module _ {C : Type 0} (left : C → List ℕ) (calls : C → ℕ) (lists : List 
       subst P (sym e) (omega (arith, step_calls, less)))
       (λ (d : j ≢ i). omega (arith, step_calls_other j d, h j))
       (cases_eq j i)
-
-  pub step_next_there : IsNextAtLeast (list_at (map left lists) i) v o (list_at (map left (set lists i now)) i)
-  step_next_there = subst (λ (l : List ℕ). IsNextAtLeast (list_at (map left lists) i) v o l) (sym step_same) step_next
 
   -- the others are asked once, and this one no more
   pub step_once : (later : List ℕ) → AskedAtMost (map calls (set lists i now)) later 1 → get_or later i 0 ≡ get_or (map calls (set lists i now)) i 0

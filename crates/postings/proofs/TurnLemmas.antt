@@ -4,7 +4,23 @@ use Rattle.std.proofs.lemmas.Bool.{cases_lt}
 use Rattle.std.proofs.lemmas.List.{get_or-set_same, get_or-set_other}
 use Rattle.postings.specs.Next.{IsNextAtLeast}
 use Rattle.postings.specs.Shared.{list_at, StandsIn, IsAmong, KeepsFrom, IsInAll, AskedAtMost, IsSharing, AreShared}
-use Rattle.postings.proofs.SharingLemmas.{next_back, next_none, next_least, next_has, keeps_less, keeps_through}
+use Rattle.postings.proofs.SharingLemmas.{next_back, next_none, next_least, next_has, keeps_all, keeps_less, keeps_through}
+
+-- nothing is written yet
+pub sharing_none : (old : List (List ℕ)) (calls : List ℕ) (from : ℕ) (ys : List ℕ) → IsSharing old calls from 0 ys old calls from
+sharing_none old calls from ys = record {
+  order = omega arith;
+  keeps = keeps_all old from;
+  rising = λ j k l m. absurd (omega arith);
+  from_there = λ k l. absurd (omega arith);
+  below = λ k l. absurd (omega arith);
+  in_all = λ k l. absurd (omega arith);
+  found = λ x l m. absurd (omega arith);
+  rounds = 0;
+  at_most = λ i. omega arith;
+  passed = omega arith;
+  tight = inr (omega arith);
+}
 
 module _ (old now : List (List ℕ)) (asked calls : List ℕ) (from n low room : ℕ) (ys : List ℕ)
     (was : IsSharing old asked from n ys now calls low) (fits : n ≤ room) where

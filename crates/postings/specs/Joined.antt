@@ -1,6 +1,8 @@
 -- The numbers that stand in any of several lists.
 use Rattle.std.specs.Prelude.{◌≡◌, ℕ, ◌^◌, ◌<◌, ◌≤◌, ◌⊎◌, List, length, slice_index, Option, Some, None, MatchOption}
-use Rattle.postings.specs.Shared.{list_at, AskedAtMost, IsAmong, KeepsFrom, StandsIn}
+use Rattle.bitm.specs.Answer.{Answer}
+use Rattle.bitm.specs.Answer.TheVariants.{Found, Absent, Wrong}
+use Rattle.postings.specs.Shared.{list_at, IsAmong, KeepsFrom, StandsIn}
 
 -- x stands in one of the first n lists
 abbrev pub IsInFirst : List (List ℕ) → ℕ → ℕ → Type 0
@@ -20,6 +22,12 @@ pub record IsLeastOf (xss : List (List ℕ)) (n v x : ℕ) : Type 0 where
 abbrev pub IsLeastFrom : List (List ℕ) → ℕ → ℕ → Option ℕ → Type 0
 IsLeastFrom xss n v o = MatchOption o ((y : ℕ) → v ≤ y → IsInFirst xss n y → ⊥) (IsLeastOf xss n v)
 
+-- the same by an answer, which is not Wrong
+abbrev pub IsLeastAnswer : List (List ℕ) → ℕ → ℕ → Answer ℕ → Type 0
+IsLeastAnswer xss n v (Found x) = IsLeastFrom xss n v (Some x)
+IsLeastAnswer xss n v Absent = IsLeastFrom xss n v None
+IsLeastAnswer xss n v Wrong = ⊥
+
 -- the lesser of two numbers, the one where the other is missing, and None where both are
 abbrev pub IsLesser : Option ℕ → Option ℕ → Option ℕ → Type 0
 IsLesser None None o = o ≡ None
@@ -37,9 +45,8 @@ pub record AreJoined (xss : List (List ℕ)) (from n room : ℕ) (ys : List ℕ)
   pub all : (x : ℕ) → from ≤ x → x < 2 ^ 64 → IsInSome xss x
       → IsAmong ys n x ⊎ ((n ≡ room) × ((k : ℕ) → k < n → slice_index ys k < x))
 
--- the first n of ys are the numbers in the lists, old at the call, from one number up to another; and each list was
--- asked at most once for each of them
-pub record IsJoining (old : List (List ℕ)) (asked : List ℕ) (from n : ℕ) (ys : List ℕ) (now : List (List ℕ)) (calls : List ℕ) (low : ℕ) : Type 0 where
+-- the first n of ys are the numbers in the lists, old at the call, from one number up to another
+pub record IsJoining (old : List (List ℕ)) (from n : ℕ) (ys : List ℕ) (now : List (List ℕ)) (low : ℕ) : Type 0 where
   pub order : from ≤ low
   pub keeps : KeepsFrom old now low
   pub rising : (j k : ℕ) → j < k → k < n → slice_index ys j < slice_index ys k
@@ -47,4 +54,3 @@ pub record IsJoining (old : List (List ℕ)) (asked : List ℕ) (from n : ℕ) (
   pub below : (k : ℕ) → k < n → slice_index ys k < low
   pub in_some : (k : ℕ) → k < n → IsInSome old (slice_index ys k)
   pub found : (x : ℕ) → from ≤ x → x < low → IsInSome old x → IsAmong ys n x
-  pub at_most : AskedAtMost asked calls n

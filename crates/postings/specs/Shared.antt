@@ -1,7 +1,7 @@
 -- The numbers that several lists share.
-use Rattle.std.specs.Prelude.{◌≡◌, ℕ, ◌+◌, ◌^◌, ◌<◌, ◌≤◌, ◌⊎◌, List, [], length, slice_index, slice_index_or}
+use Rattle.std.specs.Prelude.{◌≡◌, ⊤, ℕ, ◌+◌, ◌^◌, ◌<◌, ◌≤◌, ◌⊎◌, List, [], length, slice_index, slice_index_or}
 use Rattle.postings.specs.declared.sharing.Agreed.{Agreed}
-use Rattle.postings.specs.declared.sharing.Agreed.TheVariants.{All, Next, Ended}
+use Rattle.postings.specs.declared.sharing.Agreed.TheVariants.{All, Next, Ended, Unknown}
 
 -- x stands among the first n of xs
 abbrev pub IsAmong : List ℕ → ℕ → ℕ → Type 0
@@ -49,6 +49,31 @@ abbrev pub IsAgreed : List (List ℕ) → ℕ → Agreed → Type 0
 IsAgreed xss v All = (i : ℕ) → 1 ≤ i → i < length xss → StandsIn (list_at xss i) v
 IsAgreed xss v (Next x) = (v < x) × ((y : ℕ) → v ≤ y → y < x → IsInAll xss y → ⊥)
 IsAgreed xss v Ended = (y : ℕ) → v ≤ y → IsInAll xss y → ⊥
+IsAgreed xss v Unknown = ⊥
+
+-- P of the number that some list has next, if one has another
+abbrev pub IfNext : Agreed → (ℕ → Type 0) → Type 0
+IfNext All P = ⊤
+IfNext (Next x) P = P x
+IfNext Ended P = ⊤
+IfNext Unknown P = ⊤
+
+-- the lists after the first agreed on v or not, the first stays, and each other was asked at most once
+pub record IsAsked (old : List (List ℕ)) (asked : List ℕ) (v : ℕ) (answer : Agreed) (new : List (List ℕ)) (calls : List ℕ) : Type 0 where
+  pub agreed : IsAgreed old v answer
+  pub keeps : KeepsFrom old new v
+  pub at_most : AskedAtMost asked calls 1
+  pub same : list_at new 0 ≡ list_at old 0
+  pub first : slice_index calls 0 ≡ slice_index asked 0
+
+-- those of the lists from the second on that were asked, up to list i, have v; the others were not asked yet
+pub record IsAsking (old : List (List ℕ)) (asked : List ℕ) (v i : ℕ) (new : List (List ℕ)) (calls : List ℕ) : Type 0 where
+  pub agreed : (j : ℕ) → 1 ≤ j → j < i → StandsIn (list_at old j) v
+  pub keeps : KeepsFrom old new v
+  pub at_most : AskedAtMost asked calls 1
+  pub fresh : (j : ℕ) → i ≤ j → slice_index calls j ≡ slice_index asked j
+  pub first : slice_index calls 0 ≡ slice_index asked 0
+  pub same : list_at new 0 ≡ list_at old 0
 
 -- the first n of ys are what the lists, old at the call, share from one number up to another; and each list was asked
 -- at most once for each number of the first that was passed, and once more

@@ -1,10 +1,10 @@
 -- Where a cursor over a sequence stands.
-use Rattle.std.specs.Prelude.{◌≡◌, ⊤, ℕ, ◌<◌, ◌≤◌, true, List, length, slice_index, Option, MatchOption}
+use Rattle.std.specs.Prelude.{◌≡◌, ⊤, ℕ, ◌<◌, ◌≤◌, true, List, length, slice_index}
 use Rattle.std.specs.List.{All}
 use Rattle.bitm.specs.Bits.{bits_of}
 use Rattle.bitm.specs.Count.{ones_before, Picks}
 use Rattle.elias_fano.specs.Sequence.{Reaches}
-use Rattle.postings.specs.declared.near.Spot.{Spot}
+use Rattle.postings.specs.declared.spot.Spot.{Spot}
 use Rattle.postings.specs.declared.near.Near.{Near}
 use Rattle.postings.specs.declared.near.Near.TheVariants.{Found, Ended, Far}
 
@@ -20,9 +20,11 @@ IsNear xs words v (Found s) = IsSpot xs words s × Reaches xs v s.at
 IsNear xs words v Ended = All (λ x. x < v) xs
 IsNear xs words v Far = ⊤
 
--- the first item that is at least v, and None exactly where there is none
-abbrev pub IsFar : List ℕ → List ℕ → ℕ → Option Spot → Type 0
-IsFar xs words v o = MatchOption o (All (λ x. x < v) xs) (λ s. IsSpot xs words s × Reaches xs v s.at)
+-- the number that is found is at least v, and one of n, whatever the parts hold
+abbrev pub IsUpTo : ℕ → ℕ → Near → Type 0
+IsUpTo n v (Found s) = (s.at < n) × (v ≤ s.number)
+IsUpTo n v Ended = ⊤
+IsUpTo n v Far = ⊤
 
 -- the ones of so many items, all less than v, stand before a place, and no others
 pub record IsBehind (xs words : List ℕ) (v at place : ℕ) : Type 0 where

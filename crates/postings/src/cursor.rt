@@ -1,8 +1,9 @@
 //! What a cursor is, and how its calls are counted.
-ghost use Rattle.std.specs.Prelude.{◌≡◌, ◌+◌, ℕ, List};
+ghost use Rattle.std.specs.Prelude.{◌≡◌, ◌≤◌, ◌+◌, ℕ, List};
+ghost use Rattle.postings.specs.Moves.{IfFound, IsAnswered};
 ghost use Rattle.postings.specs.Next.{IsNextAtLeast};
 
-use bitm::{Probe, ReadCounts};
+use bitm::{Answer, Probe, ReadCounts};
 
 /// A position in a list of numbers that never decrease, which moves forward only.
 pub trait Cursor {
@@ -17,6 +18,45 @@ pub trait Cursor {
     fn next_geq(&mut self, v: u64) -> Option<u64>
         ensures next { IsNextAtLeast (left self.old) v result (left self.new) }
         ensures counted { calls self.new ≡ calls self.old + 1 };
+}
+
+/// A position in a list of numbers that never decrease, which moves forward only, over memory that may hold anything:
+/// it may turn out not to be such a list. Each `Cursor` is one that is right.
+pub trait TotalCursor {
+    /// The numbers from the cursor on, where it is right.
+    ghost left: { Self → List ℕ };
+
+    /// The memory holds a list, and the cursor is a position in it.
+    ghost right: { Self → Type 0 };
+
+    /// How often it was called, of what is counted.
+    ghost calls: { Self → ℕ };
+
+    /// Moves as `next_geq` of a `Cursor` where the cursor is right, and stays right. Whatever the memory holds, a
+    /// number that is found is at least `v`, and the answer may be `Wrong`.
+    fn total_next_geq(&mut self, v: u64) -> Answer<u64>
+        ensures next { right self.old → IsAnswered (left self.old) v result (left self.new) }
+        ensures stays { right self.old → right self.new }
+        ensures at_least { IfFound result (λ x. v ≤ x) }
+        ensures counted { calls self.new ≤ calls self.old + 1 };
+}
+
+impl<C: Cursor> TotalCursor for C {
+    ghost use Rattle.std.specs.Prelude.{⊤};
+
+    ghost left = { C.Cursor.left };
+
+    ghost right = { λ c. ⊤ };
+
+    ghost calls = { C.Cursor.calls };
+
+    #[inline(always)]
+    fn total_next_geq(&mut self, v: u64) -> Answer<u64> {
+        match self.next_geq(v) {
+            Some(number) => Answer::Found(number),
+            None => Answer::Absent,
+        }
+    }
 }
 
 /// A counter of calls, none of which was made. It takes no bytes at run time.

@@ -1,34 +1,85 @@
 //! The union of lists: the numbers that stand in any of them.
-ghost use Rattle.std.specs.Prelude.{◌≡◌, ℕ, ◌+◌, ◌<◌, ◌≤◌, map, length, slice_index};
-ghost use Rattle.postings.specs.Joined.{AreJoined, IsInSome, IsLeastFrom, IsLesser};
+ghost use Rattle.std.specs.Prelude.{◌≡◌, ℕ, ◌+◌, ◌<◌, ◌≤◌, All, map, length, slice_index, Some};
+ghost use Rattle.postings.specs.Joined.{AreJoined, IsInSome, IsLeastAnswer, IsLesser};
+ghost use Rattle.postings.specs.Merged.{written_in, IsDone};
 ghost use Rattle.postings.specs.Shared.{AskedAtMost, IsKeptFrom, KeepsFrom};
 
-use crate::cursor::Cursor;
+use crate::cursor::{Cursor, TotalCursor};
+use crate::merged::Merged;
+use bitm::Answer;
 
-/// The lesser of two numbers, of which there may be none.
+/// The lesser of two numbers, of which the first may be missing.
 #[inline(always)]
-fn lesser(one: Option<u64>, other: Option<u64>) -> Option<u64>
-    ensures { IsLesser one other result }
+fn lesser(one: Option<u64>, other: u64) -> u64
+    ensures { IsLesser one (Some other) (Some result) }
 {
-    match (one, other) {
-        (Some(x), Some(y)) => Some(if x <= y { x } else { y }),
-        (Some(x), None) => Some(x),
-        (None, other) => other,
+    match one {
+        Some(x) => if x <= other { x } else { other },
+        None => other,
     }
 }
 
-/// The least number from `v` on in any of the lists; each is queried once.
-fn least_from<C: Cursor>(lists: &mut [C], v: u64) -> Option<u64>
-    ensures least { IsLeastFrom (map C.left lists.old) (length (map C.left lists.old)) v result }
-    ensures keeps { KeepsFrom (map C.left lists.old) (map C.left lists.new) v }
+/// The least number from `v` on in any of the lists; each is queried once, up to one that turns out wrong.
+fn least_from<C: TotalCursor>(lists: &mut [C], v: u64) -> Answer<u64>
+    ensures least { All C.right lists.old
+        → IsLeastAnswer (map C.left lists.old) (length (map C.left lists.old)) v result }
+    ensures keeps { All C.right lists.old → KeepsFrom (map C.left lists.old) (map C.left lists.new) v }
     ensures asked { AskedAtMost (map C.calls lists.old) (map C.calls lists.new) 1 }
+    ensures right { All C.right lists.old → All C.right lists.new }
 {
     let mut least = None;
     for i in 0..lists.len() {
-        let next = lists[i].next_geq(v);
-        least = lesser(least, next);
+        match lists[i].total_next_geq(v) {
+            Answer::Found(x) => least = Some(lesser(least, x)),
+            Answer::Absent => {}
+            Answer::Wrong => return Answer::Wrong,
+        }
     }
-    least
+    match least {
+        Some(x) => Answer::Found(x),
+        None => Answer::Absent,
+    }
+}
+
+/// The union of lists in memory that may hold anything: what `union` writes where all are right, up to where one turns
+/// out wrong. Whatever the memory holds, what is after the numbers that are written stays as it was.
+///
+/// # Cost
+/// Each list is queried at most once for each number that is written, and once more, whatever they hold.
+///
+/// # Example
+/// ```
+/// // of 2, 5, 9 and 5, 7: the union is 2, 5, 7, 9
+/// total_union(&mut lists, 0, &mut out);     // Done(4)
+/// ```
+pub fn total_union<C: TotalCursor>(lists: &mut [C], from: u64, out: &mut [u64]) -> Merged
+    ensures joined { All C.right lists.old → IsDone result (λ count.
+        AreJoined (map C.left lists.old) from count (length out.old) out.new) }
+    ensures most { written_in result ≤ length out.old }
+    ensures rest { IsKeptFrom (written_in result) out.old out.new }
+    ensures asked { AskedAtMost (map C.calls lists.old) (map C.calls lists.new)
+        (written_in result + 1) }
+    ensures left { All C.right lists.old → (x : ℕ) → from ≤ x → IsInSome (map C.left lists.old) x
+        → ((k : ℕ) → k < written_in result → slice_index out.new k < x)
+        → IsInSome (map C.left lists.new) x }
+    ensures right { All C.right lists.old → All C.right lists.new }
+{
+    let mut low = from;
+    let mut count = 0;
+    while count < out.len() {
+        let v = match least_from(lists, low) {
+            Answer::Found(v) => v,
+            Answer::Absent => return Merged::Done(count),
+            Answer::Wrong => return Merged::Wrong(count),
+        };
+        out[count] = v;
+        count += 1;
+        if v == u64::MAX {
+            return Merged::Done(count);
+        }
+        low = v + 1;
+    }
+    Merged::Done(count)
 }
 
 /// Writes the numbers from `from` on that stand in any of the lists, from their cursors on: rising, each once, as many
@@ -53,18 +104,8 @@ pub fn union<C: Cursor>(lists: &mut [C], from: u64, out: &mut [u64]) -> usize
         → ((k : ℕ) → k < result → slice_index out.new k < x)
         → IsInSome (map C.left lists.new) x }
 {
-    let mut low = from;
-    let mut count = 0;
-    while count < out.len() {
-        let Some(v) = least_from(lists, low) else {
-            return count;
-        };
-        out[count] = v;
-        count += 1;
-        if v == u64::MAX {
-            return count;
-        }
-        low = v + 1;
+    match total_union(lists, from, out) {
+        Merged::Done(count) => count,
+        Merged::Wrong(_) => unreachable!(),
     }
-    count
 }

@@ -15,19 +15,25 @@
 // What is in each file:
 // - `cursor`: what a cursor is
 // - `joining`: the union of lists
+// - `merged`: how a merge of lists ends
 // - `near`: the next number of a sequence that is at least a value, from a position on
 // - `plain`: a cursor over a slice
 // - `sequence`: a cursor over a sequence
 // - `sharing`: the intersection of lists
+// - `spot`: where a cursor over a sequence stands, and how it moves
 mod cursor;
 mod joining;
+mod merged;
 mod near;
 mod plain;
 mod sequence;
 mod sharing;
+mod spot;
 
-pub use cursor::Cursor;
-pub use joining::union;
+pub use cursor::{Cursor, TotalCursor};
+pub use joining::{total_union, union};
+pub use merged::Merged;
 pub use plain::SliceCursor;
 pub use sequence::Seeker;
-pub use sharing::intersect;
+pub use sharing::{intersect, total_intersect};
+pub use spot::{Spot, total_next_on, total_start_on};

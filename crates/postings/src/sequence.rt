@@ -9,8 +9,8 @@ ghost use Rattle.elias_fano.specs.Parts.{width_of, IsUpper};
 ghost use Rattle.postings.specs.Next.{IsNextAtLeast, IsReached};
 
 use crate::cursor::{Cursor, no_calls};
-use crate::near::{Spot, far_on, seek_on};
-use bitm::{Probe, ReadCounts, Select0ForRank101111, SelectForRank101111, index_laws};
+use crate::spot::{Spot, total_next_on, total_start_on};
+use bitm::{Answer, Probe, ReadCounts, Select0ForRank101111, SelectForRank101111, index_laws};
 use elias_fano::{LowDigits, Sequence, laws};
 use lent_tables::Lent;
 use std::marker::Model;
@@ -70,13 +70,9 @@ impl<'a> Seeker<'a> {
         laws::parts_hold_items();
         let mut source = source;
         let mut low = low;
-        let spot = match far_on(&mut source, &mut low, len, 0) {
+        let spot = match total_start_on(&mut source, &mut low, len) {
             Some(spot) => spot,
-            None => Spot {
-                at: len,
-                one: 0,
-                number: 0,
-            },
+            None => unreachable!(),
         };
         Seeker {
             source,
@@ -158,21 +154,10 @@ impl<'a> Seeker<'a> {
     {
         laws::parts_hold_items();
         self.calls.read_word();
-        if self.spot.at >= self.len {
-            return None;
-        }
-        if self.spot.number >= v {
-            return Some(self.spot.number);
-        }
-        match seek_on(&mut self.source, &mut self.low, self.len, self.spot, v) {
-            Some(spot) => {
-                self.spot = spot;
-                Some(spot.number)
-            }
-            None => {
-                self.spot.at = self.len;
-                None
-            }
+        match total_next_on(&mut self.source, &mut self.low, self.len, &mut self.spot, v) {
+            Answer::Found(number) => Some(number),
+            Answer::Absent => None,
+            Answer::Wrong => unreachable!(),
         }
     }
 }

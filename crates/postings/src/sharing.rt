@@ -1,8 +1,11 @@
 //! The intersection of lists: the numbers that all of them share.
-ghost use Rattle.std.specs.Prelude.{◌≡◌, ℕ, ◌+◌, ◌<◌, ◌≤◌, map, length, slice_index};
-ghost use Rattle.postings.specs.Shared.{list_at, AreShared, AskedAtMost, IsAgreed, IsInAll, IsKeptFrom, KeepsFrom};
+ghost use Rattle.std.specs.Prelude.{◌≡◌, ℕ, ◌+◌, ◌<◌, ◌≤◌, All, map, length, slice_index};
+ghost use Rattle.postings.specs.Merged.{written_in, IsDone};
+ghost use Rattle.postings.specs.Shared.{list_at, AreShared, AskedAtMost, IfNext, IsAsked, IsInAll, IsKeptFrom};
 
-use crate::cursor::Cursor;
+use crate::cursor::{Cursor, TotalCursor};
+use crate::merged::Merged;
+use bitm::Answer;
 
 /// What the lists after the first say of a number of the first.
 #[derive(Clone, Copy)]
@@ -13,20 +16,22 @@ pub(crate) enum Agreed {
     Next(u64),
     /// Some list has no such number and no greater one.
     Ended,
+    /// Some list turned out wrong.
+    Unknown,
 }
 
 /// Queries the lists after the first for `v`, in order, up to one that does not have it.
-fn ask_others<C: Cursor>(lists: &mut [C], v: u64) -> Agreed
-    ensures agreed { IsAgreed (map C.left lists.old) v result }
-    ensures keeps { KeepsFrom (map C.left lists.old) (map C.left lists.new) v }
-    ensures asked { AskedAtMost (map C.calls lists.old) (map C.calls lists.new) 1 }
-    ensures same { list_at (map C.left lists.new) 0 ≡ list_at (map C.left lists.old) 0 }
-    ensures first { slice_index (map C.calls lists.new) 0 ≡ slice_index (map C.calls lists.old) 0 }
+fn ask_others<C: TotalCursor>(lists: &mut [C], v: u64) -> Agreed
+    ensures asked { All C.right lists.old → IsAsked (map C.left lists.old) (map C.calls lists.old)
+        v result (map C.left lists.new) (map C.calls lists.new) }
+    ensures right { All C.right lists.old → All C.right lists.new }
+    ensures later { IfNext result (λ x. v < x) }
 {
     for i in 1..lists.len() {
-        match lists[i].next_geq(v) {
-            None => return Agreed::Ended,
-            Some(x) => {
+        match lists[i].total_next_geq(v) {
+            Answer::Absent => return Agreed::Ended,
+            Answer::Wrong => return Agreed::Unknown,
+            Answer::Found(x) => {
                 if x != v {
                     return Agreed::Next(x);
                 }
@@ -34,6 +39,57 @@ fn ask_others<C: Cursor>(lists: &mut [C], v: u64) -> Agreed
         }
     }
     Agreed::All
+}
+
+/// The intersection of lists in memory that may hold anything: what `intersect` writes where all are right, up to where
+/// one turns out wrong. Whatever the memory holds, what is after the numbers that are written stays as it was.
+///
+/// # Conditions
+/// There is a list.
+/// # Cost
+/// That of `intersect`, where all lists are right. Whatever they hold it ends: each turn begins at a greater number.
+///
+/// # Example
+/// ```
+/// // of 2, 5, 9 and 5, 7, 9: the intersection is 5, 9
+/// total_intersect(&mut lists, 0, &mut out);     // Done(2)
+/// ```
+pub fn total_intersect<C: TotalCursor>(lists: &mut [C], from: u64, out: &mut [u64]) -> Merged
+    requires { 0 < length lists.old }
+    ensures shared { All C.right lists.old → IsDone result (λ count.
+        AreShared (map C.left lists.old) from count (length out.old) out.new) }
+    ensures most { written_in result ≤ length out.old }
+    ensures rest { IsKeptFrom (written_in result) out.old out.new }
+    ensures asked { All C.right lists.old → AskedAtMost (map C.calls lists.old) (map C.calls lists.new)
+        (length (list_at (map C.left lists.old) 0) + 1) }
+    ensures left { All C.right lists.old → (x : ℕ) → from ≤ x → IsInAll (map C.left lists.old) x
+        → ((k : ℕ) → k < written_in result → slice_index out.new k < x)
+        → IsInAll (map C.left lists.new) x }
+    ensures right { All C.right lists.old → All C.right lists.new }
+{
+    let mut low = from;
+    let mut count = 0;
+    while count < out.len() {
+        let v = match lists[0].total_next_geq(low) {
+            Answer::Found(v) => v,
+            Answer::Absent => return Merged::Done(count),
+            Answer::Wrong => return Merged::Wrong(count),
+        };
+        match ask_others(lists, v) {
+            Agreed::Ended => return Merged::Done(count),
+            Agreed::Unknown => return Merged::Wrong(count),
+            Agreed::Next(x) => low = x,
+            Agreed::All => {
+                out[count] = v;
+                count += 1;
+                if v == u64::MAX {
+                    return Merged::Done(count);
+                }
+                low = v + 1;
+            }
+        }
+    }
+    Merged::Done(count)
 }
 
 /// Writes the numbers from `from` on that stand in each of the lists, from their cursors on: rising, each once, as many
@@ -62,25 +118,8 @@ pub fn intersect<C: Cursor>(lists: &mut [C], from: u64, out: &mut [u64]) -> usiz
         → ((k : ℕ) → k < result → slice_index out.new k < x)
         → IsInAll (map C.left lists.new) x }
 {
-    let mut low = from;
-    let mut count = 0;
-    while count < out.len() {
-        let v = match lists[0].next_geq(low) {
-            Some(v) => v,
-            None => return count,
-        };
-        match ask_others(lists, v) {
-            Agreed::Ended => return count,
-            Agreed::Next(x) => low = x,
-            Agreed::All => {
-                out[count] = v;
-                count += 1;
-                if v == u64::MAX {
-                    return count;
-                }
-                low = v + 1;
-            }
-        }
+    match total_intersect(lists, from, out) {
+        Merged::Done(count) => count,
+        Merged::Wrong(_) => unreachable!(),
     }
-    count
 }

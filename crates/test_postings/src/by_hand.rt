@@ -1,6 +1,8 @@
 //! Answers of cursors that are worked out by hand.
 use elias_fano::EliasFano;
-use postings::{Cursor, Seeker, SliceCursor};
+use postings::{
+    Cursor, Merged, Seeker, SliceCursor, intersect, total_intersect, total_union, union,
+};
 use std::process::Abort;
 use std::test::Fail;
 
@@ -26,5 +28,40 @@ fn a_cursor_moves_forward_only(rt: HostRuntime) -> Result<(), Fail> {
     assert!(rt; SliceCursor::over([3u64, 2].as_slice()).is_none());
     let mut none = SliceCursor::over([].as_slice());
     assert!(rt; none.as_mut().map(|cursor| cursor.next_geq(0)) == Some(None));
+    Ok(())
+}
+
+/// Cursors at the first of 2, 5, 9, 9, 12, of 5, 7, 9, 12 and of 1, 5, 9, 30.
+fn three<'a>() -> Option<[SliceCursor<'a>; 3]> {
+    let one = SliceCursor::over([2u64, 5, 9, 9, 12].as_slice())?;
+    let two = SliceCursor::over([5u64, 7, 9, 12].as_slice())?;
+    let three = SliceCursor::over([1u64, 5, 9, 30].as_slice())?;
+    Some([one, two, three])
+}
+
+#[test]
+fn merges_write_what_lists_share_and_what_they_have(rt: HostRuntime) -> Result<(), Fail> {
+    let mut out = [7u64; 9];
+    let Some(mut lists) = three() else {
+        return Err("the numbers rise".into());
+    };
+    assert!(rt; intersect(&mut lists, 3, &mut out) == 2 && out == [5, 9, 7, 7, 7, 7, 7, 7, 7]);
+    let Some(mut lists) = three() else {
+        return Err("the numbers rise".into());
+    };
+    assert!(rt; total_intersect(&mut lists, 6, &mut out[0..1]) == Merged::Done(1) && out[0] == 9);
+    let Some(mut lists) = three() else {
+        return Err("the numbers rise".into());
+    };
+    assert!(rt; union(&mut lists, 2, &mut out) == 6 && out == [2, 5, 7, 9, 12, 30, 7, 7, 7]);
+    let Some(mut lists) = three() else {
+        return Err("the numbers rise".into());
+    };
+    assert!(rt;
+        total_union(&mut lists, 0, &mut out[0..2]) == Merged::Done(2) && out[0] == 1 && out[1] == 2
+    );
+    assert!(rt;
+        total_union(&mut lists, 3, &mut out[0..2]) == Merged::Done(2) && out[0] == 5 && out[1] == 7
+    );
     Ok(())
 }

@@ -109,6 +109,40 @@ extern "C" {
     ) -> u32;
 }
 #[repr(C)]
+#[derive(Copy, Clone)]
+pub struct bitm_cursor {
+    pub sequence: bitm_sequence,
+    pub index: usize,
+    pub position: usize,
+    pub number: u64,
+}
+extern "C" {
+    pub fn bitm_cursor_start(cursor: *mut bitm_cursor) -> u32;
+}
+extern "C" {
+    pub fn bitm_cursor_next(cursor: *mut bitm_cursor, at_least: u64, out: *mut u64) -> u32;
+}
+extern "C" {
+    pub fn bitm_cursors_intersect(
+        cursors: *mut bitm_cursor,
+        cursors_len: usize,
+        from: u64,
+        out: *mut u64,
+        out_len: usize,
+        written: *mut u64,
+    ) -> u32;
+}
+extern "C" {
+    pub fn bitm_cursors_union(
+        cursors: *mut bitm_cursor,
+        cursors_len: usize,
+        from: u64,
+        out: *mut u64,
+        out_len: usize,
+        written: *mut u64,
+    ) -> u32;
+}
+#[repr(C)]
 pub struct bitm_hash {
     pub index: bitm_index,
     pub sizes: *const u64,

@@ -1,30 +1,18 @@
--- What the words near the spot tell is of the same parts.
-use Rattle.std.proofs.Common.{ℕ, ap, subst, ◌∙◌, arith}
-use Rattle.bitm.specs.Bits.{digit_count}
-use Rattle.bitm.specs.Tables.{Lists}
-use Rattle.elias_fano.specs.LentParts.{parts_of, parts_with, Holds}
-use Rattle.elias_fano.specs.Low.{sharing}
-use Rattle.postings.proofs.HeldLemmas.{same_parts}
-use Rattle.postings.specs.Spot.{IsFar}
+-- A spot has its one among the words, and a later number has its one later.
+use Rattle.std.proofs.Common.{arith}
+use Rattle.bitm.proofs.BitLaws.{bits_are_counted}
+use Rattle.postings.proofs.MoveLemmas.{spot_later}
 use Rattle.postings.proofs.near.seek_on.Goals as goal
 
-pub returns-in-Far-clause-far : goal.returns-in-Far-clause-far
-returns-in-Far-clause-far g c = λ xs h.
-    let f = c.near_on.ensures.fragments in
-    let same = c.near_on.ensures.reads.same in
-    let there : Holds xs (parts_with c.args.n c.near_on.new.low (g.T.TableSource.lists c.near_on.new.source)) =
-    same_parts (λ w ws l. Holds xs (parts_of c.args.n w ws l)) c.args.low.now c.near_on.new.low _ _ f.words f.width same h in
-    subst (λ (l : Lists). IsFar xs l.words c.args.v c.far_on.result) same (c.far_on.ensures.far xs there)
+pub returns-then-spot-words_len-clause-far : goal.returns-then-spot-words_len-clause-far
+returns-then-spot-words_len-clause-far g c = λ xs h s.
+    omega (arith, s.one.inside, c.words_len.ensures, c.if-spot-words_len.true, bits_are_counted (g.T.TableSource.lists c.args.source.now).words)
 
-pub returns-in-Far-clause-shared : goal.returns-in-Far-clause-shared
-returns-in-Far-clause-shared g c = λ xs h.
-    let f = c.near_on.ensures.fragments in
-    let same = c.near_on.ensures.reads.same in
-    let there : Holds xs (parts_with c.args.n c.near_on.new.low (g.T.TableSource.lists c.near_on.new.source)) =
-    same_parts (λ w ws l. Holds xs (parts_of c.args.n w ws l)) c.args.low.now c.near_on.new.low _ _ f.words f.width same h in
-    let k = c.far_on.ensures.shared xs there in
-    record {
-      at_most = omega (arith, f.at_most, k.at_most, ap (λ (w : ℕ). digit_count (sharing xs w c.args.v)) f.width);
-      words = k.words ∙ f.words;
-      width = k.width ∙ f.width;
-    }
+pub near_or_far_on-requires-clause-inside : goal.near_or_far_on-requires-clause-inside
+near_or_far_on-requires-clause-inside g c =
+    omega (arith, c.words_len.ensures, c.if-spot-words_len.false, bits_are_counted (g.T.TableSource.lists c.args.source.now).words)
+
+pub returns-else-found-spot-clause-far : goal.returns-else-found-spot-clause-far
+returns-else-found-spot-clause-far g c = λ xs h s.
+    let is = c.in-Found.ensures.far xs h s in
+    omega (arith, c.if-found-spot.false, spot_later xs (g.T.TableSource.lists c.args.source.now).words c.args.v c.args.spot c.in-Found.found h.are.sequence.rising s c.requires.less is.0 is.1)

@@ -7,18 +7,17 @@ use Rattle.bitm.specs.Count.{IsFirstFrom, Picks}
 use Rattle.bitm.specs.Tables.{bits_in, Lists}
 use Rattle.elias_fano.specs.LentParts.{parts_with, Holds}
 use Rattle.elias_fano.specs.Parts.{HasFragment, HasOneAt}
+use Rattle.postings.specs.Spot.{IsBehind}
 use Rattle.postings.proofs.SpotLemmas.{all_less, first_picked, fragment_of, ones_after}
 use Rattle.postings.proofs.near.walk_on.Goals as goal
 use Rattle.postings.proofs.near.walk_on.Goals.{In-Some, After-item_at_one-number}
 
 pub overflow_add-at : goal.overflow_add-at
-overflow_add-at g c =
-    let h = c.requires.parts in
-    omega (arith, (c.loop-step.invariant.behind h.0 h.1).count, h.1.are.sequence.short)
+overflow_add-at g c = omega (arith, c.requires.within, c.requires.fragments.short)
 
 pub returns-then-at-n-clause-near : goal.returns-then-at-n-clause-near
-returns-then-at-n-clause-near g c = λ xs h.
-    let i = c.loop-step.invariant.behind xs h in
+returns-then-at-n-clause-near g c = λ xs h begin.
+    let i = c.loop-step.invariant.behind xs h begin in
     all_less xs c.args.v (c.args.at + c.loop-step.step) (omega (arith, h.are.count, c.if-at-n.true)) i.less
 
 pub next_one_on-requires : goal.next_one_on-requires
@@ -26,10 +25,11 @@ next_one_on-requires g c = subst (λ (l : Lists). IsShort l.words) (sym c.loop-s
 
 -- the one that was found is the number's
 picked : (g : _) (c : In-Some g) (xs : List ℕ) → Holds xs (parts_with c.args.n c.args.low.now (g.T.TableSource.lists c.args.source.now))
+    → IsBehind xs (g.T.TableSource.lists c.args.source.now).words c.args.v c.args.at c.args.place
     → Picks (bits_in (g.T.TableSource.lists c.args.source.now)) true (c.args.at + c.loop-step.step) c.in-Some.one
-picked g c xs h =
+picked g c xs h begin =
     let first = subst (λ (l : Lists). IsFirstFrom (bits_in l) true c.loop-step.place c.in-Some.one) c.loop-step.invariant.reads.same c.in-Some.ensures.first in
-    first_picked (bits_in (g.T.TableSource.lists c.args.source.now)) c.loop-step.place c.in-Some.one _ first (c.loop-step.invariant.behind xs h).before
+    first_picked (bits_in (g.T.TableSource.lists c.args.source.now)) c.loop-step.place c.in-Some.one _ first (c.loop-step.invariant.behind xs h begin).before
 
 pub item_at_one-number-requires : goal.item_at_one-number-requires
 item_at_one-number-requires g c =
@@ -53,20 +53,19 @@ number g c p xs h one =
     (subst (λ (w : ℕ). HasOneAt xs c.args.n w c.args.low.now.words upper at c.in-Some.one) (sym f.width) here))
 
 pub returns-then-number-v-clause-near : goal.returns-then-number-v-clause-near
-returns-then-number-v-clause-near g c = λ xs h.
+returns-then-number-v-clause-near g c = λ xs h begin.
     let w = goal.at.returns-then-number-v-clause-near g c in
-    let one = picked g w.In-Some xs h in
+    let one = picked g w.In-Some xs h begin in
     let is = number g w.After-item_at_one-number w.In-Some xs h one in
     let inside : c.args.at + c.loop-step.step < length xs = omega (arith, h.are.count, c.if-at-n.false) in (
       record { inside = inside; one = one; number = is },
-      record { inside = inside; at_least = omega (arith, is, c.if-number-v.true); before = (c.loop-step.invariant.behind xs h).less },
+      record { inside = inside; at_least = omega (arith, is, c.if-number-v.true); before = (c.loop-step.invariant.behind xs h begin).less },
     )
 
 pub overflow_add-place : goal.overflow_add-place
 overflow_add-place g c =
-    let w = goal.at.overflow_add-place g c in
-    let h = c.requires.parts in
-    omega (arith, (picked g w.In-Some h.0 h.1).inside, bits_are_counted (g.T.TableSource.lists c.args.source.now).words, c.requires.short)
+    let first = subst (λ (l : Lists). IsFirstFrom (bits_in l) true c.loop-step.place c.in-Some.one) c.loop-step.invariant.reads.same c.in-Some.ensures.first in
+    omega (arith, first.inside, bits_are_counted (g.T.TableSource.lists c.args.source.now).words, c.requires.short)
 
 pub loop-step-preserved : goal.loop-step-preserved
 loop-step-preserved g c =
@@ -92,10 +91,10 @@ loop-step-preserved g c =
         words = f.words ∙ i.fragments.words;
         width = f.width ∙ i.fragments.width;
       };
-      behind = λ xs h.
-          let one = picked g w.In-Some xs h in
+      behind = λ xs h begin.
+          let one = picked g w.In-Some xs h begin in
           let is = number g w.After-item_at_one-number w.In-Some xs h one in
-          let was = i.behind xs h in
+          let was = i.behind xs h begin in
           record {
             count = omega (arith, h.are.count, c.if-at-n.false);
             before = ones_after (bits_in (g.T.TableSource.lists c.args.source.now)) _ c.in-Some.one one ∙ next;

@@ -1,0 +1,98 @@
+//! A cursor over a sequence as C passes it.
+ghost use Rattle.std.specs.Prelude.{◌≡◌, ◌≤◌, SomeIff};
+ghost use Rattle.bitm_abi.specs.Sequence.{lent_parts, IsSized};
+ghost use Rattle.postings.specs.Moves.{IfFound, IsAnswered};
+ghost use Rattle.bitm_lists_c.specs.Cursor.{left_in, spot_of, IsRight};
+
+use bitm::Answer;
+use bitm_abi::Sequence;
+use elias_fano::LowDigits;
+use lent_tables::Lent;
+use postings::{Spot, TotalCursor, total_next_on};
+
+/// A cursor over a sequence in the caller's memory: the sequence, and where the cursor stands in it. Both may hold any
+/// numbers.
+#[repr(C)]
+pub struct Cursor<'a> {
+    /// The sequence.
+    pub sequence: Sequence<'a>,
+    /// The index of the number at the cursor; it is at the end where there is no such number.
+    pub index: usize,
+    /// The position of that number's 1 bit.
+    pub position: usize,
+    /// The number.
+    pub number: u64,
+}
+
+impl<'a> Cursor<'a> {
+    /// The words of the high bits with their tables; `None` exactly where a length of the sequence is not right.
+    #[inline(always)]
+    pub(crate) fn upper(&self) -> Option<Lent<'a>>
+        ensures { SomeIff result (IsSized self.now.sequence) (lent_parts self.now.sequence).upper }
+    {
+        match self.sequence.lent() {
+            Some(_) => Lent::over(
+                self.sequence.words,
+                self.sequence.upper,
+                self.sequence.lower,
+            ),
+            None => None,
+        }
+    }
+
+    /// Moves to the first number from the cursor on that is at least `v`, and answers it.
+    #[inline]
+    pub(crate) fn advance(&mut self, upper: &Lent<'_>, v: u64) -> Answer<u64>
+        requires sized { IsSized self.old.sequence }
+        requires upper { upper.now ≡ (lent_parts self.old.sequence).upper }
+        ensures next { IsRight self.old → IsAnswered (left_in self.old) v result (left_in self.new) }
+        ensures stays { IsRight self.old → IsRight self.new }
+        ensures at_least { IfFound result (λ x. v ≤ x) }
+        ensures sequence { self.new.sequence ≡ self.old.sequence }
+    {
+        let mut low = LowDigits::new(self.sequence.low, self.sequence.width as u8);
+        let mut spot = Spot {
+            at: self.index,
+            one: self.position,
+            number: self.number,
+        };
+        let answer = total_next_on(
+            &mut upper.probe(),
+            &mut low,
+            self.sequence.len,
+            &mut spot,
+            v,
+        );
+        self.stand_at(spot);
+        answer
+    }
+
+    /// Moves to a position.
+    #[inline(always)]
+    pub(crate) fn stand_at(&mut self, spot: Spot)
+        ensures sequence { self.new.sequence ≡ self.old.sequence }
+        ensures spot { spot_of self.new ≡ spot }
+    {
+        self.index = spot.at;
+        self.position = spot.one;
+        self.number = spot.number;
+    }
+}
+
+impl<'a> TotalCursor for Cursor<'a> {
+    ghost use Rattle.bitm_lists_c.specs.Cursor.{left_in, IsRight};
+
+    ghost left = { left_in };
+
+    ghost right = { IsRight };
+
+    ghost calls = { λ c. 0 };
+
+    #[inline]
+    fn total_next_geq(&mut self, v: u64) -> Answer<u64> {
+        match self.upper() {
+            Some(upper) => self.advance(&upper, v),
+            None => Answer::Wrong,
+        }
+    }
+}

@@ -1,0 +1,69 @@
+//! The intersection and the union of the sequences of several cursors.
+ghost use Rattle.std.specs.Prelude.{◌≡◌, ◌≢◌, ◌<◌, ◌≤◌, ◌↔◌, ◌⊎◌, ℕ, All, map, length, slice_index};
+ghost use Rattle.postings.specs.Joined.{AreJoined, IsInSome};
+ghost use Rattle.postings.specs.Shared.{AreShared, IsInAll, IsKeptFrom};
+ghost use Rattle.bitm_lists_c.specs.Cursor.{left_in, IsMergeStatus, IsRight};
+
+use crate::cursor::Cursor;
+use bitm_abi::{BAD_SIZE, OK, WRONG};
+use postings::{Merged, total_intersect, total_union};
+
+/// Reports how a merge ended, and writes how many numbers it wrote where no list turned out wrong.
+#[inline(always)]
+fn tell_merged(merged: Merged, written: &mut usize) -> u32
+    ensures { IsMergeStatus merged result written.old written.new }
+{
+    match merged {
+        Merged::Done(count) => {
+            *written = count;
+            OK
+        }
+        Merged::Wrong(_) => WRONG,
+    }
+}
+
+/// Writes the numbers from `from` on that stand in the sequence of each cursor, from the cursors on, and how many.
+#[unsafe(no_mangle)]
+pub extern "C" fn bitm_cursors_intersect(
+    cursors: &mut [Cursor<'_>],
+    from: u64,
+    out: &mut [u64],
+    written: &mut usize,
+) -> u32
+    ensures bad { (result ≡ 2) ↔ (length cursors.old ≡ 0) }
+    ensures status { (result ≡ 0) ⊎ (result ≡ 2) ⊎ (result ≡ 3) }
+    ensures shared { All IsRight cursors.old → result ≢ 2 → (result ≡ 0)
+        × AreShared (map left_in cursors.old) from written.new (length out.old) out.new }
+    ensures most { result ≡ 0 → written.new ≤ length out.old }
+    ensures rest { result ≡ 0 → IsKeptFrom written.new out.old out.new }
+    ensures left { All IsRight cursors.old → result ≡ 0 → (x : ℕ) → from ≤ x → IsInAll (map left_in cursors.old) x
+        → ((k : ℕ) → k < written.new → slice_index out.new k < x) → IsInAll (map left_in cursors.new) x }
+    ensures right { All IsRight cursors.old → All IsRight cursors.new }
+    ensures kept { result ≢ 0 → written.new ≡ written.old }
+{
+    if cursors.is_empty() {
+        return BAD_SIZE;
+    }
+    tell_merged(total_intersect(cursors, from, out), written)
+}
+
+/// Writes the numbers from `from` on that stand in the sequence of any cursor, from the cursors on, and how many.
+#[unsafe(no_mangle)]
+pub extern "C" fn bitm_cursors_union(
+    cursors: &mut [Cursor<'_>],
+    from: u64,
+    out: &mut [u64],
+    written: &mut usize,
+) -> u32
+    ensures status { (result ≡ 0) ⊎ (result ≡ 3) }
+    ensures joined { All IsRight cursors.old → (result ≡ 0)
+        × AreJoined (map left_in cursors.old) from written.new (length out.old) out.new }
+    ensures most { result ≡ 0 → written.new ≤ length out.old }
+    ensures rest { result ≡ 0 → IsKeptFrom written.new out.old out.new }
+    ensures left { All IsRight cursors.old → (x : ℕ) → from ≤ x → IsInSome (map left_in cursors.old) x
+        → ((k : ℕ) → k < written.new → slice_index out.new k < x) → IsInSome (map left_in cursors.new) x }
+    ensures right { All IsRight cursors.old → All IsRight cursors.new }
+    ensures kept { result ≢ 0 → written.new ≡ written.old }
+{
+    tell_merged(total_union(cursors, from, out), written)
+}

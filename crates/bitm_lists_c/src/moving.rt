@@ -1,0 +1,48 @@
+//! A cursor is set to the first number of its sequence, and moves on.
+ghost use Rattle.std.specs.Prelude.{◌≡◌, ◌≢◌, ◌↔◌, ◌⊎◌, ℕ, List};
+ghost use Rattle.elias_fano_view.specs.LentParts.{Holds};
+ghost use Rattle.bitm_abi.specs.Sequence.{lent_parts, IsSized};
+ghost use Rattle.bitm_abi.specs.Status.{Exported};
+ghost use Rattle.bitm_lists_c.specs.Cursor.{left_in, IsNextOf, IsRight};
+
+use crate::cursor::Cursor;
+use bitm_abi::{BAD_SIZE, OK, WRONG, report};
+use elias_fano::{LowDigits, laws};
+use postings::total_start_on;
+
+/// Sets a cursor to the first number of its sequence, or to the end where there is none.
+#[unsafe(no_mangle)]
+pub extern "C" fn bitm_cursor_start(cursor: &mut Cursor<'_>) -> u32
+    ensures bad { (result ≡ 2) ↔ ¬ (IsSized cursor.old.sequence) }
+    ensures status { (result ≡ 0) ⊎ (result ≡ 2) ⊎ (result ≡ 3) }
+    ensures started { IsSized cursor.old.sequence → (xs : List ℕ) → Holds xs (lent_parts cursor.old.sequence)
+        → (result ≡ 0) × IsRight cursor.new × (left_in cursor.new ≡ xs) }
+    ensures sequence { cursor.new.sequence ≡ cursor.old.sequence }
+    ensures kept { result ≢ 0 → cursor.new ≡ cursor.old }
+{
+    laws::parts_hold_items();
+    let Some(upper) = cursor.upper() else {
+        return BAD_SIZE;
+    };
+    let mut low = LowDigits::new(cursor.sequence.low, cursor.sequence.width as u8);
+    match total_start_on(&mut upper.probe(), &mut low, cursor.sequence.len) {
+        Some(spot) => {
+            cursor.stand_at(spot);
+            OK
+        }
+        None => WRONG,
+    }
+}
+
+/// Moves a cursor to the first number from it on that is at least `at_least`, and writes the number.
+#[unsafe(no_mangle)]
+pub extern "C" fn bitm_cursor_next(cursor: &mut Cursor<'_>, at_least: u64, out: &mut u64) -> u32
+    ensures next { Exported (IsSized cursor.old.sequence) (IsNextOf cursor.old at_least cursor.new)
+        result out.old out.new }
+    ensures sequence { cursor.new.sequence ≡ cursor.old.sequence }
+{
+    match cursor.upper() {
+        Some(upper) => report(cursor.advance(&upper, at_least), out),
+        None => BAD_SIZE,
+    }
+}

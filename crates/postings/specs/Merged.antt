@@ -1,0 +1,14 @@
+-- How a merge of lists ended.
+use Rattle.std.specs.Prelude.{ℕ}
+use Rattle.postings.specs.declared.merged.Merged.{Merged}
+use Rattle.postings.specs.declared.merged.Merged.TheVariants.{Done, Wrong}
+
+-- how many numbers were written
+abbrev pub written_in : Merged → ℕ
+written_in (Done n) = n
+written_in (Wrong n) = n
+
+-- no list turned out wrong, and P holds of how many numbers were written
+abbrev pub IsDone : Merged → (ℕ → Type 0) → Type 0
+IsDone (Done n) P = P n
+IsDone (Wrong n) P = ⊥
