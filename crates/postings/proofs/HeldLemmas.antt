@@ -18,11 +18,6 @@ same_parts P low new lists later words width same h =
     (subst (λ (ws : List ℕ). P new.width ws lists) (sym words)
     (subst (λ (w : ℕ). P w low.words lists) (sym width) h))
 
--- a cursor that moves to another spot of the same parts, or to the end
-pub held_to : (n w : ℕ) (low : List ℕ) (lists : Lists) (old new : Spot) → IsHeld n w low lists old
-    → IsHere (items_of n w low lists.words) lists.words n new → IsHeld n w low lists new
-held_to n w low lists old new h here = record { parts = h.parts; sizes = h.sizes; here = here }
-
 -- where the first number that is left is at least v, so is the number at the cursor
 pub reaching : (n w : ℕ) (low : List ℕ) (lists : Lists) (spot : Spot) (v : ℕ) → IsHeld n w low lists spot
     → IsReached (drop spot.at (items_of n w low lists.words)) v → IsReaching n v spot

@@ -4,7 +4,6 @@ use Rattle.std.proofs.lemmas.Bool.{cases_lt}
 use Rattle.std.specs.List.{All}
 use Rattle.std.specs.List.Sorted.{IsNonDecreasing}
 use Rattle.bitm.proofs.BitLaws.{counts_grow}
-use Rattle.bitm.specs.Answer.{Answer}
 use Rattle.bitm.specs.Answer.TheVariants.{Found, Absent}
 use Rattle.bitm.specs.Bits.{bits_of}
 use Rattle.bitm.specs.Count.{Picks}
@@ -37,12 +36,6 @@ spot_later xs words v old new rising h less k reach =
     (reached_later xs v old.at new.at rising h.inside (omega (arith, h.number, less)) reach)
 
 module _ (xs words : List ℕ) (n v : ℕ) (old : Spot) (rising : IsNonDecreasing xs) (count : n ≡ length xs) where
-  pub move_at_end : n ≤ old.at → IsMove xs words n v old Absent old
-  move_at_end end = record {
-    next = λ h. moved_none xs old.at old.at v rising (omega arith) (λ j from l. absurd (omega (arith, from, l))) (omega (arith, h.order, end, count));
-    here = λ h. h;
-  }
-
   pub move_stays : old.at < n → v ≤ old.number → IsMove xs words n v old (Found old.number) old
   move_stays inside more = record {
     next = λ h.
@@ -73,12 +66,6 @@ module _ (xs words : List ℕ) (n v : ℕ) (old : Spot) (rising : IsNonDecreasin
         subst (λ (k : ℕ). IsNextAtLeast (drop old.at xs) v None (drop k xs)) (sym end)
         (moved_none xs old.at n v rising h.order (λ j from l. all j 0 (omega (arith, l, count))) count);
     here = λ h. record { order = omega (arith, end); here = λ l. absurd (omega (arith, end, l)) };
-  }
-
-  pub move_wrong : (answer : Answer ℕ) (new : Spot) → old.at < n → (IsSpot xs words old → ⊥) → IsMove xs words n v old answer new
-  move_wrong answer new inside not = record {
-    next = λ h. absurd (not (h.here inside));
-    here = λ h. absurd (not (h.here inside));
   }
 
 -- ---- the first spot

@@ -1,12 +1,11 @@
 -- What the parts of a sequence hold.
-use Rattle.std.proofs.Common.{◌≡◌, ℕ, ◌-◌, ◌*◌, ◌/◌, ◌^◌, ◌<◌, ◌≤◌, List, [], ◌∷◌, length, ap, sym, ◌∙◌, arith}
+use Rattle.std.proofs.Common.{ℕ, ◌-◌, ◌*◌, ◌/◌, ◌^◌, ◌<◌, ◌≤◌, List, [], ◌∷◌, length, ap, sym, ◌∙◌, arith}
 use Rattle.std.proofs.Math.Nat.{div-le_self}
 use Rattle.std.specs.Int.{div_ceil}
 use Rattle.std.specs.List.{All}
 use Rattle.bitm.proofs.BitLaws.{digits_bound_powers}
 use Rattle.bitm.specs.Tables.{Lists}
-use Rattle.elias_fano.specs.LentParts.{parts_of, parts_with, HasLengths}
-use Rattle.elias_fano.specs.Low.{unread, HasFragments, Lows}
+use Rattle.elias_fano.specs.LentParts.{parts_of, HasLengths}
 use Rattle.elias_fano.specs.Parts.{width_of, ArePartsOf}
 use Rattle.elias_fano.specs.Sequence.{largest}
 
@@ -19,22 +18,9 @@ width_small xs small =
     let quotient : largest xs / length xs < 2 ^ 64 = omega (arith, largest_small xs small, div-le_self (largest xs) (length xs)) in
     omega (arith, (digits_bound_powers (largest xs / length xs) 64).1 quotient)
 
-pub has_fragments : (xs : List ℕ) (n w : ℕ) (low upper : List ℕ) → ArePartsOf xs n w low upper → HasFragments (unread low w) n
-has_fragments xs n w low upper h = record {
-  width = omega (arith, h.width, width_small xs h.sequence.small);
-  short = omega (arith, h.count, h.sequence.short);
-  inside =
-      let same : n * w ≡ length xs * w = ap (λ (k : ℕ). k * w) h.count in
-      omega (arith, h.low_is.words, same);
-}
-
 pub has_lengths : (xs : List ℕ) (n w : ℕ) (low : List ℕ) (lists : Lists) → ArePartsOf xs n w low lists.words → HasLengths (parts_of n w low lists)
 has_lengths xs n w low lists h = record {
   short = omega (arith, h.count, h.sequence.short);
   width = omega (arith, h.width, width_small xs h.sequence.small);
   low = h.low_is.words ∙ ap (λ (k : ℕ). div_ceil (k * w) 64) (sym h.count);
 }
-
--- as many words as the low bits take are enough
-pub lengths_enough : (n : ℕ) (low : Lows) (lists : Lists) → HasLengths (parts_with n low lists) → HasFragments low n
-lengths_enough n low lists h = record { width = h.width; short = h.short; inside = omega (arith, h.low) }
