@@ -24,7 +24,7 @@ pub(crate) mod view;
 pub(crate) mod writes;
 
 use crate::errors::WrongTables;
-pub(crate) use crate::ffi::bits::{BITM_NONE as NONE, BITM_OK as OK, BITM_UNSORTED as UNSORTED, BITM_WRONG as WRONG};
+pub(crate) use crate::ffi::words::{BITM_NONE as NONE, BITM_OK as OK, BITM_UNSORTED as UNSORTED, BITM_WRONG as WRONG};
 use core::mem::MaybeUninit;
 
 /// The number of the archive's version: 10000 times the major, 100 times the minor one, and the patch.
@@ -34,7 +34,7 @@ use core::mem::MaybeUninit;
 /// ```
 pub fn library_version() -> u32 {
     // SAFETY: the call takes nothing.
-    unsafe { crate::ffi::bits::bitm_version() }
+    unsafe { crate::ffi::words::bitm_version() }
 }
 
 /// Makes a query of words with tables, or of a sequence.

@@ -2,8 +2,8 @@
 pub(crate) mod owned;
 
 use crate::errors::{BuildError, ListError, StoredError, WrongTables};
-use crate::ffi::index::{bitm_index, bitm_list_counts, bitm_samples};
-use crate::ffi::sequence::*;
+use crate::ffi::blocks::*;
+use crate::ffi::words::{bitm_index, bitm_list_counts, bitm_samples};
 use crate::sys::hash::PerfectHash;
 use crate::sys::memory::{as_u64_mut, copied, words_of, zeroed};
 use crate::sys::tree::block_in;

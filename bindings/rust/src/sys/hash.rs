@@ -1,7 +1,7 @@
 //! Minimal perfect hashes: a number of its own below n for each of n keys, by the key's hash of 64 bits.
 use crate::errors::{sure, BuildError, ListError, WrongTables};
-use crate::ffi::index::bitm_list_counts;
-use crate::ffi::sequence::*;
+use crate::ffi::blocks::*;
+use crate::ffi::words::bitm_list_counts;
 use crate::sys::memory::{as_u64_mut, copied, zeroed};
 use crate::sys::tables::Tables;
 use crate::sys::view::{list_answer, IndexView};

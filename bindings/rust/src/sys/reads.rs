@@ -1,6 +1,6 @@
 //! Proved reads of the first `bits_len` bits of words, without tables: one call of the archive each.
 use super::found;
-use crate::ffi::bits::*;
+use crate::ffi::words::*;
 
 /// The bit at a position; `None` exactly where it is `bits_len` or more.
 ///

@@ -1,7 +1,7 @@
 //! Monotone integer sequences (Elias-Fano) in borrowed parts.
 use crate::errors::{BuildError, ListError, WrongTables};
-use crate::ffi::index::bitm_list_counts;
-use crate::ffi::sequence::*;
+use crate::ffi::blocks::*;
+use crate::ffi::words::{bitm_list_counts, bitm_sequence_lens};
 use crate::sys::memory::{as_u64, as_u64_mut, zeroed};
 use crate::sys::view::list_answer;
 use crate::sys::{query, OK, UNSORTED};

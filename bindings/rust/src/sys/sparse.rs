@@ -2,8 +2,8 @@
 pub(crate) mod owned;
 
 use crate::errors::{BuildError, ListError, StoredError, WrongTables};
-use crate::ffi::index::bitm_list_counts;
-use crate::ffi::sequence::*;
+use crate::ffi::blocks::*;
+use crate::ffi::words::bitm_list_counts;
 use crate::sys::memory::{as_u64, as_u64_mut, words_of, zeroed};
 use crate::sys::sequence::SequenceView;
 use crate::sys::tree::block_in;

@@ -2,7 +2,7 @@
 pub(crate) mod owned;
 
 use crate::errors::{BuildError, StoredError, WrongTables};
-use crate::ffi::matrix::*;
+use crate::ffi::blocks::*;
 use crate::sys::memory::{as_u64_mut, words_of, zeroed};
 use crate::sys::tree::block_in;
 use crate::sys::{query, NONE, OK, WRONG};

@@ -2,8 +2,8 @@
 pub(crate) mod owned;
 
 use crate::errors::{BuildError, ListError, StoredError, WrongTables};
-use crate::ffi::index::bitm_list_counts;
-use crate::ffi::tree::*;
+use crate::ffi::blocks::*;
+use crate::ffi::words::bitm_list_counts;
 use crate::sys::memory::{as_u64, as_u64_mut, words_of, zeroed};
 use crate::sys::view::list_answer;
 use crate::sys::{query, OK, WRONG};

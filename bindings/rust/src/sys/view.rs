@@ -1,6 +1,6 @@
 //! Borrowed words with their tables: the struct that each query of the archive takes.
 use crate::errors::{ListError, WrongTables};
-use crate::ffi::index::*;
+use crate::ffi::words::*;
 use crate::sys::{found, memory, query, OK};
 use core::marker::PhantomData;
 use core::{fmt, ptr, slice};

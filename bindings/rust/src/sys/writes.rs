@@ -1,7 +1,7 @@
 //! Proved writes of the first `bits_len` bits of words, without tables: one call of the archive each. Every other bit
 //! stays as it was.
 use super::found;
-use crate::ffi::bits::*;
+use crate::ffi::words::*;
 
 /// Makes the bit at a position the value; `None`, and nothing is written, exactly where it is `bits_len` or more.
 ///
