@@ -1,4 +1,5 @@
 //! The only module with `unsafe` blocks: calls of the archive, memory, owners, bytes and mapped files.
+pub(crate) mod block;
 pub(crate) mod bytes;
 pub(crate) mod dictionary;
 pub(crate) mod hash;
@@ -6,11 +7,13 @@ pub(crate) mod held;
 #[cfg(all(feature = "std", target_os = "linux"))]
 pub(crate) mod huge;
 pub(crate) mod index;
+pub(crate) mod lists;
 #[cfg(all(feature = "mmap", unix))]
 pub(crate) mod mapped;
 pub(crate) mod matrix;
 pub(crate) mod memory;
 pub(crate) mod owned;
+pub(crate) mod owner;
 pub(crate) mod parts;
 pub(crate) mod reads;
 pub(crate) mod sequence;

@@ -2,7 +2,7 @@
 use super::ShardedIndex;
 use crate::errors::ListError;
 use crate::ffi::words::*;
-use crate::sys::view::list_answer;
+use crate::sys::lists::list_answer;
 use crate::sys::OK;
 use alloc::vec;
 
