@@ -4,7 +4,7 @@ use bitm_proved::{
     bytes_of, BuildError, Dictionary, DictionaryView, ListError, SparseBits, SparseBitsView, StoredError, Tree,
     NO_ANSWER,
 };
-use common::Random;
+use common::{with_any_words, with_one_bit_changed, Random};
 use std::collections::BTreeSet;
 use std::panic::{RefUnwindSafe, UnwindSafe};
 use std::sync::Arc;
@@ -123,25 +123,16 @@ fn each_changed_word_is_seen_and_never_leads_to_another_key() {
     let mut random = Random(65);
     let keys = drawn(60, 50, &mut random);
     let good = Dictionary::build(&keys).expect("any").into_owner();
-    let begin = good[17] as usize / 8; // where the first section begins, by the directory
-    for at in 0..good.len() {
-        for bit in (0..64).step_by(3) {
-            let mut block = good.clone();
-            block[at] ^= 1 << bit;
-            match DictionaryView::from_words(&block) {
-                Err(why) => assert_eq!((why, at < begin), (StoredError::NotWhole, true)),
-                Ok(found) => {
-                    assert!(at >= begin && !found.check());
-                    held(&found, &keys);
-                }
-            }
+    with_one_bit_changed(&good, 3, |block, in_header| match DictionaryView::from_words(block) {
+        Err(why) => assert_eq!((why, in_header), (StoredError::NotWhole, true)),
+        Ok(found) => {
+            assert!(!in_header && !found.check());
+            held(&found, &keys);
         }
-    }
-    for _ in 0..300 {
-        let mut block = good.clone();
-        block[begin..].iter_mut().for_each(|it| *it = random.next() & random.next());
-        held(&DictionaryView::from_words(&block).expect("the header is right"), &keys);
-    }
+    });
+    with_any_words(&good, &mut random, |block, _| {
+        held(&DictionaryView::from_words(block).expect("the header is right"), &keys);
+    });
 }
 
 #[test]

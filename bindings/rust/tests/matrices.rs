@@ -5,7 +5,7 @@ use bitm_proved::{
     bytes_of, BuildError, ListError, StoredError, Tree, TreeView, WaveletMatrix, WaveletMatrixView, WrongTables,
     NO_ANSWER,
 };
-use common::Random;
+use common::{with_any_words, with_one_bit_changed, Random};
 use std::panic::{RefUnwindSafe, UnwindSafe};
 use std::sync::Arc;
 
@@ -185,25 +185,16 @@ fn inside(list: &WaveletMatrixView<'_>, random: &mut Random) -> usize {
 fn each_changed_word_is_seen_and_never_leads_outside() {
     let mut random = Random(45);
     let good = WaveletMatrix::build(&drawn(90, 5, &mut random)).expect("any").into_owner();
-    let begin = good[17] as usize / 8; // where the first section begins, by the directory
-    for at in 0..good.len() {
-        for bit in (0..64).step_by(3) {
-            let mut block = good.clone();
-            block[at] ^= 1 << bit;
-            match WaveletMatrixView::from_words(&block) {
-                Err(why) => assert_eq!((why, at < begin), (StoredError::NotWhole, true)),
-                Ok(list) => {
-                    assert!(at >= begin && !list.check());
-                    inside(&list, &mut random);
-                }
-            }
+    with_one_bit_changed(&good, 3, |block, in_header| match WaveletMatrixView::from_words(block) {
+        Err(why) => assert_eq!((why, in_header), (StoredError::NotWhole, true)),
+        Ok(list) => {
+            assert!(!in_header && !list.check());
+            inside(&list, &mut random);
         }
-    }
-    for _ in 0..300 {
-        let mut block = good.clone();
-        block[begin..].iter_mut().for_each(|it| *it = random.next() & random.next());
-        inside(&WaveletMatrixView::from_words(&block).expect("the header is right"), &mut random);
-    }
+    });
+    with_any_words(&good, &mut random, |block, random| {
+        inside(&WaveletMatrixView::from_words(block).expect("the header is right"), random);
+    });
 }
 
 #[test]

@@ -4,7 +4,7 @@ mod common;
 use bitm_proved::{
     bytes_of, BuildError, ListError, SparseBits, SparseBitsView, StoredError, Tree, TreeView, WrongTables, NO_ANSWER,
 };
-use common::Random;
+use common::{with_any_words, with_one_bit_changed, Random};
 use std::panic::{RefUnwindSafe, UnwindSafe};
 use std::sync::Arc;
 
@@ -219,25 +219,16 @@ fn each_changed_word_is_seen_and_never_leads_outside() {
     let mut random = Random(55);
     let plain = Plain::drawn(60, 70, 3, &mut random);
     let good = SparseBits::build(&plain.positions, plain.len).expect("any").into_owner();
-    let begin = good[17] as usize / 8; // where the first section begins, by the directory
-    for at in 0..good.len() {
-        for bit in (0..64).step_by(3) {
-            let mut block = good.clone();
-            block[at] ^= 1 << bit;
-            match SparseBitsView::from_words(&block) {
-                Err(why) => assert_eq!((why, at < begin), (StoredError::NotWhole, true)),
-                Ok(bits) => {
-                    assert!(at >= begin && !bits.check());
-                    inside(&bits);
-                }
-            }
+    with_one_bit_changed(&good, 3, |block, in_header| match SparseBitsView::from_words(block) {
+        Err(why) => assert_eq!((why, in_header), (StoredError::NotWhole, true)),
+        Ok(bits) => {
+            assert!(!in_header && !bits.check());
+            inside(&bits);
         }
-    }
-    for _ in 0..300 {
-        let mut block = good.clone();
-        block[begin..].iter_mut().for_each(|it| *it = random.next() & random.next());
-        inside(&SparseBitsView::from_words(&block).expect("the header is right"));
-    }
+    });
+    with_any_words(&good, &mut random, |block, _| {
+        inside(&SparseBitsView::from_words(block).expect("the header is right"));
+    });
 }
 
 #[test]

@@ -4,7 +4,7 @@ use bitm_proved::{
     bytes_of, BuildError, EliasFano, IndexView, ListError, SequenceView, StoredError, Tree, TreeView, WrongTables,
     NO_ANSWER,
 };
-use common::{says, Random};
+use common::{says, with_any_words, with_one_bit_changed, Fickle, Random};
 use std::panic::{RefUnwindSafe, UnwindSafe};
 use std::sync::Arc;
 
@@ -139,19 +139,6 @@ fn any_owner_has_a_tree_in_its_words_or_bytes() {
     as_plain_lists(&view, &degrees);
 }
 
-/// Borrows other words each time: the tree uses the first.
-struct Fickle(Vec<u64>, Vec<u64>, std::cell::Cell<bool>);
-
-impl AsRef<[u64]> for Fickle {
-    fn as_ref(&self) -> &[u64] {
-        if self.2.replace(true) {
-            &self.1
-        } else {
-            &self.0
-        }
-    }
-}
-
 #[test]
 fn an_owner_that_borrows_other_words_does_no_harm() {
     let (degrees, other) = (drawn(300, 4, &mut Random(33)), vec![1]);
@@ -203,24 +190,16 @@ fn each_changed_word_is_seen_and_never_leads_outside() {
     let mut random = Random(35);
     let good = Tree::build(&drawn(90, 4, &mut random)).expect("a tree").into_owner();
     let mut wrong = 0;
-    for at in 0..good.len() {
-        for bit in 0..64 {
-            let mut block = good.clone();
-            block[at] ^= 1 << bit;
-            match TreeView::from_words(&block) {
-                Err(why) => assert_eq!((why, at < 32), (StoredError::NotWhole, true)),
-                Ok(tree) => {
-                    assert!(at >= 32 && !tree.check());
-                    wrong += inside(&tree);
-                }
-            }
+    with_one_bit_changed(&good, 1, |block, in_header| match TreeView::from_words(block) {
+        Err(why) => assert_eq!((why, in_header), (StoredError::NotWhole, true)),
+        Ok(tree) => {
+            assert!(!in_header && !tree.check());
+            wrong += inside(&tree);
         }
-    }
-    for _ in 0..300 {
-        let mut block = good.clone();
-        block[32..].iter_mut().for_each(|it| *it = random.next() & random.next());
-        wrong += inside(&TreeView::from_words(&block).expect("the header is right"));
-    }
+    });
+    with_any_words(&good, &mut random, |block, _| {
+        wrong += inside(&TreeView::from_words(block).expect("the header is right"));
+    });
     assert!(wrong > 0);
 }
 

@@ -1,4 +1,4 @@
-//! Shared by the tests: random numbers, plain lists of bits, and the messages of panics.
+//! Shared by the tests: random numbers, plain lists of bits, the messages of panics, spoilt blocks.
 #![allow(dead_code)]
 use std::panic::{catch_unwind, UnwindSafe};
 
@@ -48,5 +48,43 @@ pub fn says(call: impl FnOnce() + UnwindSafe) -> String {
     match why.downcast::<String>() {
         Ok(text) => *text,
         Err(why) => why.downcast_ref::<&str>().map_or(String::new(), |it| it.to_string()),
+    }
+}
+
+/// Where the first section of a block begins, by its directory.
+fn first_section(block: &[u64]) -> usize {
+    block[17] as usize / 8
+}
+
+/// The blocks that differ from a good one in one bit, every `step` bits of each word, and whether it is in the header.
+pub fn with_one_bit_changed(good: &[u64], step: usize, mut look: impl FnMut(&[u64], bool)) {
+    for at in 0..good.len() {
+        for bit in (0..64).step_by(step) {
+            let mut block = good.to_vec();
+            block[at] ^= 1 << bit;
+            look(&block, at < first_section(good));
+        }
+    }
+}
+
+/// Blocks with the header of a good one, and any words after it.
+pub fn with_any_words(good: &[u64], random: &mut Random, mut look: impl FnMut(&[u64], &mut Random)) {
+    for _ in 0..300 {
+        let mut block = good.to_vec();
+        block[first_section(good)..].iter_mut().for_each(|it| *it = random.next() & random.next());
+        look(&block, random);
+    }
+}
+
+/// Borrows other words each time: what it owns uses the first.
+pub struct Fickle(pub Vec<u64>, pub Vec<u64>, pub std::cell::Cell<bool>);
+
+impl AsRef<[u64]> for Fickle {
+    fn as_ref(&self) -> &[u64] {
+        if self.2.replace(true) {
+            &self.1
+        } else {
+            &self.0
+        }
     }
 }
