@@ -3,10 +3,10 @@ arrays: those of that name, and those that are passed an array."""
 import array
 import hashlib
 import pickle
-from typing import Any, Callable, List, Optional, Tuple
+from typing import Any, Callable, Optional, Tuple
 
-from . import _core
-from ._files import load, save
+from . import _blocks, _core
+from ._files import save
 
 
 # ---- tables
@@ -118,131 +118,6 @@ def sequence_over(cls: Any, length: Any, width: Any, low: Any, words: Any, upper
     True
     """
     return _core.over(cls, (length, width), (low, words, upper, lower))
-
-
-def tree_over(cls: Any, block: Any) -> Any:
-    """A tree in a block that exists already, in a buffer that it holds. ValueError where its header or directory is not
-    right; the rest is not looked at: call `check`.
-
-    >>> tree = Tree([2, 0, 1, 0])
-    >>> Tree.over(tree.block).parent(3)
-    2
-    """
-    return _core.over(cls, (), (block,))
-
-
-def tree_block(self: Any) -> memoryview:
-    """The words of the block, to be read: what `Tree.over` takes, and the bytes of the file.
-
-    >>> len(Tree([2, 0, 1, 0]).block)
-    56
-    """
-    return memoryview(_core.parts(self)[1][0])
-
-
-def sparse_over(cls: Any, block: Any) -> Any:
-    """Sparse bits in a block that exists already, in a buffer that it holds. ValueError where its header or directory is not
-    right; the rest is not looked at: call `check`.
-
-    >>> bits = SparseBits([3, 100, 101, 4000], 5000)
-    >>> SparseBits.over(bits.block).rank(101)
-    2
-    """
-    return _core.over(cls, (), (block,))
-
-
-def sparse_block(self: Any) -> memoryview:
-    """The words of the block, to be read: what `SparseBits.over` takes, and the bytes of the file.
-
-    >>> len(SparseBits([3, 100, 101, 4000], 5000).block)
-    64
-    """
-    return memoryview(_core.parts(self)[1][0])
-
-
-def dictionary_over(cls: Any, block: Any) -> Any:
-    """A dictionary in a block that exists already, in a buffer that it holds. ValueError where its header or directory is not
-    right; the rest is not looked at: call `check`.
-
-    >>> squares = Dictionary([4, 9, 49])
-    >>> 49 in Dictionary.over(squares.block)
-    True
-    """
-    return _core.over(cls, (), (block,))
-
-
-def dictionary_block(self: Any) -> memoryview:
-    """The words of the block, to be read: what `Dictionary.over` takes, and the bytes of the file.
-
-    >>> len(Dictionary([4, 9, 49]).block)
-    80
-    """
-    return memoryview(_core.parts(self)[1][0])
-
-
-def matrix_over(cls: Any, block: Any) -> Any:
-    """A list of numbers in a block that exists already, in a buffer that it holds. ValueError where its header or directory
-    is not right; the rest is not looked at: call `check`.
-
-    >>> numbers = WaveletMatrix([3, 1, 4, 1, 5, 1])
-    >>> WaveletMatrix.over(numbers.block)[2]
-    4
-    """
-    return _core.over(cls, (), (block,))
-
-
-def matrix_block(self: Any) -> memoryview:
-    """The words of the block, to be read: what `WaveletMatrix.over` takes, and the bytes of the file.
-
-    >>> numbers = WaveletMatrix([3, 1, 4, 1, 5, 1])
-    >>> list(numbers.block[3:5])  # words of the header: the length and the width
-    [6, 3]
-    """
-    return memoryview(_core.parts(self)[1][0])
-
-
-def text_over(cls: Any, block: Any) -> Any:
-    """The index of a text in a block that exists already, in a buffer that it holds and does not copy. ValueError where
-    header or directory of the block are not right; the rest is not looked at: call `check`.
-
-    >>> block = TextIndex(b"banana").block
-    >>> TextIndex.over(block).count(b"ana")
-    2
-    """
-    return _core.over(cls, (), (block,))
-
-
-def text_open(cls: Any, path: Any) -> Any:
-    """The index of a text in a file that `bitm text build` or `save` wrote, mapped and read where it lies. ValueError as
-    `load`, and where the file is of another kind.
-
-    >>> TextIndex(b"banana").save("book.block")
-    >>> with TextIndex.open("book.block") as index:
-    ...     index.count(b"ana")
-    2
-    """
-    found = load(path, mmap=True)
-    if not isinstance(found, _core.TextIndex):
-        raise ValueError(f"{path!r} is a stored {type(found).__name__}, not the index of a text")
-    return found if cls is _core.TextIndex else _core.over(cls, *_core.parts(found))
-
-
-def text_block(self: Any) -> memoryview:
-    """The words of the block, to be read: what `TextIndex.over` takes, and the bytes of the file.
-
-    >>> list(TextIndex(b"banana").block[3:5])  # words of the header: the length and the width
-    [6, 2]
-    """
-    return memoryview(_core.parts(self)[1][0])
-
-
-def text_find_all(self: Any, pattern: Any) -> List[int]:
-    """The positions at which a pattern stands, the first one first; they may overlap. Pattern as in `count`.
-
-    >>> TextIndex(b"banana").find_all(b"ana")
-    [1, 3]
-    """
-    return sorted(self.locate(pattern))
 
 
 def matrix_to_numpy(self: Any, dtype: Any = None, copy: Optional[bool] = None) -> Any:
@@ -385,7 +260,8 @@ def _copy(share: Callable[[Any], Any]) -> Callable[[Any], Any]:
 
 
 def complete() -> None:
-    """Gives the types of the extension those methods that stand here."""
+    """Gives the types of the extension those methods that stand here and in `_blocks`."""
+    _blocks.complete()
     kept = (_core.Index, _core.EliasFano, _core.SparseBits, _core.PerfectHash, _core.Dictionary, _core.Tree, _core.WaveletMatrix,
             _core.TextIndex)
     for kind in kept:
@@ -403,18 +279,6 @@ def complete() -> None:
         setattr(_core.WaveletMatrix, name, matrix_to_numpy)
     setattr(_core.Index, "over", classmethod(index_over))
     setattr(_core.EliasFano, "over", classmethod(sequence_over))
-    setattr(_core.Tree, "over", classmethod(tree_over))
-    setattr(_core.Tree, "block", property(tree_block))
-    setattr(_core.SparseBits, "over", classmethod(sparse_over))
-    setattr(_core.SparseBits, "block", property(sparse_block))
-    setattr(_core.Dictionary, "over", classmethod(dictionary_over))
-    setattr(_core.Dictionary, "block", property(dictionary_block))
-    setattr(_core.WaveletMatrix, "over", classmethod(matrix_over))
-    setattr(_core.WaveletMatrix, "block", property(matrix_block))
-    setattr(_core.TextIndex, "open", classmethod(text_open))
-    setattr(_core.TextIndex, "over", classmethod(text_over))
-    setattr(_core.TextIndex, "block", property(text_block))
-    setattr(_core.TextIndex, "find_all", text_find_all)
     setattr(_core.EliasFano, "intersection", intersection)
     setattr(_core.EliasFano, "union", union)
     setattr(_core.EliasFano, "parts", property(parts))
