@@ -5,7 +5,7 @@ use bitm_proved::{
     bytes_of, BuildError, ListError, StoredError, Tree, TreeView, WaveletMatrix, WaveletMatrixView, WrongTables,
     NO_ANSWER,
 };
-use common::{with_any_words, with_one_bit_changed, Random};
+use common::{any_owner, with_any_words, with_one_bit_changed, Random};
 use std::panic::{RefUnwindSafe, UnwindSafe};
 use std::sync::Arc;
 
@@ -121,28 +121,10 @@ fn numbers_and_widths_that_are_refused() {
 
 #[test]
 fn any_owner_has_a_list_in_its_words_or_bytes() {
-    let mut random = Random(42);
-    let plain = drawn(300, 9, &mut random);
+    let plain = drawn(300, 9, &mut Random(42));
     let file = WaveletMatrix::build(&plain).expect("any").into_owner();
-    fn try_words<O: AsRef<[u64]>>(owner: O, plain: &[u64]) {
-        let mut many: Vec<WaveletMatrix<O>> = vec![WaveletMatrix::from_words(owner).expect("a block")];
-        many.reserve(100); // moves it
-        let list = Box::new(many.remove(0));
-        as_a_plain_list(list.view(), plain, &mut Random(43));
-        assert_eq!(
-            (list.owner().as_ref().len(), format!("{list:?}")),
-            (list.block().len(), "300 numbers of 9 bits".into())
-        );
-        assert_eq!(list.into_owner().as_ref()[3], 300);
-    }
-    try_words(&file[..], &plain);
-    try_words(file.clone().into_boxed_slice(), &plain);
-    try_words(Arc::<[u64]>::from(&file[..]), &plain);
-    as_a_plain_list(WaveletMatrix::from_bytes(bytes_of(&file)).expect("aligned").view(), &plain, &mut random);
-    let longer = [file.clone(), vec![7; 5]].concat();
-    let view = WaveletMatrixView::from_words(&longer).expect("words after the block are not its own");
-    assert_eq!(view.block(), file);
-    as_a_plain_list(&view, &plain, &mut random);
+    let look = |list: &WaveletMatrixView<'_>| as_a_plain_list(list, &plain, &mut Random(43));
+    any_owner!(WaveletMatrix, WaveletMatrixView, file, "300 numbers of 9 bits", look);
 }
 
 #[test]

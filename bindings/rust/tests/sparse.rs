@@ -4,7 +4,7 @@ mod common;
 use bitm_proved::{
     bytes_of, BuildError, ListError, SparseBits, SparseBitsView, StoredError, Tree, TreeView, WrongTables, NO_ANSWER,
 };
-use common::{with_any_words, with_one_bit_changed, Random};
+use common::{any_owner, with_any_words, with_one_bit_changed, Random};
 use std::panic::{RefUnwindSafe, UnwindSafe};
 use std::sync::Arc;
 
@@ -158,28 +158,10 @@ fn lists_of_as_many_bits_as_there_can_be() {
 
 #[test]
 fn any_owner_has_bits_in_its_words_or_bytes() {
-    let mut random = Random(52);
-    let plain = Plain::drawn(300, 90, 7, &mut random);
+    let plain = Plain::drawn(300, 90, 7, &mut Random(52));
     let file = SparseBits::build(&plain.positions, plain.len).expect("any").into_owner();
-    fn try_words<O: AsRef<[u64]>>(owner: O, plain: &Plain) {
-        let mut many: Vec<SparseBits<O>> = vec![SparseBits::from_words(owner).expect("a block")];
-        many.reserve(100); // moves it
-        let bits = Box::new(many.remove(0));
-        as_plain(bits.view(), plain, &mut Random(53));
-        assert_eq!(format!("{bits:?}"), format!("{} bits, 300 ones", plain.len));
-        assert_eq!((bits.owner().as_ref().len(), bits.into_owner().as_ref()[3]), (bits_len(plain), 300));
-    }
-    fn bits_len(plain: &Plain) -> usize {
-        SparseBits::build(&plain.positions, plain.len).expect("any").block().len()
-    }
-    try_words(&file[..], &plain);
-    try_words(file.clone().into_boxed_slice(), &plain);
-    try_words(Arc::<[u64]>::from(&file[..]), &plain);
-    as_plain(SparseBits::from_bytes(bytes_of(&file)).expect("aligned").view(), &plain, &mut random);
-    let longer = [file.clone(), vec![7; 5]].concat();
-    let view = SparseBitsView::from_words(&longer).expect("words after the block are not its own");
-    assert_eq!(view.block(), file);
-    as_plain(&view, &plain, &mut random);
+    let look = |bits: &SparseBitsView<'_>| as_plain(bits, &plain, &mut Random(53));
+    any_owner!(SparseBits, SparseBitsView, file, &format!("{} bits, 300 ones", plain.len), look);
 }
 
 #[test]

@@ -4,7 +4,7 @@ use bitm_proved::{
     bytes_of, BuildError, EliasFano, IndexView, ListError, SequenceView, StoredError, Tree, TreeView, WrongTables,
     NO_ANSWER,
 };
-use common::{says, with_any_words, with_one_bit_changed, Fickle, Random};
+use common::{any_owner, says, with_any_words, with_one_bit_changed, Fickle, Random};
 use std::panic::{RefUnwindSafe, UnwindSafe};
 use std::sync::Arc;
 
@@ -118,25 +118,7 @@ fn degrees_of_no_tree_are_refused() {
 fn any_owner_has_a_tree_in_its_words_or_bytes() {
     let degrees = drawn(300, 4, &mut Random(32));
     let file = Tree::build(&degrees).expect("a tree").into_owner();
-    fn try_words<O: AsRef<[u64]>>(owner: O, degrees: &[u64]) {
-        let mut many: Vec<Tree<O>> = vec![Tree::from_words(owner).expect("a block")];
-        many.reserve(100); // moves it
-        let tree = Box::new(many.remove(0));
-        as_plain_lists(tree.view(), degrees);
-        assert_eq!(
-            (tree.owner().as_ref().len(), format!("{tree:?}").as_str()),
-            (tree.block().len(), "a tree of 300 nodes")
-        );
-        assert_eq!(tree.into_owner().as_ref()[3], 300);
-    }
-    try_words(&file[..], &degrees);
-    try_words(file.clone().into_boxed_slice(), &degrees);
-    try_words(Arc::<[u64]>::from(&file[..]), &degrees);
-    as_plain_lists(Tree::from_bytes(bytes_of(&file)).expect("aligned").view(), &degrees);
-    let longer = [file.clone(), vec![7; 5]].concat();
-    let view = TreeView::from_words(&longer).expect("words after the block are not its own");
-    assert_eq!(view.block(), file);
-    as_plain_lists(&view, &degrees);
+    any_owner!(Tree, TreeView, file, "a tree of 300 nodes", |tree: &TreeView<'_>| as_plain_lists(tree, &degrees));
 }
 
 #[test]
