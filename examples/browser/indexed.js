@@ -1,5 +1,5 @@
 // What a text or a list of numbers becomes: an index of bitm, the same as a plain array, and the queries of both.
-import { BitVector, EliasFano, Index, TextIndex } from "../../bindings/javascript/page/bitm.js";
+import { BitVector, EliasFano, Index, TextIndex } from "../../bindings/javascript/src/web.js";
 
 const CAP = 5_000_000;
 /** How many bytes a text has at most whose parts are looked for, and how many are shown on either side of one. */

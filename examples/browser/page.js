@@ -1,5 +1,5 @@
 // The page: takes what is dropped, chosen or typed, shows what its index holds and answers, and times both ways.
-import { VERSION, has64 } from "../../bindings/javascript/page/bitm.js";
+import { VERSION, has64 } from "../../bindings/javascript/src/web.js";
 import { count, indexed, ofNumbers } from "./indexed.js";
 
 const at = id => document.getElementById(id);

@@ -152,7 +152,7 @@ async function firstAnswer() {
     for (let k = 0; k < 5; k++) {
         const it = await browser.open(address("empty.html"), 360);
         const took = await it.value(`(async () => {
-            const start = performance.now(), { BitVector, Index } = await import("/bindings/javascript/page/bitm.js");
+            const start = performance.now(), { BitVector, Index } = await import("/bindings/javascript/src/web.js");
             const got = new Index(BitVector.fromPositions([3, 5, 900])).rank(6);
             return got === 2 ? performance.now() - start : NaN;
         })()`);

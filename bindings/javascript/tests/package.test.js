@@ -22,19 +22,21 @@ test("the modules have the sums that stand beside them, and import nothing", () 
     assert.deepEqual(WebAssembly.Module.imports(new WebAssembly.Module(readFileSync(join(root, "wasm/bitm32.wasm")))), []);
 });
 
-test("the file for pages is made of these sources", () => {
-    assert.equal(read("page/bitm.js").split("\n", 1)[0], banner(), "run npm run page");
-});
-
-test("the file for pages, made again, has the same bytes", { skip: !has("esbuild") && "esbuild is not here" }, () => {
+test("the file for pages has what the package has, and imports nothing", { skip: !has("esbuild") && "esbuild is not here" }, () => {
     write(join(room, "bitm.js"));
-    assert.equal(read("page/bitm.js"), readFileSync(join(room, "bitm.js"), "utf8"));
+    write(join(room, "again.js"));
+    const made = readFileSync(join(room, "bitm.js"), "utf8");
+    assert.equal(made, readFileSync(join(room, "again.js"), "utf8"));
+    assert.equal(made.split("\n", 1)[0], banner());
+    assert.doesNotMatch(made, /^import /m);
+    const names = /^export \{([^}]*)\};\n*$/m.exec(made)[1].split(",").map(it => it.trim().split(" as ").at(-1));
+    assert.deepEqual(names.sort(), Object.keys(bitm).sort());
 });
 
 test("package.json names files that are there, and nothing is left out", () => {
     const it = JSON.parse(read("package.json")), named = [it.types, ...it.sideEffects];
     for (const target of Object.values(it.exports)) named.push(...(typeof target === "string" ? [target] : Object.values(target)));
-    for (const name of named) if (!name.includes("*")) assert.ok(existsSync(join(root, name)), name);
+    for (const name of named) if (!name.includes("*") && name !== "./page/bitm.js") assert.ok(existsSync(join(root, name)), name);
     const version = existsSync(join(root, "../../VERSION")) ? readFileSync(join(root, "../../VERSION"), "utf8").trim() : bitm.VERSION;
     assert.deepEqual([it.version, bitm.VERSION], [version, version]);
     assert.equal(it.dependencies, undefined);
@@ -52,11 +54,12 @@ test("each value that is exported has a type, and each type a value", async () =
     }
 });
 
-/** Installs what npm pack makes, without a network. */
+/** Installs what npm pack makes, without a network; without the file for pages where esbuild is not here. */
 function installed() {
     const folder = join(room, "site");
     if (!existsSync(folder)) {
-        const packed = JSON.parse(execFileSync("npm", ["pack", "--json", "--pack-destination", room], { cwd: root, encoding: "utf8" }))[0];
+        const words = ["pack", "--json", "--pack-destination", room, ...(has("esbuild") ? [] : ["--ignore-scripts"])];
+        const packed = JSON.parse(/^\[[^]*/m.exec(execFileSync("npm", words, { cwd: root, encoding: "utf8" }))[0])[0];
         execFileSync("mkdir", ["-p", join(folder, "node_modules/bitm")]);
         execFileSync("tar", ["-xzf", join(room, packed.filename), "-C", join(folder, "node_modules/bitm"), "--strip-components=1"]);
         writeFileSync(join(folder, "package.json"), '{ "type": "module" }');
@@ -74,7 +77,8 @@ function withoutRepository(cwd, args) {
 
 test("the lines of README.md, against the packed package", { skip: !has("npm") && "npm is not here" }, () => {
     const folder = installed();
-    assert.deepEqual(readdirSync(join(folder, "node_modules/bitm")).sort(), ["LICENSE", "README.md", "package.json", "page", "src", "types", "wasm"]);
+    const names = ["LICENSE", "README.md", "package.json", ...(has("esbuild") ? ["page"] : []), "src", "types", "wasm"];
+    assert.deepEqual(readdirSync(join(folder, "node_modules/bitm")).sort(), names);
     const lines = [...read("README.md").matchAll(/```js\n([^]*?)```/g)].map(it => it[1]).join("\n").split("\n");
     const plain = 'const shown = it => JSON.stringify(it, (_, x) => typeof x === "bigint" ? `${x}n` : x === undefined ? "undefined" : Number.isNaN(x) ? "NaN" : ArrayBuffer.isView(x) ? Array.from(x) : x);';
     const checked = lines.map(line => {

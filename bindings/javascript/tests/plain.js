@@ -66,6 +66,26 @@ export function unlessWrong(call) {
     }
 }
 
+/**
+ * Spoils a block: with one bit of a byte changed it is refused, and so is each part of it. look(it) gets what opens unchecked,
+ * which has to be at least `least` of all.
+ */
+export function spoil(Kind, bytes, least, look) {
+    let opened = 0;
+    for (let at = 0; at < bytes.length; at++) {
+        const changed = bytes.slice();
+        changed[at] ^= 1 << at % 8;
+        assert.throws(() => Kind.open(changed), WrongTables, `byte ${at}`);
+        const it = unlessWrong(() => Kind.open(changed, { check: false }));
+        if (!it) continue;
+        opened++;
+        look(it);
+        it.free();
+    }
+    assert.ok(opened > bytes.length * least, `${opened} of ${bytes.length} changed blocks were opened`);
+    for (let n = 0; n < bytes.length; n++) assert.throws(() => Kind.open(bytes.subarray(0, n)), WrongTables);
+}
+
 /** Counts answers that are as they should be; throws at the first that is not. */
 export class Tally {
     count = 0;

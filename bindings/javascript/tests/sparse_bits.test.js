@@ -1,7 +1,7 @@
 // SparseBits beside plain arrays of positions; blocks of which bytes were changed or cut off.
 import assert from "node:assert/strict";
 import { test } from "node:test";
-import { Tally, bitm, random, unlessWrong } from "./plain.js";
+import { Tally, bitm, random, spoil, unlessWrong } from "./plain.js";
 
 const { NO_ANSWER, SparseBits, WrongTables } = bitm;
 const tally = new Tally();
@@ -115,14 +115,7 @@ test("arguments that are wrong", () => {
 
 test("each changed byte is seen, and each prefix; unchecked blocks answer within their range", () => {
     const positions = drawn(30, 60, 8), length = positions.at(-1) + 5, bytes = new SparseBits(positions, length).toBytes();
-    let opened = 0;
-    for (let at = 0; at < bytes.length; at++) {
-        const changed = bytes.slice();
-        changed[at] ^= 1 << at % 8;
-        assert.throws(() => SparseBits.open(changed), WrongTables, `byte ${at}`);
-        const bits = unlessWrong(() => SparseBits.open(changed, { check: false }));
-        if (!bits) continue;
-        opened++;
+    spoil(SparseBits, bytes, 1 / 3, bits => {
         for (let x = 0; x <= length; x += 7) {
             for (const name of ["rank", "rank0"]) assert.ok((unlessWrong(() => bits[name](x)) ?? 0) <= x, name);
             for (const name of ["select", "select0"]) assert.ok((unlessWrong(() => bits[name](x % 30)) ?? 0) < length, name);
@@ -130,10 +123,7 @@ test("each changed byte is seen, and each prefix; unchecked blocks answer within
             for (const name of ["previous", "previous0"]) assert.ok((unlessWrong(() => bits[name](x)) ?? x) <= x, name);
             unlessWrong(() => bits.get(x % length));
         }
-        bits.free();
-    }
-    assert.ok(opened > bytes.length / 3, `${opened} of ${bytes.length} changed blocks were opened`);
-    for (let n = 0; n < bytes.length; n++) assert.throws(() => SparseBits.open(bytes.subarray(0, n)), WrongTables);
+    });
     assert.throws(() => SparseBits.open("block"), TypeError);
     assert.throws(() => bitm.Tree.open(bytes), WrongTables);
     assert.throws(() => SparseBits.open(new bitm.Tree([1, 0]).toBytes()), WrongTables);

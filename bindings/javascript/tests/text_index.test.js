@@ -2,7 +2,7 @@
 import assert from "node:assert/strict";
 import { readFileSync } from "node:fs";
 import { test } from "node:test";
-import { Tally, bitm, random, unlessWrong } from "./plain.js";
+import { Tally, bitm, random, spoil, unlessWrong } from "./plain.js";
 
 const { TextIndex, WrongTables } = bitm;
 const VERSE = "she sells sea shells on the sea shore", BLOCK = new Uint8Array(readFileSync(new URL("../../tests/sea_shells.block", import.meta.url)));
@@ -115,23 +115,13 @@ test("arguments that are wrong", () => {
 
 test("each changed byte is seen, and each prefix; unchecked blocks answer within their range", () => {
     const r = random(9);
-    let opened = 0;
-    for (let at = 0; at < BLOCK.length; at++) {
-        const changed = BLOCK.slice();
-        changed[at] ^= 1 << at % 8;
-        assert.throws(() => TextIndex.open(changed), WrongTables, `byte ${at}`);
-        const text = unlessWrong(() => TextIndex.open(changed, { check: false }));
-        if (!text) continue;
-        opened++;
+    spoil(TextIndex, BLOCK, 1 / 2, text => {
         for (const pattern of ["", "s", "he", "\x01"]) {
             assert.ok((unlessWrong(() => text.count(pattern)) ?? 0) <= 38);
             assert.ok((unlessWrong(() => text.locate(pattern)) ?? []).every(it => it <= 37));
         }
         assert.equal((unlessWrong(() => text.slice(r() % 30, 34)) ?? [0]).length > 0, true);
-        text.free();
-    }
-    assert.ok(opened > BLOCK.length / 2, `${opened} of ${BLOCK.length} changed blocks were opened`);
-    for (let n = 0; n < BLOCK.length; n++) assert.throws(() => TextIndex.open(BLOCK.subarray(0, n)), WrongTables);
+    });
     assert.throws(() => bitm.Tree.open(BLOCK), WrongTables);
     assert.throws(() => TextIndex.open(new bitm.Tree([1, 0]).toBytes()), WrongTables);
 });

@@ -1,7 +1,7 @@
 // Tree beside plain arrays of parents and children; blocks of which bytes were changed or cut off.
 import assert from "node:assert/strict";
 import { test } from "node:test";
-import { Tally, bitm, random } from "./plain.js";
+import { Tally, bitm, random, spoil, unlessWrong } from "./plain.js";
 
 const { NO_ANSWER, Tree, WrongTables } = bitm;
 const tally = new Tally();
@@ -78,26 +78,15 @@ test("degrees that are those of no tree", () => {
 
 test("each changed byte is seen, and each prefix; unchecked blocks answer within their range", () => {
     const degrees = drawn(9, 3, 5), bytes = new Tree(degrees).toBytes();
-    for (let at = 0; at < bytes.length; at++) {
-        const changed = bytes.slice();
-        changed[at] ^= 1 << at % 8;
-        assert.throws(() => Tree.open(changed), WrongTables);
-        if (at < 256) continue;
-        const tree = Tree.open(changed, { check: false });
+    spoil(Tree, bytes, 1 / 3, tree => {
         for (let node = 0; node < 10; node++) {
             for (const name of ["parent", "degree", "isLeaf", "nextSibling", "previousSibling", "childRank"]) {
-                try {
-                    const answer = tree[name](node);
-                    if (name === "parent" && answer !== undefined) assert.ok(answer < node);
-                    if (typeof answer === "number") assert.ok(answer < 9);
-                } catch (it) {
-                    assert.ok(it instanceof WrongTables);
-                }
+                const answer = unlessWrong(() => tree[name](node));
+                if (name === "parent" && answer !== undefined) assert.ok(answer < node);
+                if (typeof answer === "number") assert.ok(answer < 9);
             }
         }
-        tree.free();
-    }
-    for (let n = 0; n < bytes.length; n++) assert.throws(() => Tree.open(bytes.subarray(0, n)), WrongTables);
+    });
     assert.throws(() => Tree.open("block"), TypeError);
 });
 

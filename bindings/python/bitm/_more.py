@@ -3,9 +3,9 @@ arrays: those of that name, and those that are passed an array."""
 import array
 import hashlib
 import pickle
-from typing import Any, Callable, List, Optional, Tuple
+from typing import Any, Callable, Optional, Tuple
 
-from . import _core, _over
+from . import _blocks, _core
 from ._files import save
 
 
@@ -92,13 +92,32 @@ def sequence_to_numpy(self: Any, dtype: Any = None, copy: Optional[bool] = None)
     return _as(array_of(_core.sequence_window(self)), dtype, copy)
 
 
-def text_find_all(self: Any, pattern: Any) -> List[int]:
-    """The positions at which a pattern stands, the first one first; they may overlap. Pattern as in `count`.
+# ---- values over memory that exists already
 
-    >>> TextIndex(b"banana").find_all(b"ana")
-    [1, 3]
+
+def index_over(cls: Any, words: Any, upper: Any, lower: Any, length: Any = None) -> Any:
+    """An index over tables that exist already, in buffers that it holds. ValueError where they are not as long as those of
+    the words; their contents are not looked at: call `check`.
+
+    >>> words = b"\x5a" * 8
+    >>> upper, lower, _ = tables_of(words)
+    >>> Index.over(words, upper, lower).check()
+    True
     """
-    return sorted(self.locate(pattern))
+    if length is None:
+        length = len(words) if isinstance(words, _core.BitVector) else 8 * memoryview(words).nbytes
+    return _core.over(cls, (length, 0, 0), (words, upper, lower, b"", b"", b"", b""))
+
+
+def sequence_over(cls: Any, length: Any, width: Any, low: Any, words: Any, upper: Any, lower: Any) -> Any:
+    """A sequence over parts that exist already, in buffers that it holds. ValueError where their lengths do not fit
+    together; their contents are not looked at: call `check`.
+
+    >>> numbers = EliasFano([2, 3, 5])
+    >>> EliasFano.over(len(numbers), *numbers.parts) == numbers
+    True
+    """
+    return _core.over(cls, (length, width), (low, words, upper, lower))
 
 
 def matrix_to_numpy(self: Any, dtype: Any = None, copy: Optional[bool] = None) -> Any:
@@ -110,6 +129,17 @@ def matrix_to_numpy(self: Any, dtype: Any = None, copy: Optional[bool] = None) -
     import numpy
 
     return _as(self.get_list(numpy.arange(len(self), dtype=numpy.uint64)), dtype, copy)
+
+
+def parts(self: Any) -> Any:
+    """The width and the four parts, as `over` takes them after the length, to be read.
+
+    >>> width, low, words, upper, lower = EliasFano([2, 3, 5]).parts
+    >>> width, len(low), len(words)
+    (0, 0, 1)
+    """
+    (_, width), windows = _core.parts(self)
+    return (width, *map(memoryview, windows))
 
 
 # ---- what a sequence of Python's has too
@@ -230,7 +260,8 @@ def _copy(share: Callable[[Any], Any]) -> Callable[[Any], Any]:
 
 
 def complete() -> None:
-    """Gives the types of the extension those methods that stand here."""
+    """Gives the types of the extension those methods that stand here and in `_blocks`."""
+    _blocks.complete()
     kept = (_core.Index, _core.EliasFano, _core.SparseBits, _core.PerfectHash, _core.Dictionary, _core.Tree, _core.WaveletMatrix,
             _core.TextIndex)
     for kind in kept:
@@ -246,7 +277,8 @@ def complete() -> None:
         setattr(_core.Index, name, index_to_numpy)
         setattr(_core.EliasFano, name, sequence_to_numpy)
         setattr(_core.WaveletMatrix, name, matrix_to_numpy)
-    setattr(_core.TextIndex, "find_all", text_find_all)
+    setattr(_core.Index, "over", classmethod(index_over))
+    setattr(_core.EliasFano, "over", classmethod(sequence_over))
     setattr(_core.EliasFano, "intersection", intersection)
     setattr(_core.EliasFano, "union", union)
-    _over.complete()
+    setattr(_core.EliasFano, "parts", property(parts))

@@ -134,6 +134,9 @@ size_t integers_load(const Integers *it, size_t from, size_t count, uint64_t *ou
 /* Copies all items, for the buffer may change. -1 and an error. */
 int integers_own(Integers *it);
 
+/* All numbers of a buffer or an iterable, copied, in room that is given back by free. NULL and an error. */
+uint64_t *integers_all(PyObject *from, const char *what, size_t *len);
+
 /* OverflowError for the item at an index, which is below 0. */
 void integers_below(const Integers *it, size_t at, const char *what);
 
@@ -142,8 +145,8 @@ uint64_t *room_for(uint64_t count);
 
 /* ---- aligned.c: memory for words, aligned to 64 bytes; of 4 MiB or more in huge pages where the system has them */
 
-/* Zeros; other bytes, of which the first are kept, and the others may be any; NULL, and what was there stays, where memory
- * is refused. Given back by aligned_free alone. */
+/* Zeros; other bytes, of which the first are kept, and the others may be any; NULL, and what was there stays, where
+ * memory is refused. Given back by aligned_free alone. */
 void *aligned_new(size_t bytes);
 void *aligned_resize(void *at, size_t kept, size_t bytes);
 void aligned_free(void *at);
@@ -233,8 +236,10 @@ extern PyMemberDef value_members[];
     {                                                                                                                  \
         "__sizeof__", value_sizeof, METH_NOARGS, NULL                                                                  \
     }
-#define VALUE_SLOTS                                                                                                    \
-    {Py_tp_dealloc, value_dealloc}, {Py_tp_traverse, value_traverse}, {Py_tp_clear, value_clear},                      \
+#define VALUE_SLOTS(doc, init, methods, attributes, repr)                                                              \
+    {Py_tp_doc, DOC(doc)}, {Py_tp_init, init}, {Py_tp_methods, methods}, {Py_tp_getset, attributes},                   \
+        {Py_tp_repr, repr}, {Py_tp_dealloc, value_dealloc}, {Py_tp_traverse, value_traverse},                          \
+        {Py_tp_clear, value_clear},                                                                                    \
     {                                                                                                                  \
         Py_tp_members, value_members                                                                                   \
     }
@@ -283,8 +288,8 @@ enum { EACH, SOME, BOOLS };
 PyObject *ask_list(PyObject *self, list_call call, bool one, int kind, const char *name, const char *what,
                    PyObject *const *args, Py_ssize_t count, PyObject *keywords);
 
-/* Answers to pairs of queries, in the manner of the first of the two lists, each of which may have none. `names` are those
- * of the two arguments and "*missing". ValueError where the lists are not as long as each other. */
+/* Answers to pairs of queries, in the manner of the first of the two lists, each of which may have none. `names` are
+ * those of the two arguments and "*missing". ValueError where the lists are not as long as each other. */
 PyObject *ask_pairs(PyObject *self, pairs_call call, const char *name, const char *const names[3],
                     const char *const whats[2], PyObject *const *args, Py_ssize_t count, PyObject *keywords);
 
@@ -324,26 +329,7 @@ Py_ssize_t bits_len(PyObject *self);
 PyObject *bits_ones(PyObject *self, PyObject *const *args, Py_ssize_t count, PyObject *keywords);
 PyObject *bits_zeros(PyObject *self, PyObject *const *args, Py_ssize_t count, PyObject *keywords);
 
-/* ---- index.c, sequence.c, numbers.c, sets.c, hash.c, keys.c, stored.c */
-
-/* A new value over memory whose index (sequence, hash) is filled in, and ValueError where its lengths do not fit
- * together. Takes the reference. */
-PyObject *index_over(PyObject *type, Memory *memory);
-PyObject *sequence_over(PyObject *type, Memory *memory);
-PyObject *hash_over(PyObject *type, Memory *memory);
-
-/* The same over memory whose block is filled in: ValueError where it is not that of a tree, of a matrix, of sparse bits,
- * of a dictionary, or of a text. */
-PyObject *tree_over(PyObject *type, Memory *memory);
-PyObject *matrix_over(PyObject *type, Memory *memory);
-PyObject *sparse_over(PyObject *type, Memory *memory);
-PyObject *dictionary_over(PyObject *type, Memory *memory);
-PyObject *text_over(PyObject *type, Memory *memory);
-
-/* ---- text.c, text_make.c */
-
-/* Opens the block of the memory: -1 and ValueError where it is not that of a text. */
-int text_opened(Memory *it);
+/* ---- text_make.c */
 
 int text_init(PyObject *self, PyObject *args, PyObject *keywords);
 PyObject *text_of_letters(PyObject *type, PyObject *const *args, Py_ssize_t count, PyObject *keywords);
@@ -352,8 +338,7 @@ PyObject *text_of_letters(PyObject *type, PyObject *const *args, Py_ssize_t coun
  * none; -1 and an error. */
 int bytes_kept(PyObject *from, PyObject **bytes);
 
-/* The letters of a list of numbers, in room that is given back by free. -1 and an error. */
-int letters_take(PyObject *from, uint64_t **letters, size_t *len);
+/* ---- sequence.c, numbers.c, sets.c, keys.c, stored.c */
 
 /* What equals a whole number of 64 bits: 1 and the number, 0 where it cannot be one, -1 and an error. */
 int equal_number(PyObject *value, uint64_t *out);

@@ -1,37 +1,24 @@
 /* bitm.Dictionary: numbers in a dictionary, in one block of memory. */
-#include "core.h"
+#include "values.h"
 
 enum { LEVELS = 256 };
 
-/* Opens the block of the memory: -1 and ValueError where it is not that of a dictionary. */
-static int opened(Memory *it)
+int dictionary_opened(Memory *it)
 {
-    if (bitm_dictionary_open(it->block, it->block_len, &it->dictionary) == BITM_OK)
-        return 0;
-    PyErr_SetString(PyExc_ValueError, "it is not the block of a dictionary, or not all of it");
-    return -1;
-}
-
-PyObject *dictionary_over(PyObject *type, Memory *it)
-{
-    if (opened(it) == 0)
-        return value_new(type, it);
-    DROP(it);
-    return NULL;
+    return block_opened("a dictionary", bitm_dictionary_open(it->block, it->block_len, &it->dictionary) == BITM_OK);
 }
 
 /* ---- made */
 
-/* What the levels are built in: rooms of words, of which `most` are for those of all levels. */
+/* The keys, and what the levels are built in: rooms of words, of which `most` are for those of all levels. */
 typedef struct {
-    const uint64_t *keys;
     size_t count, most, first;
-    uint64_t *hashes, *words, *again, *upper, *lower, *placed, sizes[LEVELS];
+    uint64_t *keys, *hashes, *words, *again, *upper, *lower, *placed, sizes[LEVELS];
 } Rooms;
 
 static void rooms_drop(Rooms *it)
 {
-    uint64_t *all[] = {it->hashes, it->words, it->again, it->upper, it->lower, it->placed};
+    uint64_t *all[] = {it->keys, it->hashes, it->words, it->again, it->upper, it->lower, it->placed};
     for (size_t i = 0; i < sizeof all / sizeof *all; i++)
         free(all[i]);
 }
@@ -65,12 +52,17 @@ static uint32_t parts_built(Rooms *in, uint32_t percent, struct bitm_dictionary 
                                       in->sizes, LEVELS, &levels, &used, &left);
     if (status != BITM_OK || left > 0)
         return status == BITM_OK ? BITM_NONE : status;
-    *index = (struct bitm_index){.words = in->words, .words_len = (size_t)used, .upper = in->upper,
-                                 .upper_len = bitm_index_upper_len((size_t)used), .lower = in->lower,
-                                 .lower_len = bitm_index_lower_len((size_t)used), .bits_len = 64 * used};
+    *index = (struct bitm_index){.words = in->words,
+                                 .words_len = (size_t)used,
+                                 .upper = in->upper,
+                                 .upper_len = bitm_index_upper_len((size_t)used),
+                                 .lower = in->lower,
+                                 .lower_len = bitm_index_lower_len((size_t)used),
+                                 .bits_len = 64 * used};
     out->hash.sizes = in->sizes, out->hash.sizes_len = (size_t)levels, out->hash.keys = in->count;
     out->keys = in->placed, out->keys_len = in->count;
-    status = bitm_index_build(in->words, index->words_len, in->upper, index->upper_len, in->lower, index->lower_len, &ones);
+    status =
+        bitm_index_build(in->words, index->words_len, in->upper, index->upper_len, in->lower, index->lower_len, &ones);
     for (size_t i = 0; i < in->count && status == BITM_OK; i++) {
         status = bitm_hash_get(&out->hash, in->keys[i] + out->seed, &number_there);
         if (status == BITM_OK)
@@ -84,20 +76,19 @@ static int block_built(Memory *it, const struct bitm_dictionary *parts)
 {
     uint64_t len, *block;
     uint32_t status = bitm_dictionary_size(parts->hash.index.words_len, parts->hash.sizes_len, parts->keys_len, &len);
-    if (status != BITM_OK || (block = memory_own(it, len, 8)) == NULL)
+    if (status != BITM_OK || (block = block_room(it, len)) == NULL)
         return PyErr_Occurred() ? -1 : (PyErr_NoMemory(), -1);
     Py_BEGIN_ALLOW_THREADS
     status = bitm_dictionary_build(parts, block, (size_t)len);
     Py_END_ALLOW_THREADS
-    it->block = block;
-    it->block_len = (size_t)len;
     if (status == BITM_OK)
-        return opened(it);
+        return dictionary_opened(it);
     PyErr_SetString(PyExc_ValueError, "a key comes twice");
     return -1;
 }
 
-/* The dictionary of keys that were loaded, by the first seeds from the given one on that leave no hash: -1 and an error. */
+/* The dictionary of keys that were loaded, by the first seeds from the given one on that leave no hash: -1 and an
+ * error. */
 static int built(Memory *it, Rooms *in, uint32_t percent, uint64_t seed, int seeds)
 {
     uint32_t status = BITM_NONE;
@@ -109,48 +100,27 @@ static int built(Memory *it, Rooms *in, uint32_t percent, uint64_t seed, int see
         if (status == BITM_OK)
             return block_built(it, &parts);
     }
-    PyErr_SetString(PyExc_ValueError, status == BITM_NONE ? "keys are equal, or take another seed" : "there are too many keys");
+    PyErr_SetString(PyExc_ValueError,
+                    status == BITM_NONE ? "keys are equal, or take another seed" : "there are too many keys");
     return -1;
-}
-
-static int made(PyObject *self, const Integers *from, PyObject *wanted_seed, PyObject *wanted_percent)
-{
-    uint64_t seed, percent;
-    if (number_or(wanted_seed, 0, "the seed", &seed) || number_or(wanted_percent, 100, "percent", &percent))
-        return -1;
-    const int is_any_seed = wanted_seed == NULL || wanted_seed == Py_None;
-    const uint32_t each = percent > UINT32_MAX ? UINT32_MAX : (uint32_t)percent;
-    uint64_t *keys = room_for(from->len);
-    Rooms rooms = {.keys = keys, .count = from->len};
-    Memory *it = NULL;
-    int failed = keys == NULL;
-    if (!failed) {
-        size_t good = integers_load(from, 0, from->len, keys);
-        if (good < from->len)
-            integers_below(from, good, "a key");
-        failed = good < from->len || rooms_taken(&rooms, each) || (it = memory_new()) == NULL ||
-                 built(it, &rooms, each, seed, is_any_seed ? 2 : 1);
-    }
-    rooms_drop(&rooms);
-    free(keys);
-    if (failed)
-        DROP(it);
-    else
-        value_set(self, it);
-    return failed ? -1 : 0;
 }
 
 static int dictionary_init(PyObject *self, PyObject *args, PyObject *keywords)
 {
     static char *names[] = {"keys", "percent", "seed", NULL};
-    PyObject *keys, *percent = NULL, *seed = NULL;
-    Integers from;
-    if (!PyArg_ParseTupleAndKeywords(args, keywords, "O|$OO:Dictionary", names, &keys, &percent, &seed) ||
-        integers_take(&from, keys, "a key"))
+    PyObject *from, *wanted_percent = NULL, *wanted_seed = NULL;
+    uint64_t seed, percent;
+    Rooms rooms = {0};
+    if (!PyArg_ParseTupleAndKeywords(args, keywords, "O|$OO:Dictionary", names, &from, &wanted_percent, &wanted_seed) ||
+        number_or(wanted_seed, 0, "the seed", &seed) || number_or(wanted_percent, 100, "percent", &percent) ||
+        (rooms.keys = integers_all(from, "a key", &rooms.count)) == NULL)
         return -1;
-    int failed = made(self, &from, seed, percent);
-    integers_drop(&from);
-    return failed;
+    const int is_any_seed = wanted_seed == NULL || wanted_seed == Py_None;
+    const uint32_t each = percent > UINT32_MAX ? UINT32_MAX : (uint32_t)percent;
+    Memory *it = rooms_taken(&rooms, each) ? NULL : memory_new();
+    int is_made = it != NULL && built(it, &rooms, each, seed, is_any_seed ? 2 : 1) == 0;
+    rooms_drop(&rooms);
+    return value_made(self, it, is_made);
 }
 
 /* ---- queries */
@@ -173,25 +143,10 @@ static inline int found(PyObject *self, PyObject *key, uint64_t *out)
 
 static PyObject *dictionary_get(PyObject *self, PyObject *const *args, Py_ssize_t count, PyObject *keywords)
 {
-    static const char *const names[] = {"key", "default"};
-    PyObject *given[2];
-    uint64_t out = 0;
-    if (pick("get", names, 1, 2, args, count, keywords, given))
-        return NULL;
-    int is_found = found(self, given[0], &out);
-    if (is_found < 0)
-        return NULL;
-    return is_found ? boxed(out) : Py_NewRef(given[1] == NULL ? Py_None : given[1]);
+    return number_or_default(self, found, args, count, keywords);
 }
 
-static PyObject *dictionary_subscript(PyObject *self, PyObject *key)
-{
-    uint64_t out = 0;
-    int is_found = found(self, key, &out);
-    if (is_found == 0)
-        PyErr_SetObject(PyExc_KeyError, key);
-    return is_found > 0 ? boxed(out) : NULL;
-}
+static PyObject *dictionary_subscript(PyObject *self, PyObject *key) { return number_or_error(self, found, key); }
 
 static int dictionary_contains(PyObject *self, PyObject *key)
 {
@@ -250,26 +205,9 @@ static PyObject *dictionary_iter(PyObject *self)
     return made;
 }
 
-static PyObject *dictionary_seed(PyObject *self, void *none)
-{
-    const Memory *it = memory_of(self);
-    (void)none;
-    return it == NULL ? NULL : boxed(it->dictionary.seed);
-}
+ATTRIBUTE(dictionary, seed, dictionary.seed)
 
-static PyObject *dictionary_check(PyObject *self, PyObject *none)
-{
-    Memory *it = memory_kept(self);
-    uint32_t status;
-    (void)none;
-    if (it == NULL)
-        return NULL;
-    Py_BEGIN_ALLOW_THREADS
-    status = bitm_dictionary_check(it->block, it->block_len);
-    Py_END_ALLOW_THREADS
-    DROP(it);
-    return PyBool_FromLong(status == BITM_OK);
-}
+BLOCK_CHECK(dictionary)
 
 static PyObject *dictionary_repr(PyObject *self)
 {
@@ -302,18 +240,14 @@ static PyGetSetDef attributes[] = {
     "Numbers, each with a number of its own below how many there are, in one block of memory: a minimal perfect hash " \
     "and the keys, so that a number that is no key has none. A key takes about 67 bits. percent is how many bits the " \
     "levels have for each 100 keys." EXAMPLE("squares = Dictionary([4, 9, 49])")                                       \
-        THEN("49 in squares, 50 in squares, sorted(squares[key] for key in squares)") PRINTS("(True, False, [0, 1, 2])")
+        THEN("49 in squares, 50 in squares, sorted(squares[key] for key in squares)")                                  \
+            PRINTS("(True, False, [0, 1, 2])")
 
-static PyType_Slot slots[] = {{Py_tp_doc, DOC(DICTIONARY_DOC)},
-                              {Py_tp_init, dictionary_init},
+static PyType_Slot slots[] = {VALUE_SLOTS(DICTIONARY_DOC, dictionary_init, methods, attributes, dictionary_repr),
                               {Py_tp_iter, dictionary_iter},
-                              {Py_tp_methods, methods},
-                              {Py_tp_getset, attributes},
-                              {Py_tp_repr, dictionary_repr},
                               {Py_tp_hash, PyObject_HashNotImplemented},
                               {Py_sq_contains, dictionary_contains},
                               {Py_mp_length, dictionary_len},
                               {Py_mp_subscript, dictionary_subscript},
-                              VALUE_SLOTS,
                               {0, NULL}};
 PyType_Spec dictionary_spec = {"bitm.Dictionary", sizeof(Value), 0, VALUE_FLAGS, slots};

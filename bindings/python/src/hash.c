@@ -1,5 +1,6 @@
 /* bitm.PerfectHash. */
 #include "siphash.h"
+#include "values.h"
 
 enum { LEVELS = 256 };
 
@@ -12,7 +13,7 @@ static void prints_sized(Memory *it)
     it->print_mask = it->print_width == 64 ? UINT64_MAX : ((uint64_t)1 << it->print_width) - 1;
 }
 
-PyObject *hash_over(PyObject *type, Memory *it)
+int hash_opened(Memory *it)
 {
     uint64_t out;
     int is_marked = it->mark == MARK_SIP || it->mark == MARK_BLAKE;
@@ -23,11 +24,10 @@ PyObject *hash_over(PyObject *type, Memory *it)
         prints_sized(it);
         if (it->prints_len == bitm_bits_words_len(it->prints_bits) &&
             bitm_hash_get(&it->hash, 0, &out) != BITM_BAD_SIZE)
-            return value_new(type, it);
+            return 0;
     }
-    DROP(it);
     PyErr_SetString(PyExc_ValueError, "it is not a perfect hash, or not all of it");
-    return NULL;
+    return -1;
 }
 
 /* The words of all levels. `both` has the hash and the fingerprint of each key. -1 and an error; 1 where two hashes are
@@ -226,25 +226,13 @@ static int found(PyObject *self, PyObject *key, uint64_t *out)
 
 static PyObject *hash_get(PyObject *self, PyObject *const *args, Py_ssize_t count, PyObject *keywords)
 {
-    static const char *const names[] = {"key", "default"};
-    PyObject *given[2];
-    uint64_t out = 0;
-    if (pick("get", names, 1, 2, args, count, keywords, given))
-        return NULL;
-    int is_found = found(self, given[0], &out);
-    if (is_found < 0)
-        return NULL;
-    return is_found ? boxed(out) : Py_NewRef(given[1] == NULL ? Py_None : given[1]);
+    return number_or_default(self, found, args, count, keywords);
 }
 
 /* With no call but those of Python and of the library. */
 static __attribute__((flatten)) PyObject *hash_subscript(PyObject *self, PyObject *key)
 {
-    uint64_t out = 0;
-    int is_found = found(self, key, &out);
-    if (is_found == 0)
-        PyErr_SetObject(PyExc_KeyError, key);
-    return is_found > 0 ? boxed(out) : NULL;
+    return number_or_error(self, found, key);
 }
 
 static int hash_contains(PyObject *self, PyObject *key)
@@ -308,21 +296,18 @@ static Py_ssize_t hash_len(PyObject *self)
     return it == NULL ? -1 : (Py_ssize_t)it->hash.keys; /* no more than bits, which are in memory */
 }
 
+static int is_right(const Memory *it)
+{
+    const struct bitm_index *index = &it->hash.index;
+    uint64_t ones = 0;
+    return bitm_index_check(index) == BITM_OK && bitm_index_rank(index, true, index->bits_len, &ones) == BITM_OK &&
+           ones == it->hash.keys;
+}
+
 static PyObject *hash_check(PyObject *self, PyObject *none)
 {
-    Memory *it = memory_kept(self);
-    uint64_t ones = 0;
-    int is_right;
     (void)none;
-    if (it == NULL)
-        return NULL;
-    const struct bitm_index *index = &it->hash.index;
-    Py_BEGIN_ALLOW_THREADS
-    is_right = bitm_index_check(index) == BITM_OK && bitm_index_rank(index, true, index->bits_len, &ones) == BITM_OK &&
-               ones == it->hash.keys;
-    Py_END_ALLOW_THREADS
-    DROP(it);
-    return PyBool_FromLong(is_right);
+    return value_checked(self, is_right);
 }
 
 static PyObject *hash_repr(PyObject *self)
@@ -334,19 +319,8 @@ static PyObject *hash_repr(PyObject *self)
                                 (unsigned long long)it->print_width);
 }
 
-static PyObject *hash_seed(PyObject *self, void *none)
-{
-    const Memory *it = memory_of(self);
-    (void)none;
-    return it == NULL ? NULL : boxed(it->seed);
-}
-
-static PyObject *hash_bits(PyObject *self, void *none)
-{
-    const Memory *it = memory_of(self);
-    (void)none;
-    return it == NULL ? NULL : boxed(it->print_width);
-}
+ATTRIBUTE(hash, seed, seed)
+ATTRIBUTE(hash, bits, print_width)
 
 static PyObject *hash_name(PyObject *self, void *none)
 {
@@ -366,14 +340,9 @@ static PyGetSetDef attributes[] = {VALUE_CLOSED,
                                    {"hash", hash_name, NULL, DOC(HASH_HASH), NULL},
                                    {NULL, NULL, NULL, NULL, NULL}};
 
-static PyType_Slot slots[] = {{Py_tp_doc, DOC(HASH_DOC)},
-                              {Py_tp_init, hash_init},
-                              {Py_tp_methods, methods},
-                              {Py_tp_getset, attributes},
-                              {Py_tp_repr, hash_repr},
+static PyType_Slot slots[] = {VALUE_SLOTS(HASH_DOC, hash_init, methods, attributes, hash_repr),
                               {Py_sq_contains, hash_contains},
                               {Py_mp_length, hash_len},
                               {Py_mp_subscript, hash_subscript},
-                              VALUE_SLOTS,
                               {0, NULL}};
 PyType_Spec hash_spec = {"bitm.PerfectHash", sizeof(Value), 0, VALUE_FLAGS, slots};

@@ -1,18 +1,16 @@
-/* bitm.Index. A query takes its argument first, since that may run Python code, which may close the index; from then on
- * nothing else runs until the answer is there. */
-#include "core.h"
+/* bitm.Index. */
+#include "values.h"
 #include "index_docs.h"
 
 /* ---- made */
 
-PyObject *index_over(PyObject *type, Memory *it)
+int index_opened(Memory *it)
 {
     uint64_t ones;
     if (bitm_index_rank(&it->index, true, it->index.bits_len, &ones) != BITM_BAD_SIZE)
-        return value_new(type, it);
-    DROP(it);
+        return 0;
     PyErr_SetString(PyExc_ValueError, "the length of a table does not fit the number of words");
-    return NULL;
+    return -1;
 }
 
 static int build_samples(Memory *it, bool one, uint32_t log2)
@@ -84,91 +82,18 @@ static int index_init(PyObject *self, PyObject *args, PyObject *keywords)
     }
     for (int one = 1; one >= 0 && status == 0 && sampled != NULL && sampled != Py_None; one--)
         status = build_samples(it, one, (uint32_t)(log2 < 7 ? 7 : log2 > 31 ? 31 : log2));
-    if (status)
-        DROP(it);
-    else
-        value_set(self, it);
-    return status;
+    return value_made(self, it, status == 0);
 }
 
 /* ---- one query */
 
-static PyObject *rank(PyObject *self, PyObject *query, bool one)
-{
-    uint64_t position, out = 0;
-    if (number(query, "a position", &position))
-        return NULL;
-    Memory *it = memory_of(self);
-    if (it == NULL)
-        return NULL;
-    uint32_t status = bitm_index_rank(&it->index, one, position, &out);
-    if (status == BITM_OK)
-        return boxed(out);
-    return status == BITM_NONE ? past_end(position, it->index.bits_len) : wrong();
-}
+static uint64_t length(const Memory *it) { return it->index.bits_len; }
 
-/* A query that may have no answer: a selection, the next or the previous bit. */
-typedef uint32_t (*query_call)(const struct bitm_index *, bool, uint64_t, uint64_t *);
-
-static PyObject *ask(PyObject *self, PyObject *query, query_call call, bool one, const char *what)
-{
-    uint64_t asked, out = 0;
-    if (number(query, what, &asked))
-        return NULL;
-    Memory *it = memory_of(self);
-    if (it == NULL)
-        return NULL;
-    uint32_t status = call(&it->index, one, asked, &out);
-    return answer_or_none(status, &out);
-}
-
-static PyObject *index_rank(PyObject *self, PyObject *it) { return rank(self, it, true); }
-static PyObject *index_rank0(PyObject *self, PyObject *it) { return rank(self, it, false); }
-static PyObject *index_select(PyObject *self, PyObject *it) { return ask(self, it, bitm_index_select, true, "a rank"); }
-static PyObject *index_select0(PyObject *self, PyObject *it)
-{
-    return ask(self, it, bitm_index_select, false, "a rank");
-}
-static PyObject *index_next_one(PyObject *self, PyObject *it)
-{
-    return ask(self, it, bitm_index_next, true, "a position");
-}
-static PyObject *index_next_zero(PyObject *self, PyObject *it)
-{
-    return ask(self, it, bitm_index_next, false, "a position");
-}
-static PyObject *index_previous_one(PyObject *self, PyObject *it)
-{
-    return ask(self, it, bitm_index_previous, true, "a position");
-}
-static PyObject *index_previous_zero(PyObject *self, PyObject *it)
-{
-    return ask(self, it, bitm_index_previous, false, "a position");
-}
+BIT_QUERIES(index)
 
 /* ---- lists */
 
-static uint32_t ranks(const Memory *it, bool one, const uint64_t *in, uint64_t *out, size_t count,
-                      struct bitm_list_counts *counts)
-{
-    return bitm_index_rank_list(&it->index, one, in, count, out, count, counts);
-}
-
-static uint32_t selections(const Memory *it, bool one, const uint64_t *in, uint64_t *out, size_t count,
-                           struct bitm_list_counts *counts)
-{
-    return bitm_index_select_list(&it->index, one, in, count, out, count, counts);
-}
-
-#define LIST(name, call, one, kind, what)                                                                              \
-    static PyObject *index_##name(PyObject *self, PyObject *const *args, Py_ssize_t count, PyObject *keywords)         \
-    {                                                                                                                  \
-        return ask_list(self, call, one, kind, #name, what, args, count, keywords);                                    \
-    }
-LIST(rank_list, ranks, true, EACH, "a position")
-LIST(rank0_list, ranks, false, EACH, "a position")
-LIST(select_list, selections, true, SOME, "a rank")
-LIST(select0_list, selections, false, SOME, "a rank")
+BIT_LISTS(index)
 
 /* ---- the rest */
 
@@ -186,21 +111,18 @@ static PyObject *index_count(PyObject *self, PyObject *const *args, Py_ssize_t c
     return bitm_index_rank(&it->index, bit, it->index.bits_len, &out) == BITM_OK ? boxed(out) : wrong();
 }
 
+static int is_right(const Memory *it)
+{
+    const struct bitm_index *index = &it->index;
+    return bitm_index_check(index) == BITM_OK &&
+           (index->ones.log2 == 0 || bitm_index_check_samples(index, true) == BITM_OK) &&
+           (index->zeros.log2 == 0 || bitm_index_check_samples(index, false) == BITM_OK);
+}
+
 static PyObject *index_check(PyObject *self, PyObject *none)
 {
-    Memory *it = memory_kept(self);
-    int is_right;
     (void)none;
-    if (it == NULL)
-        return NULL;
-    const struct bitm_index *index = &it->index;
-    Py_BEGIN_ALLOW_THREADS
-    is_right = bitm_index_check(index) == BITM_OK &&
-               (index->ones.log2 == 0 || bitm_index_check_samples(index, true) == BITM_OK) &&
-               (index->zeros.log2 == 0 || bitm_index_check_samples(index, false) == BITM_OK);
-    Py_END_ALLOW_THREADS
-    DROP(it);
-    return PyBool_FromLong(is_right);
+    return value_checked(self, is_right);
 }
 
 static PyObject *index_repr(PyObject *self)
@@ -251,11 +173,7 @@ static PyMethodDef methods[] = {
 static PyGetSetDef attributes[] = {
     VALUE_CLOSED, {"words", index_words, NULL, DOC(INDEX_WORDS), NULL}, {NULL, NULL, NULL, NULL, NULL}};
 
-static PyType_Slot slots[] = {{Py_tp_doc, DOC(INDEX_DOC)},
-                              {Py_tp_init, index_init},
-                              {Py_tp_methods, methods},
-                              {Py_tp_getset, attributes},
-                              {Py_tp_repr, index_repr},
+static PyType_Slot slots[] = {VALUE_SLOTS(INDEX_DOC, index_init, methods, attributes, index_repr),
                               {Py_tp_richcompare, bits_compare},
                               {Py_tp_hash, PyObject_HashNotImplemented},
                               {Py_tp_iter, bits_iter},
@@ -264,6 +182,5 @@ static PyType_Slot slots[] = {{Py_tp_doc, DOC(INDEX_DOC)},
                               {Py_sq_contains, bits_contains},
                               {Py_mp_length, bits_len},
                               {Py_mp_subscript, index_subscript},
-                              VALUE_SLOTS,
                               {0, NULL}};
 PyType_Spec index_spec = {"bitm.Index", sizeof(Value), 0, VALUE_FLAGS, slots};

@@ -170,6 +170,28 @@ int integers_own(Integers *it)
     return 0;
 }
 
+uint64_t *integers_all(PyObject *from, const char *what, size_t *len)
+{
+    Integers it;
+    size_t good = 0;
+    if (integers_take(&it, from, what))
+        return NULL;
+    uint64_t *all = room_for(it.len);
+    if (all != NULL) {
+        Py_BEGIN_ALLOW_THREADS
+        good = integers_load(&it, 0, it.len, all);
+        Py_END_ALLOW_THREADS
+    }
+    if (all != NULL && good < it.len) {
+        integers_below(&it, good, what);
+        free(all);
+        all = NULL;
+    }
+    *len = it.len;
+    integers_drop(&it);
+    return all;
+}
+
 void integers_below(const Integers *it, size_t at, const char *what)
 {
     uint64_t found = 0;

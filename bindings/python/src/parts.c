@@ -1,5 +1,5 @@
 /* The numbers and the memory that make a value: for pickles, files, and values over memory that exists already. */
-#include "core.h"
+#include "values.h"
 
 /* Memory of len items of the given size. */
 typedef struct {
@@ -30,7 +30,8 @@ static int is_value(PyObject *type)
         PyType_IsSubtype(it, Dictionary_Type) || PyType_IsSubtype(it, Text_Type))
         return 1;
     PyErr_Format(PyExc_TypeError,
-                 "an Index, an EliasFano, SparseBits, a PerfectHash, a Dictionary, a Tree, a WaveletMatrix or a TextIndex is needed, not %R",
+                 "an Index, an EliasFano, SparseBits, a PerfectHash, a Dictionary, a Tree, a WaveletMatrix or a "
+                 "TextIndex is needed, not %R",
                  type);
     return 0;
 }
@@ -117,6 +118,14 @@ static int fill(Memory *it, const Layout *layout, PyObject *numbers, PyObject *b
     return 0;
 }
 
+/* How the memory of a class is opened: that of others is of a hash. */
+static const struct {
+    PyTypeObject **type;
+    opener opened;
+} KINDS[] = {{&Index_Type, index_opened},          {&Sequence_Type, sequence_opened}, {&Tree_Type, tree_opened},
+             {&Matrix_Type, matrix_opened},        {&Sparse_Type, sparse_opened},     {&Text_Type, text_opened},
+             {&Dictionary_Type, dictionary_opened}};
+
 /* over(class, numbers, buffers): a value of the class over memory that others keep. Lengths alone are checked. */
 PyObject *parts_over(PyObject *module, PyObject *args)
 {
@@ -135,19 +144,8 @@ PyObject *parts_over(PyObject *module, PyObject *args)
     }
     it->index.ones.log2 = it->log2s[0] > 31 ? 31 : (uint32_t)it->log2s[0];
     it->index.zeros.log2 = it->log2s[1] > 31 ? 31 : (uint32_t)it->log2s[1];
-    if (PyType_IsSubtype((PyTypeObject *)type, Index_Type))
-        return index_over(type, it);
-    if (PyType_IsSubtype((PyTypeObject *)type, Sequence_Type))
-        return sequence_over(type, it);
-    if (PyType_IsSubtype((PyTypeObject *)type, Tree_Type))
-        return tree_over(type, it);
-    if (PyType_IsSubtype((PyTypeObject *)type, Matrix_Type))
-        return matrix_over(type, it);
-    if (PyType_IsSubtype((PyTypeObject *)type, Sparse_Type))
-        return sparse_over(type, it);
-    if (PyType_IsSubtype((PyTypeObject *)type, Text_Type))
-        return text_over(type, it);
-    if (PyType_IsSubtype((PyTypeObject *)type, Dictionary_Type))
-        return dictionary_over(type, it);
-    return hash_over(type, it);
+    for (size_t i = 0; i < sizeof KINDS / sizeof *KINDS; i++)
+        if (PyType_IsSubtype((PyTypeObject *)type, *KINDS[i].type))
+            return value_over(type, it, KINDS[i].opened);
+    return value_over(type, it, hash_opened);
 }

@@ -1,19 +1,18 @@
 /* bitm.EliasFano: a monotone integer sequence. */
-#include "core.h"
+#include "values.h"
 #include "sequence_docs.h"
 
 /* ---- made */
 
-PyObject *sequence_over(PyObject *type, Memory *it)
+int sequence_opened(Memory *it)
 {
     const struct bitm_sequence *sequence = &it->sequence;
     uint64_t first;
     /* Each number is a 1 bit of the words: a small file that claims 2^33 numbers is refused before len() says so. */
     if (bitm_sequence_get(sequence, 0, &first) != BITM_BAD_SIZE && sequence->len / 64 <= sequence->words_len)
-        return value_new(type, it);
-    DROP(it);
+        return 0;
     PyErr_SetString(PyExc_ValueError, "the length of a part does not fit the number of numbers");
-    return NULL;
+    return -1;
 }
 
 /* The parts of numbers that nobody else can change: three passes read them. */
@@ -43,64 +42,22 @@ static int build(Memory *it, const uint64_t *items, size_t count)
     return -1;
 }
 
-/* The numbers, copied; NULL and an error. */
-static uint64_t *copied(const Integers *from)
-{
-    uint64_t *items = room_for(from->len);
-    size_t done = 0;
-    if (items == NULL)
-        return NULL;
-    Py_BEGIN_ALLOW_THREADS
-    done = integers_load(from, 0, from->len, items);
-    Py_END_ALLOW_THREADS
-    if (done == from->len)
-        return items;
-    integers_below(from, done, "the number");
-    free(items);
-    return NULL;
-}
-
 static int sequence_init(PyObject *self, PyObject *args, PyObject *keywords)
 {
     static char *names[] = {"numbers", NULL};
-    PyObject *numbers;
-    Integers from;
-    if (!PyArg_ParseTupleAndKeywords(args, keywords, "O:EliasFano", names, &numbers) ||
-        integers_take(&from, numbers, "the number"))
+    PyObject *from;
+    if (!PyArg_ParseTupleAndKeywords(args, keywords, "O:EliasFano", names, &from))
         return -1;
-    uint64_t *items = copied(&from);
-    Memory *it = items == NULL ? NULL : memory_new();
-    int status = it == NULL ? -1 : build(it, items, from.len);
-    free(items);
-    integers_drop(&from);
-    if (status)
-        DROP(it);
-    else
-        value_set(self, it);
-    return status;
+    return value_of_numbers(self, from, "the number", build);
 }
 
 /* ---- one query */
 
-typedef uint32_t (*query_call)(const struct bitm_sequence *, uint64_t, uint64_t *);
+QUERY_OF(first, bitm_sequence_first_at_least, sequence)
+QUERY_OF(last, bitm_sequence_last_at_most, sequence)
 
-static PyObject *ask(PyObject *self, PyObject *query, query_call call)
-{
-    uint64_t value, out = 0;
-    if (number(query, "the value", &value))
-        return NULL;
-    Memory *it = memory_of(self);
-    if (it == NULL)
-        return NULL;
-    uint32_t status = call(&it->sequence, value, &out);
-    return answer_or_none(status, &out);
-}
-
-static PyObject *first_at_least(PyObject *self, PyObject *value)
-{
-    return ask(self, value, bitm_sequence_first_at_least);
-}
-static PyObject *last_at_most(PyObject *self, PyObject *value) { return ask(self, value, bitm_sequence_last_at_most); }
+static PyObject *first_at_least(PyObject *self, PyObject *value) { return ask(self, value, first, true, "the value"); }
+static PyObject *last_at_most(PyObject *self, PyObject *value) { return ask(self, value, last, true, "the value"); }
 
 static PyObject *sequence_rank(PyObject *self, PyObject *query)
 {
@@ -112,28 +69,23 @@ static PyObject *sequence_rank(PyObject *self, PyObject *query)
     return it == NULL ? NULL : PyLong_FromSize_t(it->sequence.len);
 }
 
-static inline PyObject *item_of(PyObject *self, Py_ssize_t index, int from_end)
+static uint64_t length(const Memory *it) { return it->sequence.len; } /* below 2^56 */
+
+static uint32_t number_at(const Memory *it, uint64_t index, uint64_t *out)
 {
-    Memory *it = memory_of(self);
-    uint64_t out = 0;
-    if (it == NULL)
-        return NULL;
-    uint64_t at = from_end ? from_front(index, it->sequence.len) : (uint64_t)index;
-    uint32_t status = bitm_sequence_get(&it->sequence, at, &out);
-    if (LIKELY(status == BITM_OK))
-        return boxed(out);
-    return status == BITM_NONE ? outside(index, it->sequence.len, "numbers") : wrong();
+    return bitm_sequence_get(&it->sequence, index, out);
 }
 
+static const Items ITEMS = {length, number_at, boxed, "numbers"};
+
+static Py_ssize_t sequence_len(PyObject *self) { return value_len(self, length); }
+
 /* An index that sq_item is given counts from the front already. */
-static PyObject *sequence_item(PyObject *self, Py_ssize_t index) { return item_of(self, index, 0); }
+static PyObject *sequence_item(PyObject *self, Py_ssize_t index) { return item_at(self, index, 0, &ITEMS); }
 
 static PyObject *sequence_subscript(PyObject *self, PyObject *key)
 {
-    Py_ssize_t index;
-    if (PySlice_Check(key))
-        return sequence_slice(self, key);
-    return index_of(key, &index) ? NULL : item_of(self, index, 1);
+    return PySlice_Check(key) ? sequence_slice(self, key) : item_for(self, key, &ITEMS);
 }
 
 int equal_number(PyObject *value, uint64_t *out)
@@ -205,63 +157,23 @@ static PyObject *sequence_count(PyObject *self, PyObject *value)
 
 /* ---- lists */
 
-/* The library stops at the first index that has no number; what was found before is not wanted then. */
-static uint32_t get(const Memory *it, bool one, const uint64_t *in, uint64_t *out, size_t count,
-                    struct bitm_list_counts *counts)
-{
-    uint64_t written = 0, number_there;
-    (void)one;
-    uint32_t status = bitm_sequence_get_list(&it->sequence, in, count, out, count, &written);
-    if (status != BITM_OK || written == count)
-        return status;
-    memset(out, 0, 8 * (size_t)written);
-    out[written] = BITM_NO_ANSWER;
-    counts->missing = bitm_sequence_get(&it->sequence, in[written], &number_there) == BITM_NONE;
-    counts->wrong = !counts->missing;
-    return BITM_OK;
-}
-
-#define CALL(name, call)                                                                                               \
-    static uint32_t name(const Memory *it, bool one, const uint64_t *in, uint64_t *out, size_t count,                  \
-                         struct bitm_list_counts *counts)                                                              \
-    {                                                                                                                  \
-        (void)one;                                                                                                     \
-        return call(&it->sequence, in, count, out, count, counts);                                                     \
-    }
-CALL(firsts, bitm_sequence_first_at_least_list)
-CALL(lasts, bitm_sequence_last_at_most_list)
-CALL(contained, bitm_sequence_contains_list)
-
-#define LIST(name, call, kind, what)                                                                                   \
-    static PyObject *sequence_##name(PyObject *self, PyObject *const *args, Py_ssize_t count, PyObject *keywords)      \
-    {                                                                                                                  \
-        return ask_list(self, call, true, kind, #name, what, args, count, keywords);                                   \
-    }
-LIST(get_list, get, EACH, "an index")
-LIST(first_at_least_list, firsts, SOME, "the value")
-LIST(last_at_most_list, lasts, SOME, "the value")
-LIST(contains_list, contained, BOOLS, "the value")
+LIST_UNTIL_NONE(get, bitm_sequence_get_list, sequence, number_at)
+LIST_OF(firsts, bitm_sequence_first_at_least_list, sequence)
+LIST_OF(lasts, bitm_sequence_last_at_most_list, sequence)
+LIST_OF(contained, bitm_sequence_contains_list, sequence)
+LIST(sequence, get_list, get, true, EACH, "an index")
+LIST(sequence, first_at_least_list, firsts, true, SOME, "the value")
+LIST(sequence, last_at_most_list, lasts, true, SOME, "the value")
+LIST(sequence, contains_list, contained, true, BOOLS, "the value")
 
 /* ---- the rest */
 
+static int is_right(const Memory *it) { return bitm_sequence_check(&it->sequence) == BITM_OK; }
+
 static PyObject *sequence_check(PyObject *self, PyObject *none)
 {
-    Memory *it = memory_kept(self);
-    uint32_t status;
     (void)none;
-    if (it == NULL)
-        return NULL;
-    Py_BEGIN_ALLOW_THREADS
-    status = bitm_sequence_check(&it->sequence);
-    Py_END_ALLOW_THREADS
-    DROP(it);
-    return PyBool_FromLong(status == BITM_OK);
-}
-
-static Py_ssize_t sequence_len(PyObject *self)
-{
-    Memory *it = memory_of(self);
-    return it == NULL ? -1 : (Py_ssize_t)it->sequence.len; /* below 2^56 */
+    return value_checked(self, is_right);
 }
 
 static PyObject *sequence_iter(PyObject *self) { return numbers_new(self, 0, UINT64_MAX, 0); }
@@ -322,11 +234,7 @@ static PyMethodDef methods[] = {
 
 static PyGetSetDef attributes[] = {VALUE_CLOSED, {NULL, NULL, NULL, NULL, NULL}};
 
-static PyType_Slot slots[] = {{Py_tp_doc, DOC(SEQUENCE_DOC)},
-                              {Py_tp_init, sequence_init},
-                              {Py_tp_methods, methods},
-                              {Py_tp_getset, attributes},
-                              {Py_tp_repr, sequence_repr},
+static PyType_Slot slots[] = {VALUE_SLOTS(SEQUENCE_DOC, sequence_init, methods, attributes, sequence_repr),
                               {Py_tp_iter, sequence_iter},
                               {Py_tp_richcompare, numbers_compare},
                               {Py_tp_hash, PyObject_HashNotImplemented},
@@ -335,6 +243,5 @@ static PyType_Slot slots[] = {{Py_tp_doc, DOC(SEQUENCE_DOC)},
                               {Py_sq_contains, sequence_contains},
                               {Py_mp_length, sequence_len},
                               {Py_mp_subscript, sequence_subscript},
-                              VALUE_SLOTS,
                               {0, NULL}};
 PyType_Spec sequence_spec = {"bitm.EliasFano", sizeof(Value), 0, VALUE_FLAGS, slots};

@@ -1,9 +1,18 @@
 /* Files: headers, and the value that a file holds, which is read where it lies. */
-#include "core.h"
+#include "values.h"
 
-/* The first word of a block, and the second of that of sparse bits, of a dictionary, of a matrix and of a text
- * (docs/FORMAT.md). */
-static const uint64_t BLOCK_MARK = 0x036261746d746962, SPARSE = 4, DICTIONARY = 5, MATRIX = 6, TEXT = 8;
+/* The first word of a block (docs/FORMAT.md). */
+static const uint64_t BLOCK_MARK = 0x036261746d746962;
+
+/* The second word of a block: of others it is a tree. */
+static const struct {
+    uint64_t number;
+    PyTypeObject **type;
+    opener opened;
+} KINDS[] = {{4, &Sparse_Type, sparse_opened},
+             {5, &Dictionary_Type, dictionary_opened},
+             {6, &Matrix_Type, matrix_opened},
+             {8, &Text_Type, text_opened}};
 
 /* A perfect hash is stored as an index with these numbers after it: mark, keys, bits of a fingerprint, seed, number of
  * sizes, words of fingerprints; then the sizes and the fingerprints. */
@@ -12,8 +21,8 @@ enum { TAIL = 6 };
 static PyObject *not_whole(Memory *it)
 {
     DROP(it);
-    PyErr_SetString(PyExc_ValueError,
-                    "it is not a stored index, sequence, hash, dictionary, tree, matrix, text or sparse bits of this format, or not all of it");
+    PyErr_SetString(PyExc_ValueError, "it is not a stored index, sequence, hash, dictionary, tree, matrix, text or "
+                                      "sparse bits of this format, or not all of it");
     return NULL;
 }
 
@@ -30,7 +39,7 @@ static PyObject *load_hash(Memory *it, const uint64_t *tail, size_t left)
     it->hash.sizes_len = tail[4];
     it->prints = tail + TAIL + tail[4];
     it->prints_len = tail[5];
-    return hash_over(BORROWED(Hash_Type), it);
+    return value_over(BORROWED(Hash_Type), it, hash_opened);
 }
 
 PyObject *stored_load(PyObject *module, PyObject *file)
@@ -47,21 +56,16 @@ PyObject *stored_load(PyObject *module, PyObject *file)
     if (words > 0 && *(const uint64_t *)at == BLOCK_MARK) {
         it->block = at;
         it->block_len = words;
-        if (words > 1 && it->block[1] == MATRIX)
-            return matrix_over(BORROWED(Matrix_Type), it);
-        if (words > 1 && it->block[1] == SPARSE)
-            return sparse_over(BORROWED(Sparse_Type), it);
-        if (words > 1 && it->block[1] == TEXT)
-            return text_over(BORROWED(Text_Type), it);
-        if (words > 1 && it->block[1] == DICTIONARY)
-            return dictionary_over(BORROWED(Dictionary_Type), it);
-        return tree_over(BORROWED(Tree_Type), it);
+        for (size_t i = 0; i < sizeof KINDS / sizeof *KINDS; i++)
+            if (words > 1 && it->block[1] == KINDS[i].number)
+                return value_over(BORROWED(*KINDS[i].type), it, KINDS[i].opened);
+        return value_over(BORROWED(Tree_Type), it, tree_opened);
     }
     if (bitm_stored_read(at, words, &header) != BITM_OK)
         return not_whole(it);
     if (header.kind == BITM_STORED_SEQUENCE) {
         it->sequence = bitm_stored_sequence_of(at, &header);
-        return sequence_over(BORROWED(Sequence_Type), it);
+        return value_over(BORROWED(Sequence_Type), it, sequence_opened);
     }
     it->index = bitm_stored_index_of(at, &header);
     it->log2s[0] = header.ones_log2;
@@ -70,7 +74,7 @@ PyObject *stored_load(PyObject *module, PyObject *file)
     const uint64_t *tail = (const uint64_t *)at + used;
     if (words - used >= TAIL && (tail[0] == MARK_SIP || tail[0] == MARK_BLAKE))
         return load_hash(it, tail, words - used);
-    return index_over(BORROWED(Index_Type), it);
+    return value_over(BORROWED(Index_Type), it, index_opened);
 }
 
 /* The header as bytes, the size of the file, and where each part begins. */

@@ -1,20 +1,9 @@
 /* bitm.TextIndex: where a pattern stands in a text, by the block of its index. */
-#include "core.h"
+#include "values.h"
 
 int text_opened(Memory *it)
 {
-    if (bitm_text_open(it->block, it->block_len, &it->text) == BITM_OK)
-        return 0;
-    PyErr_SetString(PyExc_ValueError, "it is not the block of the index of a text, or not all of it");
-    return -1;
-}
-
-PyObject *text_over(PyObject *type, Memory *it)
-{
-    if (text_opened(it) == 0)
-        return value_new(type, it);
-    DROP(it);
-    return NULL;
+    return block_opened("the index of a text", bitm_text_open(it->block, it->block_len, &it->text) == BITM_OK);
 }
 
 /* ---- patterns */
@@ -36,8 +25,10 @@ static int pattern_take(Pattern *it, PyObject *from)
         return -1;
     }
     int found = bytes_kept(from, &it->bytes);
+    if (found == 0)
+        it->letters = integers_all(from, "a letter", &it->len);
     if (found <= 0)
-        return found < 0 ? -1 : letters_take(from, &it->letters, &it->len);
+        return it->letters == NULL ? -1 : 0;
     it->at = (const uint8_t *)PyBytes_AsString(it->bytes);
     it->len = (size_t)PyBytes_Size(it->bytes);
     return 0;
@@ -140,11 +131,8 @@ static PyObject *text_locate(PyObject *self, PyObject *const *args, Py_ssize_t c
 
 /* ---- the text */
 
-static Py_ssize_t text_len(PyObject *self)
-{
-    Memory *it = memory_of(self);
-    return it == NULL ? -1 : (Py_ssize_t)it->text.letters.len; /* below 2^32 */
-}
+static uint64_t length(const Memory *it) { return it->text.letters.len; } /* below 2^32 */
+static Py_ssize_t text_len(PyObject *self) { return value_len(self, length); }
 
 /* Whether letters are bytes, or stand for them. */
 static inline int has_bytes(const Memory *it) { return it->text.used_len > 0 || it->text.letters.width <= 8; }
@@ -221,26 +209,9 @@ static PyObject *text_subscript(PyObject *self, PyObject *key)
 
 /* ---- the rest */
 
-static PyObject *text_check(PyObject *self, PyObject *none)
-{
-    Memory *it = memory_kept(self);
-    uint32_t status;
-    (void)none;
-    if (it == NULL)
-        return NULL;
-    Py_BEGIN_ALLOW_THREADS
-    status = bitm_text_check(it->block, it->block_len);
-    Py_END_ALLOW_THREADS
-    DROP(it);
-    return PyBool_FromLong(status == BITM_OK);
-}
+BLOCK_CHECK(text)
 
-static PyObject *text_width(PyObject *self, void *none)
-{
-    Memory *it = memory_of(self);
-    (void)none;
-    return it == NULL ? NULL : boxed(it->text.letters.width);
-}
+ATTRIBUTE(text, width, text.letters.width)
 
 static PyObject *text_repr(PyObject *self)
 {
@@ -295,15 +266,10 @@ static PyGetSetDef attributes[] = {
         THEN("len(index), index.count(b'ana'), index.find_all(b'ana'), index[1:4], b'nab' in index")                   \
             PRINTS("(6, 2, [1, 3], b'ana', False)")
 
-static PyType_Slot slots[] = {{Py_tp_doc, DOC(TEXT_DOC)},
-                              {Py_tp_init, text_init},
-                              {Py_tp_methods, methods},
-                              {Py_tp_getset, attributes},
-                              {Py_tp_repr, text_repr},
+static PyType_Slot slots[] = {VALUE_SLOTS(TEXT_DOC, text_init, methods, attributes, text_repr),
                               {Py_tp_hash, PyObject_HashNotImplemented},
                               {Py_sq_contains, text_contains},
                               {Py_mp_length, text_len},
                               {Py_mp_subscript, text_subscript},
-                              VALUE_SLOTS,
                               {0, NULL}};
 PyType_Spec text_spec = {"bitm.TextIndex", sizeof(Value), 0, VALUE_FLAGS, slots};

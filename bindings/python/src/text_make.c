@@ -1,25 +1,5 @@
 /* bitm.TextIndex: what it is made of, bytes or a list of letters. */
-#include "core.h"
-
-int letters_take(PyObject *from, uint64_t **letters, size_t *len)
-{
-    Integers numbers;
-    *letters = NULL;
-    if (integers_take(&numbers, from, "a letter"))
-        return -1;
-    *len = numbers.len;
-    *letters = room_for(numbers.len);
-    size_t good = *letters == NULL ? 0 : integers_load(&numbers, 0, numbers.len, *letters);
-    int failed = *letters == NULL || good < numbers.len;
-    if (*letters != NULL && failed)
-        integers_below(&numbers, good, "a letter");
-    integers_drop(&numbers);
-    if (failed) {
-        free(*letters);
-        *letters = NULL;
-    }
-    return failed ? -1 : 0;
-}
+#include "values.h"
 
 int bytes_kept(PyObject *from, PyObject **bytes)
 {
@@ -72,14 +52,12 @@ static int step_of(PyObject *given, uint32_t *out)
 static uint32_t *rooms(Memory *it, uint64_t block_len, uint64_t scratch_len, uint64_t **block)
 {
     uint32_t *scratch = NULL;
-    if ((*block = memory_own(it, block_len, 8)) == NULL)
+    if ((*block = block_room(it, block_len)) == NULL)
         return NULL;
     if (scratch_len <= (uint64_t)PY_SSIZE_T_MAX / 4)
         scratch = aligned_new(4 * (size_t)scratch_len);
     if (scratch == NULL)
         PyErr_NoMemory();
-    it->block = *block;
-    it->block_len = (size_t)block_len;
     return scratch;
 }
 
@@ -136,14 +114,10 @@ int text_init(PyObject *self, PyObject *args, PyObject *keywords)
         (text = text_of(from)) == NULL)
         return -1;
     Memory *it = memory_new();
-    int failed =
-        it == NULL || built_of_bytes(it, (const uint8_t *)PyBytes_AsString(text), (size_t)PyBytes_Size(text), step);
+    const uint8_t *at = (const uint8_t *)PyBytes_AsString(text);
+    int is_made = it != NULL && built_of_bytes(it, at, (size_t)PyBytes_Size(text), step) == 0;
     Py_DECREF(text);
-    if (failed)
-        DROP(it);
-    else
-        value_set(self, it);
-    return failed ? -1 : 0;
+    return value_made(self, it, is_made);
 }
 
 PyObject *text_of_letters(PyObject *type, PyObject *const *args, Py_ssize_t count, PyObject *keywords)
@@ -160,7 +134,7 @@ PyObject *text_of_letters(PyObject *type, PyObject *const *args, Py_ssize_t coun
         PyErr_SetString(PyExc_ValueError, "an alphabet has at most 2**32 - 1 letters");
         return NULL;
     }
-    if (letters_take(given[0], &text, &len))
+    if ((text = integers_all(given[0], "a letter", &len)) == NULL)
         return NULL;
     Memory *it = memory_new();
     int failed = it == NULL || built_of_letters(it, text, len, (uint32_t)below, step);

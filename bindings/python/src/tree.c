@@ -1,13 +1,9 @@
 /* bitm.Tree: a tree in one block of memory. */
-#include "core.h"
+#include "values.h"
 
-PyObject *tree_over(PyObject *type, Memory *it)
+int tree_opened(Memory *it)
 {
-    if (bitm_tree_open(it->block, it->block_len, &it->tree) == BITM_OK)
-        return value_new(type, it);
-    DROP(it);
-    PyErr_SetString(PyExc_ValueError, "it is not the block of a tree, or not all of it");
-    return NULL;
+    return block_opened("a tree", bitm_tree_open(it->block, it->block_len, &it->tree) == BITM_OK);
 }
 
 /* Writes the block of the tree of these degrees into memory of its own. -1 and an error. */
@@ -15,17 +11,15 @@ static int built(Memory *it, const uint64_t *degrees, size_t count)
 {
     uint64_t len, *block;
     uint32_t status = BITM_BAD_SIZE;
-    if (bitm_tree_size(count, &len) == BITM_OK && (block = memory_own(it, len, 8)) != NULL) {
+    if (bitm_tree_size(count, &len) == BITM_OK && (block = block_room(it, len)) != NULL) {
         Py_BEGIN_ALLOW_THREADS
         status = bitm_tree_build(degrees, count, block, (size_t)len);
         Py_END_ALLOW_THREADS
-        it->block = block;
-        it->block_len = (size_t)len;
     }
     if (PyErr_Occurred())
         return -1;
-    if (status == BITM_OK && bitm_tree_open(it->block, it->block_len, &it->tree) == BITM_OK)
-        return 0;
+    if (status == BITM_OK)
+        return tree_opened(it);
     PyErr_SetString(PyExc_ValueError, "the degrees are those of no tree");
     return -1;
 }
@@ -34,45 +28,16 @@ static int tree_init(PyObject *self, PyObject *args, PyObject *keywords)
 {
     static char *names[] = {"degrees", NULL};
     PyObject *from;
-    Integers degrees;
-    if (!PyArg_ParseTupleAndKeywords(args, keywords, "O:Tree", names, &from) ||
-        integers_take(&degrees, from, "a degree"))
+    if (!PyArg_ParseTupleAndKeywords(args, keywords, "O:Tree", names, &from))
         return -1;
-    Memory *it = memory_new();
-    int failed = it == NULL || integers_own(&degrees);
-    if (!failed) {
-        size_t good = 0;
-        uint64_t *all = room_for(degrees.len);
-        if (all != NULL)
-            good = integers_load(&degrees, 0, degrees.len, all);
-        if (all != NULL && good < degrees.len)
-            integers_below(&degrees, good, "a degree");
-        failed = all == NULL || good < degrees.len || built(it, all, degrees.len);
-        free(all);
-    }
-    integers_drop(&degrees);
-    if (failed)
-        DROP(it);
-    else
-        value_set(self, it);
-    return failed ? -1 : 0;
+    return value_of_numbers(self, from, "a degree", built);
 }
 
 /* ---- queries of one node */
 
-typedef uint32_t (*node_call)(const struct bitm_tree *, size_t, uint64_t *);
-
-static PyObject *of_node(PyObject *self, PyObject *value, node_call call)
-{
-    uint64_t node, out;
-    if (number(value, "a node", &node))
-        return NULL;
-    Memory *it = memory_of(self);
-    return it == NULL ? NULL : answer_or_none(call(&it->tree, (size_t)node, &out), &out);
-}
-
 #define NODE(name)                                                                                                     \
-    static PyObject *tree_##name(PyObject *self, PyObject *value) { return of_node(self, value, bitm_tree_##name); }
+    QUERY_OF(name##_of, bitm_tree_##name, tree)                                                                        \
+    static PyObject *tree_##name(PyObject *self, PyObject *node) { return ask(self, node, name##_of, true, "a node"); }
 NODE(parent)
 NODE(degree)
 NODE(next_sibling)
@@ -125,19 +90,10 @@ static PyObject *tree_children(PyObject *self, PyObject *value)
 
 /* ---- lists */
 
-#define LIST(name, call)                                                                                               \
-    static uint32_t name##s(const Memory *it, bool one, const uint64_t *in, uint64_t *out, size_t count,               \
-                            struct bitm_list_counts *counts)                                                           \
-    {                                                                                                                  \
-        (void)one;                                                                                                     \
-        return call(&it->tree, in, count, out, count, counts);                                                         \
-    }                                                                                                                  \
-    static PyObject *tree_##name##_list(PyObject *self, PyObject *const *args, Py_ssize_t count, PyObject *keywords)   \
-    {                                                                                                                  \
-        return ask_list(self, name##s, true, SOME, #name "_list", "a node", args, count, keywords);                    \
-    }
-LIST(parent, bitm_tree_parent_list)
-LIST(degree, bitm_tree_degree_list)
+LIST_OF(parents, bitm_tree_parent_list, tree)
+LIST_OF(degrees, bitm_tree_degree_list, tree)
+LIST(tree, parent_list, parents, true, SOME, "a node")
+LIST(tree, degree_list, degrees, true, SOME, "a node")
 
 static uint32_t childs(const Memory *it, const uint64_t *nodes, const uint64_t *ks, uint64_t *out, size_t count,
                        struct bitm_list_counts *counts)
@@ -153,61 +109,51 @@ static PyObject *tree_child_list(PyObject *self, PyObject *const *args, Py_ssize
 
 /* ---- the rest */
 
-static PyObject *tree_check(PyObject *self, PyObject *none)
-{
-    Memory *it = memory_kept(self);
-    uint32_t status;
-    (void)none;
-    if (it == NULL)
-        return NULL;
-    Py_BEGIN_ALLOW_THREADS
-    status = bitm_tree_check(it->block, it->block_len);
-    Py_END_ALLOW_THREADS
-    DROP(it);
-    return PyBool_FromLong(status == BITM_OK);
-}
+BLOCK_CHECK(tree)
 
-static Py_ssize_t tree_len(PyObject *self)
-{
-    Memory *it = memory_of(self);
-    return it == NULL ? -1 : (Py_ssize_t)it->tree.len; /* below 2^60 */
-}
+static uint64_t length(const Memory *it) { return it->tree.len; } /* below 2^60 */
+static Py_ssize_t tree_len(PyObject *self) { return value_len(self, length); }
 
 static PyObject *tree_repr(PyObject *self)
 {
     Memory *it = ((Value *)self)->memory;
-    return it == NULL ? PyUnicode_FromString("<Tree, closed>") : PyUnicode_FromFormat("<Tree of %zu nodes>", it->tree.len);
+    return it == NULL ? PyUnicode_FromString("<Tree, closed>")
+                      : PyUnicode_FromFormat("<Tree of %zu nodes>", it->tree.len);
 }
 
 #define PLAIN(name, text) METHOD(#name, tree_##name, METH_O, "($self, node, /)", text)
 #define NAMED(name, arguments, text) KEYWORDS(#name, tree_##name, arguments, text)
 static PyMethodDef methods[] = {
-    PLAIN(parent, "The parent of a node; None at the root and where there is no such node."
-          EXAMPLE("Tree([2, 0, 1, 0]).parent(3)") PRINTS("2")),
-    NAMED(child, "($self, node, k)", "Child k of a node, counted from 0; None where there is none."
-          EXAMPLE("Tree([2, 0, 1, 0]).child(0, 1)") PRINTS("2")),
-    PLAIN(children, "The children of a node, as a range, for they follow one another; empty where there is no such node."
-          EXAMPLE("Tree([2, 0, 1, 0]).children(0)") PRINTS("range(1, 3)")),
-    PLAIN(degree, "How many children a node has; None where there is no such node."
-          EXAMPLE("Tree([2, 0, 1, 0]).degree(0)") PRINTS("2")),
-    PLAIN(is_leaf, "Whether a node has no children; None where there is no such node."
-          EXAMPLE("Tree([2, 0, 1, 0]).is_leaf(1)") PRINTS("True")),
-    PLAIN(next_sibling, "The child of a node's parent after it; None where there is none."
-          EXAMPLE("Tree([2, 0, 1, 0]).next_sibling(1)") PRINTS("2")),
-    PLAIN(previous_sibling, "The child of a node's parent before it; None where there is none."
-          EXAMPLE("Tree([2, 0, 1, 0]).previous_sibling(2)") PRINTS("1")),
-    PLAIN(child_rank, "Which child of its parent a node is, counted from 0; None at the root and where there is no such node."
-          EXAMPLE("Tree([2, 0, 1, 0]).child_rank(2)") PRINTS("1")),
-    NAMED(parent_list, "($self, queries, *, missing=None)", "The parent of each node of a list, in its manner."
-          EXAMPLE("Tree([2, 0, 1, 0]).parent_list([0, 1, 3])") PRINTS("[None, 0, 2]")),
-    NAMED(degree_list, "($self, queries, *, missing=None)", "How many children each node of a list has, in its manner."
-          EXAMPLE("Tree([2, 0, 1, 0]).degree_list([0, 1, 3])") PRINTS("[2, 0, 0]")),
+    PLAIN(parent, "The parent of a node; None at the root and where there is no such node." EXAMPLE(
+                      "Tree([2, 0, 1, 0]).parent(3)") PRINTS("2")),
+    NAMED(child, "($self, node, k)",
+          "Child k of a node, counted from 0; None where there is none." EXAMPLE("Tree([2, 0, 1, 0]).child(0, 1)")
+              PRINTS("2")),
+    PLAIN(children,
+          "The children of a node, as a range, for they follow one another; empty where there is no such node." EXAMPLE(
+              "Tree([2, 0, 1, 0]).children(0)") PRINTS("range(1, 3)")),
+    PLAIN(degree, "How many children a node has; None where there is no such node." EXAMPLE(
+                      "Tree([2, 0, 1, 0]).degree(0)") PRINTS("2")),
+    PLAIN(is_leaf, "Whether a node has no children; None where there is no such node." EXAMPLE(
+                       "Tree([2, 0, 1, 0]).is_leaf(1)") PRINTS("True")),
+    PLAIN(next_sibling, "The child of a node's parent after it; None where there is none." EXAMPLE(
+                            "Tree([2, 0, 1, 0]).next_sibling(1)") PRINTS("2")),
+    PLAIN(previous_sibling, "The child of a node's parent before it; None where there is none." EXAMPLE(
+                                "Tree([2, 0, 1, 0]).previous_sibling(2)") PRINTS("1")),
+    PLAIN(child_rank, "Which child of its parent a node is, counted from 0; None at the root and where there is no "
+                      "such node." EXAMPLE("Tree([2, 0, 1, 0]).child_rank(2)") PRINTS("1")),
+    NAMED(parent_list, "($self, queries, *, missing=None)",
+          "The parent of each node of a list, in its manner." EXAMPLE("Tree([2, 0, 1, 0]).parent_list([0, 1, 3])")
+              PRINTS("[None, 0, 2]")),
+    NAMED(degree_list, "($self, queries, *, missing=None)",
+          "How many children each node of a list has, in its manner." EXAMPLE(
+              "Tree([2, 0, 1, 0]).degree_list([0, 1, 3])") PRINTS("[2, 0, 0]")),
     NAMED(child_list, "($self, nodes, ks, *, missing=None)",
           "Child ks[i] of each node nodes[i] of a list, in the manner of the nodes." EXAMPLE(
               "Tree([2, 0, 1, 0]).child_list([0, 0, 2], [1, 2, 0])") PRINTS("[2, None, 3]")),
     METHOD("check", tree_check, METH_NOARGS, "($self, /)",
-           "Whether the block is as it was written and holds a tree: looks at all of it."
-           EXAMPLE("Tree([2, 0, 1, 0]).check()") PRINTS("True")),
+           "Whether the block is as it was written and holds a tree: looks at all of it." EXAMPLE(
+               "Tree([2, 0, 1, 0]).check()") PRINTS("True")),
     VALUE_METHODS,
     {NULL, NULL, 0, NULL}};
 
@@ -219,13 +165,8 @@ static PyGetSetDef attributes[] = {VALUE_CLOSED, {NULL, NULL, NULL, NULL, NULL}}
     "numbered level by level: the root is 0, and the children of a node follow one another." EXAMPLE(                  \
         "tree = Tree([2, 0, 1, 0])") THEN("tree.parent(3), list(tree.children(0))") PRINTS("(2, [1, 2])")
 
-static PyType_Slot slots[] = {{Py_tp_doc, DOC(TREE_DOC)},
-                              {Py_tp_init, tree_init},
-                              {Py_tp_methods, methods},
-                              {Py_tp_getset, attributes},
-                              {Py_tp_repr, tree_repr},
+static PyType_Slot slots[] = {VALUE_SLOTS(TREE_DOC, tree_init, methods, attributes, tree_repr),
                               {Py_tp_hash, PyObject_HashNotImplemented},
                               {Py_sq_length, tree_len},
-                              VALUE_SLOTS,
                               {0, NULL}};
 PyType_Spec tree_spec = {"bitm.Tree", sizeof(Value), 0, VALUE_FLAGS, slots};

@@ -1,15 +1,12 @@
 """Dictionary beside a plain dict; drawn keys and queries by Hypothesis; files and buffers of blocks, of which bytes were changed
 or cut off."""
-import copy
 import gc
-import pickle
 import random
-import threading
 
 import pytest
+from block_values import answer_of, over_each_change, refuses_another, refuses_once_closed, stored_and_copied, wrong_while_closed
 from hypothesis import given, settings, strategies as st
 
-import bitm
 from bitm import Dictionary
 
 SQUARES = [4, 9, 49]
@@ -96,23 +93,12 @@ def test_files_and_copies(tmp_path):
     keys = drawn(300, 2**64, 1)
     found = Dictionary(keys)
     numbers = found.get_list(keys)
-    found.save(tmp_path / "keys")
-    data = (tmp_path / "keys").read_bytes()
-    assert data == bytes(found.block) and len(data) % 64 == 0
-    others = [bitm.load(tmp_path / "keys"), bitm.load(tmp_path / "keys", mmap=True), bitm.loads(data), Dictionary.over(data), copy.copy(found)]
-    others += [pickle.loads(pickle.dumps(found, protocol)) for protocol in (2, 4, 5)]
-    for other in others:
-        assert isinstance(other, Dictionary) and other.check() and other.get_list(keys) == numbers
+    for other in stored_and_copied(found, tmp_path / "keys"):
         kept = other.keys
-        other.close()
-        assert sorted(kept) == sorted(keys) and repr(other) == "<Dictionary, closed>"
-        for ask in (len, lambda it: it[0], lambda it: it.get(1), lambda it: 1 in it, lambda it: it.keys, lambda it: it.check(), lambda it: it.get_list([0]), iter):
-            with pytest.raises(ValueError, match="closed"):
-                ask(other)
-    with pytest.raises(ValueError, match="tree"):
-        bitm.Tree.over(data)
-    with pytest.raises(ValueError, match="dictionary"):
-        Dictionary.over(bitm.Tree([1, 0]).block)
+        assert other.get_list(keys) == numbers
+        refuses_once_closed(other, lambda it: it[0], lambda it: it.get(1), lambda it: 1 in it, lambda it: it.keys, lambda it: it.check(), lambda it: it.get_list([0]), iter)
+        assert sorted(kept) == sorted(keys)
+    refuses_another(Dictionary, bytes(found.block), "dictionary")
 
 
 def test_the_block_lives_as_long_as_a_view_of_it():
@@ -125,44 +111,14 @@ def test_the_block_lives_as_long_as_a_view_of_it():
 
 def test_each_changed_byte_and_each_prefix_is_seen():
     keys = drawn(9, 2**50, 5)
-    data = bytes(Dictionary(keys).block)
-    start = int.from_bytes(data[136:144], "little")  # where the first section begins, by the directory
-    for at in range(len(data)):
-        changed = bytearray(data)
-        changed[at] ^= 1 << at % 8
-        try:
-            found = Dictionary.over(changed)
-        except ValueError:
-            assert at < start
-            continue
-        assert not found.check()
+    for found in over_each_change(Dictionary, bytes(Dictionary(keys).block)):
         for key in [*keys, *ENDS, *found.keys]:
-            try:
-                number = found.get(key)
-            except bitm.WrongTables:
-                continue
+            number = answer_of(found.get, key)
             assert number is None or found.keys[number] == key
-    for end in range(0, len(data), 8):
-        with pytest.raises(ValueError):
-            Dictionary.over(data[:end])
 
 
 def test_threads_ask_and_close_at_once():
     keys = drawn(4000, 2**64, 6)
-    found, wrong = Dictionary(keys), []
+    found = Dictionary(keys)
     numbers = found.get_list(keys)
-
-    def ask():
-        for _ in range(20):
-            try:
-                wrong.extend(it for it in zip(found.get_list(keys), numbers) if it[0] != it[1])
-            except ValueError:
-                return
-
-    threads = [threading.Thread(target=ask) for _ in range(4)]
-    for it in threads:
-        it.start()
-    found.close()
-    for it in threads:
-        it.join()
-    assert not wrong
+    assert not wrong_while_closed(found, lambda: [it for it in zip(found.get_list(keys), numbers) if it[0] != it[1]])

@@ -1,12 +1,10 @@
 """WaveletMatrix beside plain lists; drawn lists and queries by Hypothesis; files and buffers of blocks, of which bytes were
 changed or cut off."""
-import copy
 import gc
-import pickle
 import random
-import threading
 
 import pytest
+from block_values import answer_of, over_each_change, refuses_another, refuses_once_closed, stored_and_copied, wrong_while_closed
 from hypothesis import given, settings, strategies as st
 
 import bitm
@@ -187,27 +185,10 @@ def test_arrays_of_numpy():
 def test_files_and_copies(tmp_path):
     plain = drawn(300, 9, 1)
     matrix = WaveletMatrix(plain)
-    matrix.save(tmp_path / "numbers")
-    data = (tmp_path / "numbers").read_bytes()
-    assert data == bytes(matrix.block) and len(data) % 64 == 0
-    others = [bitm.load(tmp_path / "numbers"), bitm.load(tmp_path / "numbers", mmap=True), bitm.loads(data), WaveletMatrix.over(data), copy.copy(matrix)]
-    others += [pickle.loads(pickle.dumps(matrix, protocol)) for protocol in (2, 4, 5)]
-    for other in others:
-        assert isinstance(other, WaveletMatrix) and other.check() and other[:] == plain
-        other.close()
-        for ask in (len, list, repr, lambda it: it[0]):
-            if ask is repr:
-                assert repr(other) == "<WaveletMatrix, closed>"
-                continue
-            with pytest.raises(ValueError, match="closed"):
-                ask(other)
-        with pytest.raises(ValueError, match="closed"):
-            other.rank(1, 1)
-    assert matrix.check()
-    with pytest.raises(ValueError, match="tree"):
-        bitm.Tree.over(data)
-    with pytest.raises(ValueError, match="matrix"):
-        WaveletMatrix.over(bitm.Tree([1, 0]).block)
+    for other in stored_and_copied(matrix, tmp_path / "numbers"):
+        assert other[:] == plain
+        refuses_once_closed(other, list, lambda it: it[0], lambda it: it.rank(1, 1))
+    refuses_another(WaveletMatrix, bytes(matrix.block), "matrix")
     assert isinstance(bitm.loads(bytes(bitm.Tree([1, 0]).block)), bitm.Tree)
 
 
@@ -220,47 +201,20 @@ def test_the_block_lives_as_long_as_a_view_of_it():
 
 
 def test_each_changed_byte_and_each_prefix_is_seen():
-    plain = drawn(9, 4, 5)
-    data = bytes(WaveletMatrix(plain, width=4).block)
-    start = int.from_bytes(data[136:144], "little")  # where the first section begins, by the directory
-    for at in range(len(data)):
-        changed = bytearray(data)
-        changed[at] ^= 1 << at % 8
-        try:
-            matrix = WaveletMatrix.over(changed)
-        except ValueError:
-            assert at < start
-            continue
-        assert not matrix.check()
+    for matrix in over_each_change(WaveletMatrix, bytes(WaveletMatrix(drawn(9, 4, 5), width=4).block)):
         queries = [lambda i: matrix[i], lambda i: matrix.rank(i, i), lambda i: matrix.count_less(i, 0, i), lambda i: matrix.next_value(i), lambda i: matrix.select(i, 0)]
         for i in range(9):
             for ask in queries:
-                try:
-                    answer = ask(i)
-                except bitm.WrongTables:
-                    continue
+                answer = answer_of(ask, i)
                 assert answer is None or 0 <= answer < 16
-    for end in range(0, len(data), 8):
-        with pytest.raises(ValueError):
-            WaveletMatrix.over(data[:end])
 
 
 def test_threads_ask_and_close_at_once():
     plain = drawn(4000, 12, 6)
-    matrix, wrong = WaveletMatrix(plain), []
+    matrix = WaveletMatrix(plain)
 
-    def ask():
-        for _ in range(20):
-            try:
-                wrong.extend(it for it in zip(matrix.get_list(range(4000)), plain) if it[0] != it[1])
-                wrong.extend([1] * (matrix.rank_list([plain[0]], [4000]) != [plain.count(plain[0])]))
-            except ValueError:
-                return
+    def wrong_of():
+        listed = [it for it in zip(matrix.get_list(range(4000)), plain) if it[0] != it[1]]
+        return listed + [1] * (matrix.rank_list([plain[0]], [4000]) != [plain.count(plain[0])])
 
-    threads = [threading.Thread(target=ask) for _ in range(4)]
-    for it in threads:
-        it.start()
-    matrix.close()
-    for it in threads:
-        it.join()
-    assert not wrong
+    assert not wrong_while_closed(matrix, wrong_of)

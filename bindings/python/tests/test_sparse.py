@@ -1,16 +1,13 @@
 """SparseBits beside plain lists of positions; drawn positions and queries by Hypothesis; files and buffers of blocks, of which
 bytes were changed or cut off."""
 import bisect
-import copy
 import gc
-import pickle
 import random
-import threading
 
 import pytest
+from block_values import answer_of, over_each_change, refuses_another, refuses_once_closed, stored_and_copied, wrong_while_closed
 from hypothesis import given, settings, strategies as st
 
-import bitm
 from bitm import SparseBits
 
 EXAMPLE = [3, 100, 101, 4000]
@@ -167,23 +164,12 @@ def test_arrays_of_numpy():
 def test_files_and_copies(tmp_path):
     positions = drawn(300, 90, 1)
     bits = SparseBits(positions)
-    bits.save(tmp_path / "bits")
-    data = (tmp_path / "bits").read_bytes()
-    assert data == bytes(bits.block) and len(data) % 64 == 0
-    others = [bitm.load(tmp_path / "bits"), bitm.load(tmp_path / "bits", mmap=True), bitm.loads(data), SparseBits.over(data), copy.copy(bits)]
-    others += [pickle.loads(pickle.dumps(bits, protocol)) for protocol in (2, 4, 5)]
-    for other in others:
-        assert isinstance(other, SparseBits) and other.check() and list(other.positions) == positions
+    for other in stored_and_copied(bits, tmp_path / "bits"):
         kept = other.positions
-        other.close()
-        assert list(kept) == positions and repr(other) == "<SparseBits, closed>"
-        for ask in (len, lambda it: it[0], lambda it: it.rank(1), lambda it: it.positions, lambda it: it.check(), lambda it: it.get_list([0])):
-            with pytest.raises(ValueError, match="closed"):
-                ask(other)
-    with pytest.raises(ValueError, match="tree"):
-        bitm.Tree.over(data)
-    with pytest.raises(ValueError, match="sparse bits"):
-        SparseBits.over(bitm.Tree([1, 0]).block)
+        assert list(kept) == positions
+        refuses_once_closed(other, lambda it: it[0], lambda it: it.rank(1), lambda it: it.positions, lambda it: it.check(), lambda it: it.get_list([0]))
+        assert list(kept) == positions
+    refuses_another(SparseBits, bytes(bits.block), "sparse bits")
 
 
 def test_the_block_lives_as_long_as_a_view_of_it():
@@ -195,46 +181,16 @@ def test_the_block_lives_as_long_as_a_view_of_it():
 
 
 def test_each_changed_byte_and_each_prefix_is_seen():
-    data = bytes(SparseBits(drawn(9, 40, 5)).block)
-    length = len(SparseBits.over(data))
-    start = int.from_bytes(data[136:144], "little")  # where the first section begins, by the directory
-    for at in range(len(data)):
-        changed = bytearray(data)
-        changed[at] ^= 1 << at % 8
-        try:
-            bits = SparseBits.over(changed)
-        except ValueError:
-            assert at < start
-            continue
-        assert not bits.check()
+    for bits in over_each_change(SparseBits, bytes(SparseBits(drawn(9, 40, 5)).block)):
+        length = len(bits)
         for i in range(0, length, 3):
             for ask, low, high in ((bits.rank, 0, i), (bits.rank0, 0, i), (bits.next_one, i, length - 1), (bits.next_zero, i, length - 1),
                                    (bits.previous_one, 0, i), (bits.previous_zero, 0, i), (bits.select, 0, length - 1), (bits.select0, 0, length - 1)):
-                try:
-                    answer = ask(i)
-                except bitm.WrongTables:
-                    continue
+                answer = answer_of(ask, i)
                 assert answer is None or low <= answer <= high
-    for end in range(0, len(data), 8):
-        with pytest.raises(ValueError):
-            SparseBits.over(data[:end])
 
 
 def test_threads_ask_and_close_at_once():
     positions = drawn(4000, 12, 6)
-    bits, wrong = SparseBits(positions), []
-
-    def ask():
-        for _ in range(20):
-            try:
-                wrong.extend(it for it in zip(bits.select_list(range(4000)), positions) if it[0] != it[1])
-            except ValueError:
-                return
-
-    threads = [threading.Thread(target=ask) for _ in range(4)]
-    for it in threads:
-        it.start()
-    bits.close()
-    for it in threads:
-        it.join()
-    assert not wrong
+    bits = SparseBits(positions)
+    assert not wrong_while_closed(bits, lambda: [it for it in zip(bits.select_list(range(4000)), positions) if it[0] != it[1]])

@@ -1,15 +1,14 @@
 """TextIndex beside plain searches in bytes and lists; drawn texts and patterns by Hypothesis; files and buffers of blocks, of
 which bytes were changed or cut off. What is built has the block that docs/FORMAT.md says."""
 import array
-import copy
 import gc
-import pickle
 import random
 import subprocess
 import sys
 import threading
 
 import pytest
+from block_values import refuses_once_closed, stored_and_copied, wrong_while_closed
 from blocks import as_bytes, of_bytes, of_text
 from hypothesis import given, settings, strategies as st
 
@@ -202,21 +201,14 @@ def test_blocks_that_are_refused():
 
 
 def test_files_and_copies(tmp_path):
-    data = as_bytes(of_bytes(VERSE))
+    data, path = as_bytes(of_bytes(VERSE)), tmp_path / "text"
     index = TextIndex(VERSE)
-    index.save(tmp_path / "text")
-    assert (tmp_path / "text").read_bytes() == data == bytes(index.block)
-    others = [bitm.load(tmp_path / "text"), bitm.load(tmp_path / "text", mmap=True), bitm.loads(data), TextIndex.open(tmp_path / "text")]
-    others += [TextIndex.open(str(tmp_path / "text")), TextIndex.over(data), copy.copy(index)]
-    others += [pickle.loads(pickle.dumps(index, protocol)) for protocol in (2, 4, 5)]
-    for other in others:
+    assert bytes(index.block) == data
+    for other in (*stored_and_copied(index, path), TextIndex.open(path), TextIndex.open(str(path))):
         assert isinstance(other, TextIndex) and other.check() and other[:] == VERSE and other.find_all(b"sea") == [10, 28]
         with other:
             pass
-        assert repr(other) == "<TextIndex, closed>"
-        for ask in (len, lambda it: it[0], lambda it: it[:], lambda it: it.count(b"s"), lambda it: it.locate(b"s"), lambda it: it.check(), lambda it: it.width):
-            with pytest.raises(ValueError, match="closed"):
-                ask(other)
+        refuses_once_closed(other, lambda it: it[0], lambda it: it[:], lambda it: it.count(b"s"), lambda it: it.locate(b"s"), lambda it: it.check(), lambda it: it.width)
     bitm.WaveletMatrix([1, 2]).save(tmp_path / "matrix")
     with pytest.raises(ValueError, match="WaveletMatrix"):
         TextIndex.open(tmp_path / "matrix")
@@ -285,23 +277,8 @@ def test_random_words_behind_a_right_header():
 
 
 def test_threads_ask_and_close_at_once():
-    index, wrong = TextIndex(VERSE * 20), []
-
-    def ask():
-        try:
-            for _ in range(300):
-                if index.count(b"sea") != 40 or index[5:9] != b"ells":
-                    wrong.append(1)
-        except ValueError as error:
-            if "closed" not in str(error):
-                wrong.append(error)
-    threads = [threading.Thread(target=ask) for _ in range(4)]
-    for each in threads:
-        each.start()
-    index.close()
-    for each in threads:
-        each.join()
-    assert not wrong
+    index = TextIndex(VERSE * 20)
+    assert not wrong_while_closed(index, lambda: [1] * (index.count(b"sea") != 40 or index[5:9] != b"ells"), times=300)
 
 
 def test_threads_build_and_close_at_once():

@@ -1,12 +1,10 @@
 """Tree beside plain lists of parents and children; files and buffers of blocks, of which bytes were changed or cut off."""
 import array
-import copy
-import pickle
 import random
 
 import pytest
+from block_values import answer_of, over_each_change, refuses_once_closed, stored_and_copied
 
-import bitm
 from bitm import Tree
 
 
@@ -100,38 +98,15 @@ def test_a_degree_is_a_number():
 
 def test_files_and_copies(tmp_path):
     tree = Tree(drawn(300, 4, 1))
-    tree.save(tmp_path / "tree")
     everything = [tree.parent(node) for node in range(len(tree))]
-    data = (tmp_path / "tree").read_bytes()
-    assert data == bytes(tree.block)
-    others = [bitm.load(tmp_path / "tree"), bitm.load(tmp_path / "tree", mmap=True), bitm.loads(data), Tree.over(data), copy.copy(tree)]
-    others += [pickle.loads(pickle.dumps(tree, protocol)) for protocol in (2, 4, 5)]
-    for other in others:
-        assert isinstance(other, Tree) and other.check() and [other.parent(node) for node in range(len(other))] == everything
-        other.close()
-        with pytest.raises(ValueError, match="closed"):
-            other.parent(1)
-    assert tree.check()
+    for other in stored_and_copied(tree, tmp_path / "tree"):
+        assert [other.parent(node) for node in range(len(other))] == everything
+        refuses_once_closed(other, lambda it: it.parent(1))
 
 
 def test_each_changed_byte_and_each_prefix_is_seen():
-    data = bytes(Tree(drawn(9, 3, 5)).block)
-    for at in range(len(data)):
-        changed = bytearray(data)
-        changed[at] ^= 1 << at % 8
-        if at < 256:
-            with pytest.raises(ValueError):
-                Tree.over(changed)
-            continue
-        tree = Tree.over(changed)
-        assert not tree.check()
+    for tree in over_each_change(Tree, bytes(Tree(drawn(9, 3, 5)).block)):
         for node in range(10):
             for ask in (tree.parent, tree.degree, tree.child_rank, tree.next_sibling, tree.previous_sibling):
-                try:
-                    answer = ask(node)
-                except bitm.WrongTables:
-                    continue
+                answer = answer_of(ask, node)
                 assert answer is None or 0 <= answer < 9
-    for end in range(0, len(data), 8):
-        with pytest.raises(ValueError):
-            Tree.over(data[:end])

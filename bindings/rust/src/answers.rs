@@ -40,6 +40,51 @@ impl<S: SelectionStrategy, S0: SelectionStrategy, BV: Deref<Target = [u64]>> Que
     }
 }
 
+/// Queries of a view, and of its owner, that panic where the tables turn out to be wrong, each by one of the view that
+/// returns an error then.
+macro_rules! answers {
+    ($view:ident, $kind:ident; $(
+        $(#[$attribute:meta])*
+        pub fn $name:ident(&self $(, $argument:ident: $type:ty)*) -> $answer:ty = $checked:ident;
+    )*) => {
+        impl $view<'_> { $(
+            $(#[$attribute])*
+            #[inline]
+            #[track_caller]
+            pub fn $name(&self $(, $argument: $type)*) -> $answer {
+                $crate::errors::sure(self.$checked($($argument),*))
+            }
+        )* }
+
+        impl<O> $kind<O> { $(
+            $(#[$attribute])*
+            #[inline]
+            #[track_caller]
+            pub fn $name(&self $(, $argument: $type)*) -> $answer {
+                $crate::errors::sure(self.view().$checked($($argument),*))
+            }
+        )* }
+    };
+}
+pub(crate) use answers;
+
+/// Calls of an owner that are those of its view.
+macro_rules! by_view {
+    ($kind:ident; $(
+        $(#[$attribute:meta])*
+        pub fn $name:ident$(<$life:lifetime>)?(&self $(, $argument:ident: $type:ty)*) -> $answer:ty;
+    )*) => {
+        impl<O> $kind<O> { $(
+            $(#[$attribute])*
+            #[inline]
+            pub fn $name$(<$life>)?(&self $(, $argument: $type)*) -> $answer {
+                self.view().$name($($argument),*)
+            }
+        )* }
+    };
+}
+pub(crate) use by_view;
+
 macro_rules! answers_by_view {
     ($kind:ty, $($generic:tt)*) => {
         impl $($generic)* Rank for $kind {

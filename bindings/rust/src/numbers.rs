@@ -1,70 +1,57 @@
 //! The numbers of a sequence: queries that panic where its parts are wrong, and iterators.
-use crate::errors::{sure, wrong_tables, ListError, StoredError};
+use crate::answers::{answers, by_view};
+use crate::errors::{wrong_tables, ListError, StoredError};
 use crate::sys::owned::Sequence;
 use crate::sys::sequence::SequenceView;
 use alloc::vec::Vec;
 use core::iter::FusedIterator;
 use core::ops::Range;
 
-macro_rules! answers {
+answers! { SequenceView, Sequence;
+    /// The number at an index; `None` exactly where there is none. One proved call.
+    ///
+    /// ```
+    /// let primes = bitm_proved::EliasFano::build(&[2, 3, 5, 7])?;
+    /// assert_eq!((primes.get(0), primes.get(3), primes.get(4)), (Some(2), Some(7), None));
+    /// # Ok::<(), bitm_proved::BuildError>(())
+    /// ```
+    pub fn get(&self, index: usize) -> Option<u64> = checked_get;
+
+    /// The successor: the least index whose number is at least `value`; `None` exactly where each number is
+    /// less. One proved call.
+    ///
+    /// ```
+    /// let primes = bitm_proved::EliasFano::build(&[2, 3, 5, 7])?;
+    /// assert_eq!((primes.first_at_least(0), primes.first_at_least(4)), (Some(0), Some(2))); // of 2 and of 5
+    /// assert_eq!((primes.first_at_least(7), primes.first_at_least(8)), (Some(3), None));
+    /// # Ok::<(), bitm_proved::BuildError>(())
+    /// ```
+    pub fn first_at_least(&self, value: u64) -> Option<usize> = checked_first_at_least;
+
+    /// The predecessor: the greatest index whose number is at most `value`; `None` exactly where each number is
+    /// greater. One proved call.
+    ///
+    /// ```
+    /// let primes = bitm_proved::EliasFano::build(&[2, 3, 5, 7])?;
+    /// assert_eq!((primes.last_at_most(4), primes.last_at_most(9)), (Some(1), Some(3))); // of 3 and of 7
+    /// assert_eq!((primes.last_at_most(2), primes.last_at_most(1)), (Some(0), None));
+    /// # Ok::<(), bitm_proved::BuildError>(())
+    /// ```
+    pub fn last_at_most(&self, value: u64) -> Option<usize> = checked_last_at_most;
+
+    /// Whether a number is there. One proved call.
+    ///
+    /// ```
+    /// let primes = bitm_proved::EliasFano::build(&[2, 3, 5, 7])?;
+    /// assert!(primes.contains(5) && !primes.contains(4) && !primes.contains(8));
+    /// # Ok::<(), bitm_proved::BuildError>(())
+    /// ```
+    pub fn contains(&self, value: u64) -> bool = checked_contains;
+}
+
+macro_rules! iterates {
     ($kind:ty, $self:ident, $view:expr, $($generic:tt)*) => {
         impl $($generic)* $kind {
-            /// The number at an index; `None` exactly where there is none. One proved call.
-            ///
-            /// ```
-            /// let primes = bitm_proved::EliasFano::build(&[2, 3, 5, 7])?;
-            /// assert_eq!((primes.get(0), primes.get(3), primes.get(4)), (Some(2), Some(7), None));
-            /// # Ok::<(), bitm_proved::BuildError>(())
-            /// ```
-            #[inline]
-            #[track_caller]
-            pub fn get(&$self, index: usize) -> Option<u64> {
-                sure($view.checked_get(index))
-            }
-
-            /// The successor: the least index whose number is at least `value`; `None` exactly where each number is
-            /// less. One proved call.
-            ///
-            /// ```
-            /// let primes = bitm_proved::EliasFano::build(&[2, 3, 5, 7])?;
-            /// assert_eq!((primes.first_at_least(0), primes.first_at_least(4)), (Some(0), Some(2))); // of 2 and of 5
-            /// assert_eq!((primes.first_at_least(7), primes.first_at_least(8)), (Some(3), None));
-            /// # Ok::<(), bitm_proved::BuildError>(())
-            /// ```
-            #[inline]
-            #[track_caller]
-            pub fn first_at_least(&$self, value: u64) -> Option<usize> {
-                sure($view.checked_first_at_least(value))
-            }
-
-            /// The predecessor: the greatest index whose number is at most `value`; `None` exactly where each number is
-            /// greater. One proved call.
-            ///
-            /// ```
-            /// let primes = bitm_proved::EliasFano::build(&[2, 3, 5, 7])?;
-            /// assert_eq!((primes.last_at_most(4), primes.last_at_most(9)), (Some(1), Some(3))); // of 3 and of 7
-            /// assert_eq!((primes.last_at_most(2), primes.last_at_most(1)), (Some(0), None));
-            /// # Ok::<(), bitm_proved::BuildError>(())
-            /// ```
-            #[inline]
-            #[track_caller]
-            pub fn last_at_most(&$self, value: u64) -> Option<usize> {
-                sure($view.checked_last_at_most(value))
-            }
-
-            /// Whether a number is there. One proved call.
-            ///
-            /// ```
-            /// let primes = bitm_proved::EliasFano::build(&[2, 3, 5, 7])?;
-            /// assert!(primes.contains(5) && !primes.contains(4) && !primes.contains(8));
-            /// # Ok::<(), bitm_proved::BuildError>(())
-            /// ```
-            #[inline]
-            #[track_caller]
-            pub fn contains(&$self, value: u64) -> bool {
-                sure($view.checked_contains(value))
-            }
-
             /// The numbers, from either end.
             ///
             /// ```
@@ -120,20 +107,17 @@ macro_rules! answers {
         }
     };
 }
-answers!(SequenceView<'_>, self, self,);
-answers!(Sequence<O>, self, self.view(), <O>);
+iterates!(SequenceView<'_>, self, self,);
+iterates!(Sequence<O>, self, self.view(), <O>);
 
-impl<O> Sequence<O> {
+by_view! { Sequence;
     /// How many numbers there are.
     ///
     /// ```
     /// assert_eq!(bitm_proved::EliasFano::build(&[2, 3, 3, 7])?.len(), 4);
     /// # Ok::<(), bitm_proved::BuildError>(())
     /// ```
-    #[inline]
-    pub fn len(&self) -> usize {
-        self.view().len()
-    }
+    pub fn len(&self) -> usize;
 
     /// Whether there are none.
     ///
@@ -142,10 +126,7 @@ impl<O> Sequence<O> {
     /// assert!(EliasFano::build(&[])?.is_empty() && !EliasFano::build(&[0])?.is_empty());
     /// # Ok::<(), bitm_proved::BuildError>(())
     /// ```
-    #[inline]
-    pub fn is_empty(&self) -> bool {
-        self.len() == 0
-    }
+    pub fn is_empty(&self) -> bool;
 
     /// Whether the parts are those of some sequence.
     ///
@@ -155,10 +136,48 @@ impl<O> Sequence<O> {
     /// assert!(Sequence::from_words(&file)?.check());
     /// # Ok::<(), Box<dyn std::error::Error>>(())
     /// ```
-    pub fn check(&self) -> bool {
-        self.view().check()
-    }
+    pub fn check(&self) -> bool;
 
+    /// The numbers at a list of indexes, up to the first that has none.
+    ///
+    /// ```
+    /// let primes = bitm_proved::EliasFano::build(&[2, 3, 5, 7])?;
+    /// assert_eq!(primes.get_list(&[3, 0, 4, 1], &mut [0; 4]), Ok(&[7, 2][..]));
+    /// # Ok::<(), bitm_proved::BuildError>(())
+    /// ```
+    pub fn get_list<'b>(&self, indexes: &[usize], out: &'b mut [u64]) -> Result<&'b [u64], ListError>;
+
+    /// The successors of a list of values; how many have none, which `NO_ANSWER` stands for.
+    ///
+    /// ```
+    /// use bitm_proved::{EliasFano, NO_ANSWER};
+    /// let (primes, mut out) = (EliasFano::build(&[2, 3, 5, 7])?, [0; 2]);
+    /// assert_eq!((primes.first_at_least_list(&[4, 8], &mut out), out), (Ok(1), [2, NO_ANSWER]));
+    /// # Ok::<(), bitm_proved::BuildError>(())
+    /// ```
+    pub fn first_at_least_list(&self, values: &[u64], out: &mut [usize]) -> Result<usize, ListError>;
+
+    /// The predecessors of a list of values; how many have none, which `NO_ANSWER` stands for.
+    ///
+    /// ```
+    /// use bitm_proved::{EliasFano, NO_ANSWER};
+    /// let (primes, mut out) = (EliasFano::build(&[2, 3, 5, 7])?, [0; 2]);
+    /// assert_eq!((primes.last_at_most_list(&[4, 1], &mut out), out), (Ok(1), [1, NO_ANSWER]));
+    /// # Ok::<(), bitm_proved::BuildError>(())
+    /// ```
+    pub fn last_at_most_list(&self, values: &[u64], out: &mut [usize]) -> Result<usize, ListError>;
+
+    /// Which of a list of values are there: 1 where one is, else 0.
+    ///
+    /// ```
+    /// let (primes, mut out) = (bitm_proved::EliasFano::build(&[2, 3, 5, 7])?, [9; 2]);
+    /// assert_eq!((primes.contains_list(&[4, 5], &mut out), out), (Ok(()), [0, 1]));
+    /// # Ok::<(), bitm_proved::BuildError>(())
+    /// ```
+    pub fn contains_list(&self, values: &[u64], out: &mut [u64]) -> Result<(), ListError>;
+}
+
+impl<O> Sequence<O> {
     /// The words of a file of this sequence.
     ///
     /// ```
@@ -169,52 +188,6 @@ impl<O> Sequence<O> {
     /// ```
     pub fn to_stored(&self) -> Result<Vec<u64>, StoredError> {
         self.view().to_words()
-    }
-
-    /// The numbers at a list of indexes, up to the first that has none.
-    ///
-    /// ```
-    /// let primes = bitm_proved::EliasFano::build(&[2, 3, 5, 7])?;
-    /// assert_eq!(primes.get_list(&[3, 0, 4, 1], &mut [0; 4]), Ok(&[7, 2][..]));
-    /// # Ok::<(), bitm_proved::BuildError>(())
-    /// ```
-    pub fn get_list<'b>(&self, indexes: &[usize], out: &'b mut [u64]) -> Result<&'b [u64], ListError> {
-        self.view().get_list(indexes, out)
-    }
-
-    /// The successors of a list of values; how many have none, which `NO_ANSWER` stands for.
-    ///
-    /// ```
-    /// use bitm_proved::{EliasFano, NO_ANSWER};
-    /// let (primes, mut out) = (EliasFano::build(&[2, 3, 5, 7])?, [0; 2]);
-    /// assert_eq!((primes.first_at_least_list(&[4, 8], &mut out), out), (Ok(1), [2, NO_ANSWER]));
-    /// # Ok::<(), bitm_proved::BuildError>(())
-    /// ```
-    pub fn first_at_least_list(&self, values: &[u64], out: &mut [usize]) -> Result<usize, ListError> {
-        self.view().first_at_least_list(values, out)
-    }
-
-    /// The predecessors of a list of values; how many have none, which `NO_ANSWER` stands for.
-    ///
-    /// ```
-    /// use bitm_proved::{EliasFano, NO_ANSWER};
-    /// let (primes, mut out) = (EliasFano::build(&[2, 3, 5, 7])?, [0; 2]);
-    /// assert_eq!((primes.last_at_most_list(&[4, 1], &mut out), out), (Ok(1), [1, NO_ANSWER]));
-    /// # Ok::<(), bitm_proved::BuildError>(())
-    /// ```
-    pub fn last_at_most_list(&self, values: &[u64], out: &mut [usize]) -> Result<usize, ListError> {
-        self.view().last_at_most_list(values, out)
-    }
-
-    /// Which of a list of values are there: 1 where one is, else 0.
-    ///
-    /// ```
-    /// let (primes, mut out) = (bitm_proved::EliasFano::build(&[2, 3, 5, 7])?, [9; 2]);
-    /// assert_eq!((primes.contains_list(&[4, 5], &mut out), out), (Ok(()), [0, 1]));
-    /// # Ok::<(), bitm_proved::BuildError>(())
-    /// ```
-    pub fn contains_list(&self, values: &[u64], out: &mut [u64]) -> Result<(), ListError> {
-        self.view().contains_list(values, out)
     }
 }
 

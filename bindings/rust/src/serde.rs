@@ -16,14 +16,6 @@ impl<O> Serialize for Index<O> {
     }
 }
 
-impl<'de> Deserialize<'de> for Index<Vec<u64>> {
-    fn deserialize<D: Deserializer<'de>>(from: D) -> Result<Self, D::Error> {
-        let index = Index::from_words(Vec::deserialize(from)?).map_err(D::Error::custom)?;
-        let right = index.check();
-        right.then_some(index).ok_or_else(|| D::Error::custom(crate::WrongTables))
-    }
-}
-
 impl<O> Serialize for Sequence<O> {
     fn serialize<S: Serializer>(&self, to: S) -> Result<S::Ok, S::Error> {
         let words = self.to_stored().map_err(S::Error::custom)?;
@@ -31,66 +23,26 @@ impl<O> Serialize for Sequence<O> {
     }
 }
 
-impl<'de> Deserialize<'de> for EliasFano {
-    fn deserialize<D: Deserializer<'de>>(from: D) -> Result<Self, D::Error> {
-        let numbers = Sequence::from_words(Vec::deserialize(from)?).map_err(D::Error::custom)?;
-        let right = numbers.check();
-        right.then_some(numbers).ok_or_else(|| D::Error::custom(crate::WrongTables))
-    }
+macro_rules! serializes_its_block {
+    ($($kind:ident),*) => { $(
+        impl<O> Serialize for $kind<O> {
+            fn serialize<S: Serializer>(&self, to: S) -> Result<S::Ok, S::Error> {
+                self.block().serialize(to)
+            }
+        }
+    )* };
 }
+serializes_its_block!(Tree, WaveletMatrix, SparseBits, Dictionary);
 
-impl<O> Serialize for Tree<O> {
-    fn serialize<S: Serializer>(&self, to: S) -> Result<S::Ok, S::Error> {
-        self.block().serialize(to)
-    }
+macro_rules! deserializes_what_is_right {
+    ($($kind:ty),*) => { $(
+        impl<'de> Deserialize<'de> for $kind {
+            fn deserialize<D: Deserializer<'de>>(from: D) -> Result<Self, D::Error> {
+                let made = <$kind>::from_words(Vec::deserialize(from)?).map_err(D::Error::custom)?;
+                let right = made.check();
+                right.then_some(made).ok_or_else(|| D::Error::custom(crate::WrongTables))
+            }
+        }
+    )* };
 }
-
-impl<'de> Deserialize<'de> for Tree {
-    fn deserialize<D: Deserializer<'de>>(from: D) -> Result<Self, D::Error> {
-        let tree = Tree::from_words(Vec::deserialize(from)?).map_err(D::Error::custom)?;
-        let right = tree.check();
-        right.then_some(tree).ok_or_else(|| D::Error::custom(crate::WrongTables))
-    }
-}
-
-impl<O> Serialize for WaveletMatrix<O> {
-    fn serialize<S: Serializer>(&self, to: S) -> Result<S::Ok, S::Error> {
-        self.block().serialize(to)
-    }
-}
-
-impl<'de> Deserialize<'de> for WaveletMatrix {
-    fn deserialize<D: Deserializer<'de>>(from: D) -> Result<Self, D::Error> {
-        let numbers = WaveletMatrix::from_words(Vec::deserialize(from)?).map_err(D::Error::custom)?;
-        let right = numbers.check();
-        right.then_some(numbers).ok_or_else(|| D::Error::custom(crate::WrongTables))
-    }
-}
-
-impl<O> Serialize for SparseBits<O> {
-    fn serialize<S: Serializer>(&self, to: S) -> Result<S::Ok, S::Error> {
-        self.block().serialize(to)
-    }
-}
-
-impl<'de> Deserialize<'de> for SparseBits {
-    fn deserialize<D: Deserializer<'de>>(from: D) -> Result<Self, D::Error> {
-        let bits = SparseBits::from_words(Vec::deserialize(from)?).map_err(D::Error::custom)?;
-        let right = bits.check();
-        right.then_some(bits).ok_or_else(|| D::Error::custom(crate::WrongTables))
-    }
-}
-
-impl<O> Serialize for Dictionary<O> {
-    fn serialize<S: Serializer>(&self, to: S) -> Result<S::Ok, S::Error> {
-        self.block().serialize(to)
-    }
-}
-
-impl<'de> Deserialize<'de> for Dictionary {
-    fn deserialize<D: Deserializer<'de>>(from: D) -> Result<Self, D::Error> {
-        let made = Dictionary::from_words(Vec::deserialize(from)?).map_err(D::Error::custom)?;
-        let right = made.check();
-        right.then_some(made).ok_or_else(|| D::Error::custom(crate::WrongTables))
-    }
-}
+deserializes_what_is_right!(Index<Vec<u64>>, EliasFano, Tree, WaveletMatrix, SparseBits, Dictionary);

@@ -1,173 +1,121 @@
 //! Sparse bits: queries that panic where their block is wrong.
-use crate::errors::{sure, ListError};
+use crate::answers::{answers, by_view};
+use crate::errors::ListError;
 use crate::sys::sequence::SequenceView;
 use crate::sys::sparse::owned::SparseBits;
 use crate::sys::sparse::SparseBitsView;
 
-macro_rules! answers {
-    ($kind:ty, $self:ident, $view:expr, $($generic:tt)*) => {
-        impl $($generic)* $kind {
-            /// The bit at a position; `None` exactly where there is none. One proved call.
-            ///
-            /// ```
-            /// let bits = bitm_proved::SparseBits::build(&[3, 100, 101, 4000], 5000)?;
-            /// assert_eq!((bits.get(100), bits.get(5000)), (Some(true), None));
-            /// # Ok::<(), bitm_proved::BuildError>(())
-            /// ```
-            #[inline]
-            #[track_caller]
-            pub fn get(&$self, position: usize) -> Option<bool> {
-                sure($view.checked_get(position))
-            }
+answers! { SparseBitsView, SparseBits;
+    /// The bit at a position; `None` exactly where there is none. One proved call.
+    ///
+    /// ```
+    /// let bits = bitm_proved::SparseBits::build(&[3, 100, 101, 4000], 5000)?;
+    /// assert_eq!((bits.get(100), bits.get(5000)), (Some(true), None));
+    /// # Ok::<(), bitm_proved::BuildError>(())
+    /// ```
+    pub fn get(&self, position: usize) -> Option<bool> = checked_get;
 
-            /// How many 1 bits there are before a position; `None` exactly where it is past the end. One proved call.
-            ///
-            /// ```
-            /// let bits = bitm_proved::SparseBits::build(&[3, 100, 101, 4000], 5000)?;
-            /// assert_eq!((bits.rank(101), bits.rank(5000), bits.rank(5001)), (Some(2), Some(4), None));
-            /// # Ok::<(), bitm_proved::BuildError>(())
-            /// ```
-            #[inline]
-            #[track_caller]
-            pub fn rank(&$self, position: usize) -> Option<usize> {
-                sure($view.checked_rank(position))
-            }
+    /// How many 1 bits there are before a position; `None` exactly where it is past the end. One proved call.
+    ///
+    /// ```
+    /// let bits = bitm_proved::SparseBits::build(&[3, 100, 101, 4000], 5000)?;
+    /// assert_eq!((bits.rank(101), bits.rank(5000), bits.rank(5001)), (Some(2), Some(4), None));
+    /// # Ok::<(), bitm_proved::BuildError>(())
+    /// ```
+    pub fn rank(&self, position: usize) -> Option<usize> = checked_rank;
 
-            /// How many 0 bits there are before a position; `None` exactly where it is past the end. One proved call.
-            ///
-            /// ```
-            /// let bits = bitm_proved::SparseBits::build(&[3, 100, 101, 4000], 5000)?;
-            /// assert_eq!((bits.rank0(101), bits.rank0(5001)), (Some(99), None));
-            /// # Ok::<(), bitm_proved::BuildError>(())
-            /// ```
-            #[inline]
-            #[track_caller]
-            pub fn rank0(&$self, position: usize) -> Option<usize> {
-                sure($view.checked_rank0(position))
-            }
+    /// How many 0 bits there are before a position; `None` exactly where it is past the end. One proved call.
+    ///
+    /// ```
+    /// let bits = bitm_proved::SparseBits::build(&[3, 100, 101, 4000], 5000)?;
+    /// assert_eq!((bits.rank0(101), bits.rank0(5001)), (Some(99), None));
+    /// # Ok::<(), bitm_proved::BuildError>(())
+    /// ```
+    pub fn rank0(&self, position: usize) -> Option<usize> = checked_rank0;
 
-            /// The position of the 1 bit with that rank; `None` where there is none. One proved call.
-            ///
-            /// ```
-            /// let bits = bitm_proved::SparseBits::build(&[3, 100, 101, 4000], 5000)?;
-            /// assert_eq!((bits.select(3), bits.select(4)), (Some(4000), None));
-            /// # Ok::<(), bitm_proved::BuildError>(())
-            /// ```
-            #[inline]
-            #[track_caller]
-            pub fn select(&$self, rank: usize) -> Option<usize> {
-                sure($view.checked_select(rank))
-            }
+    /// The position of the 1 bit with that rank; `None` where there is none. One proved call.
+    ///
+    /// ```
+    /// let bits = bitm_proved::SparseBits::build(&[3, 100, 101, 4000], 5000)?;
+    /// assert_eq!((bits.select(3), bits.select(4)), (Some(4000), None));
+    /// # Ok::<(), bitm_proved::BuildError>(())
+    /// ```
+    pub fn select(&self, rank: usize) -> Option<usize> = checked_select;
 
-            /// The position of the 0 bit with that rank; `None` where there is none. One proved call.
-            ///
-            /// ```
-            /// let bits = bitm_proved::SparseBits::build(&[3, 100, 101, 4000], 5000)?;
-            /// assert_eq!((bits.select0(3), bits.select0(4996)), (Some(4), None));
-            /// # Ok::<(), bitm_proved::BuildError>(())
-            /// ```
-            #[inline]
-            #[track_caller]
-            pub fn select0(&$self, rank: usize) -> Option<usize> {
-                sure($view.checked_select0(rank))
-            }
+    /// The position of the 0 bit with that rank; `None` where there is none. One proved call.
+    ///
+    /// ```
+    /// let bits = bitm_proved::SparseBits::build(&[3, 100, 101, 4000], 5000)?;
+    /// assert_eq!((bits.select0(3), bits.select0(4996)), (Some(4), None));
+    /// # Ok::<(), bitm_proved::BuildError>(())
+    /// ```
+    pub fn select0(&self, rank: usize) -> Option<usize> = checked_select0;
 
-            /// The position of the first 1 bit at or after a position; `None` where there is none. One proved call.
-            ///
-            /// ```
-            /// let bits = bitm_proved::SparseBits::build(&[3, 100, 101, 4000], 5000)?;
-            /// assert_eq!((bits.next_one(102), bits.next_one(4001)), (Some(4000), None));
-            /// # Ok::<(), bitm_proved::BuildError>(())
-            /// ```
-            #[inline]
-            #[track_caller]
-            pub fn next_one(&$self, from: usize) -> Option<usize> {
-                sure($view.checked_next_one(from))
-            }
+    /// The position of the first 1 bit at or after a position; `None` where there is none. One proved call.
+    ///
+    /// ```
+    /// let bits = bitm_proved::SparseBits::build(&[3, 100, 101, 4000], 5000)?;
+    /// assert_eq!((bits.next_one(102), bits.next_one(4001)), (Some(4000), None));
+    /// # Ok::<(), bitm_proved::BuildError>(())
+    /// ```
+    pub fn next_one(&self, from: usize) -> Option<usize> = checked_next_one;
 
-            /// The position of the first 0 bit at or after a position; `None` where there is none. One proved call.
-            ///
-            /// ```
-            /// let bits = bitm_proved::SparseBits::build(&[3, 100, 101, 4000], 5000)?;
-            /// assert_eq!((bits.next_zero(100), bits.next_zero(5000)), (Some(102), None));
-            /// # Ok::<(), bitm_proved::BuildError>(())
-            /// ```
-            #[inline]
-            #[track_caller]
-            pub fn next_zero(&$self, from: usize) -> Option<usize> {
-                sure($view.checked_next_zero(from))
-            }
+    /// The position of the first 0 bit at or after a position; `None` where there is none. One proved call.
+    ///
+    /// ```
+    /// let bits = bitm_proved::SparseBits::build(&[3, 100, 101, 4000], 5000)?;
+    /// assert_eq!((bits.next_zero(100), bits.next_zero(5000)), (Some(102), None));
+    /// # Ok::<(), bitm_proved::BuildError>(())
+    /// ```
+    pub fn next_zero(&self, from: usize) -> Option<usize> = checked_next_zero;
 
-            /// The position of the last 1 bit at or before a position, which may be past the end; `None` where there is
-            /// none. One proved call.
-            ///
-            /// ```
-            /// let bits = bitm_proved::SparseBits::build(&[3, 100, 101, 4000], 5000)?;
-            /// assert_eq!((bits.previous_one(3999), bits.previous_one(2)), (Some(101), None));
-            /// # Ok::<(), bitm_proved::BuildError>(())
-            /// ```
-            #[inline]
-            #[track_caller]
-            pub fn previous_one(&$self, from: usize) -> Option<usize> {
-                sure($view.checked_previous_one(from))
-            }
+    /// The position of the last 1 bit at or before a position, which may be past the end; `None` where there is
+    /// none. One proved call.
+    ///
+    /// ```
+    /// let bits = bitm_proved::SparseBits::build(&[3, 100, 101, 4000], 5000)?;
+    /// assert_eq!((bits.previous_one(3999), bits.previous_one(2)), (Some(101), None));
+    /// # Ok::<(), bitm_proved::BuildError>(())
+    /// ```
+    pub fn previous_one(&self, from: usize) -> Option<usize> = checked_previous_one;
 
-            /// The position of the last 0 bit at or before a position, which may be past the end; `None` where there is
-            /// none. One proved call.
-            ///
-            /// ```
-            /// let bits = bitm_proved::SparseBits::build(&[3, 100, 101, 4000], 5000)?;
-            /// assert_eq!((bits.previous_zero(101), bits.previous_zero(9999)), (Some(99), Some(4999)));
-            /// # Ok::<(), bitm_proved::BuildError>(())
-            /// ```
-            #[inline]
-            #[track_caller]
-            pub fn previous_zero(&$self, from: usize) -> Option<usize> {
-                sure($view.checked_previous_zero(from))
-            }
+    /// The position of the last 0 bit at or before a position, which may be past the end; `None` where there is
+    /// none. One proved call.
+    ///
+    /// ```
+    /// let bits = bitm_proved::SparseBits::build(&[3, 100, 101, 4000], 5000)?;
+    /// assert_eq!((bits.previous_zero(101), bits.previous_zero(9999)), (Some(99), Some(4999)));
+    /// # Ok::<(), bitm_proved::BuildError>(())
+    /// ```
+    pub fn previous_zero(&self, from: usize) -> Option<usize> = checked_previous_zero;
 
-            /// How many 1 bits there are. One proved call.
-            ///
-            /// ```
-            /// let bits = bitm_proved::SparseBits::build(&[3, 100, 101, 4000], 5000)?;
-            /// assert_eq!(bits.count_ones(), 4);
-            /// # Ok::<(), bitm_proved::BuildError>(())
-            /// ```
-            #[inline]
-            #[track_caller]
-            pub fn count_ones(&$self) -> usize {
-                $self.rank($view.len()).unwrap_or(0)
-            }
+    /// How many 1 bits there are. One proved call.
+    ///
+    /// ```
+    /// let bits = bitm_proved::SparseBits::build(&[3, 100, 101, 4000], 5000)?;
+    /// assert_eq!(bits.count_ones(), 4);
+    /// # Ok::<(), bitm_proved::BuildError>(())
+    /// ```
+    pub fn count_ones(&self) -> usize = ones;
 
-            /// How many 0 bits there are. One proved call.
-            ///
-            /// ```
-            /// let bits = bitm_proved::SparseBits::build(&[3, 100, 101, 4000], 5000)?;
-            /// assert_eq!(bits.count_zeros(), 4996);
-            /// # Ok::<(), bitm_proved::BuildError>(())
-            /// ```
-            #[inline]
-            #[track_caller]
-            pub fn count_zeros(&$self) -> usize {
-                $self.rank0($view.len()).unwrap_or(0)
-            }
-        }
-    };
+    /// How many 0 bits there are. One proved call.
+    ///
+    /// ```
+    /// let bits = bitm_proved::SparseBits::build(&[3, 100, 101, 4000], 5000)?;
+    /// assert_eq!(bits.count_zeros(), 4996);
+    /// # Ok::<(), bitm_proved::BuildError>(())
+    /// ```
+    pub fn count_zeros(&self) -> usize = zeros;
 }
-answers!(SparseBitsView<'_>, self, self,);
-answers!(SparseBits<O>, self, self.view(), <O>);
 
-impl<O> SparseBits<O> {
+by_view! { SparseBits;
     /// How many bits there are.
     ///
     /// ```
     /// assert_eq!(bitm_proved::SparseBits::build(&[3, 100], 5000)?.len(), 5000);
     /// # Ok::<(), bitm_proved::BuildError>(())
     /// ```
-    #[inline]
-    pub fn len(&self) -> usize {
-        self.view().len()
-    }
+    pub fn len(&self) -> usize;
 
     /// Whether there are none.
     ///
@@ -176,10 +124,7 @@ impl<O> SparseBits<O> {
     /// assert!(SparseBits::build(&[], 0)?.is_empty() && !SparseBits::build(&[], 1)?.is_empty());
     /// # Ok::<(), bitm_proved::BuildError>(())
     /// ```
-    #[inline]
-    pub fn is_empty(&self) -> bool {
-        self.len() == 0
-    }
+    pub fn is_empty(&self) -> bool;
 
     /// The words of the block, which are those of a file of these bits.
     ///
@@ -189,10 +134,7 @@ impl<O> SparseBits<O> {
     /// assert_eq!(SparseBits::from_words(made.block())?.block(), made.block());
     /// # Ok::<(), Box<dyn std::error::Error>>(())
     /// ```
-    #[inline]
-    pub fn block(&self) -> &[u64] {
-        self.view().block()
-    }
+    pub fn block(&self) -> &[u64];
 
     /// The positions of the 1 bits.
     ///
@@ -201,9 +143,7 @@ impl<O> SparseBits<O> {
     /// assert!(bits.positions().iter().eq([3, 100]));
     /// # Ok::<(), bitm_proved::BuildError>(())
     /// ```
-    pub fn positions(&self) -> SequenceView<'_> {
-        self.view().positions()
-    }
+    pub fn positions(&self) -> SequenceView<'_>;
 
     /// Whether the block is as it was written and holds sparse bits: looks at all of it.
     ///
@@ -211,9 +151,7 @@ impl<O> SparseBits<O> {
     /// assert!(bitm_proved::SparseBits::build(&[3, 100], 5000)?.check());
     /// # Ok::<(), bitm_proved::BuildError>(())
     /// ```
-    pub fn check(&self) -> bool {
-        self.view().check()
-    }
+    pub fn check(&self) -> bool;
 
     /// The bits at a list of positions, as 0 and 1; how many of these are past the end, for which `NO_ANSWER` stands.
     ///
@@ -223,9 +161,7 @@ impl<O> SparseBits<O> {
     /// assert_eq!((bits.get_list(&[3, 4, 5000], &mut out), out), (Ok(1), [1, 0, NO_ANSWER]));
     /// # Ok::<(), bitm_proved::BuildError>(())
     /// ```
-    pub fn get_list(&self, positions: &[usize], out: &mut [usize]) -> Result<usize, ListError> {
-        self.view().get_list(positions, out)
-    }
+    pub fn get_list(&self, positions: &[usize], out: &mut [usize]) -> Result<usize, ListError>;
 
     /// How many 1 bits there are before each of a list of positions; how many of these are past the end, for which
     /// `NO_ANSWER` stands.
@@ -236,9 +172,7 @@ impl<O> SparseBits<O> {
     /// assert_eq!((bits.rank_list(&[3, 101, 5001], &mut out), out), (Ok(1), [0, 2, NO_ANSWER]));
     /// # Ok::<(), bitm_proved::BuildError>(())
     /// ```
-    pub fn rank_list(&self, positions: &[usize], out: &mut [usize]) -> Result<usize, ListError> {
-        self.view().rank_list(positions, out)
-    }
+    pub fn rank_list(&self, positions: &[usize], out: &mut [usize]) -> Result<usize, ListError>;
 
     /// How many 0 bits there are before each of a list of positions, as `rank_list`.
     ///
@@ -248,9 +182,7 @@ impl<O> SparseBits<O> {
     /// assert_eq!((bits.rank0_list(&[3, 101, 5001], &mut out), out), (Ok(1), [3, 99, NO_ANSWER]));
     /// # Ok::<(), bitm_proved::BuildError>(())
     /// ```
-    pub fn rank0_list(&self, positions: &[usize], out: &mut [usize]) -> Result<usize, ListError> {
-        self.view().rank0_list(positions, out)
-    }
+    pub fn rank0_list(&self, positions: &[usize], out: &mut [usize]) -> Result<usize, ListError>;
 
     /// The position of the 1 bit with each of a list of ranks; how many there are not, for which `NO_ANSWER` stands.
     ///
@@ -260,9 +192,7 @@ impl<O> SparseBits<O> {
     /// assert_eq!((bits.select_list(&[0, 3, 4], &mut out), out), (Ok(1), [3, 4000, NO_ANSWER]));
     /// # Ok::<(), bitm_proved::BuildError>(())
     /// ```
-    pub fn select_list(&self, ranks: &[usize], out: &mut [usize]) -> Result<usize, ListError> {
-        self.view().select_list(ranks, out)
-    }
+    pub fn select_list(&self, ranks: &[usize], out: &mut [usize]) -> Result<usize, ListError>;
 
     /// The position of the 0 bit with each of a list of ranks, as `select_list`.
     ///
@@ -272,7 +202,5 @@ impl<O> SparseBits<O> {
     /// assert_eq!((bits.select0_list(&[3, 98, 4996], &mut out), out), (Ok(1), [4, 99, NO_ANSWER]));
     /// # Ok::<(), bitm_proved::BuildError>(())
     /// ```
-    pub fn select0_list(&self, ranks: &[usize], out: &mut [usize]) -> Result<usize, ListError> {
-        self.view().select0_list(ranks, out)
-    }
+    pub fn select0_list(&self, ranks: &[usize], out: &mut [usize]) -> Result<usize, ListError>;
 }

@@ -1,4 +1,5 @@
 //! The only module with `unsafe` blocks: calls of the archive, memory, owners, bytes and mapped files.
+pub(crate) mod block;
 pub(crate) mod bytes;
 pub(crate) mod dictionary;
 pub(crate) mod hash;
@@ -6,11 +7,13 @@ pub(crate) mod held;
 #[cfg(all(feature = "std", target_os = "linux"))]
 pub(crate) mod huge;
 pub(crate) mod index;
+pub(crate) mod lists;
 #[cfg(all(feature = "mmap", unix))]
 pub(crate) mod mapped;
 pub(crate) mod matrix;
 pub(crate) mod memory;
 pub(crate) mod owned;
+pub(crate) mod owner;
 pub(crate) mod parts;
 pub(crate) mod reads;
 pub(crate) mod sequence;
@@ -24,7 +27,7 @@ pub(crate) mod view;
 pub(crate) mod writes;
 
 use crate::errors::WrongTables;
-pub(crate) use crate::ffi::bits::{BITM_NONE as NONE, BITM_OK as OK, BITM_UNSORTED as UNSORTED, BITM_WRONG as WRONG};
+pub(crate) use crate::ffi::words::{BITM_NONE as NONE, BITM_OK as OK, BITM_UNSORTED as UNSORTED, BITM_WRONG as WRONG};
 use core::mem::MaybeUninit;
 
 /// The number of the archive's version: 10000 times the major, 100 times the minor one, and the patch.
@@ -34,7 +37,7 @@ use core::mem::MaybeUninit;
 /// ```
 pub fn library_version() -> u32 {
     // SAFETY: the call takes nothing.
-    unsafe { crate::ffi::bits::bitm_version() }
+    unsafe { crate::ffi::words::bitm_version() }
 }
 
 /// Makes a query of words with tables, or of a sequence.

@@ -4,7 +4,7 @@ use bitm_proved::{
     bytes_of, BuildError, Dictionary, DictionaryView, ListError, SparseBits, SparseBitsView, StoredError, Tree,
     NO_ANSWER,
 };
-use common::Random;
+use common::{any_owner, with_any_words, with_one_bit_changed, Random};
 use std::collections::BTreeSet;
 use std::panic::{RefUnwindSafe, UnwindSafe};
 use std::sync::Arc;
@@ -77,25 +77,10 @@ fn keys_that_are_refused() {
 
 #[test]
 fn any_owner_has_a_dictionary_in_its_words_or_bytes() {
-    let mut random = Random(62);
-    let keys = drawn(300, 60, &mut random);
+    let keys = drawn(300, 60, &mut Random(62));
     let file = Dictionary::build(&keys).expect("any").into_owner();
-    fn try_words<O: AsRef<[u64]>>(owner: O, keys: &[u64], len: usize) {
-        let mut many: Vec<Dictionary<O>> = vec![Dictionary::from_words(owner).expect("a block")];
-        many.reserve(100); // moves it
-        let found = Box::new(many.remove(0));
-        as_plain(found.view(), keys, &mut Random(63));
-        assert_eq!(format!("{found:?}"), "dictionary of 300 keys");
-        assert_eq!((found.owner().as_ref().len(), found.into_owner().as_ref()[3]), (len, 300));
-    }
-    try_words(&file[..], &keys, file.len());
-    try_words(file.clone().into_boxed_slice(), &keys, file.len());
-    try_words(Arc::<[u64]>::from(&file[..]), &keys, file.len());
-    as_plain(Dictionary::from_bytes(bytes_of(&file)).expect("aligned").view(), &keys, &mut random);
-    let longer = [file.clone(), vec![7; 5]].concat();
-    let view = DictionaryView::from_words(&longer).expect("words after the block are not its own");
-    assert_eq!(view.block(), file);
-    as_plain(&view, &keys, &mut random);
+    let look = |found: &DictionaryView<'_>| as_plain(found, &keys, &mut Random(63));
+    any_owner!(Dictionary, DictionaryView, file, "dictionary of 300 keys", look);
 }
 
 #[test]
@@ -123,25 +108,16 @@ fn each_changed_word_is_seen_and_never_leads_to_another_key() {
     let mut random = Random(65);
     let keys = drawn(60, 50, &mut random);
     let good = Dictionary::build(&keys).expect("any").into_owner();
-    let begin = good[17] as usize / 8; // where the first section begins, by the directory
-    for at in 0..good.len() {
-        for bit in (0..64).step_by(3) {
-            let mut block = good.clone();
-            block[at] ^= 1 << bit;
-            match DictionaryView::from_words(&block) {
-                Err(why) => assert_eq!((why, at < begin), (StoredError::NotWhole, true)),
-                Ok(found) => {
-                    assert!(at >= begin && !found.check());
-                    held(&found, &keys);
-                }
-            }
+    with_one_bit_changed(&good, 3, |block, in_header| match DictionaryView::from_words(block) {
+        Err(why) => assert_eq!((why, in_header), (StoredError::NotWhole, true)),
+        Ok(found) => {
+            assert!(!in_header && !found.check());
+            held(&found, &keys);
         }
-    }
-    for _ in 0..300 {
-        let mut block = good.clone();
-        block[begin..].iter_mut().for_each(|it| *it = random.next() & random.next());
-        held(&DictionaryView::from_words(&block).expect("the header is right"), &keys);
-    }
+    });
+    with_any_words(&good, &mut random, |block, _| {
+        held(&DictionaryView::from_words(block).expect("the header is right"), &keys);
+    });
 }
 
 #[test]

@@ -30,10 +30,24 @@ fn source() -> Vec<(String, String)> {
     all.map(of).filter(|(name, _)| !name.starts_with("ffi")).collect()
 }
 
+/// How a line begins that calls a macro which makes items or impls.
+const BY_MACRO: [&str; 10] = [
+    "answers",
+    "by_view!",
+    "combines!",
+    "compares!",
+    "deserializes",
+    "files!",
+    "iterates!",
+    "owners",
+    "serializes",
+    "views!",
+];
+
 /// Whether a line begins an item that somebody else sees.
 fn begins(line: &str, in_trait: bool, in_enum: bool) -> bool {
     let is_seen = line.starts_with("pub ") && !line.starts_with("pub use crate::sys");
-    let is_impl = ["impl", "answers", "combines!", "compares!"].iter().any(|it| line.starts_with(it));
+    let is_impl = line.starts_with("impl") || BY_MACRO.iter().any(|it| line.starts_with(it));
     let is_method = in_trait && ["fn ", "unsafe fn ", "type "].iter().any(|it| line.starts_with(it));
     let is_variant = in_enum && line.starts_with(char::is_uppercase);
     is_seen || is_impl || is_method || is_variant
@@ -66,7 +80,10 @@ fn items_of(name: &str, text: &str) -> Vec<String> {
         if ends(line) {
             let item = open.take().unwrap_or_default();
             let item = item.trim_end_matches(['{', ';', ',', '}']).trim().replace("( ", "(").replace(", )", ")");
-            all.push(format!("{name}: {item}"));
+            // Of a method that a macro makes by another one: without that one, and not in the macro.
+            let made_by = item.split_once(" = ").filter(|_| item.contains("fn "));
+            let item = made_by.map_or(item.as_str(), |(item, _)| item);
+            all.extend((!item.contains("$name")).then(|| format!("{name}: {item}")));
         }
     }
     all

@@ -5,7 +5,7 @@ use bitm_proved::{
     bytes_of, BuildError, ListError, StoredError, Tree, TreeView, WaveletMatrix, WaveletMatrixView, WrongTables,
     NO_ANSWER,
 };
-use common::Random;
+use common::{any_owner, with_any_words, with_one_bit_changed, Random};
 use std::panic::{RefUnwindSafe, UnwindSafe};
 use std::sync::Arc;
 
@@ -121,28 +121,10 @@ fn numbers_and_widths_that_are_refused() {
 
 #[test]
 fn any_owner_has_a_list_in_its_words_or_bytes() {
-    let mut random = Random(42);
-    let plain = drawn(300, 9, &mut random);
+    let plain = drawn(300, 9, &mut Random(42));
     let file = WaveletMatrix::build(&plain).expect("any").into_owner();
-    fn try_words<O: AsRef<[u64]>>(owner: O, plain: &[u64]) {
-        let mut many: Vec<WaveletMatrix<O>> = vec![WaveletMatrix::from_words(owner).expect("a block")];
-        many.reserve(100); // moves it
-        let list = Box::new(many.remove(0));
-        as_a_plain_list(list.view(), plain, &mut Random(43));
-        assert_eq!(
-            (list.owner().as_ref().len(), format!("{list:?}")),
-            (list.block().len(), "300 numbers of 9 bits".into())
-        );
-        assert_eq!(list.into_owner().as_ref()[3], 300);
-    }
-    try_words(&file[..], &plain);
-    try_words(file.clone().into_boxed_slice(), &plain);
-    try_words(Arc::<[u64]>::from(&file[..]), &plain);
-    as_a_plain_list(WaveletMatrix::from_bytes(bytes_of(&file)).expect("aligned").view(), &plain, &mut random);
-    let longer = [file.clone(), vec![7; 5]].concat();
-    let view = WaveletMatrixView::from_words(&longer).expect("words after the block are not its own");
-    assert_eq!(view.block(), file);
-    as_a_plain_list(&view, &plain, &mut random);
+    let look = |list: &WaveletMatrixView<'_>| as_a_plain_list(list, &plain, &mut Random(43));
+    any_owner!(WaveletMatrix, WaveletMatrixView, file, "300 numbers of 9 bits", look);
 }
 
 #[test]
@@ -185,25 +167,16 @@ fn inside(list: &WaveletMatrixView<'_>, random: &mut Random) -> usize {
 fn each_changed_word_is_seen_and_never_leads_outside() {
     let mut random = Random(45);
     let good = WaveletMatrix::build(&drawn(90, 5, &mut random)).expect("any").into_owner();
-    let begin = good[17] as usize / 8; // where the first section begins, by the directory
-    for at in 0..good.len() {
-        for bit in (0..64).step_by(3) {
-            let mut block = good.clone();
-            block[at] ^= 1 << bit;
-            match WaveletMatrixView::from_words(&block) {
-                Err(why) => assert_eq!((why, at < begin), (StoredError::NotWhole, true)),
-                Ok(list) => {
-                    assert!(at >= begin && !list.check());
-                    inside(&list, &mut random);
-                }
-            }
+    with_one_bit_changed(&good, 3, |block, in_header| match WaveletMatrixView::from_words(block) {
+        Err(why) => assert_eq!((why, in_header), (StoredError::NotWhole, true)),
+        Ok(list) => {
+            assert!(!in_header && !list.check());
+            inside(&list, &mut random);
         }
-    }
-    for _ in 0..300 {
-        let mut block = good.clone();
-        block[begin..].iter_mut().for_each(|it| *it = random.next() & random.next());
-        inside(&WaveletMatrixView::from_words(&block).expect("the header is right"), &mut random);
-    }
+    });
+    with_any_words(&good, &mut random, |block, random| {
+        inside(&WaveletMatrixView::from_words(block).expect("the header is right"), random);
+    });
 }
 
 #[test]

@@ -5,7 +5,7 @@ use bitm_proved::{
     IndexView, ListError, NoMemory, Numbers, PerfectHash, Queries, Rank, RankSelect101111, RankSimple, Sampling,
     Select, Select0, Sequence, SequenceView, StoredError, WrongTables,
 };
-use common::says;
+use common::{says, Fickle};
 use std::cell::RefCell;
 use std::error::Error;
 use std::panic::{RefUnwindSafe, UnwindSafe};
@@ -28,19 +28,6 @@ fn any_owner_has_an_index_over_its_words() {
     try_owner(Arc::<[u64]>::from(&words[..]));
     try_owner(<[u64; 4]>::try_from(&words[..]).expect("four")); // inline: moved into memory of its own
     try_owner(std::borrow::Cow::Borrowed(&words[..]));
-}
-
-/// Borrows other words each time: the index uses the first.
-struct Fickle(Vec<u64>, Vec<u64>, std::cell::Cell<bool>);
-
-impl AsRef<[u64]> for Fickle {
-    fn as_ref(&self) -> &[u64] {
-        if self.2.replace(true) {
-            &self.1
-        } else {
-            &self.0
-        }
-    }
 }
 
 #[test]

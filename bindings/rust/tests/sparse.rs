@@ -4,7 +4,7 @@ mod common;
 use bitm_proved::{
     bytes_of, BuildError, ListError, SparseBits, SparseBitsView, StoredError, Tree, TreeView, WrongTables, NO_ANSWER,
 };
-use common::Random;
+use common::{any_owner, with_any_words, with_one_bit_changed, Random};
 use std::panic::{RefUnwindSafe, UnwindSafe};
 use std::sync::Arc;
 
@@ -158,28 +158,10 @@ fn lists_of_as_many_bits_as_there_can_be() {
 
 #[test]
 fn any_owner_has_bits_in_its_words_or_bytes() {
-    let mut random = Random(52);
-    let plain = Plain::drawn(300, 90, 7, &mut random);
+    let plain = Plain::drawn(300, 90, 7, &mut Random(52));
     let file = SparseBits::build(&plain.positions, plain.len).expect("any").into_owner();
-    fn try_words<O: AsRef<[u64]>>(owner: O, plain: &Plain) {
-        let mut many: Vec<SparseBits<O>> = vec![SparseBits::from_words(owner).expect("a block")];
-        many.reserve(100); // moves it
-        let bits = Box::new(many.remove(0));
-        as_plain(bits.view(), plain, &mut Random(53));
-        assert_eq!(format!("{bits:?}"), format!("{} bits, 300 ones", plain.len));
-        assert_eq!((bits.owner().as_ref().len(), bits.into_owner().as_ref()[3]), (bits_len(plain), 300));
-    }
-    fn bits_len(plain: &Plain) -> usize {
-        SparseBits::build(&plain.positions, plain.len).expect("any").block().len()
-    }
-    try_words(&file[..], &plain);
-    try_words(file.clone().into_boxed_slice(), &plain);
-    try_words(Arc::<[u64]>::from(&file[..]), &plain);
-    as_plain(SparseBits::from_bytes(bytes_of(&file)).expect("aligned").view(), &plain, &mut random);
-    let longer = [file.clone(), vec![7; 5]].concat();
-    let view = SparseBitsView::from_words(&longer).expect("words after the block are not its own");
-    assert_eq!(view.block(), file);
-    as_plain(&view, &plain, &mut random);
+    let look = |bits: &SparseBitsView<'_>| as_plain(bits, &plain, &mut Random(53));
+    any_owner!(SparseBits, SparseBitsView, file, &format!("{} bits, 300 ones", plain.len), look);
 }
 
 #[test]
@@ -219,25 +201,16 @@ fn each_changed_word_is_seen_and_never_leads_outside() {
     let mut random = Random(55);
     let plain = Plain::drawn(60, 70, 3, &mut random);
     let good = SparseBits::build(&plain.positions, plain.len).expect("any").into_owner();
-    let begin = good[17] as usize / 8; // where the first section begins, by the directory
-    for at in 0..good.len() {
-        for bit in (0..64).step_by(3) {
-            let mut block = good.clone();
-            block[at] ^= 1 << bit;
-            match SparseBitsView::from_words(&block) {
-                Err(why) => assert_eq!((why, at < begin), (StoredError::NotWhole, true)),
-                Ok(bits) => {
-                    assert!(at >= begin && !bits.check());
-                    inside(&bits);
-                }
-            }
+    with_one_bit_changed(&good, 3, |block, in_header| match SparseBitsView::from_words(block) {
+        Err(why) => assert_eq!((why, in_header), (StoredError::NotWhole, true)),
+        Ok(bits) => {
+            assert!(!in_header && !bits.check());
+            inside(&bits);
         }
-    }
-    for _ in 0..300 {
-        let mut block = good.clone();
-        block[begin..].iter_mut().for_each(|it| *it = random.next() & random.next());
-        inside(&SparseBitsView::from_words(&block).expect("the header is right"));
-    }
+    });
+    with_any_words(&good, &mut random, |block, _| {
+        inside(&SparseBitsView::from_words(block).expect("the header is right"));
+    });
 }
 
 #[test]

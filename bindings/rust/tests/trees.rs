@@ -4,7 +4,7 @@ use bitm_proved::{
     bytes_of, BuildError, EliasFano, IndexView, ListError, SequenceView, StoredError, Tree, TreeView, WrongTables,
     NO_ANSWER,
 };
-use common::{says, Random};
+use common::{any_owner, says, with_any_words, with_one_bit_changed, Fickle, Random};
 use std::panic::{RefUnwindSafe, UnwindSafe};
 use std::sync::Arc;
 
@@ -118,38 +118,7 @@ fn degrees_of_no_tree_are_refused() {
 fn any_owner_has_a_tree_in_its_words_or_bytes() {
     let degrees = drawn(300, 4, &mut Random(32));
     let file = Tree::build(&degrees).expect("a tree").into_owner();
-    fn try_words<O: AsRef<[u64]>>(owner: O, degrees: &[u64]) {
-        let mut many: Vec<Tree<O>> = vec![Tree::from_words(owner).expect("a block")];
-        many.reserve(100); // moves it
-        let tree = Box::new(many.remove(0));
-        as_plain_lists(tree.view(), degrees);
-        assert_eq!(
-            (tree.owner().as_ref().len(), format!("{tree:?}").as_str()),
-            (tree.block().len(), "a tree of 300 nodes")
-        );
-        assert_eq!(tree.into_owner().as_ref()[3], 300);
-    }
-    try_words(&file[..], &degrees);
-    try_words(file.clone().into_boxed_slice(), &degrees);
-    try_words(Arc::<[u64]>::from(&file[..]), &degrees);
-    as_plain_lists(Tree::from_bytes(bytes_of(&file)).expect("aligned").view(), &degrees);
-    let longer = [file.clone(), vec![7; 5]].concat();
-    let view = TreeView::from_words(&longer).expect("words after the block are not its own");
-    assert_eq!(view.block(), file);
-    as_plain_lists(&view, &degrees);
-}
-
-/// Borrows other words each time: the tree uses the first.
-struct Fickle(Vec<u64>, Vec<u64>, std::cell::Cell<bool>);
-
-impl AsRef<[u64]> for Fickle {
-    fn as_ref(&self) -> &[u64] {
-        if self.2.replace(true) {
-            &self.1
-        } else {
-            &self.0
-        }
-    }
+    any_owner!(Tree, TreeView, file, "a tree of 300 nodes", |tree: &TreeView<'_>| as_plain_lists(tree, &degrees));
 }
 
 #[test]
@@ -203,24 +172,16 @@ fn each_changed_word_is_seen_and_never_leads_outside() {
     let mut random = Random(35);
     let good = Tree::build(&drawn(90, 4, &mut random)).expect("a tree").into_owner();
     let mut wrong = 0;
-    for at in 0..good.len() {
-        for bit in 0..64 {
-            let mut block = good.clone();
-            block[at] ^= 1 << bit;
-            match TreeView::from_words(&block) {
-                Err(why) => assert_eq!((why, at < 32), (StoredError::NotWhole, true)),
-                Ok(tree) => {
-                    assert!(at >= 32 && !tree.check());
-                    wrong += inside(&tree);
-                }
-            }
+    with_one_bit_changed(&good, 1, |block, in_header| match TreeView::from_words(block) {
+        Err(why) => assert_eq!((why, in_header), (StoredError::NotWhole, true)),
+        Ok(tree) => {
+            assert!(!in_header && !tree.check());
+            wrong += inside(&tree);
         }
-    }
-    for _ in 0..300 {
-        let mut block = good.clone();
-        block[32..].iter_mut().for_each(|it| *it = random.next() & random.next());
-        wrong += inside(&TreeView::from_words(&block).expect("the header is right"));
-    }
+    });
+    with_any_words(&good, &mut random, |block, _| {
+        wrong += inside(&TreeView::from_words(block).expect("the header is right"));
+    });
     assert!(wrong > 0);
 }
 

@@ -1,5 +1,5 @@
 //! Few bits of bytes: the original's, by a pointer, and the proved calls on slices.
-use crate::ffi::bits::*;
+use crate::ffi::words::*;
 
 /// The bits from `first_bit` to the end of the eight bytes that begin with its byte. Tested, not proved.
 ///

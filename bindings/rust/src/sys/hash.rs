@@ -1,10 +1,10 @@
 //! Minimal perfect hashes: a number of its own below n for each of n keys, by the key's hash of 64 bits.
 use crate::errors::{sure, BuildError, ListError, WrongTables};
-use crate::ffi::index::bitm_list_counts;
-use crate::ffi::sequence::*;
+use crate::ffi::blocks::*;
+use crate::sys::lists::query_list;
 use crate::sys::memory::{as_u64_mut, copied, zeroed};
 use crate::sys::tables::Tables;
-use crate::sys::view::{list_answer, IndexView};
+use crate::sys::view::IndexView;
 use crate::sys::{query, OK};
 use alloc::vec::Vec;
 use core::fmt;
@@ -200,12 +200,10 @@ impl PerfectHash {
     /// # Ok::<(), bitm_proved::BuildError>(())
     /// ```
     pub fn get_list(&self, hashes: &[u64], out: &mut [usize]) -> Result<usize, ListError> {
-        let (len, room) = (hashes.len(), out.len());
-        let (from, to) = (hashes.as_ptr(), as_u64_mut(out).as_mut_ptr());
-        let mut counts = bitm_list_counts { missing: 0, wrong: 0 };
-        // SAFETY: borrowed slices that do not overlap, and room for the counts.
-        let status = unsafe { bitm_hash_get_list(&self.raw, from, len, to, room, &mut counts) };
-        list_answer(status, counts, len, room)
+        query_list(hashes.len(), as_u64_mut(out), |to, room, counts| {
+            // SAFETY: borrowed slices that do not overlap, and room for the counts.
+            unsafe { bitm_hash_get_list(&self.raw, hashes.as_ptr(), hashes.len(), to, room, counts) }
+        })
     }
 }
 

@@ -2,15 +2,15 @@
 pub(crate) mod owned;
 
 use crate::errors::{BuildError, ListError, StoredError, WrongTables};
-use crate::ffi::index::bitm_list_counts;
-use crate::ffi::matrix::*;
+use crate::ffi::blocks::*;
+use crate::ffi::words::bitm_list_counts;
+use crate::sys::block::{views, Block, Parts};
+use crate::sys::lists::{pairs, query_items, query_list};
 use crate::sys::memory::{as_u64, as_u64_mut, words_of, zeroed};
-use crate::sys::tree::block_in;
-use crate::sys::view::list_answer;
-use crate::sys::{query, OK, WRONG};
+use crate::sys::{OK, WRONG};
 use alloc::vec::Vec;
+use core::fmt;
 use core::ops::Range;
-use core::{fmt, ptr};
 
 type InRange = unsafe extern "C" fn(*const bitm_matrix, usize, usize, u64, *mut u64) -> u32;
 type Many = unsafe extern "C" fn(
@@ -37,102 +37,16 @@ type Many = unsafe extern "C" fn(
 /// ```
 #[derive(Clone, Copy)]
 pub struct WaveletMatrixView<'a> {
-    raw: bitm_matrix,
-    block: &'a [u64],
+    block: Block<'a, bitm_matrix>,
 }
 
-// SAFETY: the pointers lie in a shared slice, and no call has state.
-unsafe impl Send for WaveletMatrixView<'_> {}
-// SAFETY: as of `Send`.
-unsafe impl Sync for WaveletMatrixView<'_> {}
-
-const NONE: bitm_matrix = bitm_matrix {
-    len: 0,
-    width: 0,
-    words: ptr::null(),
-    words_len: 0,
-    upper: ptr::null(),
-    upper_len: 0,
-    lower: ptr::null(),
-    lower_len: 0,
-    ones: ptr::null(),
-    ones_len: 0,
-    zeros: ptr::null(),
-    zeros_len: 0,
-    reserved: [0; 2],
-};
+views! { WaveletMatrixView;
+    |it: bitm_matrix| it.len, bitm_matrix_open, bitm_matrix_check;
+    "this list", "bitm_proved::WaveletMatrix::build(&[3, 1, 4])?", "3", "numbers",
+    "such a list: looks at all of it, twice"
+}
 
 impl<'a> WaveletMatrixView<'a> {
-    /// Of the block that begins the words of a file. What its sections hold is not tested: `check` does that.
-    ///
-    /// ```
-    /// use bitm_proved::{StoredError, WaveletMatrix, WaveletMatrixView};
-    /// let made = WaveletMatrix::build(&[3, 1, 4])?;
-    /// assert_eq!(WaveletMatrixView::from_words(made.block())?.get(2), Some(4));
-    /// assert_eq!(WaveletMatrixView::from_words(&made.block()[1..]).err(), Some(StoredError::NotWhole));
-    /// # Ok::<(), Box<dyn std::error::Error>>(())
-    /// ```
-    pub fn from_words(file: &'a [u64]) -> Result<Self, StoredError> {
-        let (block, mut raw) = (block_in(file).ok_or(StoredError::NotWhole)?, NONE);
-        // SAFETY: a slice, and a struct of zeros, which the call may write.
-        match unsafe { bitm_matrix_open(block.as_ptr(), block.len(), &mut raw) } {
-            OK => Ok(WaveletMatrixView { raw, block }),
-            _ => Err(StoredError::NotWhole),
-        }
-    }
-
-    /// Of the bytes of a file, which begin at a multiple of 8.
-    ///
-    /// ```
-    /// use bitm_proved::{bytes_of, StoredError, WaveletMatrix, WaveletMatrixView};
-    /// let made = WaveletMatrix::build(&[3, 1, 4])?;
-    /// assert_eq!(WaveletMatrixView::from_bytes(bytes_of(made.block()))?.len(), 3);
-    /// let moved = &bytes_of(made.block())[1..];
-    /// assert_eq!(WaveletMatrixView::from_bytes(moved).err(), Some(StoredError::Misaligned));
-    /// # Ok::<(), Box<dyn std::error::Error>>(())
-    /// ```
-    pub fn from_bytes(bytes: &'a [u8]) -> Result<Self, StoredError> {
-        Self::from_words(words_of(bytes).ok_or(StoredError::Misaligned)?)
-    }
-
-    /// The words of the block, which are those of a file of this list.
-    ///
-    /// ```
-    /// use bitm_proved::{WaveletMatrix, WaveletMatrixView};
-    /// let made = WaveletMatrix::build(&[3, 1, 4])?;
-    /// let mut file = made.block().to_vec();
-    /// file.push(7); // no word of the block
-    /// assert_eq!(WaveletMatrixView::from_words(&file)?.block(), made.block());
-    /// # Ok::<(), Box<dyn std::error::Error>>(())
-    /// ```
-    #[inline]
-    pub fn block(&self) -> &'a [u64] {
-        self.block
-    }
-
-    /// How many numbers there are.
-    ///
-    /// ```
-    /// assert_eq!(bitm_proved::WaveletMatrix::build(&[3, 1, 4])?.view().len(), 3);
-    /// # Ok::<(), bitm_proved::BuildError>(())
-    /// ```
-    #[inline]
-    pub fn len(&self) -> usize {
-        self.raw.len
-    }
-
-    /// Whether there are none.
-    ///
-    /// ```
-    /// use bitm_proved::WaveletMatrix;
-    /// assert!(WaveletMatrix::build(&[])?.view().is_empty() && !WaveletMatrix::build(&[0])?.view().is_empty());
-    /// # Ok::<(), bitm_proved::BuildError>(())
-    /// ```
-    #[inline]
-    pub fn is_empty(&self) -> bool {
-        self.len() == 0
-    }
-
     /// How many bits each number has at most.
     ///
     /// ```
@@ -143,22 +57,7 @@ impl<'a> WaveletMatrixView<'a> {
     /// ```
     #[inline]
     pub fn width(&self) -> u32 {
-        self.raw.width as u32
-    }
-
-    /// Whether the block is as it was written and holds such a list: looks at all of it, twice.
-    ///
-    /// ```
-    /// use bitm_proved::{WaveletMatrix, WaveletMatrixView};
-    /// let mut block = WaveletMatrix::build(&[3, 1, 4])?.into_owner();
-    /// assert!(WaveletMatrixView::from_words(&block)?.check());
-    /// *block.last_mut().unwrap() ^= 1;
-    /// assert!(!WaveletMatrixView::from_words(&block)?.check());
-    /// # Ok::<(), Box<dyn std::error::Error>>(())
-    /// ```
-    pub fn check(&self) -> bool {
-        // SAFETY: a slice.
-        unsafe { bitm_matrix_check(self.block.as_ptr(), self.block.len()) == OK }
+        self.block.parts().width as u32
     }
 
     /// The number at an index; `None` exactly where there is none.
@@ -170,8 +69,8 @@ impl<'a> WaveletMatrixView<'a> {
     /// ```
     #[inline]
     pub fn checked_get(&self, index: usize) -> Result<Option<u64>, WrongTables> {
-        // SAFETY: a view, which borrows its block, and room for the number that the call writes where it returns OK.
-        unsafe { query(|out| bitm_matrix_get(&self.raw, index, out)) }
+        // SAFETY: the call writes the number where it returns OK.
+        unsafe { self.block.query(|matrix, out| bitm_matrix_get(matrix, index, out)) }
     }
 
     /// How many of the numbers before an index are this one; `None` exactly where the index is past the end.
@@ -184,8 +83,7 @@ impl<'a> WaveletMatrixView<'a> {
     #[inline]
     pub fn checked_rank(&self, number: u64, index: usize) -> Result<Option<usize>, WrongTables> {
         // SAFETY: as of `checked_get`.
-        let found = unsafe { query(|out| bitm_matrix_rank(&self.raw, number, index, out)) };
-        Ok(found?.map(|it| it as usize))
+        unsafe { self.block.find(|matrix, out| bitm_matrix_rank(matrix, number, index, out)) }
     }
 
     /// The index of this number with exactly `rank` such numbers before it; `None` where there are no more than `rank`.
@@ -198,13 +96,24 @@ impl<'a> WaveletMatrixView<'a> {
     #[inline]
     pub fn checked_select(&self, number: u64, rank: usize) -> Result<Option<usize>, WrongTables> {
         // SAFETY: as of `checked_get`.
-        let found = unsafe { query(|out| bitm_matrix_select(&self.raw, number, rank, out)) };
-        Ok(found?.map(|it| it as usize))
+        unsafe { self.block.find(|matrix, out| bitm_matrix_select(matrix, number, rank, out)) }
     }
 
     fn in_range(&self, call: InRange, range: Range<usize>, number: u64) -> Result<Option<u64>, WrongTables> {
         // SAFETY: as of `checked_get`.
-        unsafe { query(|out| call(&self.raw, range.start, range.end, number, out)) }
+        unsafe { self.block.query(|matrix, out| call(matrix, range.start, range.end, number, out)) }
+    }
+
+    /// How often a number is in the list.
+    #[inline]
+    pub(crate) fn count_of(&self, number: u64) -> Result<usize, WrongTables> {
+        Ok(self.checked_rank(number, self.len())?.unwrap_or(0))
+    }
+
+    /// Whether a number is in the list.
+    #[inline]
+    pub(crate) fn has(&self, number: u64) -> Result<bool, WrongTables> {
+        Ok(self.count_of(number)? > 0)
     }
 
     /// How many numbers of a range are less than `bound`; `None` exactly where there is no such range.
@@ -230,7 +139,7 @@ impl<'a> WaveletMatrixView<'a> {
     /// ```
     pub fn checked_quantile(&self, range: Range<usize>, k: usize) -> Result<Option<u64>, WrongTables> {
         // SAFETY: as of `checked_get`.
-        unsafe { query(|out| bitm_matrix_quantile(&self.raw, range.start, range.end, k, out)) }
+        unsafe { self.block.query(|matrix, out| bitm_matrix_quantile(matrix, range.start, range.end, k, out)) }
     }
 
     /// The least number of a range that is at least `bound`; `None` where there is none, or no such range.
@@ -265,28 +174,19 @@ impl<'a> WaveletMatrixView<'a> {
     /// # Ok::<(), bitm_proved::BuildError>(())
     /// ```
     pub fn get_list<'b>(&self, indices: &[usize], out: &'b mut [u64]) -> Result<&'b [u64], ListError> {
-        let (from, len, room, mut written) = (as_u64(indices), indices.len(), out.len(), 0);
-        // SAFETY: a view, a shared and a mutable slice, which do not overlap, and room for one number.
-        let status = unsafe {
-            let to = out.as_mut_ptr();
-            bitm_matrix_get_list(&self.raw, from.as_ptr(), len, to, room, &mut written)
-        };
-        if status != OK {
-            return Err(ListError::Lengths { queries: len, room });
-        }
-        Ok(&out[..written as usize])
+        let (from, len) = (as_u64(indices).as_ptr(), indices.len());
+        query_items(len, out, |to, room, written| {
+            // SAFETY: a view, a shared and a mutable slice, which do not overlap, and room for one number.
+            unsafe { bitm_matrix_get_list(self.block.parts(), from, len, to, room, written) }
+        })
     }
 
     fn list(&self, call: Many, numbers: &[u64], others: &[usize], out: &mut [usize]) -> Result<usize, ListError> {
-        if others.len() != numbers.len() {
-            return Err(ListError::Pairs { first: numbers.len(), second: others.len() });
-        }
-        let (len, room) = (numbers.len(), out.len());
-        let mut counts = bitm_list_counts { missing: 0, wrong: 0 };
-        let (from, of, to) = (numbers.as_ptr(), as_u64(others).as_ptr(), as_u64_mut(out).as_mut_ptr());
-        // SAFETY: a view, two shared slices and a mutable one, which overlaps neither, and room for the counts.
-        let status = unsafe { call(&self.raw, from, len, of, len, to, room, &mut counts) };
-        list_answer(status, counts, len, room)
+        let (from, of, len) = (numbers.as_ptr(), as_u64(others).as_ptr(), pairs(numbers.len(), others.len())?);
+        query_list(len, as_u64_mut(out), |to, room, counts| {
+            // SAFETY: a view, two shared slices and a mutable one, which overlaps neither, and room for the counts.
+            unsafe { call(self.block.parts(), from, len, of, len, to, room, counts) }
+        })
     }
 
     /// How many of the numbers before `indices[i]` are `numbers[i]`; of how many there is no such index, which

@@ -1,7 +1,8 @@
 //! A sequence and the owner of its parts.
 use crate::errors::{BuildError, StoredError};
 use crate::sys::held::Held;
-use crate::sys::memory::{words_of, zeroed};
+use crate::sys::memory::zeroed;
+use crate::sys::owner::owners;
 use crate::sys::sequence::{build, SequenceView};
 use alloc::vec::Vec;
 use core::fmt;
@@ -91,77 +92,6 @@ impl Clone for EliasFano {
     }
 }
 
-impl<O: AsRef<[u64]>> Sequence<O> {
-    /// The sequence in a file, whose words the owner has. The contents of its parts are not tested: `check` does that.
-    ///
-    /// ```
-    /// use bitm_proved::{EliasFano, Sequence};
-    /// let file = EliasFano::build(&[2, 3, 5])?.to_stored()?;
-    /// assert_eq!(Sequence::from_words(&file)?.get(2), Some(5));
-    /// # Ok::<(), Box<dyn std::error::Error>>(())
-    /// ```
-    pub fn from_words(owner: O) -> Result<Self, StoredError> {
-        let held = Held::new(owner)?;
-        // SAFETY: `Sequence` hands it out only for as long as it is borrowed itself.
-        let view = SequenceView::from_words(unsafe { held.borrowed() })?;
-        Ok(Sequence { view, held })
-    }
-}
-
-impl<O: AsRef<[u8]>> Sequence<O> {
-    /// The sequence in a file, whose bytes the owner has; they begin at a multiple of 8.
-    ///
-    /// ```
-    /// use bitm_proved::{bytes_of, EliasFano, Sequence};
-    /// let file = EliasFano::build(&[2, 3, 5])?.to_stored()?;
-    /// assert_eq!(Sequence::from_bytes(bytes_of(&file))?.len(), 3);
-    /// # Ok::<(), Box<dyn std::error::Error>>(())
-    /// ```
-    pub fn from_bytes(owner: O) -> Result<Self, StoredError> {
-        let held = Held::new(owner)?;
-        // SAFETY: `Sequence` hands it out only for as long as it is borrowed itself.
-        let words = words_of(unsafe { held.borrowed() }).ok_or(StoredError::Misaligned)?;
-        let view = SequenceView::from_words(words)?;
-        Ok(Sequence { view, held })
-    }
-}
-
-impl<O> Sequence<O> {
-    /// A view of the parts.
-    ///
-    /// ```
-    /// let primes = bitm_proved::EliasFano::build(&[2, 3, 5])?;
-    /// assert_eq!((primes.view().len(), primes.view().get(1)), (3, Some(3)));
-    /// # Ok::<(), bitm_proved::BuildError>(())
-    /// ```
-    #[inline(always)]
-    pub fn view(&self) -> &SequenceView<'_> {
-        &self.view
-    }
-
-    /// The owner.
-    ///
-    /// ```
-    /// assert!(bitm_proved::EliasFano::build(&[9])?.owner().len() < 8);
-    /// # Ok::<(), bitm_proved::BuildError>(())
-    /// ```
-    pub fn owner(&self) -> &O {
-        self.held.owner()
-    }
-
-    /// The owner, without the sequence.
-    ///
-    /// ```
-    /// assert!(bitm_proved::EliasFano::build(&[9])?.into_owner().len() < 8);
-    /// # Ok::<(), bitm_proved::BuildError>(())
-    /// ```
-    pub fn into_owner(self) -> O {
-        self.held.into_owner()
-    }
-}
-
-impl<O> fmt::Debug for Sequence<O> {
-    fn fmt(&self, f: &mut fmt::Formatter<'_>) -> fmt::Result {
-        self.view().fmt(f)
-    }
+owners! { Sequence with SequenceView;
+    "sequence", "bitm_proved::EliasFano::build(&[2, 3, 5])?", "3", "&made.to_stored()?"
 }

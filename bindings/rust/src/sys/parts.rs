@@ -1,6 +1,6 @@
 //! Ranks of words and tables that a user may have written: the struct for the archive is made anew for each.
 use crate::errors::WrongTables;
-use crate::ffi::index::{bitm_index, bitm_index_rank, bitm_samples};
+use crate::ffi::words::{bitm_index, bitm_index_rank, bitm_samples};
 use crate::sys::query;
 use crate::sys::view::NO_SAMPLES;
 use core::mem::offset_of;

@@ -1,6 +1,16 @@
 //! Proved reads of the first `bits_len` bits of words, without tables: one call of the archive each.
 use super::found;
-use crate::ffi::bits::*;
+use crate::ffi::words::*;
+
+/// Makes a call that reads the first `bits_len` bits of words, and may have no answer. It gets a pointer to the words,
+/// how many these are, how many bits, and a pointer to the answer.
+#[inline(always)]
+#[track_caller]
+fn read(words: &[u64], bits_len: usize, call: impl FnOnce(*const u64, usize, u64, *mut u64) -> u32) -> Option<u64> {
+    let mut out = 0;
+    let status = call(words.as_ptr(), words.len(), bits_len as u64, &mut out);
+    found(status, out, bits_len, words.len())
+}
 
 /// The bit at a position; `None` exactly where it is `bits_len` or more.
 ///
@@ -10,10 +20,11 @@ use crate::ffi::bits::*;
 /// ```
 #[track_caller]
 pub fn get(words: &[u64], bits_len: usize, position: usize) -> Option<bool> {
-    let (at, len, mut out) = (words.as_ptr(), words.len(), 0);
-    // SAFETY: a slice, and room for one number.
-    let status = unsafe { bitm_bits_get(at, len, bits_len as u64, position as u64, &mut out) };
-    Some(found(status, out, bits_len, len)? == 1)
+    let bit = read(words, bits_len, |at, len, bits, out| {
+        // SAFETY: a slice, and room for one number.
+        unsafe { bitm_bits_get(at, len, bits, position as u64, out) }
+    });
+    Some(bit? == 1)
 }
 
 /// The number that `width` bits from `begin` on are, lowest first, 0 to 64 bits; `None` exactly where they do not all
@@ -25,11 +36,10 @@ pub fn get(words: &[u64], bits_len: usize, position: usize) -> Option<bool> {
 /// ```
 #[track_caller]
 pub fn get_number(words: &[u64], bits_len: usize, begin: usize, width: u8) -> Option<u64> {
-    let (at, len, mut out) = (words.as_ptr(), words.len(), 0);
-    let (bits, begin, width) = (bits_len as u64, begin as u64, width.into());
-    // SAFETY: a slice, and room for one number.
-    let status = unsafe { bitm_bits_get_number(at, len, bits, begin, width, &mut out) };
-    found(status, out, bits_len, len)
+    read(words, bits_len, |at, len, bits, out| {
+        // SAFETY: a slice, and room for one number.
+        unsafe { bitm_bits_get_number(at, len, bits, begin as u64, width.into(), out) }
+    })
 }
 
 /// Number `index` of an array of numbers of `width` bits; `None` exactly where it does not end by `bits_len`.
@@ -40,11 +50,10 @@ pub fn get_number(words: &[u64], bits_len: usize, begin: usize, width: u8) -> Op
 /// ```
 #[track_caller]
 pub fn get_fragment(words: &[u64], bits_len: usize, index: usize, width: u8) -> Option<u64> {
-    let (at, len, mut out) = (words.as_ptr(), words.len(), 0);
-    let (bits, index, width) = (bits_len as u64, index as u64, width.into());
-    // SAFETY: a slice, and room for one number.
-    let status = unsafe { bitm_bits_get_fragment(at, len, bits, index, width, &mut out) };
-    found(status, out, bits_len, len)
+    read(words, bits_len, |at, len, bits, out| {
+        // SAFETY: a slice, and room for one number.
+        unsafe { bitm_bits_get_fragment(at, len, bits, index as u64, width.into(), out) }
+    })
 }
 
 /// How many 1 bits there are, or 0 bits where `one` is false.
@@ -55,10 +64,11 @@ pub fn get_fragment(words: &[u64], bits_len: usize, index: usize, width: u8) -> 
 /// ```
 #[track_caller]
 pub fn count(words: &[u64], bits_len: usize, one: bool) -> usize {
-    let (at, len, mut out) = (words.as_ptr(), words.len(), 0);
-    // SAFETY: a slice, and room for one number.
-    let status = unsafe { bitm_bits_count(at, len, bits_len as u64, one, &mut out) };
-    found(status, out, bits_len, len).unwrap_or(0) as usize
+    let found = read(words, bits_len, |at, len, bits, out| {
+        // SAFETY: a slice, and room for one number.
+        unsafe { bitm_bits_count(at, len, bits, one, out) }
+    });
+    found.unwrap_or(0) as usize
 }
 
 /// How many 1 bits, or 0 bits, there are from `from` on and before `to`; `None` exactly where `from` is above `to`, or
@@ -70,11 +80,11 @@ pub fn count(words: &[u64], bits_len: usize, one: bool) -> usize {
 /// ```
 #[track_caller]
 pub fn count_range(words: &[u64], bits_len: usize, one: bool, from: usize, to: usize) -> Option<usize> {
-    let (at, len, mut out) = (words.as_ptr(), words.len(), 0);
-    let (bits, from, to) = (bits_len as u64, from as u64, to as u64);
-    // SAFETY: a slice, and room for one number.
-    let status = unsafe { bitm_bits_count_range(at, len, bits, one, from, to, &mut out) };
-    Some(found(status, out, bits_len, len)? as usize)
+    let found = read(words, bits_len, |at, len, bits, out| {
+        // SAFETY: a slice, and room for one number.
+        unsafe { bitm_bits_count_range(at, len, bits, one, from as u64, to as u64, out) }
+    });
+    Some(found? as usize)
 }
 
 /// The position of the first 1 bit, or 0 bit, at or after `from`; `None` exactly where there is none.
@@ -85,10 +95,11 @@ pub fn count_range(words: &[u64], bits_len: usize, one: bool, from: usize, to: u
 /// ```
 #[track_caller]
 pub fn next(words: &[u64], bits_len: usize, one: bool, from: usize) -> Option<usize> {
-    let (at, len, mut out) = (words.as_ptr(), words.len(), 0);
-    // SAFETY: a slice, and room for one number.
-    let status = unsafe { bitm_bits_next(at, len, bits_len as u64, one, from as u64, &mut out) };
-    Some(found(status, out, bits_len, len)? as usize)
+    let found = read(words, bits_len, |at, len, bits, out| {
+        // SAFETY: a slice, and room for one number.
+        unsafe { bitm_bits_next(at, len, bits, one, from as u64, out) }
+    });
+    Some(found? as usize)
 }
 
 /// The position of the last 1 bit, or 0 bit, at or before `from`, which may be past the end; `None` exactly where there
@@ -100,11 +111,11 @@ pub fn next(words: &[u64], bits_len: usize, one: bool, from: usize) -> Option<us
 /// ```
 #[track_caller]
 pub fn previous(words: &[u64], bits_len: usize, one: bool, from: usize) -> Option<usize> {
-    let (at, len, mut out) = (words.as_ptr(), words.len(), 0);
-    let (bits, from) = (bits_len as u64, from as u64);
-    // SAFETY: a slice, and room for one number.
-    let status = unsafe { bitm_bits_previous(at, len, bits, one, from, &mut out) };
-    Some(found(status, out, bits_len, len)? as usize)
+    let found = read(words, bits_len, |at, len, bits, out| {
+        // SAFETY: a slice, and room for one number.
+        unsafe { bitm_bits_previous(at, len, bits, one, from as u64, out) }
+    });
+    Some(found? as usize)
 }
 
 /// The positions of the 1 bits, or 0 bits, from `from` on, in increasing order, until there is no more room.

@@ -1,9 +1,9 @@
 //! Monotone integer sequences (Elias-Fano) in borrowed parts.
 use crate::errors::{BuildError, ListError, WrongTables};
-use crate::ffi::index::bitm_list_counts;
-use crate::ffi::sequence::*;
+use crate::ffi::blocks::*;
+use crate::ffi::words::{bitm_list_counts, bitm_sequence_lens};
+use crate::sys::lists::{query_items, query_list};
 use crate::sys::memory::{as_u64, as_u64_mut, zeroed};
-use crate::sys::view::list_answer;
 use crate::sys::{query, OK, UNSORTED};
 use alloc::vec::Vec;
 use core::marker::PhantomData;
@@ -228,25 +228,18 @@ impl<'a> SequenceView<'a> {
     /// # Ok::<(), bitm_proved::BuildError>(())
     /// ```
     pub fn get_list<'b>(&self, indexes: &[usize], out: &'b mut [u64]) -> Result<&'b [u64], ListError> {
-        let (from, len, room, mut written) = (as_u64(indexes), indexes.len(), out.len(), 0);
-        // SAFETY: a view, a shared and a mutable slice, which do not overlap, and room for one number.
-        let status = unsafe {
-            let to = out.as_mut_ptr();
-            bitm_sequence_get_list(&self.raw, from.as_ptr(), len, to, room, &mut written)
-        };
-        if status != OK {
-            return Err(ListError::Lengths { queries: len, room });
-        }
-        Ok(&out[..written as usize])
+        let (from, len) = (as_u64(indexes).as_ptr(), indexes.len());
+        query_items(len, out, |to, room, written| {
+            // SAFETY: a view, a shared and a mutable slice, which do not overlap, and room for one number.
+            unsafe { bitm_sequence_get_list(&self.raw, from, len, to, room, written) }
+        })
     }
 
     fn list(&self, call: Many, values: &[u64], out: &mut [u64]) -> Result<usize, ListError> {
-        let (len, room) = (values.len(), out.len());
-        let mut counts = bitm_list_counts { missing: 0, wrong: 0 };
-        let (from, to) = (values.as_ptr(), out.as_mut_ptr());
-        // SAFETY: a view, a shared and a mutable slice, which do not overlap, and room for the counts.
-        let status = unsafe { call(&self.raw, from, len, to, room, &mut counts) };
-        list_answer(status, counts, len, room)
+        query_list(values.len(), out, |to, room, counts| {
+            // SAFETY: a view, a shared and a mutable slice, which do not overlap, and room for the counts.
+            unsafe { call(&self.raw, values.as_ptr(), values.len(), to, room, counts) }
+        })
     }
 
     /// The successors of a list of values; how many have none, which `NO_ANSWER` stands for.

@@ -1,7 +1,6 @@
 //! Bits in shards: which shard holds a position or a rank, and shards of one process asked as one.
 use crate::errors::WrongTables;
-use crate::ffi::index::bitm_index;
-use crate::ffi::shards::*;
+use crate::ffi::words::*;
 use crate::sys::view::IndexView;
 use crate::sys::{query, NONE, OK};
 use alloc::vec;

@@ -2,16 +2,17 @@
 pub(crate) mod owned;
 
 use crate::errors::{BuildError, ListError, StoredError, WrongTables};
-use crate::ffi::index::bitm_list_counts;
-use crate::ffi::sequence::*;
+use crate::ffi::blocks::*;
+use crate::ffi::words::bitm_list_counts;
+use crate::sys::block::{views, Block, Parts};
+use crate::sys::lists::query_list;
 use crate::sys::memory::{as_u64, as_u64_mut, words_of, zeroed};
 use crate::sys::sequence::SequenceView;
-use crate::sys::tree::block_in;
-use crate::sys::view::list_answer;
-use crate::sys::{query, OK, UNSORTED, WRONG};
+use crate::sys::{OK, UNSORTED, WRONG};
 use alloc::vec::Vec;
-use core::{fmt, ptr};
+use core::fmt;
 
+type One = unsafe extern "C" fn(*const bitm_sparse, bool, u64, *mut u64) -> u32;
 type Many =
     unsafe extern "C" fn(*const bitm_sparse, bool, *const u64, usize, *mut u64, usize, *mut bitm_list_counts) -> u32;
 
@@ -28,104 +29,16 @@ type Many =
 /// ```
 #[derive(Clone, Copy)]
 pub struct SparseBitsView<'a> {
-    raw: bitm_sparse,
-    block: &'a [u64],
+    block: Block<'a, bitm_sparse>,
 }
 
-// SAFETY: the pointers lie in a shared slice, and no call has state.
-unsafe impl Send for SparseBitsView<'_> {}
-// SAFETY: as of `Send`.
-unsafe impl Sync for SparseBitsView<'_> {}
-
-const NONE: bitm_sparse = bitm_sparse {
-    positions: bitm_sequence {
-        len: 0,
-        width: 0,
-        low: ptr::null(),
-        low_len: 0,
-        words: ptr::null(),
-        words_len: 0,
-        upper: ptr::null(),
-        upper_len: 0,
-        lower: ptr::null(),
-        lower_len: 0,
-        reserved: [0; 2],
-    },
-    bits_len: 0,
-    reserved: [0; 2],
-};
+views! { SparseBitsView;
+    |it: bitm_sparse| it.bits_len as usize, bitm_sparse_open, bitm_sparse_check;
+    "these bits", "bitm_proved::SparseBits::build(&[3, 100], 5000)?", "5000", "bits",
+    "sparse bits: looks at all of it"
+}
 
 impl<'a> SparseBitsView<'a> {
-    /// Of the block that begins the words of a file. What its sections hold is not tested: `check` does that.
-    ///
-    /// ```
-    /// use bitm_proved::{SparseBits, SparseBitsView, StoredError};
-    /// let made = SparseBits::build(&[3, 100], 5000)?;
-    /// assert_eq!(SparseBitsView::from_words(made.block())?.select(1), Some(100));
-    /// assert_eq!(SparseBitsView::from_words(&made.block()[1..]).err(), Some(StoredError::NotWhole));
-    /// # Ok::<(), Box<dyn std::error::Error>>(())
-    /// ```
-    pub fn from_words(file: &'a [u64]) -> Result<Self, StoredError> {
-        let (block, mut raw) = (block_in(file).ok_or(StoredError::NotWhole)?, NONE);
-        // SAFETY: a slice, and a struct of zeros, which the call may write.
-        match unsafe { bitm_sparse_open(block.as_ptr(), block.len(), &mut raw) } {
-            OK => Ok(SparseBitsView { raw, block }),
-            _ => Err(StoredError::NotWhole),
-        }
-    }
-
-    /// Of the bytes of a file, which begin at a multiple of 8.
-    ///
-    /// ```
-    /// use bitm_proved::{bytes_of, SparseBits, SparseBitsView, StoredError};
-    /// let made = SparseBits::build(&[3, 100], 5000)?;
-    /// assert_eq!(SparseBitsView::from_bytes(bytes_of(made.block()))?.len(), 5000);
-    /// let moved = &bytes_of(made.block())[1..];
-    /// assert_eq!(SparseBitsView::from_bytes(moved).err(), Some(StoredError::Misaligned));
-    /// # Ok::<(), Box<dyn std::error::Error>>(())
-    /// ```
-    pub fn from_bytes(bytes: &'a [u8]) -> Result<Self, StoredError> {
-        Self::from_words(words_of(bytes).ok_or(StoredError::Misaligned)?)
-    }
-
-    /// The words of the block, which are those of a file of these bits.
-    ///
-    /// ```
-    /// use bitm_proved::{SparseBits, SparseBitsView};
-    /// let made = SparseBits::build(&[3, 100], 5000)?;
-    /// let mut file = made.block().to_vec();
-    /// file.push(7); // no word of the block
-    /// assert_eq!(SparseBitsView::from_words(&file)?.block(), made.block());
-    /// # Ok::<(), Box<dyn std::error::Error>>(())
-    /// ```
-    #[inline]
-    pub fn block(&self) -> &'a [u64] {
-        self.block
-    }
-
-    /// How many bits there are.
-    ///
-    /// ```
-    /// assert_eq!(bitm_proved::SparseBits::build(&[3, 100], 5000)?.view().len(), 5000);
-    /// # Ok::<(), bitm_proved::BuildError>(())
-    /// ```
-    #[inline]
-    pub fn len(&self) -> usize {
-        self.raw.bits_len as usize
-    }
-
-    /// Whether there are none.
-    ///
-    /// ```
-    /// use bitm_proved::SparseBits;
-    /// assert!(SparseBits::build(&[], 0)?.view().is_empty() && !SparseBits::build(&[], 1)?.view().is_empty());
-    /// # Ok::<(), bitm_proved::BuildError>(())
-    /// ```
-    #[inline]
-    pub fn is_empty(&self) -> bool {
-        self.len() == 0
-    }
-
     /// The positions of the 1 bits.
     ///
     /// ```
@@ -134,22 +47,7 @@ impl<'a> SparseBitsView<'a> {
     /// # Ok::<(), bitm_proved::BuildError>(())
     /// ```
     pub fn positions(&self) -> SequenceView<'a> {
-        SequenceView::of(self.raw.positions)
-    }
-
-    /// Whether the block is as it was written and holds sparse bits: looks at all of it.
-    ///
-    /// ```
-    /// use bitm_proved::{SparseBits, SparseBitsView};
-    /// let mut block = SparseBits::build(&[3, 100], 5000)?.into_owner();
-    /// assert!(SparseBitsView::from_words(&block)?.check());
-    /// *block.last_mut().unwrap() ^= 1;
-    /// assert!(!SparseBitsView::from_words(&block)?.check());
-    /// # Ok::<(), Box<dyn std::error::Error>>(())
-    /// ```
-    pub fn check(&self) -> bool {
-        // SAFETY: a slice.
-        unsafe { bitm_sparse_check(self.block.as_ptr(), self.block.len()) == OK }
+        SequenceView::of(self.block.parts().positions)
     }
 
     /// The bit at a position; `None` exactly where there is none.
@@ -162,9 +60,27 @@ impl<'a> SparseBitsView<'a> {
     /// ```
     #[inline]
     pub fn checked_get(&self, position: usize) -> Result<Option<bool>, WrongTables> {
-        // SAFETY: a view, which borrows its block, and room for the number that the call writes where it returns OK.
-        let found = unsafe { query(|out| bitm_sparse_get(&self.raw, position as u64, out)) };
+        // SAFETY: the call writes the number where it returns OK.
+        let found = unsafe { self.block.query(|bits, out| bitm_sparse_get(bits, position as u64, out)) };
         Ok(found?.map(|it| it != 0))
+    }
+
+    #[inline(always)]
+    fn call(&self, call: One, one: bool, number: usize) -> Result<Option<usize>, WrongTables> {
+        // SAFETY: a call writes the number where it returns OK.
+        unsafe { self.block.find(|bits, out| call(bits, one, number as u64, out)) }
+    }
+
+    /// How many 1 bits there are.
+    #[inline]
+    pub(crate) fn ones(&self) -> Result<usize, WrongTables> {
+        Ok(self.checked_rank(self.len())?.unwrap_or(0))
+    }
+
+    /// How many 0 bits there are.
+    #[inline]
+    pub(crate) fn zeros(&self) -> Result<usize, WrongTables> {
+        Ok(self.checked_rank0(self.len())?.unwrap_or(0))
     }
 
     /// How many 1 bits there are before a position; `None` exactly where it is past the end.
@@ -178,9 +94,7 @@ impl<'a> SparseBitsView<'a> {
     /// ```
     #[inline]
     pub fn checked_rank(&self, position: usize) -> Result<Option<usize>, WrongTables> {
-        // SAFETY: as of `checked_get`.
-        let found = unsafe { query(|out| bitm_sparse_rank(&self.raw, true, position as u64, out)) };
-        Ok(found?.map(|it| it as usize))
+        self.call(bitm_sparse_rank, true, position)
     }
 
     /// How many 0 bits there are before a position; `None` exactly where it is past the end.
@@ -193,9 +107,7 @@ impl<'a> SparseBitsView<'a> {
     /// ```
     #[inline]
     pub fn checked_rank0(&self, position: usize) -> Result<Option<usize>, WrongTables> {
-        // SAFETY: as of `checked_get`.
-        let found = unsafe { query(|out| bitm_sparse_rank(&self.raw, false, position as u64, out)) };
-        Ok(found?.map(|it| it as usize))
+        self.call(bitm_sparse_rank, false, position)
     }
 
     /// The position of the 1 bit with that rank; `None` where there is none.
@@ -208,9 +120,7 @@ impl<'a> SparseBitsView<'a> {
     /// ```
     #[inline]
     pub fn checked_select(&self, rank: usize) -> Result<Option<usize>, WrongTables> {
-        // SAFETY: as of `checked_get`.
-        let found = unsafe { query(|out| bitm_sparse_select(&self.raw, true, rank as u64, out)) };
-        Ok(found?.map(|it| it as usize))
+        self.call(bitm_sparse_select, true, rank)
     }
 
     /// The position of the 0 bit with that rank; `None` where there is none.
@@ -223,9 +133,7 @@ impl<'a> SparseBitsView<'a> {
     /// ```
     #[inline]
     pub fn checked_select0(&self, rank: usize) -> Result<Option<usize>, WrongTables> {
-        // SAFETY: as of `checked_get`.
-        let found = unsafe { query(|out| bitm_sparse_select(&self.raw, false, rank as u64, out)) };
-        Ok(found?.map(|it| it as usize))
+        self.call(bitm_sparse_select, false, rank)
     }
 
     /// The position of the first 1 bit at or after a position; `None` where there is none.
@@ -238,9 +146,7 @@ impl<'a> SparseBitsView<'a> {
     /// ```
     #[inline]
     pub fn checked_next_one(&self, from: usize) -> Result<Option<usize>, WrongTables> {
-        // SAFETY: as of `checked_get`.
-        let found = unsafe { query(|out| bitm_sparse_next(&self.raw, true, from as u64, out)) };
-        Ok(found?.map(|it| it as usize))
+        self.call(bitm_sparse_next, true, from)
     }
 
     /// The position of the first 0 bit at or after a position; `None` where there is none.
@@ -253,9 +159,7 @@ impl<'a> SparseBitsView<'a> {
     /// ```
     #[inline]
     pub fn checked_next_zero(&self, from: usize) -> Result<Option<usize>, WrongTables> {
-        // SAFETY: as of `checked_get`.
-        let found = unsafe { query(|out| bitm_sparse_next(&self.raw, false, from as u64, out)) };
-        Ok(found?.map(|it| it as usize))
+        self.call(bitm_sparse_next, false, from)
     }
 
     /// The position of the last 1 bit at or before a position, which may be past the end; `None` where there is none.
@@ -268,9 +172,7 @@ impl<'a> SparseBitsView<'a> {
     /// ```
     #[inline]
     pub fn checked_previous_one(&self, from: usize) -> Result<Option<usize>, WrongTables> {
-        // SAFETY: as of `checked_get`.
-        let found = unsafe { query(|out| bitm_sparse_previous(&self.raw, true, from as u64, out)) };
-        Ok(found?.map(|it| it as usize))
+        self.call(bitm_sparse_previous, true, from)
     }
 
     /// The position of the last 0 bit at or before a position, which may be past the end; `None` where there is none.
@@ -283,9 +185,7 @@ impl<'a> SparseBitsView<'a> {
     /// ```
     #[inline]
     pub fn checked_previous_zero(&self, from: usize) -> Result<Option<usize>, WrongTables> {
-        // SAFETY: as of `checked_get`.
-        let found = unsafe { query(|out| bitm_sparse_previous(&self.raw, false, from as u64, out)) };
-        Ok(found?.map(|it| it as usize))
+        self.call(bitm_sparse_previous, false, from)
     }
 
     /// The bits at a list of positions, as 0 and 1; how many of these are past the end, for which `NO_ANSWER` stands.
@@ -297,21 +197,19 @@ impl<'a> SparseBitsView<'a> {
     /// # Ok::<(), bitm_proved::BuildError>(())
     /// ```
     pub fn get_list(&self, positions: &[usize], out: &mut [usize]) -> Result<usize, ListError> {
-        let (len, room) = (positions.len(), out.len());
-        let mut counts = bitm_list_counts { missing: 0, wrong: 0 };
-        let (from, to) = (as_u64(positions).as_ptr(), as_u64_mut(out).as_mut_ptr());
-        // SAFETY: a view, a shared and a mutable slice, which do not overlap, and room for the counts.
-        let status = unsafe { bitm_sparse_get_list(&self.raw, from, len, to, room, &mut counts) };
-        list_answer(status, counts, len, room)
+        let (from, len) = (as_u64(positions).as_ptr(), positions.len());
+        query_list(len, as_u64_mut(out), |to, room, counts| {
+            // SAFETY: a view, a shared and a mutable slice, which do not overlap, and room for the counts.
+            unsafe { bitm_sparse_get_list(self.block.parts(), from, len, to, room, counts) }
+        })
     }
 
     fn list(&self, call: Many, one: bool, queries: &[usize], out: &mut [usize]) -> Result<usize, ListError> {
-        let (len, room) = (queries.len(), out.len());
-        let mut counts = bitm_list_counts { missing: 0, wrong: 0 };
-        let (from, to) = (as_u64(queries).as_ptr(), as_u64_mut(out).as_mut_ptr());
-        // SAFETY: a view, a shared and a mutable slice, which do not overlap, and room for the counts.
-        let status = unsafe { call(&self.raw, one, from, len, to, room, &mut counts) };
-        list_answer(status, counts, len, room)
+        let (from, len) = (as_u64(queries).as_ptr(), queries.len());
+        query_list(len, as_u64_mut(out), |to, room, counts| {
+            // SAFETY: a view, a shared and a mutable slice, which do not overlap, and room for the counts.
+            unsafe { call(self.block.parts(), one, from, len, to, room, counts) }
+        })
     }
 
     /// How many 1 bits there are before each of a list of positions; how many of these are past the end, for which
@@ -366,7 +264,7 @@ impl<'a> SparseBitsView<'a> {
 
 impl fmt::Debug for SparseBitsView<'_> {
     fn fmt(&self, f: &mut fmt::Formatter<'_>) -> fmt::Result {
-        write!(f, "{} bits, {} ones", self.len(), self.raw.positions.len)
+        write!(f, "{} bits, {} ones", self.len(), self.block.parts().positions.len)
     }
 }
 

@@ -1,12 +1,11 @@
 //! Indexes and sequences in files, as `bitm.h` lays them out: the same bytes from each language.
 use crate::errors::StoredError;
-use crate::ffi::bits::BITM_OK as OK;
-use crate::ffi::index::*;
-use crate::ffi::sequence::bitm_sequence_lens;
+use crate::ffi::words::*;
 use crate::sys::memory::{halves, halves_mut, words_of, zeroed};
 use crate::sys::sequence::SequenceView;
 use crate::sys::tables::{table_lens, OwnSamples, Tables};
 use crate::sys::view::{IndexView, Samples};
+use crate::sys::OK;
 use alloc::vec::Vec;
 use core::slice;
 

@@ -1,6 +1,6 @@
 //! Proved builds of the tables and the samples of words.
 use crate::errors::{BuildError, NoMemory};
-use crate::ffi::index::*;
+use crate::ffi::words::*;
 use crate::sys::memory::{copied, zeroed};
 use crate::sys::view::IndexView;
 use crate::sys::OK;

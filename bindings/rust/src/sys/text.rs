@@ -2,12 +2,12 @@
 pub(crate) mod owned;
 
 use crate::errors::{BuildError, StoredError, WrongTables};
-use crate::ffi::matrix::*;
+use crate::ffi::blocks::*;
+use crate::sys::block::{views, Block, Parts};
 use crate::sys::memory::{as_u64_mut, words_of, zeroed};
-use crate::sys::tree::block_in;
-use crate::sys::{query, NONE, OK, WRONG};
+use crate::sys::{NONE, OK, WRONG};
 use alloc::vec::Vec;
-use core::{fmt, ptr};
+use core::fmt;
 
 /// The index of a text in a borrowed block, whose header is right. Its other words may hold anything; `check` tests it.
 ///
@@ -27,43 +27,14 @@ use core::{fmt, ptr};
 /// ```
 #[derive(Clone, Copy)]
 pub struct TextIndexView<'a> {
-    raw: bitm_text,
-    block: &'a [u64],
+    block: Block<'a, bitm_text>,
 }
 
-// SAFETY: the pointers lie in a shared slice, and no call has state.
-unsafe impl Send for TextIndexView<'_> {}
-// SAFETY: as of `Send`.
-unsafe impl Sync for TextIndexView<'_> {}
-
-const NO_LETTERS: bitm_matrix = bitm_matrix {
-    len: 0,
-    width: 0,
-    words: ptr::null(),
-    words_len: 0,
-    upper: ptr::null(),
-    upper_len: 0,
-    lower: ptr::null(),
-    lower_len: 0,
-    ones: ptr::null(),
-    ones_len: 0,
-    zeros: ptr::null(),
-    zeros_len: 0,
-    reserved: [0; 2],
-};
-const NO_TEXT: bitm_text = bitm_text {
-    letters: NO_LETTERS,
-    marks: NO_LETTERS,
-    starts: ptr::null(),
-    starts_len: 0,
-    samples: ptr::null(),
-    samples_len: 0,
-    used: ptr::null(),
-    used_len: 0,
-    first: 0,
-    step: 0,
-    reserved: [0; 2],
-};
+views! { TextIndexView;
+    |it: bitm_text| it.letters.len, bitm_text_open, bitm_text_check;
+    "this index", "bitm_proved::TextIndex::build(b\"banana\", 32)?", "6", "letters of the text",
+    "the index of a text: looks at all of it, and walks through it"
+}
 
 /// Whether letters were written.
 fn written(status: u32) -> Result<bool, WrongTables> {
@@ -75,76 +46,6 @@ fn written(status: u32) -> Result<bool, WrongTables> {
 }
 
 impl<'a> TextIndexView<'a> {
-    /// Of the block that begins the words of a file. What its sections hold is not tested: `check` does that.
-    ///
-    /// ```
-    /// use bitm_proved::{words_from_bytes, StoredError, TextIndexView};
-    /// let block = words_from_bytes(include_bytes!("../../tests/common/sea_shells.block"))?;
-    /// assert_eq!(TextIndexView::from_words(&block)?.len(), 37);
-    /// assert_eq!(TextIndexView::from_words(&block[1..]).err(), Some(StoredError::NotWhole));
-    /// # Ok::<(), Box<dyn std::error::Error>>(())
-    /// ```
-    pub fn from_words(file: &'a [u64]) -> Result<Self, StoredError> {
-        let (block, mut raw) = (block_in(file).ok_or(StoredError::NotWhole)?, NO_TEXT);
-        // SAFETY: a slice, and a struct of zeros, which the call may write.
-        match unsafe { bitm_text_open(block.as_ptr(), block.len(), &mut raw) } {
-            OK => Ok(TextIndexView { raw, block }),
-            _ => Err(StoredError::NotWhole),
-        }
-    }
-
-    /// Of the bytes of a file, which begin at a multiple of 8.
-    ///
-    /// ```
-    /// use bitm_proved::{bytes_of, words_from_bytes, TextIndexView};
-    /// let block = words_from_bytes(include_bytes!("../../tests/common/sea_shells.block"))?;
-    /// assert_eq!(TextIndexView::from_bytes(bytes_of(&block))?.len(), 37);
-    /// # Ok::<(), Box<dyn std::error::Error>>(())
-    /// ```
-    pub fn from_bytes(bytes: &'a [u8]) -> Result<Self, StoredError> {
-        Self::from_words(words_of(bytes).ok_or(StoredError::Misaligned)?)
-    }
-
-    /// The words of the block, which are those of a file of this index.
-    ///
-    /// ```
-    /// use bitm_proved::{words_from_bytes, TextIndexView};
-    /// let mut file = words_from_bytes(include_bytes!("../../tests/common/sea_shells.block"))?;
-    /// file.push(7); // no word of the block
-    /// assert_eq!(TextIndexView::from_words(&file)?.block().len(), 184);
-    /// # Ok::<(), Box<dyn std::error::Error>>(())
-    /// ```
-    #[inline]
-    pub fn block(&self) -> &'a [u64] {
-        self.block
-    }
-
-    /// How many letters the text has.
-    ///
-    /// ```
-    /// use bitm_proved::{words_from_bytes, TextIndexView};
-    /// let block = words_from_bytes(include_bytes!("../../tests/common/sea_shells.block"))?;
-    /// assert_eq!(TextIndexView::from_words(&block)?.len(), 37);
-    /// # Ok::<(), Box<dyn std::error::Error>>(())
-    /// ```
-    #[inline]
-    pub fn len(&self) -> usize {
-        self.raw.letters.len
-    }
-
-    /// Whether it has none.
-    ///
-    /// ```
-    /// use bitm_proved::{words_from_bytes, TextIndexView};
-    /// let block = words_from_bytes(include_bytes!("../../tests/common/sea_shells.block"))?;
-    /// assert!(!TextIndexView::from_words(&block)?.is_empty());
-    /// # Ok::<(), Box<dyn std::error::Error>>(())
-    /// ```
-    #[inline]
-    pub fn is_empty(&self) -> bool {
-        self.len() == 0
-    }
-
     /// How many bits a letter takes: of bytes as many as the number of different bytes needs.
     ///
     /// ```
@@ -155,22 +56,7 @@ impl<'a> TextIndexView<'a> {
     /// ```
     #[inline]
     pub fn width(&self) -> u32 {
-        self.raw.letters.width as u32
-    }
-
-    /// Whether the block is as it was written and holds the index of a text: looks at all of it, and walks through it.
-    ///
-    /// ```
-    /// use bitm_proved::{words_from_bytes, TextIndexView};
-    /// let mut block = words_from_bytes(include_bytes!("../../tests/common/sea_shells.block"))?;
-    /// assert!(TextIndexView::from_words(&block)?.check());
-    /// *block.last_mut().unwrap() ^= 1;
-    /// assert!(!TextIndexView::from_words(&block)?.check());
-    /// # Ok::<(), Box<dyn std::error::Error>>(())
-    /// ```
-    pub fn check(&self) -> bool {
-        // SAFETY: a slice.
-        unsafe { bitm_text_check(self.block.as_ptr(), self.block.len()) == OK }
+        self.block.parts().letters.width as u32
     }
 
     /// At how many positions of the text a pattern of bytes stands.
@@ -182,10 +68,10 @@ impl<'a> TextIndexView<'a> {
     /// # Ok::<(), Box<dyn std::error::Error>>(())
     /// ```
     pub fn count(&self, pattern: &[u8]) -> Result<usize, WrongTables> {
-        // SAFETY: a view, which borrows its block, a slice, and room for the number that the call writes where it
-        // returns OK.
-        let found = unsafe { query(|out| bitm_text_count_bytes(&self.raw, pattern.as_ptr(), pattern.len(), out)) };
-        found?.map(|it| it as usize).ok_or(WrongTables)
+        // SAFETY: a slice, and the call writes the number where it returns OK.
+        let found =
+            unsafe { self.block.find(|text, n| bitm_text_count_bytes(text, pattern.as_ptr(), pattern.len(), n)) };
+        found?.ok_or(WrongTables)
     }
 
     /// At how many positions of the text a pattern of letters stands.
@@ -198,8 +84,8 @@ impl<'a> TextIndexView<'a> {
     /// ```
     pub fn count_letters(&self, pattern: &[u64]) -> Result<usize, WrongTables> {
         // SAFETY: as of `count`.
-        let found = unsafe { query(|out| bitm_text_count(&self.raw, pattern.as_ptr(), pattern.len(), out)) };
-        found?.map(|it| it as usize).ok_or(WrongTables)
+        let found = unsafe { self.block.find(|text, n| bitm_text_count(text, pattern.as_ptr(), pattern.len(), n)) };
+        found?.ok_or(WrongTables)
     }
 
     /// Writes positions at which a pattern of bytes stands, in the order of the rest of the text from there on: without
@@ -217,8 +103,8 @@ impl<'a> TextIndexView<'a> {
         let (letters, len, room) = (pattern.as_ptr(), pattern.len(), out.len());
         let to = as_u64_mut(out).as_mut_ptr();
         // SAFETY: as of `count`, and a mutable slice, which overlaps no other.
-        let found = unsafe { query(|n| bitm_text_locate_bytes(&self.raw, letters, len, from, to, room, n)) };
-        found?.map(|it| it as usize).ok_or(WrongTables)
+        let found = unsafe { self.block.find(|text, n| bitm_text_locate_bytes(text, letters, len, from, to, room, n)) };
+        found?.ok_or(WrongTables)
     }
 
     /// `locate` of a pattern of letters.
@@ -234,8 +120,8 @@ impl<'a> TextIndexView<'a> {
         let (letters, len, room) = (pattern.as_ptr(), pattern.len(), out.len());
         let to = as_u64_mut(out).as_mut_ptr();
         // SAFETY: as of `locate`.
-        let found = unsafe { query(|n| bitm_text_locate(&self.raw, letters, len, from, to, room, n)) };
-        found?.map(|it| it as usize).ok_or(WrongTables)
+        let found = unsafe { self.block.find(|text, n| bitm_text_locate(text, letters, len, from, to, room, n)) };
+        found?.ok_or(WrongTables)
     }
 
     /// Writes the bytes of the text from a position on, as many as there is room for; `false`, and nothing is written,
@@ -252,7 +138,7 @@ impl<'a> TextIndexView<'a> {
     /// ```
     pub fn extract(&self, from: usize, out: &mut [u8]) -> Result<bool, WrongTables> {
         // SAFETY: a view, which borrows its block, and a mutable slice.
-        written(unsafe { bitm_text_extract_bytes(&self.raw, from, out.as_mut_ptr(), out.len()) })
+        written(unsafe { bitm_text_extract_bytes(self.block.parts(), from, out.as_mut_ptr(), out.len()) })
     }
 
     /// `extract` of letters of any width.
@@ -266,7 +152,7 @@ impl<'a> TextIndexView<'a> {
     /// ```
     pub fn extract_letters(&self, from: usize, out: &mut [u64]) -> Result<bool, WrongTables> {
         // SAFETY: as of `extract`.
-        written(unsafe { bitm_text_extract(&self.raw, from, out.as_mut_ptr(), out.len()) })
+        written(unsafe { bitm_text_extract(self.block.parts(), from, out.as_mut_ptr(), out.len()) })
     }
 }
 

@@ -2,20 +2,18 @@
 pub(crate) mod owned;
 
 use crate::errors::{BuildError, ListError, StoredError, WrongTables};
-use crate::ffi::index::bitm_list_counts;
-use crate::ffi::tree::*;
+use crate::ffi::blocks::*;
+use crate::ffi::words::bitm_list_counts;
+use crate::sys::block::{views, Block, Parts};
+use crate::sys::lists::{pairs, query_list};
 use crate::sys::memory::{as_u64, as_u64_mut, words_of, zeroed};
-use crate::sys::view::list_answer;
-use crate::sys::{query, OK, WRONG};
+use crate::sys::{OK, WRONG};
 use alloc::vec::Vec;
+use core::fmt;
 use core::ops::Range;
-use core::{fmt, ptr};
 
 type One = unsafe extern "C" fn(*const bitm_tree, usize, *mut u64) -> u32;
 type Many = unsafe extern "C" fn(*const bitm_tree, *const u64, usize, *mut u64, usize, *mut bitm_list_counts) -> u32;
-
-/// The first word of each block: the letters `bitmtab`, and the version.
-const MARK: u64 = u64::from_ne_bytes(*b"bitmtab\x03");
 
 /// A tree in a borrowed block, whose header is right. Its other words may hold anything; `check` tests it.
 ///
@@ -32,123 +30,20 @@ const MARK: u64 = u64::from_ne_bytes(*b"bitmtab\x03");
 /// ```
 #[derive(Clone, Copy)]
 pub struct TreeView<'a> {
-    raw: bitm_tree,
-    block: &'a [u64],
+    block: Block<'a, bitm_tree>,
 }
 
-// SAFETY: the pointers lie in a shared slice, and no call has state.
-unsafe impl Send for TreeView<'_> {}
-// SAFETY: as of `Send`.
-unsafe impl Sync for TreeView<'_> {}
-
-/// The words of the block that begins a file, by its first words.
-pub(crate) fn block_in(file: &[u64]) -> Option<&[u64]> {
-    match *file {
-        [MARK, _, bytes, ..] => file.get(..(bytes / 8) as usize),
-        _ => None,
-    }
+views! { TreeView;
+    |it: bitm_tree| it.len, bitm_tree_open, bitm_tree_check;
+    "this tree", "bitm_proved::Tree::build(&[2, 0, 1, 0])?", "4", "nodes",
+    "a tree: looks at all of it, three times"
 }
-
-const NONE: bitm_tree = bitm_tree {
-    len: 0,
-    words: ptr::null(),
-    words_len: 0,
-    upper: ptr::null(),
-    upper_len: 0,
-    lower: ptr::null(),
-    lower_len: 0,
-    reserved: [0; 2],
-};
 
 impl<'a> TreeView<'a> {
-    /// Of the block that begins the words of a file. What its sections hold is not tested: `check` does that.
-    ///
-    /// ```
-    /// use bitm_proved::{StoredError, Tree, TreeView};
-    /// let made = Tree::build(&[2, 0, 1, 0])?;
-    /// assert_eq!(TreeView::from_words(made.block())?.parent(3), Some(2));
-    /// assert_eq!(TreeView::from_words(&made.block()[1..]).err(), Some(StoredError::NotWhole));
-    /// # Ok::<(), Box<dyn std::error::Error>>(())
-    /// ```
-    pub fn from_words(file: &'a [u64]) -> Result<Self, StoredError> {
-        let (block, mut raw) = (block_in(file).ok_or(StoredError::NotWhole)?, NONE);
-        // SAFETY: a slice, and a struct of zeros, which the call may write.
-        match unsafe { bitm_tree_open(block.as_ptr(), block.len(), &mut raw) } {
-            OK => Ok(TreeView { raw, block }),
-            _ => Err(StoredError::NotWhole),
-        }
-    }
-
-    /// Of the bytes of a file, which begin at a multiple of 8.
-    ///
-    /// ```
-    /// use bitm_proved::{bytes_of, StoredError, Tree, TreeView};
-    /// let made = Tree::build(&[2, 0, 1, 0])?;
-    /// assert_eq!(TreeView::from_bytes(bytes_of(made.block()))?.len(), 4);
-    /// assert_eq!(TreeView::from_bytes(&bytes_of(made.block())[1..]).err(), Some(StoredError::Misaligned));
-    /// # Ok::<(), Box<dyn std::error::Error>>(())
-    /// ```
-    pub fn from_bytes(bytes: &'a [u8]) -> Result<Self, StoredError> {
-        Self::from_words(words_of(bytes).ok_or(StoredError::Misaligned)?)
-    }
-
-    /// The words of the block, which are those of a file of this tree.
-    ///
-    /// ```
-    /// use bitm_proved::{Tree, TreeView};
-    /// let made = Tree::build(&[1, 0])?;
-    /// let mut file = made.block().to_vec();
-    /// file.push(7); // no word of the block
-    /// assert_eq!(TreeView::from_words(&file)?.block(), made.block());
-    /// # Ok::<(), Box<dyn std::error::Error>>(())
-    /// ```
-    #[inline]
-    pub fn block(&self) -> &'a [u64] {
-        self.block
-    }
-
-    /// How many nodes there are.
-    ///
-    /// ```
-    /// assert_eq!(bitm_proved::Tree::build(&[2, 0, 1, 0])?.view().len(), 4);
-    /// # Ok::<(), bitm_proved::BuildError>(())
-    /// ```
-    #[inline]
-    pub fn len(&self) -> usize {
-        self.raw.len
-    }
-
-    /// Whether there are none, which is so of no tree that was built, and of no block that passes `check`.
-    ///
-    /// ```
-    /// assert!(!bitm_proved::Tree::build(&[0])?.view().is_empty());
-    /// # Ok::<(), bitm_proved::BuildError>(())
-    /// ```
-    #[inline]
-    pub fn is_empty(&self) -> bool {
-        self.len() == 0
-    }
-
-    /// Whether the block is as it was written and holds a tree: looks at all of it, three times.
-    ///
-    /// ```
-    /// use bitm_proved::{Tree, TreeView};
-    /// let mut block = Tree::build(&[2, 0, 1, 0])?.into_owner();
-    /// assert!(TreeView::from_words(&block)?.check());
-    /// block[40] ^= 1;
-    /// assert!(!TreeView::from_words(&block)?.check());
-    /// # Ok::<(), Box<dyn std::error::Error>>(())
-    /// ```
-    pub fn check(&self) -> bool {
-        // SAFETY: a slice.
-        unsafe { bitm_tree_check(self.block.as_ptr(), self.block.len()) == OK }
-    }
-
     #[inline(always)]
     fn call(&self, call: One, node: usize) -> Result<Option<usize>, WrongTables> {
-        // SAFETY: a view, which borrows its block, and room for the number that a call writes where it returns OK.
-        let found = unsafe { query(|out| call(&self.raw, node, out)) };
-        Ok(found?.map(|it| it as usize))
+        // SAFETY: a call writes the number where it returns OK.
+        unsafe { self.block.find(|tree, out| call(tree, node, out)) }
     }
 
     /// The parent of a node; `None` exactly at the root and where there is no such node.
@@ -173,9 +68,8 @@ impl<'a> TreeView<'a> {
     /// ```
     #[inline]
     pub fn checked_child(&self, node: usize, k: usize) -> Result<Option<usize>, WrongTables> {
-        // SAFETY: a view, which borrows its block, and room for the number that the call writes where it returns OK.
-        let found = unsafe { query(|out| bitm_tree_child(&self.raw, node, k, out)) };
-        Ok(found?.map(|it| it as usize))
+        // SAFETY: the call writes the number where it returns OK.
+        unsafe { self.block.find(|tree, out| bitm_tree_child(tree, node, k, out)) }
     }
 
     /// How many children a node has; `None` exactly where there is no such node.
@@ -256,12 +150,11 @@ impl<'a> TreeView<'a> {
     }
 
     fn list(&self, call: Many, nodes: &[usize], out: &mut [usize]) -> Result<usize, ListError> {
-        let (len, room) = (nodes.len(), out.len());
-        let mut counts = bitm_list_counts { missing: 0, wrong: 0 };
-        let (from, to) = (as_u64(nodes).as_ptr(), as_u64_mut(out).as_mut_ptr());
-        // SAFETY: a view, a shared and a mutable slice, which do not overlap, and room for the counts.
-        let status = unsafe { call(&self.raw, from, len, to, room, &mut counts) };
-        list_answer(status, counts, len, room)
+        let (from, len) = (as_u64(nodes).as_ptr(), nodes.len());
+        query_list(len, as_u64_mut(out), |to, room, counts| {
+            // SAFETY: a view, a shared and a mutable slice, which do not overlap, and room for the counts.
+            unsafe { call(self.block.parts(), from, len, to, room, counts) }
+        })
     }
 
     /// The parents of a list of nodes; how many have none, which `NO_ANSWER` stands for.
@@ -301,15 +194,11 @@ impl<'a> TreeView<'a> {
     /// # Ok::<(), bitm_proved::BuildError>(())
     /// ```
     pub fn child_list(&self, nodes: &[usize], ks: &[usize], out: &mut [usize]) -> Result<usize, ListError> {
-        if ks.len() != nodes.len() {
-            return Err(ListError::Pairs { first: nodes.len(), second: ks.len() });
-        }
-        let (len, room) = (nodes.len(), out.len());
-        let mut counts = bitm_list_counts { missing: 0, wrong: 0 };
-        let (from, of, to) = (as_u64(nodes).as_ptr(), as_u64(ks).as_ptr(), as_u64_mut(out).as_mut_ptr());
-        // SAFETY: a view, two shared slices and a mutable one, which overlaps neither, and room for the counts.
-        let status = unsafe { bitm_tree_child_list(&self.raw, from, len, of, len, to, room, &mut counts) };
-        list_answer(status, counts, len, room)
+        let (from, of, len) = (as_u64(nodes).as_ptr(), as_u64(ks).as_ptr(), pairs(nodes.len(), ks.len())?);
+        query_list(len, as_u64_mut(out), |to, room, counts| {
+            // SAFETY: a view, two shared slices and a mutable one, which overlaps neither, and room for the counts.
+            unsafe { bitm_tree_child_list(self.block.parts(), from, len, of, len, to, room, counts) }
+        })
     }
 }
 

@@ -1,6 +1,7 @@
 //! Borrowed words with their tables: the struct that each query of the archive takes.
 use crate::errors::{ListError, WrongTables};
-use crate::ffi::index::*;
+use crate::ffi::words::*;
+use crate::sys::lists::query_list;
 use crate::sys::{found, memory, query, OK};
 use core::marker::PhantomData;
 use core::{fmt, ptr, slice};
@@ -205,13 +206,12 @@ impl<'a> IndexView<'a> {
         queries: &[usize],
         out: &mut [usize],
     ) -> Result<usize, ListError> {
-        let (len, room) = (queries.len(), out.len());
-        let mut counts = bitm_list_counts { missing: 0, wrong: 0 };
         let call = if selects { bitm_index_select_list } else { bitm_index_rank_list };
-        let (from, to) = (memory::as_u64(queries), memory::as_u64_mut(out));
-        // SAFETY: a view, a shared and a mutable slice, which do not overlap, and room for the counts.
-        let status = unsafe { call(&self.raw, one, from.as_ptr(), len, to.as_mut_ptr(), room, &mut counts) };
-        list_answer(status, counts, len, room)
+        let (from, len) = (memory::as_u64(queries).as_ptr(), queries.len());
+        query_list(len, memory::as_u64_mut(out), |to, room, counts| {
+            // SAFETY: a view, a shared and a mutable slice, which do not overlap, and room for the counts.
+            unsafe { call(&self.raw, one, from, len, to, room, counts) }
+        })
     }
 
     /// The number of bits.
@@ -326,21 +326,6 @@ impl<'a> IndexView<'a> {
     fn check_samples(&self, one: bool) -> bool {
         // SAFETY: a view, which borrows its slices.
         self.samples(one).is_none() || unsafe { bitm_index_check_samples(&self.raw, one) } == OK
-    }
-}
-
-/// The answer of a list of queries.
-pub(crate) fn list_answer(
-    status: u32,
-    counts: bitm_list_counts,
-    queries: usize,
-    room: usize,
-) -> Result<usize, ListError> {
-    match status {
-        OK if counts.wrong > 0 => Err(ListError::WrongTables { wrong: counts.wrong as usize }),
-        OK => Ok(counts.missing as usize),
-        _ if queries != room => Err(ListError::Lengths { queries, room }),
-        _ => Err(ListError::WrongTables { wrong: queries }),
     }
 }
 

@@ -1,7 +1,16 @@
 //! Proved writes of the first `bits_len` bits of words, without tables: one call of the archive each. Every other bit
 //! stays as it was.
 use super::found;
-use crate::ffi::bits::*;
+use crate::ffi::words::*;
+
+/// Makes a call that writes into the first `bits_len` bits of words, or nothing. It gets a pointer to the words, how
+/// many these are, and how many bits.
+#[inline(always)]
+#[track_caller]
+fn write(words: &mut [u64], bits_len: usize, call: impl FnOnce(*mut u64, usize, u64) -> u32) -> Option<()> {
+    let status = call(words.as_mut_ptr(), words.len(), bits_len as u64);
+    found(status, 0, bits_len, words.len()).map(|_| ())
+}
 
 /// Makes the bit at a position the value; `None`, and nothing is written, exactly where it is `bits_len` or more.
 ///
@@ -12,10 +21,10 @@ use crate::ffi::bits::*;
 /// ```
 #[track_caller]
 pub fn set(words: &mut [u64], bits_len: usize, position: usize, value: bool) -> Option<()> {
-    let (at, len) = (words.as_mut_ptr(), words.len());
-    // SAFETY: a mutable slice.
-    let status = unsafe { bitm_bits_set(at, len, bits_len as u64, position as u64, value) };
-    found(status, 0, bits_len, len).map(|_| ())
+    write(words, bits_len, |at, len, bits| {
+        // SAFETY: a mutable slice.
+        unsafe { bitm_bits_set(at, len, bits, position as u64, value) }
+    })
 }
 
 /// Makes the bits at a list of positions the value. Returns how many of the positions are `bits_len` or more: these
@@ -45,11 +54,10 @@ pub fn set_list(words: &mut [u64], bits_len: usize, positions: &[usize], value: 
 /// ```
 #[track_caller]
 pub fn set_number(words: &mut [u64], bits_len: usize, begin: usize, width: u8, value: u64) -> Option<()> {
-    let (at, len) = (words.as_mut_ptr(), words.len());
-    let (bits, begin, width) = (bits_len as u64, begin as u64, width.into());
-    // SAFETY: a mutable slice.
-    let status = unsafe { bitm_bits_set_number(at, len, bits, begin, width, value) };
-    found(status, 0, bits_len, len).map(|_| ())
+    write(words, bits_len, |at, len, bits| {
+        // SAFETY: a mutable slice.
+        unsafe { bitm_bits_set_number(at, len, bits, begin as u64, width.into(), value) }
+    })
 }
 
 /// Flips those of `width` bits from `begin` on at which a number has 1 bits; `None` as of `set_number`.
@@ -61,11 +69,10 @@ pub fn set_number(words: &mut [u64], bits_len: usize, begin: usize, width: u8, v
 /// ```
 #[track_caller]
 pub fn xor_number(words: &mut [u64], bits_len: usize, begin: usize, width: u8, value: u64) -> Option<()> {
-    let (at, len) = (words.as_mut_ptr(), words.len());
-    let (bits, begin, width) = (bits_len as u64, begin as u64, width.into());
-    // SAFETY: a mutable slice.
-    let status = unsafe { bitm_bits_xor_number(at, len, bits, begin, width, value) };
-    found(status, 0, bits_len, len).map(|_| ())
+    write(words, bits_len, |at, len, bits| {
+        // SAFETY: a mutable slice.
+        unsafe { bitm_bits_xor_number(at, len, bits, begin as u64, width.into(), value) }
+    })
 }
 
 /// Replaces number `index` of an array of numbers of `width` bits; `None` as of `set_number`.
@@ -77,11 +84,10 @@ pub fn xor_number(words: &mut [u64], bits_len: usize, begin: usize, width: u8, v
 /// ```
 #[track_caller]
 pub fn set_fragment(words: &mut [u64], bits_len: usize, index: usize, width: u8, value: u64) -> Option<()> {
-    let (at, len) = (words.as_mut_ptr(), words.len());
-    let (bits, index, width) = (bits_len as u64, index as u64, width.into());
-    // SAFETY: a mutable slice.
-    let status = unsafe { bitm_bits_set_fragment(at, len, bits, index, width, value) };
-    found(status, 0, bits_len, len).map(|_| ())
+    write(words, bits_len, |at, len, bits| {
+        // SAFETY: a mutable slice.
+        unsafe { bitm_bits_set_fragment(at, len, bits, index as u64, width.into(), value) }
+    })
 }
 
 /// Swaps two numbers of an array of numbers of `width` bits; `None` as of `set_number`.
@@ -93,11 +99,10 @@ pub fn set_fragment(words: &mut [u64], bits_len: usize, index: usize, width: u8,
 /// ```
 #[track_caller]
 pub fn swap_fragments(words: &mut [u64], bits_len: usize, first: usize, second: usize, width: u8) -> Option<()> {
-    let (at, len) = (words.as_mut_ptr(), words.len());
-    let (bits, first, second) = (bits_len as u64, first as u64, second as u64);
-    // SAFETY: a mutable slice.
-    let status = unsafe { bitm_bits_swap_fragments(at, len, bits, first, second, width.into()) };
-    found(status, 0, bits_len, len).map(|_| ())
+    write(words, bits_len, |at, len, bits| {
+        // SAFETY: a mutable slice.
+        unsafe { bitm_bits_swap_fragments(at, len, bits, first as u64, second as u64, width.into()) }
+    })
 }
 
 /// Replaces each of the first `count` numbers of an array of numbers of `width` bits; `None` as of `set_number`.
@@ -109,11 +114,10 @@ pub fn swap_fragments(words: &mut [u64], bits_len: usize, first: usize, second: 
 /// ```
 #[track_caller]
 pub fn fill_fragments(words: &mut [u64], bits_len: usize, width: u8, value: u64, count: usize) -> Option<()> {
-    let (at, len) = (words.as_mut_ptr(), words.len());
-    let (bits, width) = (bits_len as u64, width.into());
-    // SAFETY: a mutable slice.
-    let status = unsafe { bitm_bits_fill_fragments(at, len, bits, width, value, count) };
-    found(status, 0, bits_len, len).map(|_| ())
+    write(words, bits_len, |at, len, bits| {
+        // SAFETY: a mutable slice.
+        unsafe { bitm_bits_fill_fragments(at, len, bits, width.into(), value, count) }
+    })
 }
 
 /// Makes each bit from `bits_len` on a 0 bit.
@@ -137,11 +141,10 @@ pub fn clear_from(words: &mut [u64], bits_len: usize) {
 /// ```
 #[track_caller]
 pub fn fill_range(words: &mut [u64], bits_len: usize, from: usize, to: usize, value: bool) -> Option<()> {
-    let (at, len) = (words.as_mut_ptr(), words.len());
-    let (bits, from, to) = (bits_len as u64, from as u64, to as u64);
-    // SAFETY: a mutable slice.
-    let status = unsafe { bitm_bits_fill_range(at, len, bits, from, to, value) };
-    found(status, 0, bits_len, len).map(|_| ())
+    write(words, bits_len, |at, len, bits| {
+        // SAFETY: a mutable slice.
+        unsafe { bitm_bits_fill_range(at, len, bits, from as u64, to as u64, value) }
+    })
 }
 
 /// Flips the bits from `from` on and before `to`; `None` as of `fill_range`.
@@ -152,11 +155,10 @@ pub fn fill_range(words: &mut [u64], bits_len: usize, from: usize, to: usize, va
 /// ```
 #[track_caller]
 pub fn flip_range(words: &mut [u64], bits_len: usize, from: usize, to: usize) -> Option<()> {
-    let (at, len) = (words.as_mut_ptr(), words.len());
-    let (bits, from, to) = (bits_len as u64, from as u64, to as u64);
-    // SAFETY: a mutable slice.
-    let status = unsafe { bitm_bits_flip_range(at, len, bits, from, to) };
-    found(status, 0, bits_len, len).map(|_| ())
+    write(words, bits_len, |at, len, bits| {
+        // SAFETY: a mutable slice.
+        unsafe { bitm_bits_flip_range(at, len, bits, from as u64, to as u64) }
+    })
 }
 
 /// Copies `count` bits of other words from `from_begin` on to `to_begin`; `None`, and nothing is written, where a range

@@ -1,9 +1,8 @@
 //! Lists of queries of shards, which are grouped by shard, part by part.
 use super::ShardedIndex;
 use crate::errors::ListError;
-use crate::ffi::index::bitm_list_counts;
-use crate::ffi::shards::*;
-use crate::sys::view::list_answer;
+use crate::ffi::words::*;
+use crate::sys::lists::list_answer;
 use crate::sys::OK;
 use alloc::vec;
 

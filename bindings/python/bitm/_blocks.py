@@ -1,0 +1,71 @@
+"""What the values over one block have beside their queries: the block itself, and a value over one that exists already."""
+from typing import Any, List
+
+from . import _core
+from ._files import load
+
+# What a value is, one, how many nodes, 1 bits, keys, numbers or letters it has, and a query of it with its answer.
+BLOCKS = (
+    (_core.Tree, "A tree", "Tree([2, 0, 1, 0])", 4, "parent(3)", 2),
+    (_core.SparseBits, "Sparse bits", "SparseBits([3, 100, 101, 4000], 5000)", 4, "rank(101)", 2),
+    (_core.Dictionary, "A dictionary", "Dictionary([4, 9, 49])", 3, "get(50, -1)", -1),
+    (_core.WaveletMatrix, "A list of numbers", "WaveletMatrix([3, 1, 4, 1, 5, 1])", 6, "rank(1, 4)", 2),
+    (_core.TextIndex, "The index of a text", 'TextIndex(b"banana")', 6, 'count(b"ana")', 2),
+)
+
+
+def _over(text: str) -> Any:
+    def over(cls: Any, block: Any) -> Any:
+        return _core.over(cls, (), (block,))
+
+    over.__doc__ = text
+    return classmethod(over)
+
+
+def _block(self: Any) -> memoryview:
+    return memoryview(_core.parts(self)[1][0])
+
+
+def text_open(cls: Any, path: Any) -> Any:
+    """The index of a text in a file that `bitm text build` or `save` wrote, mapped and read where it lies. ValueError as
+    `load`, and where the file is of another kind.
+
+    >>> TextIndex(b"banana").save("book.block")
+    >>> with TextIndex.open("book.block") as index:
+    ...     index.count(b"ana")
+    2
+    """
+    found = load(path, mmap=True)
+    if not isinstance(found, _core.TextIndex):
+        raise ValueError(f"{path!r} is a stored {type(found).__name__}, not the index of a text")
+    return found if cls is _core.TextIndex else _core.over(cls, *_core.parts(found))
+
+
+def text_find_all(self: Any, pattern: Any) -> List[int]:
+    """The positions at which a pattern stands, the first one first; they may overlap. Pattern as in `count`.
+
+    >>> TextIndex(b"banana").find_all(b"ana")
+    [1, 3]
+    """
+    return sorted(self.locate(pattern))
+
+
+def complete() -> None:
+    """Gives the types of the extension what stands here."""
+    for kind, what, made, count, query, answer in BLOCKS:
+        name = kind.__name__
+        setattr(kind, "over", _over(f"""{what} in a block that exists already, in a buffer that it holds and does not copy.
+    ValueError where header or directory of the block are not right; the rest is not looked at: call `check`.
+
+    >>> block = {made}.block
+    >>> {name}.over(block).{query}
+    {answer}
+    """))
+        setattr(kind, "block", property(_block, doc=f"""The words of the block, to be read: what `{name}.over` takes, and the
+    bytes of the file.
+
+    >>> {made}.block[3]  # a word of the header
+    {count}
+    """))
+    setattr(_core.TextIndex, "open", classmethod(text_open))
+    setattr(_core.TextIndex, "find_all", text_find_all)

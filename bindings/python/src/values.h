@@ -1,0 +1,245 @@
+/* What the classes of values share: how they are opened, made and checked, their items, queries of one number and
+ * lists. */
+#ifndef BITM_VALUES_H
+#define BITM_VALUES_H
+
+#include "core.h"
+
+/* ---- index.c, sequence.c, hash.c, and those of the blocks */
+
+/* Looks at memory whose parts or whose block are filled in, and fills in what is queried: -1 and ValueError where the
+ * lengths do not fit together, or the block is another's. */
+typedef int (*opener)(Memory *it);
+int index_opened(Memory *it);
+int sequence_opened(Memory *it);
+int hash_opened(Memory *it);
+int tree_opened(Memory *it);
+int matrix_opened(Memory *it);
+int sparse_opened(Memory *it);
+int dictionary_opened(Memory *it);
+int text_opened(Memory *it);
+
+/* ---- values.c */
+
+/* A new value of a type over memory, whose reference it takes even where it does not open. */
+PyObject *value_over(PyObject *type, Memory *it, opener opened);
+
+/* The end of __init__: gives the value the memory, or drops it where that is not `made`. 0, or -1. */
+int value_made(PyObject *self, Memory *it, int made);
+
+/* The end of __init__ of a value that is made of whole numbers alone: 0, or -1 and an error. */
+int value_of_numbers(PyObject *self, PyObject *from, const char *what,
+                     int (*built)(Memory *it, const uint64_t *numbers, size_t count));
+
+/* 0, or -1 and ValueError: it is not the block of what is named. */
+int block_opened(const char *what, int is_open);
+
+/* Room for a block of that many words, which belongs to the memory and is its block: NULL and an error. */
+uint64_t *block_room(Memory *it, uint64_t len);
+
+/* The method check(): whether all of the memory is right. The GIL is given back meanwhile. */
+PyObject *value_checked(PyObject *self, int (*is_right)(const Memory *it));
+
+/* The end of a list whose call stops at the first item without an answer, after `written` others, which are not wanted
+ * then: that item is missing where its own status says that there is none, else wrong. */
+uint32_t stopped_at(uint64_t written, uint32_t status, uint64_t *out, struct bitm_list_counts *counts);
+
+/* ---- the items of a value, as those of a list */
+
+/* How many there are; the item at an index, of which BITM_NONE says that it is past the end; its Python object. */
+typedef struct {
+    uint64_t (*len)(const Memory *it);
+    uint32_t (*get)(const Memory *it, uint64_t index, uint64_t *out);
+    PyObject *(*object)(uint64_t item);
+    const char *name;
+} Items;
+
+static inline PyObject *item_at(PyObject *self, Py_ssize_t index, int from_end, const Items *items)
+{
+    Memory *it = memory_of(self);
+    uint64_t out = 0;
+    if (it == NULL)
+        return NULL;
+    uint32_t status = items->get(it, from_end ? from_front(index, items->len(it)) : (uint64_t)index, &out);
+    if (LIKELY(status == BITM_OK))
+        return items->object(out);
+    return status == BITM_NONE ? outside(index, items->len(it), items->name) : wrong();
+}
+
+/* The item for a key that is no slice. */
+static inline PyObject *item_for(PyObject *self, PyObject *key, const Items *items)
+{
+    Py_ssize_t index;
+    return index_of(key, &index) ? NULL : item_at(self, index, 1, items);
+}
+
+/* What len() says: each class has fewer than 2^63. */
+static inline Py_ssize_t value_len(PyObject *self, uint64_t (*len)(const Memory *it))
+{
+    Memory *it = memory_of(self);
+    return it == NULL ? -1 : (Py_ssize_t)len(it);
+}
+
+/* ---- queries of one number. The number is taken first, since that may run Python code, which may close the value;
+ * from then on nothing else runs until the answer is there. */
+
+typedef uint32_t (*query_call)(const Memory *it, bool one, uint64_t query, uint64_t *out);
+
+/* A call of the library for a member of Memory. */
+#define QUERY_OF(name, call, member)                                                                                   \
+    static inline uint32_t name(const Memory *it, bool one, uint64_t query, uint64_t *out)                             \
+    {                                                                                                                  \
+        (void)one;                                                                                                     \
+        return call(&it->member, query, out);                                                                          \
+    }
+
+/* A query that may have no answer. */
+static inline PyObject *ask(PyObject *self, PyObject *query, query_call call, bool one, const char *what)
+{
+    uint64_t asked, out = 0;
+    if (number(query, what, &asked))
+        return NULL;
+    Memory *it = memory_of(self);
+    if (it == NULL)
+        return NULL;
+    uint32_t status = call(it, one, asked, &out);
+    return answer_or_none(status, &out);
+}
+
+/* A rank: IndexError past the end. */
+static inline PyObject *ask_rank(PyObject *self, PyObject *query, query_call call, bool one,
+                                 uint64_t (*len)(const Memory *it))
+{
+    uint64_t position, out = 0;
+    if (number(query, "a position", &position))
+        return NULL;
+    Memory *it = memory_of(self);
+    if (it == NULL)
+        return NULL;
+    uint32_t status = call(it, one, position, &out);
+    if (status == BITM_OK)
+        return boxed(out);
+    return status == BITM_NONE ? past_end(position, len(it)) : wrong();
+}
+
+/* The queries by which bits are found, which an index and sparse bits have, and the calls of the library that they
+ * make. */
+#define BIT_CALL(class, name)                                                                                          \
+    static inline uint32_t name##_by(const Memory *it, bool one, uint64_t query, uint64_t *out)                        \
+    {                                                                                                                  \
+        return bitm_##class##_##name(&it->class, one, query, out);                                                     \
+    }
+#define BIT_RANK(class, name, one)                                                                                     \
+    static PyObject *class##_##name(PyObject *self, PyObject *it) { return ask_rank(self, it, rank_by, one, length); }
+#define BIT_QUERY(class, name, call, one, what)                                                                        \
+    static PyObject *class##_##name(PyObject *self, PyObject *it) { return ask(self, it, call##_by, one, what); }
+#define BIT_QUERIES(class)                                                                                             \
+    BIT_CALL(class, rank)                                                                                              \
+    BIT_CALL(class, select)                                                                                            \
+    BIT_CALL(class, next)                                                                                              \
+    BIT_CALL(class, previous)                                                                                          \
+    BIT_RANK(class, rank, true)                                                                                        \
+    BIT_RANK(class, rank0, false)                                                                                      \
+    BIT_QUERY(class, select, select, true, "a rank")                                                                   \
+    BIT_QUERY(class, select0, select, false, "a rank")                                                                 \
+    BIT_QUERY(class, next_one, next, true, "a position")                                                               \
+    BIT_QUERY(class, next_zero, next, false, "a position")                                                             \
+    BIT_QUERY(class, previous_one, previous, true, "a position")                                                       \
+    BIT_QUERY(class, previous_zero, previous, false, "a position")
+
+/* ---- numbers of keys */
+
+/* The number of a key: 1, 0 where it has none, -1 and an error. */
+typedef int (*finder)(PyObject *self, PyObject *key, uint64_t *out);
+
+/* The methods get(key, default=None) and [key]. */
+static inline PyObject *number_or_default(PyObject *self, finder found, PyObject *const *args, Py_ssize_t count,
+                                          PyObject *keywords)
+{
+    static const char *const names[] = {"key", "default"};
+    PyObject *given[2];
+    uint64_t out = 0;
+    if (pick("get", names, 1, 2, args, count, keywords, given))
+        return NULL;
+    int is_found = found(self, given[0], &out);
+    if (is_found < 0)
+        return NULL;
+    return is_found ? boxed(out) : Py_NewRef(given[1] == NULL ? Py_None : given[1]);
+}
+
+static inline PyObject *number_or_error(PyObject *self, finder found, PyObject *key)
+{
+    uint64_t out = 0;
+    int is_found = found(self, key, &out);
+    if (is_found == 0)
+        PyErr_SetObject(PyExc_KeyError, key);
+    return is_found > 0 ? boxed(out) : NULL;
+}
+
+/* ---- lists */
+
+/* A call of the library for a list and a member of Memory, with or without a kind of bit. */
+#define LIST_OF_BITS(name, call, member)                                                                               \
+    static uint32_t name(const Memory *it, bool one, const uint64_t *in, uint64_t *out, size_t count,                  \
+                         struct bitm_list_counts *counts)                                                              \
+    {                                                                                                                  \
+        return call(&it->member, one, in, count, out, count, counts);                                                  \
+    }
+#define LIST_OF(name, call, member)                                                                                    \
+    static uint32_t name(const Memory *it, bool one, const uint64_t *in, uint64_t *out, size_t count,                  \
+                         struct bitm_list_counts *counts)                                                              \
+    {                                                                                                                  \
+        (void)one;                                                                                                     \
+        return call(&it->member, in, count, out, count, counts);                                                       \
+    }
+
+/* The same of a call that stops at the first item without an answer, which `one_of` answers too. */
+#define LIST_UNTIL_NONE(name, call, member, one_of)                                                                    \
+    static uint32_t name(const Memory *it, bool one, const uint64_t *in, uint64_t *out, size_t count,                  \
+                         struct bitm_list_counts *counts)                                                              \
+    {                                                                                                                  \
+        uint64_t written = 0, answer;                                                                                  \
+        (void)one;                                                                                                     \
+        uint32_t status = call(&it->member, in, count, out, count, &written);                                          \
+        if (status != BITM_OK || written == count)                                                                     \
+            return status;                                                                                             \
+        return stopped_at(written, one_of(it, in[written], &answer), out, counts);                                     \
+    }
+
+/* The method of a class for a list. */
+#define LIST(class, name, call, one, kind, what)                                                                       \
+    static PyObject *class##_##name(PyObject *self, PyObject *const *args, Py_ssize_t count, PyObject *keywords)       \
+    {                                                                                                                  \
+        return ask_list(self, call, one, kind, #name, what, args, count, keywords);                                    \
+    }
+
+/* The lists of queries by which bits are found, which an index and sparse bits have. */
+#define BIT_LISTS(class)                                                                                               \
+    LIST_OF_BITS(ranks, bitm_##class##_rank_list, class)                                                               \
+    LIST_OF_BITS(selections, bitm_##class##_select_list, class)                                                        \
+    LIST(class, rank_list, ranks, true, EACH, "a position")                                                            \
+    LIST(class, rank0_list, ranks, false, EACH, "a position")                                                          \
+    LIST(class, select_list, selections, true, SOME, "a rank")                                                         \
+    LIST(class, select0_list, selections, false, SOME, "a rank")
+
+/* ---- the rest */
+
+/* The method check() of a class over a block. */
+#define BLOCK_CHECK(class)                                                                                             \
+    static int is_right(const Memory *it) { return bitm_##class##_check(it->block, it->block_len) == BITM_OK; }        \
+    static PyObject *class##_check(PyObject *self, PyObject *none)                                                     \
+    {                                                                                                                  \
+        (void)none;                                                                                                    \
+        return value_checked(self, is_right);                                                                          \
+    }
+
+/* An attribute of a class: a number in memory. */
+#define ATTRIBUTE(class, name, number)                                                                                 \
+    static PyObject *class##_##name(PyObject *self, void *none)                                                        \
+    {                                                                                                                  \
+        const Memory *it = memory_of(self);                                                                            \
+        (void)none;                                                                                                    \
+        return it == NULL ? NULL : boxed(it->number);                                                                  \
+    }
+
+#endif

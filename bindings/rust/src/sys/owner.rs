@@ -1,0 +1,127 @@
+//! Values with a view, and the owner of what it borrows: what all of them have.
+
+/// What each owner of what a view borrows has. The texts: what it is; an example, and how many nodes, numbers, .. that
+/// has; the words of its file.
+macro_rules! owners {
+    ($kind:ident with $view:ident; $it:literal, $made:literal, $len:literal, $file:literal) => {
+        impl<O: AsRef<[u64]>> $kind<O> {
+            #[doc = concat!("The ", $it, " in a file, whose words the owner has. What the file holds is not tested:")]
+            /// `check` does that.
+            ///
+            /// ```
+            #[doc = concat!("use bitm_proved::", stringify!($kind), ";")]
+            #[doc = concat!("let made = ", $made, ";")]
+            #[doc = concat!("let file = ", $file, ";")]
+            #[doc = concat!("assert_eq!(", stringify!($kind), "::from_words(file)?.view().len(), ", $len, ");")]
+            /// # Ok::<(), Box<dyn std::error::Error>>(())
+            /// ```
+            pub fn from_words(owner: O) -> Result<Self, StoredError> {
+                let held = Held::new(owner)?;
+                // SAFETY: the view is handed out only for as long as the value is borrowed itself.
+                let view = $view::from_words(unsafe { held.borrowed() })?;
+                Ok($kind { view, held })
+            }
+        }
+
+        impl<O: AsRef<[u8]>> $kind<O> {
+            #[doc = concat!("The ", $it, " in a file, whose bytes the owner has; they begin at a multiple of 8.")]
+            ///
+            /// ```
+            #[doc = concat!("use bitm_proved::{bytes_of, ", stringify!($kind), "};")]
+            #[doc = concat!("let made = ", $made, ";")]
+            #[doc = concat!("let file = ", $file, ";")]
+            #[doc = concat!("let made = ", stringify!($kind), "::from_bytes(bytes_of(file))?;")]
+            #[doc = concat!("assert_eq!(made.view().len(), ", $len, ");")]
+            /// # Ok::<(), Box<dyn std::error::Error>>(())
+            /// ```
+            pub fn from_bytes(owner: O) -> Result<Self, StoredError> {
+                let held = Held::new(owner)?;
+                // SAFETY: as of `from_words`.
+                let view = $view::from_bytes(unsafe { held.borrowed() })?;
+                Ok($kind { view, held })
+            }
+        }
+
+        impl<O> $kind<O> {
+            /// Its view, which has the queries that return errors.
+            ///
+            /// ```
+            #[doc = concat!("let made = ", $made, ";")]
+            #[doc = concat!("assert_eq!(made.view().len(), ", $len, ");")]
+            /// # Ok::<(), bitm_proved::BuildError>(())
+            /// ```
+            #[inline(always)]
+            pub fn view(&self) -> &$view<'_> {
+                &self.view
+            }
+
+            /// The owner.
+            ///
+            /// ```
+            #[doc = concat!("use bitm_proved::", stringify!($kind), ";")]
+            #[doc = concat!("let made = ", $made, ";")]
+            #[doc = concat!("let file = ", $file, ";")]
+            #[doc = concat!("assert_eq!(", stringify!($kind), "::from_words(file)?.owner(), &file);")]
+            /// # Ok::<(), Box<dyn std::error::Error>>(())
+            /// ```
+            pub fn owner(&self) -> &O {
+                self.held.owner()
+            }
+
+            #[doc = concat!("The owner, without the ", $it, ".")]
+            ///
+            /// ```
+            #[doc = concat!("use bitm_proved::", stringify!($kind), ";")]
+            #[doc = concat!("let made = ", $made, ";")]
+            #[doc = concat!("let file = ", $file, ";")]
+            #[doc = concat!("assert_eq!(", stringify!($kind), "::from_words(file)?.into_owner(), file);")]
+            /// # Ok::<(), Box<dyn std::error::Error>>(())
+            /// ```
+            pub fn into_owner(self) -> O {
+                self.held.into_owner()
+            }
+        }
+
+        impl<O> fmt::Debug for $kind<O> {
+            fn fmt(&self, f: &mut fmt::Formatter<'_>) -> fmt::Result {
+                self.view().fmt(f)
+            }
+        }
+    };
+}
+pub(crate) use owners;
+
+/// As `owners`, of a block, which can be copied.
+macro_rules! owners_of_blocks {
+    ($kind:ident with $view:ident; $it:literal, $made:literal, $len:literal) => {
+        crate::sys::owner::owners!($kind with $view; $it, $made, $len, "made.view().block()");
+
+        impl $kind {
+            /// Of a block that was built; `otherwise` where it is none.
+            fn of_block(block: Vec<u64>, otherwise: BuildError) -> Result<Self, BuildError> {
+                $kind::from_words(block).map_err(|why| match why {
+                    StoredError::NoMemory(why) => BuildError::NoMemory(why),
+                    _ => otherwise,
+                })
+            }
+
+            /// A copy; an error where memory is refused.
+            ///
+            /// ```
+            #[doc = concat!("let made = ", $made, ";")]
+            #[doc = concat!("assert_eq!(made.try_clone()?.view().len(), ", $len, ");")]
+            /// # Ok::<(), Box<dyn std::error::Error>>(())
+            /// ```
+            pub fn try_clone(&self) -> Result<Self, StoredError> {
+                $kind::from_words(copied(self.view().block())?)
+            }
+        }
+
+        impl Clone for $kind {
+            fn clone(&self) -> Self {
+                made(self.try_clone())
+            }
+        }
+    };
+}
+pub(crate) use owners_of_blocks;
