@@ -32,12 +32,6 @@ static uint64_t *bits_built(uint64_t bits_len, uint64_t *words)
     return block;
 }
 
-static bool opens_index(const uint64_t *block, size_t words, struct bitm_index *index)
-{
-    memset(index, UNTOUCHED, sizeof *index);
-    return was_opened(bitm_index_block_open(block, words, index), index, sizeof *index);
-}
-
 static void index_answers(const struct bitm_index *index, uint64_t bits_len)
 {
     uint64_t *out, ranks[2] = {0, 0};
@@ -58,8 +52,9 @@ static void index_answers(const struct bitm_index *index, uint64_t bits_len)
     MUST(status == BITM_NONE && bitm_index_check(index) == BITM_OK);
 }
 
-static void index_within(const struct bitm_index *index)
+static void index_within(const void *opened)
 {
+    const struct bitm_index *const index = opened;
     uint64_t *out;
     uint32_t status;
     MUST(bitm_index_fault(index) == NULL);
@@ -71,15 +66,12 @@ static void index_within(const struct bitm_index *index)
     }
 }
 
-static bool opens_index_within(const uint64_t *block, size_t words)
+static uint32_t open_index(const uint64_t *block, size_t words, void *opened)
 {
-    struct bitm_index index;
-    if (!opens_index(block, words, &index)) return false;
-    index_within(&index);
-    return true;
+    return bitm_index_block_open(block, words, opened);
 }
 
-static const struct kind of_bits = {32, bitm_index_block_check, opens_index_within};
+static const struct kind of_bits = {32, sizeof(struct bitm_index), bitm_index_block_check, open_index, index_within};
 
 static void drawn_bits(void)
 {
@@ -89,10 +81,10 @@ static void drawn_bits(void)
         const uint64_t bits_len = turn < 4 ? turn * 63 : draw() % (64 * WORDS + 1);
         for (size_t i = 0; i < WORDS; i++) words_of[i] = turn % 3 ? draw() : draw() & draw() & draw() & draw();
         uint64_t *block = bits_built(bits_len, &words);
-        MUST(opens_index(block, words, &index) && bitm_index_block_check(block, words) == BITM_OK);
+        MUST(opens(&of_bits, block, words, &index) && bitm_index_block_check(block, words) == BITM_OK);
         index_answers(&index, bits_len);
         draw_words(block + of_bits.head, words - of_bits.head);
-        MUST(opens_index_within(block, words));
+        MUST(opens_to_queries(&of_bits, block, words));
     }
 }
 
@@ -138,12 +130,6 @@ static uint64_t *sequence_built(size_t len, uint64_t *words)
     return block;
 }
 
-static bool opens_sequence(const uint64_t *block, size_t words, struct bitm_sequence *sequence)
-{
-    memset(sequence, UNTOUCHED, sizeof *sequence);
-    return was_opened(bitm_sequence_block_open(block, words, sequence), sequence, sizeof *sequence);
-}
-
 static void sequence_answers(const struct bitm_sequence *sequence, size_t len)
 {
     uint64_t *out;
@@ -160,8 +146,9 @@ static void sequence_answers(const struct bitm_sequence *sequence, size_t len)
     MUST(status == BITM_NONE);
 }
 
-static void sequence_within(const struct bitm_sequence *sequence)
+static void sequence_within(const void *opened)
 {
+    const struct bitm_sequence *const sequence = opened;
     uint64_t *out;
     uint32_t status;
     MUST(bitm_sequence_fault(sequence) == NULL);
@@ -173,15 +160,13 @@ static void sequence_within(const struct bitm_sequence *sequence)
     }
 }
 
-static bool opens_sequence_within(const uint64_t *block, size_t words)
+static uint32_t open_sequence(const uint64_t *block, size_t words, void *opened)
 {
-    struct bitm_sequence sequence;
-    if (!opens_sequence(block, words, &sequence)) return false;
-    sequence_within(&sequence);
-    return true;
+    return bitm_sequence_block_open(block, words, opened);
 }
 
-static const struct kind of_sequence = {32, bitm_sequence_block_check, opens_sequence_within};
+static const struct kind of_sequence = {32, sizeof(struct bitm_sequence), bitm_sequence_block_check, open_sequence,
+                                        sequence_within};
 
 static void draw_items(size_t len, uint64_t most)
 {
@@ -201,10 +186,10 @@ static void drawn_sequences(void)
         const size_t len = turn < 6 ? turn : draw() % (ITEMS + 1);
         draw_items(len, turn % 4 ? (uint64_t)1 << draw() % 63 : 1);
         uint64_t *block = sequence_built(len, &words);
-        MUST(opens_sequence(block, words, &sequence) && bitm_sequence_block_check(block, words) == BITM_OK);
+        MUST(opens(&of_sequence, block, words, &sequence) && bitm_sequence_block_check(block, words) == BITM_OK);
         sequence_answers(&sequence, len);
         draw_words(block + of_sequence.head, words - of_sequence.head);
-        MUST(opens_sequence_within(block, words));
+        MUST(opens_to_queries(&of_sequence, block, words));
     }
 }
 

@@ -4,19 +4,38 @@
 
 #include "places.h"
 
-/* What holds blocks of one kind: the words of the header and the directory, at which opening looks; the call that looks
- * at all of a block; and whether a block is opened, in which case it is queried too. */
+/* A kind of blocks: how many words the header and the directory have, at which opening looks; how large the struct is
+ * that opening writes; the calls that check and open a block; and queries of what was opened, be it what it may. */
 struct kind {
-    size_t head;
+    size_t head, size;
     uint32_t (*check)(const uint64_t *block, size_t words);
-    bool (*opens)(const uint64_t *block, size_t words);
+    uint32_t (*open)(const uint64_t *block, size_t words, void *opened);
+    void (*query)(const void *opened);
 };
 
-/* Whether a block was opened, by the status of the call; where it was refused, the struct is as it was. */
-static inline bool was_opened(uint32_t status, const void *made, size_t size)
+/* Whether a block is opened; where it is refused, the struct is as it was. */
+static inline bool opens(const struct kind *kind, const uint64_t *block, size_t words, void *opened)
 {
-    MUST(status == BITM_OK || (status == BITM_WRONG && is_untouched(made, size)));
+    const uint32_t status = kind->open(block, words, memset(opened, UNTOUCHED, kind->size));
+    MUST(status == BITM_OK || (status == BITM_WRONG && is_untouched(opened, kind->size)));
     return status == BITM_OK;
+}
+
+/* The same, with queries of what is opened. */
+static inline bool opens_to_queries(const struct kind *kind, const uint64_t *block, size_t words)
+{
+    void *const opened = malloc(kind->size);
+    MUST(opened);
+    const bool is_open = opens(kind, block, words, opened);
+    if (is_open) kind->query(opened);
+    free(opened);
+    return is_open;
+}
+
+/* Whether neither opening nor the check takes a block. */
+static inline bool refuses(const struct kind *kind, const uint64_t *block, size_t words)
+{
+    return !opens_to_queries(kind, block, words) && kind->check(block, words) == BITM_WRONG;
 }
 
 /* Each byte changed to others, one in `step` of the 255: the check refuses it, and opening does in the head. */
@@ -27,7 +46,7 @@ static inline void changed_bytes(const struct kind *kind, uint64_t *block, size_
         for (unsigned change = 1; change < 256; change += step) {
             bytes[at] ^= (unsigned char)change;
             MUST(kind->check(block, words) == BITM_WRONG);
-            MUST(kind->opens(block, words) == (at >= 8 * kind->head));
+            MUST(opens_to_queries(kind, block, words) == (at >= 8 * kind->head));
             bytes[at] ^= (unsigned char)change;
         }
 }
@@ -40,10 +59,10 @@ static inline void cut_off(const struct kind *kind, uint64_t *block, size_t word
     memcpy(whole, block, 8 * words);
     for (size_t len = 0; len < words; len++) {
         const uint64_t *const prefix = memcpy(placed(OF_BLOCK, 8 * len), whole, 8 * len);
-        MUST(!kind->opens(prefix, len) && kind->check(prefix, len) == BITM_WRONG);
+        MUST(refuses(kind, prefix, len));
     }
     memcpy(block, whole, 8 * words);
-    MUST(!kind->opens(block, SIZE_MAX) && kind->check(block, words) == BITM_OK);
+    MUST(!opens_to_queries(kind, block, SIZE_MAX) && kind->check(block, words) == BITM_OK);
     free(whole);
 }
 

@@ -134,6 +134,14 @@ static void list_as_single_calls(const struct bitm_dictionary *dictionary)
 }
 
 /* Whatever the block holds: every call returns, and the key stands at the number that is found. */
+static void number_within(const struct bitm_hash *hash, uint64_t hash_of)
+{
+    uint64_t *out;
+    uint32_t status;
+    ANSWER(bitm_hash_get(hash, hash_of, out));
+    MUST(status == BITM_OK ? *out < hash->keys : status == BITM_NONE || status == BITM_WRONG);
+}
+
 static void answers_within(const struct bitm_dictionary *dictionary)
 {
     uint64_t *out;
@@ -143,46 +151,39 @@ static void answers_within(const struct bitm_dictionary *dictionary)
         ANSWER(bitm_dictionary_find(dictionary, key, out));
         MUST(status == BITM_OK ? *out < dictionary->keys_len && dictionary->keys[*out] == key
                                : status == BITM_NONE || status == BITM_WRONG);
-        ANSWER(bitm_hash_get(&dictionary->hash, key, out));
-        MUST(status == BITM_OK ? *out < dictionary->hash.keys : status == BITM_NONE || status == BITM_WRONG);
+        number_within(&dictionary->hash, key);
     }
     list_as_single_calls(dictionary);
 }
 
 /* ---- blocks */
 
-static bool opens(const uint64_t *block, size_t words, struct bitm_dictionary *dictionary)
+static uint32_t open_dictionary(const uint64_t *block, size_t words, void *opened)
 {
-    memset(dictionary, UNTOUCHED, sizeof *dictionary);
-    return was_opened(bitm_dictionary_open(block, words, dictionary), dictionary, sizeof *dictionary);
+    return bitm_dictionary_open(block, words, opened);
 }
 
-static bool opens_hash(const uint64_t *block, size_t words, struct bitm_hash *hash, uint64_t *with_seed)
-{
-    memset(hash, UNTOUCHED, sizeof *hash), *with_seed = UNTOUCHED;
-    const bool is_open = was_opened(bitm_hash_block_open(block, words, hash, with_seed), hash, sizeof *hash);
-    MUST(is_open || *with_seed == UNTOUCHED);
-    return is_open;
-}
-
-static bool opens_within(const uint64_t *block, size_t words)
-{
-    static unsigned opened = 0;
-    struct bitm_dictionary dictionary;
-    if (!opens(block, words, &dictionary)) return false;
-    if (opened++ % 16 == 0) answers_within(&dictionary);
-    return true;
-}
-
-static bool opens_as_hash(const uint64_t *block, size_t words)
-{
+struct opened_hash {
     struct bitm_hash hash;
-    uint64_t with_seed;
-    return opens_hash(block, words, &hash, &with_seed);
+    uint64_t seed;
+};
+
+static uint32_t open_hash(const uint64_t *block, size_t words, void *opened)
+{
+    struct opened_hash *const it = opened;
+    return bitm_hash_block_open(block, words, &it->hash, &it->seed);
 }
 
-static const struct kind of_dictionary = {40, bitm_dictionary_check, opens_within};
-static const struct kind of_hash = {40, bitm_hash_block_check, opens_as_hash};
+static void hash_within(const void *opened) { number_within(&((const struct opened_hash *)opened)->hash, draw()); }
+
+static void some_within(const void *opened)
+{
+    if (draw() % 16 == 0) answers_within(opened);
+}
+
+static const struct kind of_dictionary = {40, sizeof(struct bitm_dictionary), bitm_dictionary_check, open_dictionary,
+                                          some_within};
+static const struct kind of_hash = {40, sizeof(struct opened_hash), bitm_hash_block_check, open_hash, hash_within};
 
 /* The parts lie in the block, the words before the tables, sizes and keys. */
 static void is_over(const uint64_t *block, uint64_t words, const struct bitm_dictionary *dictionary)
@@ -215,36 +216,37 @@ static void drawn_keys(void)
 {
     static struct plain plain;
     for (unsigned i = 0; i < 60; i++) {
-        uint64_t words, with_seed;
-        struct bitm_hash hash;
+        uint64_t words;
+        struct opened_hash hash;
         draw_keys(&plain, i < 12 ? i : i == 59 ? KEYS : draw() % MOST, 1 + i % 50);
         const struct bitm_dictionary made = parts_of(&plain, i % 3 ? draw() : i);
         answers_as(&plain, &made);
         uint64_t *block = hash_built(&made, &words);
         struct bitm_dictionary *const dictionary = placed(OF_STRUCT, sizeof *dictionary);
-        MUST(opens_hash(block, words, &hash, &with_seed) && with_seed == made.seed && !opens(block, words, dictionary));
+        MUST(opens(&of_hash, block, words, &hash) && hash.seed == made.seed);
+        MUST(!opens(&of_dictionary, block, words, dictionary));
         MUST(bitm_hash_block_check(block, words) == BITM_OK && bitm_dictionary_check(block, words) == BITM_WRONG);
-        numbers_as(&plain, &made, &hash);
+        numbers_as(&plain, &made, &hash.hash);
         block = built(&made, &words);
-        MUST(opens(block, words, dictionary) && bitm_dictionary_check(block, words) == BITM_OK);
-        MUST(opens_hash(block, words, &hash, &with_seed) && with_seed == made.seed);
+        MUST(opens(&of_dictionary, block, words, dictionary) && bitm_dictionary_check(block, words) == BITM_OK);
+        MUST(opens(&of_hash, block, words, &hash) && hash.seed == made.seed);
         MUST(bitm_hash_block_check(block, words) == BITM_OK && dictionary->seed == made.seed);
         MUST(dictionary->reserved[0] == 0 && dictionary->reserved[1] == 0);
         is_over(block, words, dictionary);
-        numbers_as(&plain, &made, &hash);
+        numbers_as(&plain, &made, &hash.hash);
         answers_as(&plain, dictionary);
         list_as_single_calls(dictionary);
     }
 }
 
 /* Whether a build of no block leaves the block as it was. */
-static void refuses(const struct bitm_dictionary *made, uint64_t words, uint32_t expected)
+static void builds_none(const struct bitm_dictionary *made, uint64_t words, uint32_t expected)
 {
     uint64_t *block = untouched_at(OF_BLOCK, 8 * words);
     MUST(bitm_dictionary_build(made, block, words) == expected && is_untouched(block, 8 * words));
 }
 
-static void refuses_hash(const struct bitm_dictionary *made, size_t levels, uint64_t words)
+static void builds_no_hash(const struct bitm_dictionary *made, size_t levels, uint64_t words)
 {
     uint64_t *block = untouched_at(OF_BLOCK, 8 * words);
     MUST(bitm_hash_block_build(made->hash.index.words, made->hash.index.words_len, made->hash.sizes, levels, 7, block,
@@ -263,8 +265,8 @@ static void no_dictionary(void)
              *lower = (uint64_t *)made.hash.index.lower, *levels = (uint64_t *)made.hash.index.words;
     built(&made, &words), hash_built(&made, &hash_words);
     for (size_t len = 0; len < words + 9; len++) {
-        if (len != words) refuses(&made, len, BITM_BAD_SIZE);
-        if (len != hash_words) refuses_hash(&made, made.hash.sizes_len, len);
+        if (len != words) builds_none(&made, len, BITM_BAD_SIZE);
+        if (len != hash_words) builds_no_hash(&made, made.hash.sizes_len, len);
     }
     for (size_t i = 0; i < plain.count; i++) {
         const uint64_t key = keys[i], others[] = {key + 1, key - 1, draw(), keys[(i + 1) % plain.count]};
@@ -272,14 +274,14 @@ static void no_dictionary(void)
             uint64_t number = UNTOUCHED;
             keys[i] = others[other];
             const uint32_t status = bitm_hash_get(&made.hash, keys[i] + made.seed, &number);
-            if (status != BITM_OK || number != i) refuses(&made, words, BITM_WRONG); /* it has not this number by chance */
+            if (status != BITM_OK || number != i) builds_none(&made, words, BITM_WRONG); /* it has not this number by chance */
         }
         keys[i] = key;
     }
-    sizes[0]++, refuses(&made, words, BITM_WRONG), refuses_hash(&made, made.hash.sizes_len, hash_words), sizes[0]--;
-    refuses_hash(&made, made.hash.sizes_len - 1, hash_words);
-    lower[0] ^= 1, refuses(&made, words, BITM_WRONG), lower[0] ^= 1;
-    levels[0] ^= 1, refuses(&made, words, BITM_WRONG), levels[0] ^= 1;
+    sizes[0]++, builds_none(&made, words, BITM_WRONG), builds_no_hash(&made, made.hash.sizes_len, hash_words), sizes[0]--;
+    builds_no_hash(&made, made.hash.sizes_len - 1, hash_words);
+    lower[0] ^= 1, builds_none(&made, words, BITM_WRONG), lower[0] ^= 1;
+    levels[0] ^= 1, builds_none(&made, words, BITM_WRONG), levels[0] ^= 1;
     built(&made, &words);
 }
 
@@ -319,20 +321,19 @@ static void random_blocks(void)
 {
     static struct plain plain;
     struct bitm_dictionary dictionary;
-    struct bitm_hash hash;
+    struct opened_hash hash;
     for (size_t turn = 0; turn < 400; turn++) {
-        uint64_t words, with_seed;
+        uint64_t words;
         draw_keys(&plain, 1 + draw() % 300, 40);
         const struct bitm_dictionary made = parts_of(&plain, draw());
         uint64_t *const block = built(&made, &words);
         spoil(block, of_dictionary.head, words, turn);
-        MUST(opens(block, words, &dictionary) && opens_hash(block, words, &hash, &with_seed));
+        MUST(opens(&of_dictionary, block, words, &dictionary) && opens(&of_hash, block, words, &hash));
         answers_within(&dictionary);
-        answers_within(&(struct bitm_dictionary){hash, made.keys, made.keys_len, with_seed, {0, 0}});
+        answers_within(&(struct bitm_dictionary){hash.hash, made.keys, made.keys_len, hash.seed, {0, 0}});
         if (bitm_dictionary_check(block, words) == BITM_OK) answers_as(&plain, &dictionary);
         draw_words(block, words);
-        MUST(!opens(block, words, &dictionary) && bitm_dictionary_check(block, words) == BITM_WRONG);
-        MUST(!opens_hash(block, words, &hash, &with_seed) && bitm_hash_block_check(block, words) == BITM_WRONG);
+        MUST(refuses(&of_dictionary, block, words) && refuses(&of_hash, block, words));
     }
 }
 
@@ -361,7 +362,7 @@ static void other_structs(void)
         MUST(status == BITM_BAD_SIZE);
         MUST(bitm_dictionary_find_list(&bad, &asked, 1, out, 1, counts) == BITM_BAD_SIZE && *out == UNTOUCHED);
         MUST(counts->missing == UNTOUCHED && counts->wrong == UNTOUCHED);
-        refuses(&bad, 400, BITM_BAD_SIZE);
+        builds_none(&bad, 400, BITM_BAD_SIZE);
     }
     uint64_t *sizes = (uint64_t *)made.hash.sizes;
     sizes[0] = 0;

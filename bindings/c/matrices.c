@@ -150,8 +150,9 @@ static void lists_as_single_calls(const struct bitm_matrix *matrix)
 }
 
 /* Whatever the block holds: every call returns, within its range. */
-static void answers_within(const struct bitm_matrix *matrix)
+static void answers_within(const void *opened)
 {
+    const struct bitm_matrix *const matrix = opened;
     uint64_t *out;
     uint32_t status;
     for (size_t i = 0; i < matrix->len + 2; i++) {
@@ -208,21 +209,12 @@ static void no_matrices(void)
     MUST(bitm_matrix_size(((size_t)1 << 63) - 1, 1, &words) == BITM_OK && words < (uint64_t)1 << 59);
 }
 
-static bool opens(const uint64_t *block, size_t words, struct bitm_matrix *matrix)
+static uint32_t open_block(const uint64_t *block, size_t words, void *opened)
 {
-    memset(matrix, UNTOUCHED, sizeof *matrix);
-    return was_opened(bitm_matrix_open(block, words, matrix), matrix, sizeof *matrix);
+    return bitm_matrix_open(block, words, opened);
 }
 
-static bool opens_within(const uint64_t *block, size_t words)
-{
-    struct bitm_matrix matrix;
-    if (!opens(block, words, &matrix)) return false;
-    answers_within(&matrix);
-    return true;
-}
-
-static const struct kind of_matrix = {40, bitm_matrix_check, opens_within};
+static const struct kind of_matrix = {40, sizeof(struct bitm_matrix), bitm_matrix_check, open_block, answers_within};
 
 static void changed_blocks(void)
 {
@@ -244,12 +236,12 @@ static void random_blocks(void)
         draw_numbers(&plain, 1 + draw() % 300, 1 + (uint32_t)(draw() % 64), draw() % 9);
         uint64_t *const block = built(&plain, &words);
         spoil(block, of_matrix.head, words, turn);
-        MUST(opens(block, words, &matrix));
+        MUST(opens(&of_matrix, block, words, &matrix));
         answers_within(&matrix);
         lists_as_single_calls(&matrix);
         if (bitm_matrix_check(block, words) == BITM_OK) answers_as(&plain, &matrix);
         draw_words(block, words);
-        MUST(!opens(block, words, &matrix) && bitm_matrix_check(block, words) == BITM_WRONG);
+        MUST(refuses(&of_matrix, block, words));
     }
 }
 

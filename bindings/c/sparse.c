@@ -230,8 +230,9 @@ static void number_within(const struct bitm_sparse *sparse, uint64_t number)
     }
 }
 
-static void answers_within(const struct bitm_sparse *sparse)
+static void answers_within(const void *opened)
 {
+    const struct bitm_sparse *const sparse = opened;
     for (uint64_t i = 0; i < 8; i++) number_within(sparse, i);
     for (uint64_t side = 0; side < 5; side++) {
         number_within(sparse, sparse->bits_len + side - 2);
@@ -317,21 +318,12 @@ static void no_bits(void)
     MUST(bitm_sparse_size(((size_t)1 << 56) - 1, UINT64_MAX, &words) == BITM_OK);
 }
 
-static bool opens(const uint64_t *block, size_t words, struct bitm_sparse *sparse)
+static uint32_t open_block(const uint64_t *block, size_t words, void *opened)
 {
-    memset(sparse, UNTOUCHED, sizeof *sparse);
-    return was_opened(bitm_sparse_open(block, words, sparse), sparse, sizeof *sparse);
+    return bitm_sparse_open(block, words, opened);
 }
 
-static bool opens_within(const uint64_t *block, size_t words)
-{
-    struct bitm_sparse sparse;
-    if (!opens(block, words, &sparse)) return false;
-    answers_within(&sparse);
-    return true;
-}
-
-static const struct kind of_sparse = {32, bitm_sparse_check, opens_within};
+static const struct kind of_sparse = {32, sizeof(struct bitm_sparse), bitm_sparse_check, open_block, answers_within};
 
 /* And the block of a sequence. */
 static void changed_blocks(void)
@@ -343,7 +335,7 @@ static void changed_blocks(void)
     changed_bytes(&of_sparse, block, words, 1);
     cut_off(&of_sparse, block, words);
     MUST(bitm_sequence_block_build(plain.positions, SMALL, block, words) == BITM_OK);
-    MUST(!opens_within(block, words) && bitm_sparse_check(block, words) == BITM_WRONG);
+    MUST(refuses(&of_sparse, block, words));
 }
 
 /* Random words after a right header, and random words alone. */
@@ -356,12 +348,12 @@ static void random_blocks(void)
         draw_positions(&plain, 1 + draw() % 300, (uint64_t)1 << turn % 20);
         uint64_t *const block = built(&plain, &words);
         spoil(block, of_sparse.head, words, turn);
-        MUST(opens(block, words, &sparse));
+        MUST(opens(&of_sparse, block, words, &sparse));
         answers_within(&sparse);
         lists_as_single_calls(&sparse);
         if (bitm_sparse_check(block, words) == BITM_OK) answers_as(&plain, &sparse);
         draw_words(block, words);
-        MUST(!opens(block, words, &sparse) && bitm_sparse_check(block, words) == BITM_WRONG);
+        MUST(refuses(&of_sparse, block, words));
     }
 }
 

@@ -137,8 +137,9 @@ static void bytes_within(const struct bitm_text *text, const uint8_t *pattern, s
 }
 
 /* Whatever the block holds: every call returns, within its range. */
-static void answers_within(const struct bitm_text *text)
+static void answers_within(const void *opened)
 {
+    const struct bitm_text *const text = opened;
     uint64_t pattern[PATTERN], *out;
     const uint64_t len = text->letters.len, width = text->letters.width;
     uint32_t status;
@@ -216,21 +217,12 @@ static void no_texts(void)
     }
 }
 
-static bool opens(const uint64_t *block, size_t words, struct bitm_text *text)
+static uint32_t open_block(const uint64_t *block, size_t words, void *opened)
 {
-    memset(text, UNTOUCHED, sizeof *text);
-    return was_opened(bitm_text_open(block, words, text), text, sizeof *text);
+    return bitm_text_open(block, words, opened);
 }
 
-static bool opens_within(const uint64_t *block, size_t words)
-{
-    struct bitm_text text;
-    if (!opens(block, words, &text)) return false;
-    answers_within(&text);
-    return true;
-}
-
-static const struct kind of_text = {HEAD, bitm_text_check, opens_within};
+static const struct kind of_text = {HEAD, sizeof(struct bitm_text), bitm_text_check, open_block, answers_within};
 
 /* And the block of a matrix. */
 static void changed_blocks(bool is_of_bytes)
@@ -245,14 +237,13 @@ static void changed_blocks(bool is_of_bytes)
     uint64_t scratch[6], of_matrix;
     MUST(bitm_matrix_size(3, 2, &of_matrix) == BITM_OK);
     MUST(bitm_matrix_build(plain.letters, 3, 2, scratch, 6, block, of_matrix) == BITM_OK);
-    MUST(!opens_within(block, of_matrix) && bitm_text_check(block, of_matrix) == BITM_WRONG);
+    MUST(refuses(&of_text, block, of_matrix));
 }
 
 /* Words that are not those of a text, of which each checksum is right; and random words alone. */
 static void random_blocks(void)
 {
     static struct plain plain;
-    struct bitm_text text;
     for (size_t turn = 0; turn < 300; turn++) {
         size_t words;
         draw_text(&plain, 1 + draw() % 200, 1 + draw() % 30, 5, 1 + (uint32_t)turn % 40);
@@ -267,11 +258,9 @@ static void random_blocks(void)
         }
         block[8] = draw() % (plain.len + 1), block[9] = 1 + draw() % 50;
         seal(block);
-        MUST(opens(block, words, &text));
-        answers_within(&text);
-        MUST(bitm_text_check(block, words) == BITM_WRONG);
+        MUST(opens_to_queries(&of_text, block, words) && bitm_text_check(block, words) == BITM_WRONG);
         draw_words(block, words);
-        MUST(!opens(block, words, &text) && bitm_text_check(block, words) == BITM_WRONG);
+        MUST(refuses(&of_text, block, words));
     }
 }
 
@@ -297,9 +286,9 @@ static void other_headers(void)
         if (i == 9) block[18 + 4 * 12] = 0, block[2] -= 64, words -= 8;
         seal(block);
         if (i == 9)
-            MUST(opens(block, words, &text) && text.used_len == 0); /* of numbers */
+            MUST(opens(&of_text, block, words, &text) && text.used_len == 0); /* of numbers */
         else
-            MUST(!opens(block, words, &text) && bitm_text_check(block, words) == BITM_WRONG);
+            MUST(refuses(&of_text, block, words));
     }
 }
 

@@ -130,8 +130,9 @@ static void lists_as_single_calls(const struct bitm_tree *tree)
 }
 
 /* Whatever the block holds: every call returns, within its range, and each way up ends. */
-static void answers_within(const struct bitm_tree *tree)
+static void answers_within(const void *opened)
 {
+    const struct bitm_tree *const tree = opened;
     uint64_t *out;
     uint32_t status;
     for (size_t node = 0; node < tree->len + 2; node++) {
@@ -201,21 +202,12 @@ static void no_trees(void)
     MUST(bitm_tree_size(((size_t)1 << 60) - 1, &words) == BITM_OK && words < (uint64_t)1 << 59);
 }
 
-static bool opens(const uint64_t *block, size_t words, struct bitm_tree *tree)
+static uint32_t open_block(const uint64_t *block, size_t words, void *opened)
 {
-    memset(tree, UNTOUCHED, sizeof *tree);
-    return was_opened(bitm_tree_open(block, words, tree), tree, sizeof *tree);
+    return bitm_tree_open(block, words, opened);
 }
 
-static bool opens_within(const uint64_t *block, size_t words)
-{
-    struct bitm_tree tree;
-    if (!opens(block, words, &tree)) return false;
-    answers_within(&tree);
-    return true;
-}
-
-static const struct kind of_tree = {32, bitm_tree_check, opens_within};
+static const struct kind of_tree = {32, sizeof(struct bitm_tree), bitm_tree_check, open_block, answers_within};
 
 static void changed_blocks(void)
 {
@@ -237,11 +229,11 @@ static void random_blocks(void)
         draw_tree(&plain, 1 + draw() % 700, 1 + draw() % 9);
         uint64_t *const block = built(&plain, &words);
         spoil(block, of_tree.head, words, turn);
-        MUST(opens(block, words, &tree));
+        MUST(opens(&of_tree, block, words, &tree));
         answers_within(&tree);
         if (bitm_tree_check(block, words) == BITM_OK) answers_as(&plain, &tree);
         draw_words(block, words);
-        MUST(!opens(block, words, &tree) && bitm_tree_check(block, words) == BITM_WRONG);
+        MUST(refuses(&of_tree, block, words));
     }
 }
 
