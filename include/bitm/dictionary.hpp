@@ -15,6 +15,7 @@ BITM_NAMESPACE_BEGIN
 
 namespace detail {
 
+// The block of a dictionary.
 struct dictionary_kind : block_kind<dictionary_kind, bitm_dictionary, bitm_dictionary_open> {};
 
 template <class Self> class dictionary_calls : public block_calls<Self, dictionary_kind> {

@@ -50,6 +50,7 @@ inline const char *fault_of(sampling how) noexcept
     return is_log2(how.zeros) ? "size is above 2^64 - 64" : "sampling::zeros is neither 0 nor 7 to 31";
 }
 
+// The file of an index.
 struct index_kind : stored_kind<index_kind, bitm_index, BITM_STORED_INDEX> {
     static bitm_index of(const std::uint64_t *file, const bitm_stored &header) noexcept
     {

@@ -233,7 +233,8 @@ public:
     {
     }
     template <class It, class = typename std::iterator_traits<It>::iterator_category>
-    wavelet_matrix(It first, It last, std::uint32_t width = 0) : wavelet_matrix(gather(first, last), width)
+    wavelet_matrix(It first, It last, std::uint32_t width = 0)
+        : wavelet_matrix(detail::gathered::of(first, last), width)
     {
         static_assert(std::is_unsigned_v<typename std::iterator_traits<It>::value_type>, "numbers without a sign");
     }
@@ -269,12 +270,6 @@ private:
     wavelet_matrix(const detail::gathered &numbers, std::uint32_t width)
         : wavelet_matrix(words_in(numbers.data(), numbers.size()), width)
     {
-    }
-    template <class It> static detail::gathered gather(It first, It last)
-    {
-        detail::gathered numbers;
-        for (; first != last; ++first) numbers.push(*first);
-        return numbers;
     }
     // How many bits the largest number has, and at least 1.
     static std::uint32_t width_of(words_in numbers) noexcept

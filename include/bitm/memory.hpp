@@ -184,6 +184,12 @@ private:
 // Numbers gathered one by one in a block that grows.
 class gathered {
 public:
+    template <class It> static gathered of(It first, It last)
+    {
+        gathered all;
+        for (; first != last; ++first) all.push(*first);
+        return all;
+    }
     void push(std::uint64_t number)
     {
         if (len_ == all_.size()) {

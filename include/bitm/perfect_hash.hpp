@@ -27,6 +27,7 @@ inline std::size_t hash_tail_len(const std::uint64_t *tail, std::size_t tail_len
     return hash_head + static_cast<std::size_t>(tail[4]);
 }
 
+// The file of a perfect hash.
 struct hash_kind {
     using raw_type = bitm_hash;
     static bitm_hash none() noexcept { return {}; }

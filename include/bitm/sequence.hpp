@@ -27,7 +27,7 @@ public:
     explicit sequence(words_in numbers) : sequence(try_of(numbers).value()) {}
     sequence(std::initializer_list<std::uint64_t> numbers) : sequence(words_in(numbers.begin(), numbers.size())) {}
     template <class It, class = typename std::iterator_traits<It>::iterator_category>
-    sequence(It first, It last) : sequence(gather(first, last))
+    sequence(It first, It last) : sequence(detail::gathered::of(first, last))
     {
         static_assert(std::is_unsigned_v<typename std::iterator_traits<It>::value_type>, "numbers without a sign");
     }
@@ -77,12 +77,6 @@ public:
 private:
     friend class detail::sequence_calls<sequence>;
     explicit sequence(const detail::gathered &numbers) : sequence(words_in(numbers.data(), numbers.size())) {}
-    template <class It> static detail::gathered gather(It first, It last)
-    {
-        detail::gathered numbers;
-        for (; first != last; ++first) numbers.push(*first);
-        return numbers;
-    }
 };
 
 // Calls `each` with each number that is in both, once however often it is there. The shorter one should be first.

@@ -136,6 +136,7 @@ private:
 
 namespace detail {
 
+// The file of a sequence.
 struct sequence_kind : stored_kind<sequence_kind, bitm_sequence, BITM_STORED_SEQUENCE> {
     static bitm_sequence of(const std::uint64_t *file, const bitm_stored &header) noexcept
     {

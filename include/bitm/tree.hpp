@@ -191,7 +191,7 @@ public:
     explicit tree(words_in degrees) : tree(try_of(degrees).value()) {}
     tree(std::initializer_list<std::uint64_t> degrees) : tree(words_in(degrees.begin(), degrees.size())) {}
     template <class It, class = typename std::iterator_traits<It>::iterator_category> tree(It first, It last)
-        : tree(gather(first, last))
+        : tree(detail::gathered::of(first, last))
     {
         static_assert(std::is_unsigned_v<typename std::iterator_traits<It>::value_type>, "numbers without a sign");
     }
@@ -217,12 +217,6 @@ public:
 private:
     friend class detail::tree_calls<tree>;
     explicit tree(const detail::gathered &degrees) : tree(words_in(degrees.data(), degrees.size())) {}
-    template <class It> static detail::gathered gather(It first, It last)
-    {
-        detail::gathered degrees;
-        for (; first != last; ++first) degrees.push(*first);
-        return degrees;
-    }
 };
 
 BITM_NAMESPACE_END
