@@ -4,10 +4,10 @@
 #define _GNU_SOURCE
 #define BITM_MUST_USE /* every status is BITM_OK here, and testing them all would be timed */
 #include "../include/bitm.h"
+#include "clock.h"
 
 #include <stdio.h>
 #include <stdlib.h>
-#include <time.h>
 
 #define QUERIES ((size_t)1 << 17)
 #define EACH(call, ...) for (size_t i = 0; i < QUERIES; i++) { uint64_t got = 0; call(__VA_ARGS__, asked[i], &got); sum += got; }
@@ -31,23 +31,6 @@
 
 static uint64_t asked[QUERIES], answers[QUERIES];
 static struct bitm_list_counts counts;
-
-static double used(void)
-{
-    struct timespec at;
-    clock_gettime(CLOCK_THREAD_CPUTIME_ID, &at);
-    return (double)at.tv_sec * 1e9 + (double)at.tv_nsec;
-}
-
-static uint64_t draw(uint64_t *state)
-{
-    uint64_t n = *state;
-    n ^= n << 13;
-    n ^= n >> 7;
-    n ^= n << 17;
-    *state = n;
-    return n * 0x2545F4914F6CDD1D;
-}
 
 static void ask(uint64_t limit)
 {

@@ -1,17 +1,10 @@
 // Times minimal perfect hashes of cmph over COUNT keys of 64 bits: cmph COUNT ROUNDS. Rows as those of `bench keys`, by the
 // same clock, the thread's processor time, and the same keys.
+#include "clock.h"
+
 #include <cmph.h>
-#include <stdint.h>
 #include <stdio.h>
 #include <stdlib.h>
-#include <time.h>
-
-// The nanoseconds of the processor that the thread has used.
-static double used(void) {
-    struct timespec at;
-    clock_gettime(CLOCK_THREAD_CPUTIME_ID, &at);
-    return at.tv_sec * 1e9 + at.tv_nsec;
-}
 
 // A hash of the keys, in the packed form that cmph stores.
 static void rows(CMPH_ALGO algo, const char* by, uint64_t* keys, uint32_t count, int rounds) {

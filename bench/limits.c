@@ -8,12 +8,12 @@
 #define _GNU_SOURCE
 #define BITM_MUST_USE /* every status is BITM_OK here, and testing them all would be timed */
 #include "../include/bitm.h"
+#include "clock.h"
 
 #include <stdio.h>
 #include <stdlib.h>
 #include <string.h>
 #include <sys/mman.h>
-#include <time.h>
 
 #define QUERIES ((size_t)1 << 17)
 #define LIST ((size_t)4096)
@@ -23,23 +23,6 @@
 static uint64_t asked[QUERIES], answers[LIST];
 static struct bitm_index index_;
 static bool huge;
-
-static double used(void)
-{
-    struct timespec at;
-    clock_gettime(CLOCK_THREAD_CPUTIME_ID, &at);
-    return (double)at.tv_sec * 1e9 + (double)at.tv_nsec;
-}
-
-static uint64_t draw(uint64_t *state)
-{
-    uint64_t n = *state;
-    n ^= n << 13;
-    n ^= n >> 7;
-    n ^= n << 17;
-    *state = n;
-    return n * 0x2545F4914F6CDD1D;
-}
 
 /* Zeros that begin at a huge page, in pages of the size that was asked. */
 static void *some(size_t bytes)

@@ -18,13 +18,13 @@
  * pages and of the disk are left out. */
 #define _GNU_SOURCE
 #include "../include/bitm.h"
+#include "clock.h"
 
 #include <fcntl.h>
 #include <stdio.h>
 #include <stdlib.h>
 #include <string.h>
 #include <sys/mman.h>
-#include <time.h>
 #include <unistd.h>
 
 #define PAGE ((size_t)4096)
@@ -59,23 +59,6 @@ static void fail(const char *why)
 {
     fprintf(stderr, "mapped: %s\n", why);
     exit(1);
-}
-
-static double now(clockid_t clock)
-{
-    struct timespec it;
-    clock_gettime(clock, &it);
-    return (double)it.tv_sec * 1e9 + (double)it.tv_nsec;
-}
-
-static uint64_t draw(uint64_t *state)
-{
-    uint64_t n = *state;
-    n ^= n << 13;
-    n ^= n >> 7;
-    n ^= n << 17;
-    *state = n;
-    return n * 0x2545F4914F6CDD1D;
 }
 
 static void row(const char *name, const char *part, const char *kind, double value, const char *unit, uint64_t check)
@@ -353,11 +336,11 @@ static struct steps cached(const struct kind *kind, const struct query *query)
     struct steps of = {1e18, 1e18};
     for (int round = 0; round < rounds; round++) {
         uint64_t *const block = mapped(8 * block_len, PROT_READ, MAP_SHARED, file);
-        const double start = now(CLOCK_THREAD_CPUTIME_ID);
+        const double start = used();
         const bool opened = kind->open(block);
-        const double mid = now(CLOCK_THREAD_CPUTIME_ID);
+        const double mid = used();
         const uint64_t answer = query->ask();
-        const double end = now(CLOCK_THREAD_CPUTIME_ID);
+        const double end = used();
         if (!opened) fail("the block is not opened");
         compare(kind, query, answer);
         least(&of, mid - start, end - mid);
@@ -412,11 +395,11 @@ static void looked_through(const struct kind *kind)
                     sum = sum_of(block, block_len);
     double read = 1e18, check = 1e18;
     for (int round = 0; round < rounds && (round < 2 || check < 1e9); round++) {
-        const double start = now(CLOCK_THREAD_CPUTIME_ID);
+        const double start = used();
         const uint64_t again = sum_of(block, block_len);
-        const double mid = now(CLOCK_THREAD_CPUTIME_ID);
+        const double mid = used();
         const bool right = kind->check(block);
-        const double end = now(CLOCK_THREAD_CPUTIME_ID);
+        const double end = used();
         if (again != sum || !right) fail("the block is not right");
         if (mid - start < read) read = mid - start;
         if (end - mid < check) check = end - mid;

@@ -1,10 +1,11 @@
 // Times rank and selection of sdsl-lite over a random content of 2^LOG2 bits, and loading a stored index; of more than 2^30
 // bits the loading alone: sdsl LOG2 ROUNDS. Rows as those of `tool_bench`, by the same clock, the thread's processor time.
 // Its other structures are timed by structures.cpp.
+#include "clock.h"
+
 #include <cstdint>
 #include <cstdio>
 #include <cstdlib>
-#include <ctime>
 #include <fstream>
 #include <random>
 #include <sdsl/bit_vectors.hpp>
@@ -13,13 +14,6 @@
 
 // 0, which the compiler does not know: each call of a chained row waits for the answer before.
 uint64_t nothing = 0;
-
-// The nanoseconds of the processor that the thread has used.
-double used() {
-    timespec at;
-    clock_gettime(CLOCK_THREAD_CPUTIME_ID, &at);
-    return at.tv_sec * 1e9 + at.tv_nsec;
-}
 
 // The least time of the rounds for a call.
 template <bool CHAINED, class F>

@@ -3,30 +3,13 @@
  * what the system does for it included; the file lies in the page cache. */
 #define _GNU_SOURCE
 #include "../include/bitm.h"
+#include "clock.h"
 
 #include <fcntl.h>
 #include <stdio.h>
 #include <stdlib.h>
 #include <sys/mman.h>
-#include <time.h>
 #include <unistd.h>
-
-static double used(void)
-{
-    struct timespec at;
-    clock_gettime(CLOCK_THREAD_CPUTIME_ID, &at);
-    return (double)at.tv_sec * 1e9 + (double)at.tv_nsec;
-}
-
-static uint64_t draw(uint64_t *state)
-{
-    uint64_t n = *state;
-    n ^= n << 13;
-    n ^= n >> 7;
-    n ^= n << 17;
-    *state = n;
-    return n * 0x2545F4914F6CDD1D;
-}
 
 /* Maps the file, asks for the middle rank, and unmaps it: the rank, or 2^64 - 1. */
 static uint64_t opened(int file, size_t size)

@@ -46,7 +46,7 @@ Numbers queries(uint64_t limit)
 {
     Numbers asked(QUERIES);
     uint64_t state = 2463534242088117;
-    for (auto &it : asked) it = draw(state) % limit;
+    for (auto &it : asked) it = draw(&state) % limit;
     return asked;
 }
 
@@ -97,7 +97,7 @@ void matrices(const Bench &bench, int width)
     sdsl::int_vector<> numbers(count, 0, width);
     Numbers same(count);
     uint64_t state = 88172645463325252, words = 0;
-    for (uint64_t k = 0; k < count; k++) same[k] = numbers[k] = draw(state) & ((uint64_t(1) << width) - 1);
+    for (uint64_t k = 0; k < count; k++) same[k] = numbers[k] = draw(&state) & ((uint64_t(1) << width) - 1);
 
     have(bitm_matrix_size(count, width, &words), "bitm_matrix_size");
     Block block(words);
@@ -187,7 +187,7 @@ void sequences(const Bench &bench)
     const uint64_t count = bench.count();
     Numbers numbers(count);
     uint64_t state = 88172645463325252, last = 0, words = 0, got = 0;
-    for (auto &it : numbers) it = last += draw(state) % 1000 + 1;
+    for (auto &it : numbers) it = last += draw(&state) % 1000 + 1;
 
     have(bitm_sequence_block_size(count, last, &words), "bitm_sequence_block_size");
     Block block(words);
@@ -269,7 +269,7 @@ Numbers drawn_degrees(uint64_t count)
     Numbers degrees(count);
     uint64_t state = 88172645463325252, known = 1;
     for (uint64_t node = 0; node < count; node++) {
-        uint64_t degree = draw(state) >> 62;
+        uint64_t degree = draw(&state) >> 62;
         if (known == node + 1 && degree < 1) degree = 1;
         degrees[node] = std::min(degree, count - known);
         known += degrees[node];

@@ -85,7 +85,7 @@ Patterns patterns(const std::string &text, size_t len, size_t count)
 {
     Patterns made(count);
     uint64_t state = 2463534242088117;
-    for (auto &it : made) it = text.substr(draw(state) % (text.size() - len), len);
+    for (auto &it : made) it = text.substr(draw(&state) % (text.size() - len), len);
     return made;
 }
 
@@ -187,7 +187,7 @@ void find(const Turns &turns, const std::string &text, const Indexes &by)
                 {"locate", "C", [&] { return each(asked, [&](const auto &it) { return by.here.locate(it); }); }}});
     std::vector<uint64_t> starts(LOCATED);
     uint64_t state = 88172645463325252;
-    for (auto &it : starts) it = draw(state) % (text.size() - PART);
+    for (auto &it : starts) it = draw(&state) % (text.size() - PART);
     turns.take(turns.rounds, PART * LOCATED, true,
                {{"extract", HUFFMAN, [&] { return each(starts, [&](uint64_t it) { return by.huffman.extract(it); }); }},
                 {"extract", EVEN, [&] { return each(starts, [&](uint64_t it) { return by.even.extract(it); }); }},

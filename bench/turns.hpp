@@ -1,36 +1,19 @@
-// What the programs share that time structures beside those of sdsl-lite: the clock, numbers that are drawn, memory, and
-// rounds in which the forms of a call take turns.
+// What the programs share that time structures beside those of sdsl-lite, beside the clock and numbers that are drawn:
+// memory, and rounds in which the forms of a call take turns.
 #ifndef TURNS_HPP
 #define TURNS_HPP
 
 #define BITM_MUST_USE // every status is looked at before the clock starts, or is one of a sum that is compared
 #include "../include/bitm.h"
+#include "clock.h"
 
 #include <algorithm>
 #include <cstdint>
 #include <cstdio>
 #include <cstdlib>
-#include <ctime>
 #include <functional>
 #include <string>
 #include <vector>
-
-// The nanoseconds of the processor that the thread has used.
-double used()
-{
-    timespec at;
-    clock_gettime(CLOCK_THREAD_CPUTIME_ID, &at);
-    return at.tv_sec * 1e9 + at.tv_nsec;
-}
-
-// The numbers that `tool_bench` draws.
-uint64_t draw(uint64_t &n)
-{
-    n ^= n << 13;
-    n ^= n >> 7;
-    n ^= n << 17;
-    return n * 0x2545F4914F6CDD1D;
-}
 
 [[noreturn]] void fail(const std::string &why)
 {

@@ -1,50 +1,17 @@
 /* Blocks of bits and of sequences: what is opened answers as words and numbers beside it; words and numbers that fit in
  * no block; blocks of which each byte is changed, each prefix, and blocks whose words and tables hold random numbers.
- * Each array, and each number that is written, is once where a page ends and once where one begins, beside a page that
- * may not be touched: a read or write of one number outside, on either side, ends the program. */
+ * All is beside pages that may not be touched (places.h). */
 #define _DEFAULT_SOURCE
-#include "guard.h"
-
-#include <string.h>
+#include "changed.h"
 
 enum { WORDS = 150, ITEMS = 900, SMALL = 9 };
-enum { OF_BLOCK, OF_GIVEN, OF_OUT, PLACES };
+enum { OF_GIVEN = OF_MORE };
 
-static struct guarded places[PLACES];
-static bool at_the_end;
-
-static void *placed(unsigned place, size_t size)
-{
-    return at_the_end ? ends_at_the_guard(&places[place], size) : places[place].page;
-}
-
-static uint64_t *out_at_the_guard(void)
-{
-    uint64_t *out = placed(OF_OUT, sizeof *out);
-    *out = UNTOUCHED;
-    return out;
-}
-
-/* What the call answers; the number is as it was where the status is not BITM_OK. */
-#define ANSWER(call)                                       \
-    do {                                                   \
-        out = out_at_the_guard();                          \
-        status = (call);                                   \
-        MUST(status == BITM_OK || *out == UNTOUCHED);      \
-    } while (0)
-
-/* Room for a block, of which each byte is UNTOUCHED. */
+/* Room for a block. */
 static uint64_t *block_of(uint64_t words)
 {
     MUST(words % 8 == 0);
-    return memset(placed(OF_BLOCK, 8 * words), UNTOUCHED, 8 * words);
-}
-
-static bool is_untouched(const uint64_t *block, size_t words)
-{
-    for (size_t i = 0; i < 8 * words; i++)
-        if (((const unsigned char *)block)[i] != UNTOUCHED) return false;
-    return true;
+    return untouched_at(OF_BLOCK, 8 * words);
 }
 
 /* ---- bits */
@@ -63,17 +30,6 @@ static uint64_t *bits_built(uint64_t bits_len, uint64_t *words)
     memcpy(given, words_of, 8 * n);
     MUST(bitm_index_block_build(given, n, bits_len, block, *words) == BITM_OK);
     return block;
-}
-
-static const struct bitm_index no_index = {.words_len = UNTOUCHED};
-
-/* bitm_index_block_open leaves the struct as it was where it refuses the block. */
-static bool opens_index(const uint64_t *block, size_t words, struct bitm_index *index)
-{
-    *index = no_index;
-    const uint32_t status = bitm_index_block_open(block, words, index);
-    MUST(status == BITM_OK || (status == BITM_WRONG && memcmp(index, &no_index, sizeof *index) == 0));
-    return status == BITM_OK;
 }
 
 static void index_answers(const struct bitm_index *index, uint64_t bits_len)
@@ -96,8 +52,9 @@ static void index_answers(const struct bitm_index *index, uint64_t bits_len)
     MUST(status == BITM_NONE && bitm_index_check(index) == BITM_OK);
 }
 
-static void index_within(const struct bitm_index *index)
+static void index_within(const void *opened)
 {
+    const struct bitm_index *const index = opened;
     uint64_t *out;
     uint32_t status;
     MUST(bitm_index_fault(index) == NULL);
@@ -109,6 +66,13 @@ static void index_within(const struct bitm_index *index)
     }
 }
 
+static uint32_t open_index(const uint64_t *block, size_t words, void *opened)
+{
+    return bitm_index_block_open(block, words, opened);
+}
+
+static const struct kind of_bits = {32, sizeof(struct bitm_index), bitm_index_block_check, open_index, index_within};
+
 static void drawn_bits(void)
 {
     for (size_t turn = 0; turn < 60; turn++) {
@@ -117,11 +81,10 @@ static void drawn_bits(void)
         const uint64_t bits_len = turn < 4 ? turn * 63 : draw() % (64 * WORDS + 1);
         for (size_t i = 0; i < WORDS; i++) words_of[i] = turn % 3 ? draw() : draw() & draw() & draw() & draw();
         uint64_t *block = bits_built(bits_len, &words);
-        MUST(opens_index(block, words, &index) && bitm_index_block_check(block, words) == BITM_OK);
+        MUST(opens(&of_bits, block, words, &index) && bitm_index_block_check(block, words) == BITM_OK);
         index_answers(&index, bits_len);
-        for (size_t at = 32; at < words; at++) block[at] = draw();
-        MUST(opens_index(block, words, &index));
-        index_within(&index);
+        draw_words(block + of_bits.head, words - of_bits.head);
+        MUST(opens_to_queries(&of_bits, block, words));
     }
 }
 
@@ -139,30 +102,15 @@ static void no_bits(void)
     MUST(bitm_index_block_build(words_of, 2, UINT64_MAX, block, words) == BITM_BAD_SIZE);
     for (size_t len = 0; len < words + 8; len++)
         if (len != words) MUST(bitm_index_block_build(words_of, 2, 100, block, len) == BITM_BAD_SIZE);
-    MUST(is_untouched(block, words + 8));
+    MUST(is_untouched(block, 8 * (words + 8)));
 }
 
-/* Each byte of a small block changed to each of the 255 others, and each prefix of it. */
 static void changed_bits(void)
 {
     uint64_t words;
-    struct bitm_index index;
-    size_t opened = 0;
     uint64_t *const block = bits_built(100, &words);
-    for (size_t at = 0; at < 8 * words; at++)
-        for (unsigned change = 1; change < 256; change++) {
-            ((unsigned char *)block)[at] ^= (unsigned char)change;
-            MUST(bitm_index_block_check(block, words) == BITM_WRONG);
-            if (opens_index(block, words, &index)) opened++, index_within(&index);
-            ((unsigned char *)block)[at] ^= (unsigned char)change;
-        }
-    MUST(opened == 255 * (8 * words - 256)); /* the header and the directory are looked at */
-    for (size_t len = 0; at_the_end && len < words; len++) {
-        uint64_t *const prefix = block + (words - len); /* moved, so that it ends at the guard */
-        memmove(prefix, block, 8 * len);
-        MUST(!opens_index(prefix, len, &index) && bitm_index_block_check(prefix, len) == BITM_WRONG);
-        bits_built(100, &words);
-    }
+    changed_bytes(&of_bits, block, words, 1);
+    cut_off(&of_bits, block, words);
 }
 
 /* ---- sequences */
@@ -182,16 +130,6 @@ static uint64_t *sequence_built(size_t len, uint64_t *words)
     return block;
 }
 
-static const struct bitm_sequence no_sequence = {.len = UNTOUCHED};
-
-static bool opens_sequence(const uint64_t *block, size_t words, struct bitm_sequence *sequence)
-{
-    *sequence = no_sequence;
-    const uint32_t status = bitm_sequence_block_open(block, words, sequence);
-    MUST(status == BITM_OK || (status == BITM_WRONG && memcmp(sequence, &no_sequence, sizeof *sequence) == 0));
-    return status == BITM_OK;
-}
-
 static void sequence_answers(const struct bitm_sequence *sequence, size_t len)
 {
     uint64_t *out;
@@ -208,8 +146,9 @@ static void sequence_answers(const struct bitm_sequence *sequence, size_t len)
     MUST(status == BITM_NONE);
 }
 
-static void sequence_within(const struct bitm_sequence *sequence)
+static void sequence_within(const void *opened)
 {
+    const struct bitm_sequence *const sequence = opened;
     uint64_t *out;
     uint32_t status;
     MUST(bitm_sequence_fault(sequence) == NULL);
@@ -220,6 +159,14 @@ static void sequence_within(const struct bitm_sequence *sequence)
         MUST(status != BITM_OK || *out < sequence->len);
     }
 }
+
+static uint32_t open_sequence(const uint64_t *block, size_t words, void *opened)
+{
+    return bitm_sequence_block_open(block, words, opened);
+}
+
+static const struct kind of_sequence = {32, sizeof(struct bitm_sequence), bitm_sequence_block_check, open_sequence,
+                                        sequence_within};
 
 static void draw_items(size_t len, uint64_t most)
 {
@@ -239,11 +186,10 @@ static void drawn_sequences(void)
         const size_t len = turn < 6 ? turn : draw() % (ITEMS + 1);
         draw_items(len, turn % 4 ? (uint64_t)1 << draw() % 63 : 1);
         uint64_t *block = sequence_built(len, &words);
-        MUST(opens_sequence(block, words, &sequence) && bitm_sequence_block_check(block, words) == BITM_OK);
+        MUST(opens(&of_sequence, block, words, &sequence) && bitm_sequence_block_check(block, words) == BITM_OK);
         sequence_answers(&sequence, len);
-        for (size_t at = 32; at < words; at++) block[at] = draw();
-        MUST(opens_sequence(block, words, &sequence));
-        sequence_within(&sequence);
+        draw_words(block + of_sequence.head, words - of_sequence.head);
+        MUST(opens_to_queries(&of_sequence, block, words));
     }
 }
 
@@ -263,45 +209,32 @@ static void no_sequences(void)
     MUST(bitm_sequence_block_build(falls, 4, block, 0) == BITM_UNSORTED);
     for (size_t len = 0; len < words + 8; len++)
         if (len != words) MUST(bitm_sequence_block_build(items_of, 4, block, len) == BITM_BAD_SIZE);
-    MUST(is_untouched(block, words + 8));
+    MUST(is_untouched(block, 8 * (words + 8)));
 }
 
 static void changed_sequences(void)
 {
     uint64_t words;
-    struct bitm_sequence sequence;
-    size_t opened = 0;
     draw_items(SMALL, 7);
     uint64_t *const block = sequence_built(SMALL, &words);
-    for (size_t at = 0; at < 8 * words; at++)
-        for (unsigned change = 1; change < 256; change++) {
-            ((unsigned char *)block)[at] ^= (unsigned char)change;
-            MUST(bitm_sequence_block_check(block, words) == BITM_WRONG);
-            if (opens_sequence(block, words, &sequence)) opened++, sequence_within(&sequence);
-            ((unsigned char *)block)[at] ^= (unsigned char)change;
-        }
-    MUST(opened == 255 * (8 * words - 256)); /* the header and the directory are looked at */
-    for (size_t len = 0; at_the_end && len < words; len++) {
-        uint64_t *const prefix = block + (words - len); /* moved, so that it ends at the guard */
-        memmove(prefix, block, 8 * len);
-        MUST(!opens_sequence(prefix, len, &sequence) && bitm_sequence_block_check(prefix, len) == BITM_WRONG);
-        sequence_built(SMALL, &words);
-    }
+    changed_bytes(&of_sequence, block, words, 1);
+    cut_off(&of_sequence, block, words);
+}
+
+static void tests(void)
+{
+    drawn_bits();
+    no_bits();
+    changed_bits();
+    drawn_sequences();
+    no_sequences();
+    changed_sequences();
 }
 
 int main(int argc, char **argv)
 {
     take_seed(argc, argv);
-    for (unsigned place = 0; place < PLACES; place++) places[place] = guard(8 * 4096);
-    for (int end = 0; end < 2; end++) {
-        at_the_end = end;
-        drawn_bits();
-        no_bits();
-        changed_bits();
-        drawn_sequences();
-        no_sequences();
-        changed_sequences();
-    }
+    on_either_side(8 * 4096, tests);
     printf("blocks: bits and sequences answer as the words and numbers beside them, and each changed byte and each prefix "
            "is refused\n");
     return 0;

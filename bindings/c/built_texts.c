@@ -43,8 +43,8 @@ static const uint8_t *bytes_at(const struct plain *plain)
 /* Builds in rooms at the guard; nothing is written but where BITM_OK is returned. */
 static uint32_t build(const struct plain *plain, const void *text, uint32_t letters, uint32_t step, struct lens lens)
 {
-    uint64_t *const block = memset(placed(OF_BLOCK, 8 * lens.block), UNTOUCHED, 8 * lens.block);
-    uint32_t *const scratch = list_at_the_guard(4 * lens.scratch);
+    uint64_t *const block = untouched_at(OF_BLOCK, 8 * lens.block);
+    uint32_t *const scratch = untouched_at(OF_LIST, 4 * lens.scratch);
     const uint32_t status =
         plain->is_of_bytes ? bitm_text_build_bytes(text, plain->len, step, scratch, lens.scratch, block, lens.block)
                            : bitm_text_build(text, plain->len, letters, step, scratch, lens.scratch, block, lens.block);
@@ -213,16 +213,17 @@ static void a_longer_text(void)
     free(block), free(scratch);
 }
 
+static void tests(void)
+{
+    drawn_texts();
+    letters_outside();
+    long_texts();
+}
+
 int main(int argc, char **argv)
 {
     take_seed(argc, argv);
-    for (unsigned place = 0; place < PLACES; place++) places[place] = guard(8 * ROOM);
-    for (int end = 0; end < 2; end++) {
-        at_the_end = end;
-        drawn_texts();
-        letters_outside();
-        long_texts();
-    }
+    on_either_side(8 * ROOM, tests);
     a_longer_text();
     printf("built texts: blocks are those of the format, and what is refused writes nothing\n");
     return 0;

@@ -48,8 +48,7 @@ static void list_of_queries(const struct bitm_index *view, bool select, bool one
     for (int i = 0; i < 32; i++) {
         uint64_t got = UNTOUCHED;
         uint32_t status = (select ? bitm_index_select : bitm_index_rank)(view, one, queries[i], &got);
-        uint64_t coded = status == BITM_OK ? got : status == BITM_NONE ? BITM_NO_ANSWER : BITM_WRONG_TABLES;
-        MUST(status != BITM_BAD_SIZE && (!same || answers[i] == coded));
+        MUST(status != BITM_BAD_SIZE && (!same || answers[i] == item_of(status, got)));
         MUST(same || answers[i] >= BITM_WRONG_TABLES || (answers[i] < bits && bit_of(view->words, answers[i]) == one));
     }
     answers[0] = UNTOUCHED;
@@ -201,13 +200,9 @@ static unsigned any_tables(const struct bitm_index *view, unsigned queries)
 /* Each entry of both tables in turn set to 0, to all ones and to anything; then all entries at once. */
 static void spoilt_tables(size_t words_len)
 {
-    size_t upper_len = bitm_index_upper_len(words_len), lower_len = bitm_index_lower_len(words_len);
-    uint64_t *words = malloc(8 * words_len), *upper = malloc(8 * upper_len), *lower = malloc(8 * lower_len), ones;
-    MUST(words && upper && lower);
-    for (size_t i = 0; i < words_len; i++)
-        words[i] = draw();
-    MUST(bitm_index_build(words, words_len, upper, upper_len, lower, lower_len, &ones) == BITM_OK);
-    struct bitm_index view = index_over(words, words_len, upper, upper_len, lower, lower_len);
+    const struct bitm_index view = drawn_index(words_len);
+    uint64_t *const words = writable(view.words), *const upper = writable(view.upper), *const lower = writable(view.lower);
+    const size_t upper_len = view.upper_len, lower_len = view.lower_len;
     size_t turns = 3 * (upper_len + lower_len);
     unsigned each = (unsigned)(10000 / turns) + 1, wrong = 0;
     for (size_t turn = 0; turn < turns; turn++) {
@@ -231,9 +226,7 @@ static void spoilt_tables(size_t words_len)
         lists_of_queries(&view, false);
     }
     MUST(wrong > 0);
-    free(words);
-    free(upper);
-    free(lower);
+    free_index(view);
 }
 
 /* Lengths that do not fit: the status, and nothing is written or read. */

@@ -41,6 +41,15 @@ static inline uint64_t bit_of(const uint64_t *words, uint64_t position)
     return words[position / 64] >> (position % 64) & 1;
 }
 
+/* The largest number of `width` bits. */
+static inline uint64_t largest(uint64_t width) { return width == 64 ? UINT64_MAX : ((uint64_t)1 << width) - 1; }
+
+/* The item of a list of answers where the call of one query answers this. */
+static inline uint64_t item_of(uint32_t status, uint64_t answer)
+{
+    return status == BITM_OK ? answer : status == BITM_NONE ? BITM_NO_ANSWER : BITM_WRONG_TABLES;
+}
+
 /* An index of all bits of the words, without samples. */
 static inline struct bitm_index index_over(const uint64_t *words, size_t words_len, const uint64_t *upper,
                                            size_t upper_len, const uint64_t *lower, size_t lower_len)

@@ -1,45 +1,12 @@
 /* Hashes and dictionaries in blocks: the answers beside a plain list of keys; parts of which no block is made; blocks of
- * which each byte is changed, each prefix, and blocks whose words, tables, sizes and keys hold random numbers. Each
- * array, and each number that is written, is once where a page ends and once where one begins, beside a page that may
- * not be touched: a read or write of one number outside, on either side, ends the program. */
+ * which each byte is changed, each prefix, and blocks whose words, tables, sizes and keys hold random numbers. All is
+ * beside pages that may not be touched (places.h). */
 #define _DEFAULT_SOURCE
-#include "guard.h"
-
-#include <string.h>
+#include "changed.h"
 
 enum { KEYS = 10000, MOST = 600, SMALL = 9, LIST = 64, LEVELS = 256, ROOM = 3000 };
 
-enum { OF_BLOCK, OF_STRUCT, OF_WORDS, OF_UPPER, OF_LOWER, OF_SIZES, OF_KEYS, OF_OUT, OF_COUNTS, OF_ASKED, OF_LIST, PLACES };
-
-static struct guarded places[PLACES];
-static bool at_the_end;
-
-static void *placed(unsigned place, size_t size)
-{
-    return at_the_end ? ends_at_the_guard(&places[place], size) : places[place].page;
-}
-
-static uint64_t *out_at_the_guard(void)
-{
-    uint64_t *out = placed(OF_OUT, sizeof *out);
-    *out = UNTOUCHED;
-    return out;
-}
-
-static struct bitm_list_counts *counts_at_the_guard(void)
-{
-    struct bitm_list_counts *counts = placed(OF_COUNTS, sizeof *counts);
-    *counts = no_counts;
-    return counts;
-}
-
-/* What the call answers; the number is as it was where the status is not BITM_OK. */
-#define ANSWER(call)                                       \
-    do {                                                   \
-        out = out_at_the_guard();                          \
-        status = (call);                                   \
-        MUST(status == BITM_OK || *out == UNTOUCHED);      \
-    } while (0)
+enum { OF_STRUCT = OF_MORE, OF_WORDS, OF_UPPER, OF_LOWER, OF_SIZES, OF_KEYS, OF_ASKED };
 
 /* ---- keys, the levels that number them, and the parts of a dictionary */
 
@@ -101,7 +68,7 @@ static uint64_t *built(const struct bitm_dictionary *made, uint64_t *words)
     ANSWER(bitm_dictionary_size(made->hash.index.words_len, made->hash.sizes_len, made->keys_len, out));
     MUST(status == BITM_OK && *out % 8 == 0);
     *words = *out;
-    uint64_t *block = memset(placed(OF_BLOCK, 8 * *words), UNTOUCHED, 8 * *words);
+    uint64_t *block = untouched_at(OF_BLOCK, 8 * *words);
     MUST(bitm_dictionary_build(made, block, *words) == BITM_OK);
     return block;
 }
@@ -115,7 +82,7 @@ static uint64_t *hash_built(const struct bitm_dictionary *made, uint64_t *words)
     ANSWER(bitm_hash_block_size(hash->index.words_len, hash->sizes_len, out));
     MUST(status == BITM_OK && *out % 8 == 0);
     *words = *out;
-    uint64_t *block = memset(placed(OF_BLOCK, 8 * *words), UNTOUCHED, 8 * *words);
+    uint64_t *block = untouched_at(OF_BLOCK, 8 * *words);
     MUST(bitm_hash_block_build(hash->index.words, hash->index.words_len, hash->sizes, hash->sizes_len, made->seed, block,
                                *words) == BITM_OK);
     return block;
@@ -143,16 +110,10 @@ static void answers_as(const struct plain *plain, const struct bitm_dictionary *
     for (uint64_t i = 0; i < 200; i++) number_as(plain, dictionary, i < 100 ? i : draw());
 }
 
-/* An item of a list of answers is what the call of one query answers. */
-static bool is_item(uint64_t item, uint32_t status, uint64_t answer)
-{
-    return item == (status == BITM_OK ? answer : status == BITM_NONE ? BITM_NO_ANSWER : BITM_WRONG_TABLES);
-}
-
 /* Lists of keys and other numbers beside the call of one; lists of other lengths, and of nothing. */
 static void list_as_single_calls(const struct bitm_dictionary *dictionary)
 {
-    uint64_t *asked = placed(OF_ASKED, 8 * LIST), *list = memset(placed(OF_LIST, 8 * LIST), UNTOUCHED, 8 * LIST), *out;
+    uint64_t *asked = placed(OF_ASKED, 8 * LIST), *list = untouched_at(OF_LIST, 8 * LIST), *out;
     uint32_t status;
     for (size_t i = 0; i < LIST; i++)
         asked[i] = i % 4 && dictionary->keys_len ? dictionary->keys[draw() % dictionary->keys_len] + i % 4 / 3 : draw();
@@ -161,19 +122,26 @@ static void list_as_single_calls(const struct bitm_dictionary *dictionary)
         MUST(bitm_dictionary_find_list(dictionary, asked, LIST - less, list, LIST, counts) == BITM_BAD_SIZE);
         MUST(bitm_dictionary_find_list(dictionary, asked, LIST, list, LIST - less, counts) == BITM_BAD_SIZE);
     }
-    MUST(counts->missing == UNTOUCHED && counts->wrong == UNTOUCHED && list[0] == 0x4d4d4d4d4d4d4d4d);
-    MUST(list[LIST - 1] == 0x4d4d4d4d4d4d4d4d);
+    MUST(counts->missing == UNTOUCHED && counts->wrong == UNTOUCHED && is_untouched(list, 8 * LIST));
     MUST(bitm_dictionary_find_list(dictionary, NULL, 0, NULL, 0, counts) == BITM_OK && counts->missing == 0);
     counts = counts_at_the_guard();
     status = bitm_dictionary_find_list(dictionary, asked, LIST, list, LIST, counts);
     MUST(counted(status, list, LIST, *counts) == BITM_OK);
     for (size_t i = 0; i < LIST; i++) {
         ANSWER(bitm_dictionary_find(dictionary, asked[i], out));
-        MUST(is_item(list[i], status, *out));
+        MUST(list[i] == item_of(status, *out));
     }
 }
 
 /* Whatever the block holds: every call returns, and the key stands at the number that is found. */
+static void number_within(const struct bitm_hash *hash, uint64_t hash_of)
+{
+    uint64_t *out;
+    uint32_t status;
+    ANSWER(bitm_hash_get(hash, hash_of, out));
+    MUST(status == BITM_OK ? *out < hash->keys : status == BITM_NONE || status == BITM_WRONG);
+}
+
 static void answers_within(const struct bitm_dictionary *dictionary)
 {
     uint64_t *out;
@@ -183,33 +151,39 @@ static void answers_within(const struct bitm_dictionary *dictionary)
         ANSWER(bitm_dictionary_find(dictionary, key, out));
         MUST(status == BITM_OK ? *out < dictionary->keys_len && dictionary->keys[*out] == key
                                : status == BITM_NONE || status == BITM_WRONG);
-        ANSWER(bitm_hash_get(&dictionary->hash, key, out));
-        MUST(status == BITM_OK ? *out < dictionary->hash.keys : status == BITM_NONE || status == BITM_WRONG);
+        number_within(&dictionary->hash, key);
     }
     list_as_single_calls(dictionary);
 }
 
 /* ---- blocks */
 
-static const struct bitm_dictionary untouched = {.seed = UNTOUCHED};
-
-/* bitm_dictionary_open leaves the struct as it was where it refuses the block. */
-static bool opens(const uint64_t *block, size_t words, struct bitm_dictionary *dictionary)
+static uint32_t open_dictionary(const uint64_t *block, size_t words, void *opened)
 {
-    *dictionary = untouched;
-    const uint32_t status = bitm_dictionary_open(block, words, dictionary);
-    MUST(status == BITM_OK || (status == BITM_WRONG && memcmp(dictionary, &untouched, sizeof *dictionary) == 0));
-    return status == BITM_OK;
+    return bitm_dictionary_open(block, words, opened);
 }
 
-static bool opens_hash(const uint64_t *block, size_t words, struct bitm_hash *hash, uint64_t *with_seed)
+struct opened_hash {
+    struct bitm_hash hash;
+    uint64_t seed;
+};
+
+static uint32_t open_hash(const uint64_t *block, size_t words, void *opened)
 {
-    *hash = untouched.hash, *with_seed = UNTOUCHED;
-    const uint32_t status = bitm_hash_block_open(block, words, hash, with_seed);
-    MUST(status == BITM_OK || (status == BITM_WRONG && memcmp(hash, &untouched.hash, sizeof *hash) == 0));
-    MUST(status == BITM_OK || *with_seed == UNTOUCHED);
-    return status == BITM_OK;
+    struct opened_hash *const it = opened;
+    return bitm_hash_block_open(block, words, &it->hash, &it->seed);
 }
+
+static void hash_within(const void *opened) { number_within(&((const struct opened_hash *)opened)->hash, draw()); }
+
+static void some_within(const void *opened)
+{
+    if (draw() % 16 == 0) answers_within(opened);
+}
+
+static const struct kind of_dictionary = {40, sizeof(struct bitm_dictionary), bitm_dictionary_check, open_dictionary,
+                                          some_within};
+static const struct kind of_hash = {40, sizeof(struct opened_hash), bitm_hash_block_check, open_hash, hash_within};
 
 /* The parts lie in the block, the words before the tables, sizes and keys. */
 static void is_over(const uint64_t *block, uint64_t words, const struct bitm_dictionary *dictionary)
@@ -242,42 +216,42 @@ static void drawn_keys(void)
 {
     static struct plain plain;
     for (unsigned i = 0; i < 60; i++) {
-        uint64_t words, with_seed;
-        struct bitm_hash hash;
+        uint64_t words;
+        struct opened_hash hash;
         draw_keys(&plain, i < 12 ? i : i == 59 ? KEYS : draw() % MOST, 1 + i % 50);
         const struct bitm_dictionary made = parts_of(&plain, i % 3 ? draw() : i);
         answers_as(&plain, &made);
         uint64_t *block = hash_built(&made, &words);
         struct bitm_dictionary *const dictionary = placed(OF_STRUCT, sizeof *dictionary);
-        MUST(opens_hash(block, words, &hash, &with_seed) && with_seed == made.seed && !opens(block, words, dictionary));
+        MUST(opens(&of_hash, block, words, &hash) && hash.seed == made.seed);
+        MUST(!opens(&of_dictionary, block, words, dictionary));
         MUST(bitm_hash_block_check(block, words) == BITM_OK && bitm_dictionary_check(block, words) == BITM_WRONG);
-        numbers_as(&plain, &made, &hash);
+        numbers_as(&plain, &made, &hash.hash);
         block = built(&made, &words);
-        MUST(opens(block, words, dictionary) && bitm_dictionary_check(block, words) == BITM_OK);
-        MUST(opens_hash(block, words, &hash, &with_seed) && with_seed == made.seed);
+        MUST(opens(&of_dictionary, block, words, dictionary) && bitm_dictionary_check(block, words) == BITM_OK);
+        MUST(opens(&of_hash, block, words, &hash) && hash.seed == made.seed);
         MUST(bitm_hash_block_check(block, words) == BITM_OK && dictionary->seed == made.seed);
         MUST(dictionary->reserved[0] == 0 && dictionary->reserved[1] == 0);
         is_over(block, words, dictionary);
-        numbers_as(&plain, &made, &hash);
+        numbers_as(&plain, &made, &hash.hash);
         answers_as(&plain, dictionary);
         list_as_single_calls(dictionary);
     }
 }
 
 /* Whether a build of no block leaves the block as it was. */
-static void refuses(const struct bitm_dictionary *made, uint64_t words, uint32_t expected)
+static void builds_none(const struct bitm_dictionary *made, uint64_t words, uint32_t expected)
 {
-    uint64_t *block = memset(placed(OF_BLOCK, 8 * words), UNTOUCHED, 8 * words);
-    MUST(bitm_dictionary_build(made, block, words) == expected);
-    for (size_t i = 0; i < 8 * words; i++) MUST(((unsigned char *)block)[i] == UNTOUCHED);
+    uint64_t *block = untouched_at(OF_BLOCK, 8 * words);
+    MUST(bitm_dictionary_build(made, block, words) == expected && is_untouched(block, 8 * words));
 }
 
-static void refuses_hash(const struct bitm_dictionary *made, size_t levels, uint64_t words)
+static void builds_no_hash(const struct bitm_dictionary *made, size_t levels, uint64_t words)
 {
-    uint64_t *block = memset(placed(OF_BLOCK, 8 * words), UNTOUCHED, 8 * words);
+    uint64_t *block = untouched_at(OF_BLOCK, 8 * words);
     MUST(bitm_hash_block_build(made->hash.index.words, made->hash.index.words_len, made->hash.sizes, levels, 7, block,
                                words) == BITM_BAD_SIZE);
-    for (size_t i = 0; i < 8 * words; i++) MUST(((unsigned char *)block)[i] == UNTOUCHED);
+    MUST(is_untouched(block, 8 * words));
 }
 
 /* Parts that are those of no dictionary, and blocks that are too long or too short: nothing is written. */
@@ -291,8 +265,8 @@ static void no_dictionary(void)
              *lower = (uint64_t *)made.hash.index.lower, *levels = (uint64_t *)made.hash.index.words;
     built(&made, &words), hash_built(&made, &hash_words);
     for (size_t len = 0; len < words + 9; len++) {
-        if (len != words) refuses(&made, len, BITM_BAD_SIZE);
-        if (len != hash_words) refuses_hash(&made, made.hash.sizes_len, len);
+        if (len != words) builds_none(&made, len, BITM_BAD_SIZE);
+        if (len != hash_words) builds_no_hash(&made, made.hash.sizes_len, len);
     }
     for (size_t i = 0; i < plain.count; i++) {
         const uint64_t key = keys[i], others[] = {key + 1, key - 1, draw(), keys[(i + 1) % plain.count]};
@@ -300,14 +274,14 @@ static void no_dictionary(void)
             uint64_t number = UNTOUCHED;
             keys[i] = others[other];
             const uint32_t status = bitm_hash_get(&made.hash, keys[i] + made.seed, &number);
-            if (status != BITM_OK || number != i) refuses(&made, words, BITM_WRONG); /* it has not this number by chance */
+            if (status != BITM_OK || number != i) builds_none(&made, words, BITM_WRONG); /* it has not this number by chance */
         }
         keys[i] = key;
     }
-    sizes[0]++, refuses(&made, words, BITM_WRONG), refuses_hash(&made, made.hash.sizes_len, hash_words), sizes[0]--;
-    refuses_hash(&made, made.hash.sizes_len - 1, hash_words);
-    lower[0] ^= 1, refuses(&made, words, BITM_WRONG), lower[0] ^= 1;
-    levels[0] ^= 1, refuses(&made, words, BITM_WRONG), levels[0] ^= 1;
+    sizes[0]++, builds_none(&made, words, BITM_WRONG), builds_no_hash(&made, made.hash.sizes_len, hash_words), sizes[0]--;
+    builds_no_hash(&made, made.hash.sizes_len - 1, hash_words);
+    lower[0] ^= 1, builds_none(&made, words, BITM_WRONG), lower[0] ^= 1;
+    levels[0] ^= 1, builds_none(&made, words, BITM_WRONG), levels[0] ^= 1;
     built(&made, &words);
 }
 
@@ -329,61 +303,37 @@ static void no_sizes(void)
     MUST(status == BITM_OK && *out == 88); /* docs/FORMAT.md */
 }
 
-/* Each byte of a small block changed to each of the 255 others, and each prefix of it. */
 static void changed_blocks(void)
 {
-    enum { HEAD = 40 * 8 }; /* the header and the directory, which are looked at */
     static struct plain plain;
-    struct bitm_dictionary dictionary;
-    struct bitm_hash hash;
-    uint64_t words, with_seed;
-    size_t opened = 0, opened_in_the_head = 0;
+    uint64_t words;
     draw_keys(&plain, SMALL, 60);
     const struct bitm_dictionary made = parts_of(&plain, 9);
     uint64_t *const block = built(&made, &words);
-    unsigned char *const bytes = (unsigned char *)block;
-    for (size_t at = 0; at < 8 * words; at++)
-        for (unsigned change = 1; change < 256; change++) {
-            bytes[at] ^= (unsigned char)change;
-            MUST(bitm_dictionary_check(block, words) == BITM_WRONG && bitm_hash_block_check(block, words) == BITM_WRONG);
-            if (opens(block, words, &dictionary)) {
-                opened += at >= HEAD, opened_in_the_head += at < HEAD;
-                if (change % 16 == 1) answers_within(&dictionary);
-            }
-            bytes[at] ^= (unsigned char)change;
-        }
-    MUST(opened == 255 * (8 * words - HEAD) && opened_in_the_head == 0);
-    for (size_t len = 0; at_the_end && len < words; len++) {
-        uint64_t *const prefix = block + (words - len); /* moved, so that it ends at the guard */
-        memmove(prefix, block, 8 * len);
-        MUST(!opens(prefix, len, &dictionary) && bitm_dictionary_check(prefix, len) == BITM_WRONG);
-        MUST(!opens_hash(prefix, len, &hash, &with_seed) && bitm_hash_block_check(prefix, len) == BITM_WRONG);
-        built(&made, &words);
-    }
-    MUST(!opens(block, SIZE_MAX, &dictionary) && bitm_dictionary_check(block, words) == BITM_OK);
+    changed_bytes(&of_dictionary, block, words, 1);
+    changed_bytes(&of_hash, block, words, 1);
+    cut_off(&of_dictionary, block, words);
+    cut_off(&of_hash, block, words);
 }
 
-/* Random words behind a right header, of which more and more are those of the keys; and random words alone. */
+/* Random words after a right header, and random words alone. */
 static void random_blocks(void)
 {
     static struct plain plain;
     struct bitm_dictionary dictionary;
-    struct bitm_hash hash;
+    struct opened_hash hash;
     for (size_t turn = 0; turn < 400; turn++) {
-        uint64_t words, with_seed;
+        uint64_t words;
         draw_keys(&plain, 1 + draw() % 300, 40);
         const struct bitm_dictionary made = parts_of(&plain, draw());
         uint64_t *const block = built(&made, &words);
-        const uint64_t share = turn % 8;
-        for (size_t at = 40; at < words; at++)
-            if (draw() % 8 >= share) block[at] = share % 2 ? draw() : draw() & draw() & draw();
-        MUST(opens(block, words, &dictionary) && opens_hash(block, words, &hash, &with_seed));
+        spoil(block, of_dictionary.head, words, turn);
+        MUST(opens(&of_dictionary, block, words, &dictionary) && opens(&of_hash, block, words, &hash));
         answers_within(&dictionary);
-        answers_within(&(struct bitm_dictionary){hash, made.keys, made.keys_len, with_seed, {0, 0}});
+        answers_within(&(struct bitm_dictionary){hash.hash, made.keys, made.keys_len, hash.seed, {0, 0}});
         if (bitm_dictionary_check(block, words) == BITM_OK) answers_as(&plain, &dictionary);
-        for (size_t at = 0; at < words; at++) block[at] = draw();
-        MUST(!opens(block, words, &dictionary) && bitm_dictionary_check(block, words) == BITM_WRONG);
-        MUST(!opens_hash(block, words, &hash, &with_seed) && bitm_hash_block_check(block, words) == BITM_WRONG);
+        draw_words(block, words);
+        MUST(refuses(&of_dictionary, block, words) && refuses(&of_hash, block, words));
     }
 }
 
@@ -412,7 +362,7 @@ static void other_structs(void)
         MUST(status == BITM_BAD_SIZE);
         MUST(bitm_dictionary_find_list(&bad, &asked, 1, out, 1, counts) == BITM_BAD_SIZE && *out == UNTOUCHED);
         MUST(counts->missing == UNTOUCHED && counts->wrong == UNTOUCHED);
-        refuses(&bad, 400, BITM_BAD_SIZE);
+        builds_none(&bad, 400, BITM_BAD_SIZE);
     }
     uint64_t *sizes = (uint64_t *)made.hash.sizes;
     sizes[0] = 0;
@@ -422,19 +372,20 @@ static void other_structs(void)
     MUST(counts->wrong == 1);
 }
 
+static void tests(void)
+{
+    drawn_keys();
+    no_dictionary();
+    no_sizes();
+    changed_blocks();
+    random_blocks();
+    other_structs();
+}
+
 int main(int argc, char **argv)
 {
     take_seed(argc, argv);
-    for (unsigned place = 0; place < PLACES; place++) places[place] = guard(8 * (KEYS + ROOM));
-    for (int end = 0; end < 2; end++) {
-        at_the_end = end;
-        drawn_keys();
-        no_dictionary();
-        no_sizes();
-        changed_blocks();
-        random_blocks();
-        other_structs();
-    }
+    on_either_side(8 * (KEYS + ROOM), tests);
     printf("dictionaries: blocks answer as a list of keys, each changed byte and each prefix is refused, and a key stands "
            "at the number that is found in any words\n");
     return 0;

@@ -1,11 +1,8 @@
 /* Matrices in blocks: the answers beside a plain array of numbers; numbers that fit in no block; blocks of which each
- * byte is changed, each prefix, and blocks whose words and tables hold random numbers. Each array, and each number that
- * is written, is once where a page ends and once where one begins, beside a page that may not be touched: a read or
- * write of one number outside, on either side, ends the program. */
+ * byte is changed, each prefix, and blocks whose words and tables hold random numbers. All is beside pages that may not
+ * be touched (places.h). */
 #define _DEFAULT_SOURCE
-#include "guard.h"
-
-#include <string.h>
+#include "changed.h"
 
 enum { NUMBERS = 700, SMALL = 9, LIST = 64 };
 
@@ -16,53 +13,7 @@ struct plain {
     uint64_t numbers[NUMBERS];
 };
 
-enum { OF_BLOCK, OF_NUMBERS, OF_SCRATCH, OF_OUT, OF_COUNTS, OF_ASKED, OF_INDICES, OF_RANKS, OF_LIST, PLACES };
-
-static struct guarded places[PLACES];
-static bool at_the_end;
-
-static void *placed(unsigned place, size_t size)
-{
-    return at_the_end ? ends_at_the_guard(&places[place], size) : places[place].page;
-}
-
-static uint64_t *out_at_the_guard(void)
-{
-    uint64_t *out = placed(OF_OUT, sizeof *out);
-    *out = UNTOUCHED;
-    return out;
-}
-
-static struct bitm_list_counts *counts_at_the_guard(void)
-{
-    struct bitm_list_counts *counts = placed(OF_COUNTS, sizeof *counts);
-    *counts = no_counts;
-    return counts;
-}
-
-/* Room for a list of answers, of which each byte is UNTOUCHED. */
-static uint64_t *list_at_the_guard(void)
-{
-    return memset(placed(OF_LIST, 8 * LIST), UNTOUCHED, 8 * LIST);
-}
-
-static bool is_untouched(uint64_t word)
-{
-    return word == 0x4d4d4d4d4d4d4d4d;
-}
-
-/* What the call answers; the number is as it was where the status is not BITM_OK. */
-#define ANSWER(call)                                       \
-    do {                                                   \
-        out = out_at_the_guard();                          \
-        status = (call);                                   \
-        MUST(status == BITM_OK || *out == UNTOUCHED);      \
-    } while (0)
-
-static uint64_t most(uint64_t width)
-{
-    return width == 64 ? UINT64_MAX : ((uint64_t)1 << width) - 1;
-}
+enum { OF_NUMBERS = OF_MORE, OF_SCRATCH, OF_ASKED, OF_INDICES, OF_RANKS };
 
 /* Drawn numbers, of which about `kinds` differ. */
 static void draw_numbers(struct plain *plain, size_t len, uint32_t width, uint64_t kinds)
@@ -71,18 +22,17 @@ static void draw_numbers(struct plain *plain, size_t len, uint32_t width, uint64
     plain->width = width;
     const uint64_t first = draw();
     for (size_t i = 0; i < len; i++)
-        plain->numbers[i] = (kinds == 0 ? draw() : first * (1 + draw() % kinds)) & most(width);
+        plain->numbers[i] = (kinds == 0 ? draw() : first * (1 + draw() % kinds)) & largest(width);
 }
 
 /* The block of the numbers, which ends at the guard, as they and the scratch do. */
 static uint64_t *built(const struct plain *plain, uint64_t *words)
 {
     MUST(bitm_matrix_size(plain->len, plain->width, words) == BITM_OK && *words % 8 == 0);
-    uint64_t *block = placed(OF_BLOCK, 8 * *words);
+    uint64_t *block = untouched_at(OF_BLOCK, 8 * *words); /* memory that is written may hold anything */
     uint64_t *numbers = placed(OF_NUMBERS, 8 * plain->len);
     uint64_t *scratch = placed(OF_SCRATCH, 16 * plain->len);
     memcpy(numbers, plain->numbers, 8 * plain->len);
-    memset(block, UNTOUCHED, 8 * *words); /* memory that is written may hold anything */
     MUST(bitm_matrix_build(numbers, plain->len, plain->width, scratch, 2 * plain->len, block, *words) == BITM_OK);
     return block;
 }
@@ -124,29 +74,23 @@ static void answers_as(const struct plain *plain, const struct bitm_matrix *matr
     ANSWER(bitm_matrix_get(matrix, SIZE_MAX, out));
     MUST(status == BITM_NONE);
     for (size_t i = 0; i < 4 && plain->len > 0; i++) number_as(plain, matrix, plain->numbers[draw() % plain->len]);
-    number_as(plain, matrix, draw() & most(plain->width));
+    number_as(plain, matrix, draw() & largest(plain->width));
     number_as(plain, matrix, UINT64_MAX); /* of more bits than the width, but for 64 */
-}
-
-/* An item of a list of answers is what the call of one query answers. */
-static bool is_item(uint64_t item, uint32_t status, uint64_t answer)
-{
-    return item == (status == BITM_OK ? answer : status == BITM_NONE ? BITM_NO_ANSWER : BITM_WRONG_TABLES);
 }
 
 /* The numbers at a list of indices, up to the first that there is none of. */
 static void numbers_as_single_calls(const struct bitm_matrix *matrix, const uint64_t *indices)
 {
-    uint64_t *of_list = list_at_the_guard(), *written = out_at_the_guard(), numbers[LIST], *out;
+    uint64_t *of_list = untouched_at(OF_LIST, 8 * LIST), *written = out_at_the_guard(), numbers[LIST], *out;
     uint32_t status;
     MUST(bitm_matrix_get_list(matrix, indices, LIST, of_list, LIST - 1, written) == BITM_BAD_SIZE);
     MUST(bitm_matrix_get_list(matrix, indices, LIST - 1, of_list, LIST, written) == BITM_BAD_SIZE);
-    MUST(*written == UNTOUCHED && is_untouched(of_list[0]) && is_untouched(of_list[LIST - 1]));
+    MUST(*written == UNTOUCHED && is_untouched(of_list, 8 * LIST));
     MUST(bitm_matrix_get_list(matrix, indices, LIST, of_list, LIST, written) == BITM_OK && *written <= LIST);
     const uint64_t count = *written;
     memcpy(numbers, of_list, sizeof numbers);
     for (size_t i = 0; i < LIST; i++) {
-        MUST(i < count || is_untouched(numbers[i]));
+        MUST(i < count || is_untouched(&numbers[i], 8));
         if (i > count) continue;
         ANSWER(bitm_matrix_get(matrix, indices[i], out));
         MUST(i < count ? status == BITM_OK && numbers[i] == *out : status != BITM_OK);
@@ -157,7 +101,7 @@ static void numbers_as_single_calls(const struct bitm_matrix *matrix, const uint
 /* Lists of other lengths than the others' are refused. */
 static void lists_of_wrong_lengths(const struct bitm_matrix *matrix, const uint64_t *numbers, const uint64_t *ks)
 {
-    uint64_t *const list = list_at_the_guard();
+    uint64_t *const list = untouched_at(OF_LIST, 8 * LIST);
     struct bitm_list_counts *const counts = counts_at_the_guard();
     for (size_t less = 1; less < 3; less++) {
         MUST(bitm_matrix_rank_list(matrix, numbers, LIST, ks, LIST, list, LIST - less, counts) == BITM_BAD_SIZE);
@@ -165,52 +109,57 @@ static void lists_of_wrong_lengths(const struct bitm_matrix *matrix, const uint6
         MUST(bitm_matrix_select_list(matrix, numbers, LIST, ks, LIST, list, LIST - less, counts) == BITM_BAD_SIZE);
         MUST(bitm_matrix_select_list(matrix, numbers, LIST - less, ks, LIST, list, LIST, counts) == BITM_BAD_SIZE);
     }
-    MUST(counts->missing == UNTOUCHED && counts->wrong == UNTOUCHED && is_untouched(list[0]));
+    MUST(counts->missing == UNTOUCHED && counts->wrong == UNTOUCHED && is_untouched(list, 8 * LIST));
     MUST(bitm_matrix_rank_list(matrix, NULL, 0, NULL, 0, NULL, 0, counts) == BITM_OK && counts->missing == 0);
     MUST(bitm_matrix_select_list(matrix, NULL, 0, NULL, 0, NULL, 0, counts) == BITM_OK && counts->wrong == 0);
 }
 
-/* Lists of numbers, some of which are none, beside the calls of one query. */
+typedef uint32_t list_call(const struct bitm_matrix *, const uint64_t *, size_t, const uint64_t *, size_t, uint64_t *,
+                           size_t, struct bitm_list_counts *);
+typedef uint32_t single_call(const struct bitm_matrix *, uint64_t, size_t, uint64_t *);
+
+/* A list of numbers, each with an index or a rank, beside the call of one query. */
+static void list_as_single_calls(const struct bitm_matrix *matrix, list_call *all, single_call *single,
+                                 const uint64_t *numbers, const uint64_t *ks)
+{
+    uint64_t *const of_list = untouched_at(OF_LIST, 8 * LIST), *out;
+    struct bitm_list_counts *const counts = counts_at_the_guard();
+    uint32_t status = all(matrix, numbers, LIST, ks, LIST, of_list, LIST, counts);
+    MUST(counted(status, of_list, LIST, *counts) == BITM_OK);
+    for (size_t i = 0; i < LIST; i++) {
+        ANSWER(single(matrix, numbers[i], ks[i], out));
+        MUST(of_list[i] == item_of(status, *out));
+    }
+}
+
+/* Lists of numbers, some of which are none. */
 static void lists_as_single_calls(const struct bitm_matrix *matrix)
 {
-    uint64_t *numbers = placed(OF_ASKED, 8 * LIST), *indices = placed(OF_INDICES, 8 * LIST), *out;
-    uint64_t *ranks = placed(OF_RANKS, 8 * LIST), *of_list;
-    struct bitm_list_counts *counts;
-    uint32_t status;
+    uint64_t *numbers = placed(OF_ASKED, 8 * LIST), *indices = placed(OF_INDICES, 8 * LIST);
+    uint64_t *ranks = placed(OF_RANKS, 8 * LIST);
     for (size_t i = 0; i < LIST; i++) {
         indices[i] = i % 16 ? draw() % (matrix->len + 1) : draw();
         ranks[i] = draw() % 3;
-        numbers[i] = draw() & most(matrix->width);
+        numbers[i] = draw() & largest(matrix->width);
         if (i % 4 && bitm_matrix_get(matrix, indices[i], &numbers[i]) != BITM_OK) numbers[i] = 1;
     }
     numbers_as_single_calls(matrix, indices);
     lists_of_wrong_lengths(matrix, numbers, ranks);
-    of_list = list_at_the_guard(), counts = counts_at_the_guard();
-    status = bitm_matrix_rank_list(matrix, numbers, LIST, indices, LIST, of_list, LIST, counts);
-    MUST(counted(status, of_list, LIST, *counts) == BITM_OK);
-    for (size_t i = 0; i < LIST; i++) {
-        ANSWER(bitm_matrix_rank(matrix, numbers[i], indices[i], out));
-        MUST(is_item(of_list[i], status, *out));
-    }
-    of_list = list_at_the_guard(), counts = counts_at_the_guard();
-    status = bitm_matrix_select_list(matrix, numbers, LIST, ranks, LIST, of_list, LIST, counts);
-    MUST(counted(status, of_list, LIST, *counts) == BITM_OK);
-    for (size_t i = 0; i < LIST; i++) {
-        ANSWER(bitm_matrix_select(matrix, numbers[i], ranks[i], out));
-        MUST(is_item(of_list[i], status, *out));
-    }
+    list_as_single_calls(matrix, bitm_matrix_rank_list, bitm_matrix_rank, numbers, indices);
+    list_as_single_calls(matrix, bitm_matrix_select_list, bitm_matrix_select, numbers, ranks);
 }
 
 /* Whatever the block holds: every call returns, within its range. */
-static void answers_within(const struct bitm_matrix *matrix)
+static void answers_within(const void *opened)
 {
+    const struct bitm_matrix *const matrix = opened;
     uint64_t *out;
     uint32_t status;
     for (size_t i = 0; i < matrix->len + 2; i++) {
         const bool is = i < matrix->len;
         ANSWER(bitm_matrix_get(matrix, i, out));
-        MUST(status == BITM_OK ? is && *out <= most(matrix->width) : (status == BITM_NONE) == !is);
-        const uint64_t number = (status == BITM_OK ? *out : draw()) & most(matrix->width);
+        MUST(status == BITM_OK ? is && *out <= largest(matrix->width) : (status == BITM_NONE) == !is);
+        const uint64_t number = (status == BITM_OK ? *out : draw()) & largest(matrix->width);
         ANSWER(bitm_matrix_rank(matrix, number, i, out));
         MUST(status == BITM_OK ? i <= matrix->len && *out <= i : (status == BITM_NONE) == (i > matrix->len));
         ANSWER(bitm_matrix_select(matrix, number, draw() % 3, out));
@@ -252,8 +201,7 @@ static void no_matrices(void)
         MUST(bitm_matrix_size(SMALL, bad[i], &out) == BITM_BAD_SIZE && out == UNTOUCHED);
         MUST(bitm_matrix_build(numbers, SMALL, bad[i], scratch, 2 * SMALL, room, words) == BITM_BAD_SIZE);
     }
-    for (size_t i = 0; i < sizeof room; i++) MUST(((unsigned char *)room)[i] == UNTOUCHED);
-    for (size_t i = 0; i < sizeof scratch; i++) MUST(((unsigned char *)scratch)[i] == UNTOUCHED);
+    MUST(is_untouched(room, sizeof room) && is_untouched(scratch, sizeof scratch));
     words = UNTOUCHED;
     MUST(bitm_matrix_size((size_t)1 << 63, 1, &words) == BITM_BAD_SIZE && words == UNTOUCHED);
     MUST(bitm_matrix_size((size_t)1 << 57, 64, &words) == BITM_BAD_SIZE && words == UNTOUCHED);
@@ -261,49 +209,24 @@ static void no_matrices(void)
     MUST(bitm_matrix_size(((size_t)1 << 63) - 1, 1, &words) == BITM_OK && words < (uint64_t)1 << 59);
 }
 
-static const struct bitm_matrix untouched = {.len = UNTOUCHED};
-
-/* bitm_matrix_open leaves the struct as it was where it refuses the block. */
-static bool opens(const uint64_t *block, size_t words, struct bitm_matrix *matrix)
+static uint32_t open_block(const uint64_t *block, size_t words, void *opened)
 {
-    *matrix = untouched;
-    const uint32_t status = bitm_matrix_open(block, words, matrix);
-    MUST(status == BITM_OK || (status == BITM_WRONG && memcmp(matrix, &untouched, sizeof *matrix) == 0));
-    return status == BITM_OK;
+    return bitm_matrix_open(block, words, opened);
 }
 
-/* Each byte of a small block changed to each of the 255 others, and each prefix of it. */
+static const struct kind of_matrix = {40, sizeof(struct bitm_matrix), bitm_matrix_check, open_block, answers_within};
+
 static void changed_blocks(void)
 {
     static struct plain plain;
-    struct bitm_matrix matrix;
     uint64_t words;
-    size_t opened = 0;
     draw_numbers(&plain, SMALL, 3, 0);
     uint64_t *const block = built(&plain, &words);
-    unsigned char *const bytes = (unsigned char *)block;
-    for (size_t at = 0; at < 8 * words; at++)
-        for (unsigned change = 1; change < 256; change++) {
-            bytes[at] ^= (unsigned char)change;
-            MUST(bitm_matrix_check(block, words) == BITM_WRONG);
-            if (opens(block, words, &matrix)) {
-                MUST(at >= 320); /* the header and the directory are looked at */
-                opened++;
-                answers_within(&matrix);
-            }
-            bytes[at] ^= (unsigned char)change;
-        }
-    MUST(opened == 255 * (8 * words - 320));
-    for (size_t len = 0; at_the_end && len < words; len++) {
-        uint64_t *const prefix = block + (words - len); /* moved, so that it ends at the guard */
-        memmove(prefix, block, 8 * len);
-        MUST(!opens(prefix, len, &matrix) && bitm_matrix_check(prefix, len) == BITM_WRONG);
-        built(&plain, &words);
-    }
-    MUST(!opens(block, SIZE_MAX, &matrix) && bitm_matrix_check(block, words) == BITM_OK);
+    changed_bytes(&of_matrix, block, words, 1);
+    cut_off(&of_matrix, block, words);
 }
 
-/* Random words behind a right header, of which more and more are those of the numbers; and random words alone. */
+/* Random words after a right header, and random words alone. */
 static void random_blocks(void)
 {
     static struct plain plain;
@@ -312,15 +235,13 @@ static void random_blocks(void)
         uint64_t words;
         draw_numbers(&plain, 1 + draw() % 300, 1 + (uint32_t)(draw() % 64), draw() % 9);
         uint64_t *const block = built(&plain, &words);
-        const uint64_t share = turn % 8;
-        for (size_t at = 40; at < words; at++)
-            if (draw() % 8 >= share) block[at] = share % 2 ? draw() : draw() & draw() & draw();
-        MUST(opens(block, words, &matrix));
+        spoil(block, of_matrix.head, words, turn);
+        MUST(opens(&of_matrix, block, words, &matrix));
         answers_within(&matrix);
         lists_as_single_calls(&matrix);
         if (bitm_matrix_check(block, words) == BITM_OK) answers_as(&plain, &matrix);
-        for (size_t at = 0; at < words; at++) block[at] = draw();
-        MUST(!opens(block, words, &matrix) && bitm_matrix_check(block, words) == BITM_WRONG);
+        draw_words(block, words);
+        MUST(refuses(&of_matrix, block, words));
     }
 }
 
@@ -367,18 +288,19 @@ static void wrong_lengths(void)
     }
 }
 
+static void tests(void)
+{
+    drawn_matrices();
+    no_matrices();
+    changed_blocks();
+    random_blocks();
+    wrong_lengths();
+}
+
 int main(int argc, char **argv)
 {
     take_seed(argc, argv);
-    for (unsigned place = 0; place < PLACES; place++) places[place] = guard(8 * (2 * NUMBERS + 200));
-    for (int end = 0; end < 2; end++) {
-        at_the_end = end;
-        drawn_matrices();
-        no_matrices();
-        changed_blocks();
-        random_blocks();
-        wrong_lengths();
-    }
+    on_either_side(8 * (2 * NUMBERS + 200), tests);
     printf("matrices: blocks answer as a plain array, each changed byte and each prefix is refused, and queries of any "
            "words stay within their range\n");
     return 0;

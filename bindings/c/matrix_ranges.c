@@ -1,36 +1,12 @@
 /* Ranges of numbers of a matrix in a block: the answers beside those of a sorted copy of the range; blocks whose words and
- * tables hold random numbers; ranges that are none, and structs of wrong lengths. The number that is written is once
- * where a page ends and once where one begins, beside a page that may not be touched. */
+ * tables hold random numbers; ranges that are none, and structs of wrong lengths. The number that is written is beside
+ * a page that may not be touched (places.h). */
 #define _DEFAULT_SOURCE
-#include "guard.h"
-
-#include <string.h>
+#include "changed.h"
 
 enum { NUMBERS = 300, WORDS = 600 };
 
-static struct guarded for_out;
-static bool at_the_end;
 static uint64_t numbers[NUMBERS], scratch[2 * NUMBERS], block[WORDS], sorted[NUMBERS];
-
-static uint64_t *out_at_the_guard(void)
-{
-    uint64_t *out = at_the_end ? ends_at_the_guard(&for_out, sizeof *out) : (void *)for_out.page;
-    *out = UNTOUCHED;
-    return out;
-}
-
-/* What the call answers; the number is as it was where the status is not BITM_OK. */
-#define ANSWER(call)                                       \
-    do {                                                   \
-        out = out_at_the_guard();                          \
-        status = (call);                                   \
-        MUST(status == BITM_OK || *out == UNTOUCHED);      \
-    } while (0)
-
-static uint64_t most(uint64_t width)
-{
-    return width == 64 ? UINT64_MAX : ((uint64_t)1 << width) - 1;
-}
 
 static int by_number(const void *one, const void *other)
 {
@@ -44,7 +20,7 @@ static struct bitm_matrix drawn(size_t len, uint32_t width, uint64_t kinds)
     uint64_t words;
     struct bitm_matrix matrix = {0};
     const uint64_t first = draw();
-    for (size_t i = 0; i < len; i++) numbers[i] = (kinds == 0 ? draw() : first * (1 + draw() % kinds)) & most(width);
+    for (size_t i = 0; i < len; i++) numbers[i] = (kinds == 0 ? draw() : first * (1 + draw() % kinds)) & largest(width);
     MUST(bitm_matrix_size(len, width, &words) == BITM_OK && words <= WORDS);
     MUST(bitm_matrix_build(numbers, len, width, scratch, 2 * len, block, words) == BITM_OK);
     MUST(bitm_matrix_open(block, words, &matrix) == BITM_OK);
@@ -90,7 +66,7 @@ static void range_as_sorted(const struct bitm_matrix *matrix, size_t start, size
         MUST(status == BITM_NONE);
     }
     bound_as_sorted(matrix, start, end, 0);
-    bound_as_sorted(matrix, start, end, draw() & most(matrix->width));
+    bound_as_sorted(matrix, start, end, draw() & largest(matrix->width));
     bound_as_sorted(matrix, start, end, UINT64_MAX);
 }
 
@@ -136,14 +112,14 @@ static void ranges_within(const struct bitm_matrix *matrix)
     uint32_t status;
     for (size_t turn = 0; turn < 40; turn++) {
         const size_t start = draw() % (matrix->len + 2), end = draw() % (matrix->len + 2), k = draw() % (matrix->len + 2);
-        const uint64_t bound = draw() & most(matrix->width);
+        const uint64_t bound = draw() & largest(matrix->width);
         const bool is_range = start <= end && end <= matrix->len, has_k = is_range && k < end - start;
         ANSWER(bitm_matrix_count_less(matrix, start, end, bound, out));
         MUST(status == BITM_OK ? is_range && *out <= end - start : (status == BITM_NONE) == !is_range);
         ANSWER(bitm_matrix_quantile(matrix, start, end, k, out));
-        MUST(status == BITM_OK ? has_k && *out <= most(matrix->width) : (status == BITM_NONE) == !has_k);
+        MUST(status == BITM_OK ? has_k && *out <= largest(matrix->width) : (status == BITM_NONE) == !has_k);
         ANSWER(bitm_matrix_next_value(matrix, start, end, bound, out));
-        MUST(status == BITM_OK ? is_range && *out >= bound && *out <= most(matrix->width) : is_range || status == BITM_NONE);
+        MUST(status == BITM_OK ? is_range && *out >= bound && *out <= largest(matrix->width) : is_range || status == BITM_NONE);
         ANSWER(bitm_matrix_previous_value(matrix, start, end, bound, out));
         MUST(status == BITM_OK ? is_range && *out < bound : is_range || status == BITM_NONE);
     }
@@ -153,22 +129,21 @@ static void random_blocks(void)
 {
     for (size_t turn = 0; turn < 400; turn++) {
         const struct bitm_matrix matrix = drawn(1 + draw() % NUMBERS, 1 + (uint32_t)(draw() % 64), draw() % 9);
-        const uint64_t share = turn % 8;
-        for (size_t at = 40; at < WORDS; at++)
-            if (draw() % 8 >= share) block[at] = share % 2 ? draw() : draw() & draw() & draw();
+        spoil(block, 40, WORDS, turn);
         ranges_within(&matrix);
     }
+}
+
+static void tests(void)
+{
+    drawn_ranges();
+    random_blocks();
 }
 
 int main(int argc, char **argv)
 {
     take_seed(argc, argv);
-    for_out = guard(8);
-    for (int end = 0; end < 2; end++) {
-        at_the_end = end;
-        drawn_ranges();
-        random_blocks();
-    }
+    on_either_side(8, tests);
     printf("matrix_ranges: ranges answer as sorted copies of them, and within their bounds over any words\n");
     return 0;
 }

@@ -7,6 +7,28 @@
 
 #include <string.h>
 
+/* An index of drawn words, each array in a block of the exact size. */
+static inline struct bitm_index drawn_index(size_t words_len)
+{
+    const size_t upper_len = bitm_index_upper_len(words_len), lower_len = bitm_index_lower_len(words_len);
+    uint64_t *words = malloc(8 * words_len), *upper = malloc(8 * upper_len), *lower = malloc(8 * lower_len), ones;
+    MUST(words && upper && lower);
+    for (size_t i = 0; i < words_len; i++)
+        words[i] = draw();
+    MUST(bitm_index_build(words, words_len, upper, upper_len, lower, lower_len, &ones) == BITM_OK);
+    return index_over(words, words_len, upper, upper_len, lower, lower_len);
+}
+
+/* An array of the index, to be changed. */
+static inline uint64_t *writable(const uint64_t *of_index) { return (uint64_t *)(uintptr_t)of_index; }
+
+static inline void free_index(struct bitm_index index)
+{
+    free(writable(index.words));
+    free(writable(index.upper));
+    free(writable(index.lower));
+}
+
 /* A number that no call writes where it answers no BITM_OK. */
 #define UNWRITTEN 79
 
@@ -52,8 +74,7 @@ static inline void sampled_list(const struct bitm_index *view, const struct bitm
     for (int i = 0; i < 32; i++) {
         uint64_t got = UNWRITTEN;
         uint32_t status = sampled_select(view, one, made, ranks[i], &got);
-        uint64_t listed = status == BITM_OK ? got : status == BITM_NONE ? BITM_NO_ANSWER : BITM_WRONG_TABLES;
-        MUST(status != BITM_BAD_SIZE && answers[i] == listed);
+        MUST(status != BITM_BAD_SIZE && answers[i] == item_of(status, got));
     }
     answers[0] = UNWRITTEN;
     MUST(sampled_select_list(view, one, made, ranks, 32, answers, 31) == BITM_BAD_SIZE && answers[0] == UNWRITTEN);
@@ -139,25 +160,18 @@ static inline void spoilt_samples(const struct bitm_index *view, int right, uint
 /* Spoilt samples of right tables and of wrong ones. */
 static inline void spoilt_everything(size_t words_len)
 {
-    size_t upper_len = bitm_index_upper_len(words_len), lower_len = bitm_index_lower_len(words_len);
-    uint64_t *words = malloc(8 * words_len), *upper = malloc(8 * upper_len), *lower = malloc(8 * lower_len), ones;
-    MUST(words && upper && lower);
-    for (size_t i = 0; i < words_len; i++)
-        words[i] = draw();
-    MUST(bitm_index_build(words, words_len, upper, upper_len, lower, lower_len, &ones) == BITM_OK);
-    struct bitm_index view = index_over(words, words_len, upper, upper_len, lower, lower_len);
+    const struct bitm_index view = drawn_index(words_len);
+    uint64_t *const upper = writable(view.upper), *const lower = writable(view.lower);
     spoilt_samples(&view, 1, 1);
     spoilt_samples(&view, 1, 0);
     for (int turn = 0; turn < 10; turn++) {
-        for (size_t i = 0; i < lower_len; i++)
+        for (size_t i = 0; i < view.lower_len; i++)
             lower[i] = turn == 0 ? 0 : turn == 1 ? UINT64_MAX : draw();
         upper[0] = turn % 2 ? draw() : 0;
         spoilt_samples(&view, 0, 1);
         spoilt_samples(&view, 0, 0);
     }
-    free(words);
-    free(upper);
-    free(lower);
+    free_index(view);
 }
 
 #endif

@@ -65,32 +65,36 @@ static void compare_near(const struct bitm_shards *shards, int one, uint64_t fro
     MUST(got == (before ? before - 1 : UNTOUCHED));
 }
 
+typedef uint32_t list_call(const struct bitm_shards *, bool, const uint64_t *, size_t, uint64_t *, size_t, uint64_t *,
+                           size_t, struct bitm_list_counts *);
+typedef uint32_t single_call(const struct bitm_shards *, bool, uint64_t, uint64_t *);
+
+/* A list of queries beside the call of one. */
+static void compare_list(const struct bitm_shards *shards, list_call *all, single_call *single, bool one,
+                         const uint64_t *queries, size_t len, size_t room_len)
+{
+    static uint64_t out[MOST_QUERIES], room[3 * MOST_QUERIES + MOST_SHARDS + 1];
+    struct bitm_list_counts counts = no_counts;
+    uint64_t want;
+    uint32_t status = all(shards, one, queries, len, out, len, room, room_len, &counts);
+    MUST(counted(status, out, len, counts) == BITM_OK);
+    for (size_t i = 0; i < len; i++) {
+        status = single(shards, one, queries[i], &want);
+        MUST((status == BITM_OK || status == BITM_NONE) && out[i] == item_of(status, want));
+    }
+}
+
 /* Lists of positions and ranks, of some past the end too, in groups by shard or each by itself. */
 static void compare_lists(const struct bitm_shards *shards, size_t room_len)
 {
-    static uint64_t queries[MOST_QUERIES], out[MOST_QUERIES], room[3 * MOST_QUERIES + MOST_SHARDS + 1];
-    struct bitm_list_counts counts = {UNTOUCHED, UNTOUCHED};
+    static uint64_t queries[MOST_QUERIES];
     const size_t len = joined_len + 3;
     for (size_t i = 0; i < len; i++)
         queries[i] = i * 911 % len; /* in a mixed order */
     queries[0] = UINT64_MAX;
     for (int one = 0; one < 2; one++) {
-        uint64_t missing = 0, want;
-        MUST(bitm_shards_rank_list(shards, one, queries, len, out, len, room, room_len, &counts) == BITM_OK);
-        for (size_t i = 0; i < len; i++) {
-            const uint32_t status = bitm_shards_rank(shards, one, queries[i], &want);
-            MUST(status == BITM_OK ? out[i] == want : status == BITM_NONE && out[i] == BITM_NO_ANSWER);
-            missing += status == BITM_NONE;
-        }
-        MUST(counts.missing == missing && counts.wrong == 0);
-        missing = 0;
-        MUST(bitm_shards_select_list(shards, one, queries, len, out, len, room, room_len, &counts) == BITM_OK);
-        for (size_t i = 0; i < len; i++) {
-            const uint32_t status = bitm_shards_select(shards, one, queries[i], &want);
-            MUST(status == BITM_OK ? out[i] == want : status == BITM_NONE && out[i] == BITM_NO_ANSWER);
-            missing += status == BITM_NONE;
-        }
-        MUST(counts.missing == missing && counts.wrong == 0);
+        compare_list(shards, bitm_shards_rank_list, bitm_shards_rank, one, queries, len, room_len);
+        compare_list(shards, bitm_shards_select_list, bitm_shards_select, one, queries, len, room_len);
     }
 }
 

@@ -1,11 +1,8 @@
 /* Sparse bits in blocks: the answers beside a plain list of positions; positions that fit in no block; blocks of which
- * each byte is changed, each prefix, and blocks whose words and tables hold random numbers. Each array, and each number
- * that is written, is once where a page ends and once where one begins, beside a page that may not be touched: a read
- * or write of one number outside, on either side, ends the program. */
+ * each byte is changed, each prefix, and blocks whose words and tables hold random numbers. All is beside pages that
+ * may not be touched (places.h). */
 #define _DEFAULT_SOURCE
-#include "guard.h"
-
-#include <string.h>
+#include "changed.h"
 
 enum { ONES = 600, SMALL = 9, LIST = 64 };
 
@@ -16,48 +13,7 @@ struct plain {
     uint64_t positions[ONES];
 };
 
-enum { OF_BLOCK, OF_STRUCT, OF_POSITIONS, OF_OUT, OF_COUNTS, OF_ASKED, OF_LIST, PLACES };
-
-static struct guarded places[PLACES];
-static bool at_the_end;
-
-static void *placed(unsigned place, size_t size)
-{
-    return at_the_end ? ends_at_the_guard(&places[place], size) : places[place].page;
-}
-
-static uint64_t *out_at_the_guard(void)
-{
-    uint64_t *out = placed(OF_OUT, sizeof *out);
-    *out = UNTOUCHED;
-    return out;
-}
-
-static struct bitm_list_counts *counts_at_the_guard(void)
-{
-    struct bitm_list_counts *counts = placed(OF_COUNTS, sizeof *counts);
-    *counts = no_counts;
-    return counts;
-}
-
-/* Room for a list of answers, of which each byte is UNTOUCHED. */
-static uint64_t *list_at_the_guard(void)
-{
-    return memset(placed(OF_LIST, 8 * LIST), UNTOUCHED, 8 * LIST);
-}
-
-static bool is_untouched(uint64_t word)
-{
-    return word == 0x4d4d4d4d4d4d4d4d;
-}
-
-/* What the call answers; the number is as it was where the status is not BITM_OK. */
-#define ANSWER(call)                                       \
-    do {                                                   \
-        out = out_at_the_guard();                          \
-        status = (call);                                   \
-        MUST(status == BITM_OK || *out == UNTOUCHED);      \
-    } while (0)
+enum { OF_STRUCT = OF_MORE, OF_POSITIONS, OF_ASKED };
 
 /* ---- the same by walking over the positions */
 
@@ -111,10 +67,7 @@ static uint64_t plain_previous(const struct plain *plain, bool one, uint64_t fro
 /* ---- blocks */
 
 /* A number up to `most`, which may be any. */
-static uint64_t up_to(uint64_t most)
-{
-    return most == UINT64_MAX ? draw() : draw() % (most + 1);
-}
+static uint64_t up_to(uint64_t most) { return most == UINT64_MAX ? draw() : draw() % (most + 1); }
 
 /* Drawn positions, each from 1 to `most` after the one before it; and some bits after the last. */
 static void draw_positions(struct plain *plain, size_t ones, uint64_t most)
@@ -128,10 +81,7 @@ static void draw_positions(struct plain *plain, size_t ones, uint64_t most)
     plain->bits_len = ones > 0 ? plain->positions[ones - 1] + 1 + draw() % 3 * (draw() % most) : draw() % most;
 }
 
-static uint64_t last_of(const struct plain *plain)
-{
-    return plain->ones > 0 ? plain->positions[plain->ones - 1] : 0;
-}
+static uint64_t last_of(const struct plain *plain) { return plain->ones > 0 ? plain->positions[plain->ones - 1] : 0; }
 
 /* The block of the bits, which ends at the guard, as the positions do. */
 static uint64_t *built(const struct plain *plain, uint64_t *words)
@@ -141,9 +91,9 @@ static uint64_t *built(const struct plain *plain, uint64_t *words)
     ANSWER(bitm_sparse_size(plain->ones, last_of(plain), out));
     MUST(status == BITM_OK && *out % 8 == 0);
     *words = *out;
-    uint64_t *block = placed(OF_BLOCK, 8 * *words), *positions = placed(OF_POSITIONS, 8 * plain->ones);
+    uint64_t *block = untouched_at(OF_BLOCK, 8 * *words); /* memory that is written may hold anything */
+    uint64_t *positions = placed(OF_POSITIONS, 8 * plain->ones);
     memcpy(positions, plain->positions, 8 * plain->ones);
-    memset(block, UNTOUCHED, 8 * *words); /* memory that is written may hold anything */
     MUST(bitm_sparse_build(positions, plain->ones, plain->bits_len, block, *words) == BITM_OK);
     return block;
 }
@@ -185,16 +135,10 @@ static void answers_as(const struct plain *plain, const struct bitm_sparse *spar
     for (size_t i = 0; i < 20 && plain->bits_len > 0; i++) number_as(plain, sparse, draw() % plain->bits_len);
 }
 
-/* An item of a list of answers is what the call of one query answers. */
-static bool is_item(uint64_t item, uint32_t status, uint64_t answer)
-{
-    return item == (status == BITM_OK ? answer : status == BITM_NONE ? BITM_NO_ANSWER : BITM_WRONG_TABLES);
-}
-
 /* Lists of other lengths are refused, and lists of nothing are not. */
 static void lists_of_wrong_lengths(const struct bitm_sparse *sparse, const uint64_t *numbers)
 {
-    uint64_t *const list = list_at_the_guard();
+    uint64_t *const list = untouched_at(OF_LIST, 8 * LIST);
     struct bitm_list_counts *counts = counts_at_the_guard();
     for (size_t less = 1; less < 3; less++)
         for (int one = 0; one < 2; one++) {
@@ -205,8 +149,7 @@ static void lists_of_wrong_lengths(const struct bitm_sparse *sparse, const uint6
             MUST(bitm_sparse_select_list(sparse, one, numbers, LIST - less, list, LIST, counts) == BITM_BAD_SIZE);
             MUST(bitm_sparse_select_list(sparse, one, numbers, LIST, list, LIST - less, counts) == BITM_BAD_SIZE);
         }
-    MUST(counts->missing == UNTOUCHED && counts->wrong == UNTOUCHED);
-    MUST(is_untouched(list[0]) && is_untouched(list[LIST - 1]));
+    MUST(counts->missing == UNTOUCHED && counts->wrong == UNTOUCHED && is_untouched(list, 8 * LIST));
     MUST(bitm_sparse_get_list(sparse, NULL, 0, NULL, 0, counts) == BITM_OK && counts->missing == 0);
     counts = counts_at_the_guard();
     MUST(bitm_sparse_rank_list(sparse, true, NULL, 0, NULL, 0, counts) == BITM_OK && counts->wrong == 0);
@@ -214,39 +157,51 @@ static void lists_of_wrong_lengths(const struct bitm_sparse *sparse, const uint6
     MUST(bitm_sparse_select_list(sparse, false, NULL, 0, NULL, 0, counts) == BITM_OK && counts->missing == 0);
 }
 
-/* Lists of numbers, some of which are no positions, beside the calls of one query. */
+typedef uint32_t list_call(const struct bitm_sparse *, bool, const uint64_t *, size_t, uint64_t *, size_t,
+                           struct bitm_list_counts *);
+typedef uint32_t single_call(const struct bitm_sparse *, bool, uint64_t, uint64_t *);
+
+/* A list of numbers beside the call of one query. */
+static void list_as_single_calls(const struct bitm_sparse *sparse, list_call *all, single_call *single, bool one,
+                                 const uint64_t *numbers)
+{
+    uint64_t *const list = untouched_at(OF_LIST, 8 * LIST), *out;
+    struct bitm_list_counts *const counts = counts_at_the_guard();
+    uint32_t status = all(sparse, one, numbers, LIST, list, LIST, counts);
+    MUST(counted(status, list, LIST, *counts) == BITM_OK);
+    for (size_t i = 0; i < LIST; i++) {
+        ANSWER(single(sparse, one, numbers[i], out));
+        MUST(list[i] == item_of(status, *out));
+    }
+}
+
+/* The calls of a bit take no kind of bits. */
+static uint32_t get_list(const struct bitm_sparse *sparse, bool one, const uint64_t *numbers, size_t numbers_len,
+                         uint64_t *out, size_t out_len, struct bitm_list_counts *counts)
+{
+    (void)one;
+    return bitm_sparse_get_list(sparse, numbers, numbers_len, out, out_len, counts);
+}
+
+static uint32_t get(const struct bitm_sparse *sparse, bool one, uint64_t number, uint64_t *out)
+{
+    (void)one;
+    return bitm_sparse_get(sparse, number, out);
+}
+
+/* Lists of numbers, some of which are no positions. */
 static void lists_as_single_calls(const struct bitm_sparse *sparse)
 {
-    uint64_t *numbers = placed(OF_ASKED, 8 * LIST), *out;
-    uint32_t status;
+    uint64_t *numbers = placed(OF_ASKED, 8 * LIST);
     for (size_t i = 0; i < LIST; i++) {
         numbers[i] = i % 16 == 0 ? draw() : up_to(i % 2 ? sparse->bits_len : sparse->positions.len) + i % 3 / 2;
         if (i % 4 == 1 && bitm_sequence_get(&sparse->positions, i, &numbers[i]) != BITM_OK) numbers[i] = i;
     }
     lists_of_wrong_lengths(sparse, numbers);
-    uint64_t *list = list_at_the_guard();
-    struct bitm_list_counts *counts = counts_at_the_guard();
-    status = bitm_sparse_get_list(sparse, numbers, LIST, list, LIST, counts);
-    MUST(counted(status, list, LIST, *counts) == BITM_OK);
-    for (size_t i = 0; i < LIST; i++) {
-        ANSWER(bitm_sparse_get(sparse, numbers[i], out));
-        MUST(is_item(list[i], status, *out));
-    }
+    list_as_single_calls(sparse, get_list, get, true, numbers);
     for (int one = 0; one < 2; one++) {
-        list = list_at_the_guard(), counts = counts_at_the_guard();
-        status = bitm_sparse_rank_list(sparse, one, numbers, LIST, list, LIST, counts);
-        MUST(counted(status, list, LIST, *counts) == BITM_OK);
-        for (size_t i = 0; i < LIST; i++) {
-            ANSWER(bitm_sparse_rank(sparse, one, numbers[i], out));
-            MUST(is_item(list[i], status, *out));
-        }
-        list = list_at_the_guard(), counts = counts_at_the_guard();
-        status = bitm_sparse_select_list(sparse, one, numbers, LIST, list, LIST, counts);
-        MUST(counted(status, list, LIST, *counts) == BITM_OK);
-        for (size_t i = 0; i < LIST; i++) {
-            ANSWER(bitm_sparse_select(sparse, one, numbers[i], out));
-            MUST(is_item(list[i], status, *out));
-        }
+        list_as_single_calls(sparse, bitm_sparse_rank_list, bitm_sparse_rank, one, numbers);
+        list_as_single_calls(sparse, bitm_sparse_select_list, bitm_sparse_select, one, numbers);
     }
 }
 
@@ -275,8 +230,9 @@ static void number_within(const struct bitm_sparse *sparse, uint64_t number)
     }
 }
 
-static void answers_within(const struct bitm_sparse *sparse)
+static void answers_within(const void *opened)
 {
+    const struct bitm_sparse *const sparse = opened;
     for (uint64_t i = 0; i < 8; i++) number_within(sparse, i);
     for (uint64_t side = 0; side < 5; side++) {
         number_within(sparse, sparse->bits_len + side - 2);
@@ -353,7 +309,7 @@ static void no_bits(void)
         MUST(bitm_sparse_build(falls, 3, 100, room, len) == BITM_UNSORTED);
         MUST(bitm_sparse_build(twice, 3, 3, room, len) == BITM_UNSORTED); /* and past the end */
     }
-    for (size_t i = 0; i < sizeof room; i++) MUST(((unsigned char *)room)[i] == UNTOUCHED);
+    MUST(is_untouched(room, sizeof room));
     for (size_t i = 0; i < 3; i++) {
         uint64_t out = UNTOUCHED;
         MUST(bitm_sparse_size(i == 0 ? 0 : i == 1 ? (size_t)1 << 56 : SIZE_MAX, 7, &out) == BITM_BAD_SIZE);
@@ -362,52 +318,27 @@ static void no_bits(void)
     MUST(bitm_sparse_size(((size_t)1 << 56) - 1, UINT64_MAX, &words) == BITM_OK);
 }
 
-static const struct bitm_sparse untouched = {.bits_len = UNTOUCHED};
-
-/* bitm_sparse_open leaves the struct as it was where it refuses the block. */
-static bool opens(const uint64_t *block, size_t words, struct bitm_sparse *sparse)
+static uint32_t open_block(const uint64_t *block, size_t words, void *opened)
 {
-    *sparse = untouched;
-    const uint32_t status = bitm_sparse_open(block, words, sparse);
-    MUST(status == BITM_OK || (status == BITM_WRONG && memcmp(sparse, &untouched, sizeof *sparse) == 0));
-    return status == BITM_OK;
+    return bitm_sparse_open(block, words, opened);
 }
 
-/* Each byte of a small block changed to each of the 255 others, and each prefix of it; and the block of a sequence. */
+static const struct kind of_sparse = {32, sizeof(struct bitm_sparse), bitm_sparse_check, open_block, answers_within};
+
+/* And the block of a sequence. */
 static void changed_blocks(void)
 {
-    enum { HEAD = 256 }; /* the header and the directory, which are looked at */
     static struct plain plain;
-    struct bitm_sparse sparse;
     uint64_t words;
-    size_t opened = 0;
     draw_positions(&plain, SMALL, 100);
     uint64_t *const block = built(&plain, &words);
-    unsigned char *const bytes = (unsigned char *)block;
-    for (size_t at = 0; at < 8 * words; at++)
-        for (unsigned change = 1; change < 256; change++) {
-            bytes[at] ^= (unsigned char)change;
-            MUST(bitm_sparse_check(block, words) == BITM_WRONG);
-            if (opens(block, words, &sparse)) {
-                MUST(at >= HEAD);
-                opened++;
-                answers_within(&sparse);
-            }
-            bytes[at] ^= (unsigned char)change;
-        }
-    MUST(opened == 255 * (8 * words - HEAD));
-    for (size_t len = 0; at_the_end && len < words; len++) {
-        uint64_t *const prefix = block + (words - len); /* moved, so that it ends at the guard */
-        memmove(prefix, block, 8 * len);
-        MUST(!opens(prefix, len, &sparse) && bitm_sparse_check(prefix, len) == BITM_WRONG);
-        built(&plain, &words);
-    }
-    MUST(!opens(block, SIZE_MAX, &sparse) && bitm_sparse_check(block, words) == BITM_OK);
+    changed_bytes(&of_sparse, block, words, 1);
+    cut_off(&of_sparse, block, words);
     MUST(bitm_sequence_block_build(plain.positions, SMALL, block, words) == BITM_OK);
-    MUST(!opens(block, words, &sparse) && bitm_sparse_check(block, words) == BITM_WRONG);
+    MUST(refuses(&of_sparse, block, words));
 }
 
-/* Random words behind a right header, of which more and more are those of the bits; and random words alone. */
+/* Random words after a right header, and random words alone. */
 static void random_blocks(void)
 {
     static struct plain plain;
@@ -416,15 +347,13 @@ static void random_blocks(void)
         uint64_t words;
         draw_positions(&plain, 1 + draw() % 300, (uint64_t)1 << turn % 20);
         uint64_t *const block = built(&plain, &words);
-        const uint64_t share = turn % 8;
-        for (size_t at = 32; at < words; at++)
-            if (draw() % 8 >= share) block[at] = share % 2 ? draw() : draw() & draw() & draw();
-        MUST(opens(block, words, &sparse));
+        spoil(block, of_sparse.head, words, turn);
+        MUST(opens(&of_sparse, block, words, &sparse));
         answers_within(&sparse);
         lists_as_single_calls(&sparse);
         if (bitm_sparse_check(block, words) == BITM_OK) answers_as(&plain, &sparse);
-        for (size_t at = 0; at < words; at++) block[at] = draw();
-        MUST(!opens(block, words, &sparse) && bitm_sparse_check(block, words) == BITM_WRONG);
+        draw_words(block, words);
+        MUST(refuses(&of_sparse, block, words));
     }
 }
 
@@ -478,19 +407,20 @@ static void other_structs(void)
     }
 }
 
+static void tests(void)
+{
+    drawn_bits();
+    most_bits();
+    no_bits();
+    changed_blocks();
+    random_blocks();
+    other_structs();
+}
+
 int main(int argc, char **argv)
 {
     take_seed(argc, argv);
-    for (unsigned place = 0; place < PLACES; place++) places[place] = guard(8 * (2 * ONES + 200));
-    for (int end = 0; end < 2; end++) {
-        at_the_end = end;
-        drawn_bits();
-        most_bits();
-        no_bits();
-        changed_blocks();
-        random_blocks();
-        other_structs();
-    }
+    on_either_side(8 * (2 * ONES + 200), tests);
     printf("sparse: blocks answer as a list of positions, each changed byte and each prefix is refused, and queries of "
            "any words stay within their range\n");
     return 0;

@@ -47,7 +47,7 @@ static void located_as(const struct plain *plain, const struct bitm_text *text, 
     uint32_t status;
     sort_suffixes(plain, positions);
     for (int is_bytes = 0; is_bytes < (bytes ? 2 : 1); is_bytes++) {
-        uint64_t *const list = list_at_the_guard(8 * room);
+        uint64_t *const list = untouched_at(OF_LIST, 8 * room);
         size_t found = 0, written = 0;
         if (is_bytes)
             ANSWER(bitm_text_locate_bytes(text, pattern_at(bytes, len), len, from, list, room, out));
@@ -80,11 +80,11 @@ static void pattern_as(const struct plain *plain, const struct bitm_text *text, 
 
 static void part_as(const struct plain *plain, const struct bitm_text *text, size_t from, size_t len)
 {
-    uint64_t *const list = list_at_the_guard(8 * len);
+    uint64_t *const list = untouched_at(OF_LIST, 8 * len);
     const bool is_there = from <= plain->len && len <= plain->len - from;
     MUST(bitm_text_extract(text, from, list, len) == (is_there ? BITM_OK : BITM_NONE));
     MUST(is_there ? len == 0 || memcmp(list, plain->letters + from, 8 * len) == 0 : is_untouched(list, 8 * len));
-    uint8_t *const bytes = list_at_the_guard(len);
+    uint8_t *const bytes = untouched_at(OF_LIST, len);
     const uint32_t status = bitm_text_extract_bytes(text, from, bytes, len);
     MUST(status == (plain->width > 8 && !plain->is_of_bytes ? BITM_BAD_SIZE : is_there ? BITM_OK : BITM_NONE));
     if (status != BITM_OK) MUST(is_untouched(bytes, len));
@@ -120,14 +120,14 @@ static void bytes_within(const struct bitm_text *text, const uint8_t *pattern, s
 {
     const uint64_t letters = text->letters.len;
     const bool is_there = from <= letters && room <= letters - from;
-    uint64_t *out, *const list = list_at_the_guard(8 * LIST);
+    uint64_t *out, *const list = untouched_at(OF_LIST, 8 * LIST);
     uint32_t status;
     ANSWER(bitm_text_count_bytes(text, pattern_at(pattern, len), len, out));
     MUST(status == BITM_OK ? *out <= letters + 1 : status == BITM_WRONG);
     ANSWER(bitm_text_locate_bytes(text, pattern_at(pattern, len), len, 0, list, LIST, out));
     MUST(status == BITM_OK ? *out <= LIST : status == BITM_WRONG);
     for (size_t k = 0; status == BITM_OK && k < *out; k++) MUST(list[k] <= letters);
-    uint8_t *const part = list_at_the_guard(room);
+    uint8_t *const part = untouched_at(OF_LIST, room);
     status = bitm_text_extract_bytes(text, from, part, room);
     if (text->letters.width > 8 && text->used_len == 0)
         MUST(status == BITM_BAD_SIZE);
@@ -137,15 +137,16 @@ static void bytes_within(const struct bitm_text *text, const uint8_t *pattern, s
 }
 
 /* Whatever the block holds: every call returns, within its range. */
-static void answers_within(const struct bitm_text *text)
+static void answers_within(const void *opened)
 {
+    const struct bitm_text *const text = opened;
     uint64_t pattern[PATTERN], *out;
     const uint64_t len = text->letters.len, width = text->letters.width;
     uint32_t status;
     for (size_t i = 0; i < 6; i++) {
         for (size_t k = 0; k < PATTERN; k++) pattern[k] = draw() % (i == 5 ? UINT64_MAX : 4);
         uint64_t *const own = pattern_at(pattern, 8 * i);
-        uint64_t *const list = list_at_the_guard(8 * LIST);
+        uint64_t *const list = untouched_at(OF_LIST, 8 * LIST);
         ANSWER(bitm_text_count(text, own, i, out));
         MUST(status == BITM_OK ? *out <= len + 1 : status == BITM_WRONG);
         const bool is_wrong = status == BITM_WRONG;
@@ -154,7 +155,7 @@ static void answers_within(const struct bitm_text *text)
         MUST(!is_wrong || status == BITM_WRONG);
         for (size_t k = 0; status == BITM_OK && k < *out; k++) MUST(list[k] <= len);
         const size_t from = draw() % (len + 2), room = draw() % LIST;
-        uint64_t *const part = list_at_the_guard(8 * room);
+        uint64_t *const part = untouched_at(OF_LIST, 8 * room);
         status = bitm_text_extract(text, from, part, room);
         MUST(from <= len && room <= len - from ? status == BITM_OK || status == BITM_WRONG : status == BITM_NONE);
         MUST(status != BITM_NONE || is_untouched(part, 8 * room));
@@ -216,58 +217,33 @@ static void no_texts(void)
     }
 }
 
-static const struct bitm_text untouched = {.first = UNTOUCHED};
-
-/* bitm_text_open leaves the struct as it was where it refuses the block. */
-static bool opens(const uint64_t *block, size_t words, struct bitm_text *text)
+static uint32_t open_block(const uint64_t *block, size_t words, void *opened)
 {
-    *text = untouched;
-    const uint32_t status = bitm_text_open(block, words, text);
-    MUST(status == BITM_OK || (status == BITM_WRONG && memcmp(text, &untouched, sizeof *text) == 0));
-    return status == BITM_OK;
+    return bitm_text_open(block, words, opened);
 }
 
-/* Each byte of a small block changed, and each prefix of it; and the block of a matrix. */
+static const struct kind of_text = {HEAD, sizeof(struct bitm_text), bitm_text_check, open_block, answers_within};
+
+/* And the block of a matrix. */
 static void changed_blocks(bool is_of_bytes)
 {
     static struct plain plain;
-    struct bitm_text text;
-    size_t words, opened = 0, tries = 0;
+    size_t words;
     draw_text(&plain, 20, 4, 2, 4);
     if (is_of_bytes) use_bytes(&plain, 'a', 5);
-    uint64_t *block = built(&plain, &words);
-    unsigned char *const bytes = (unsigned char *)block;
-    for (size_t at = 0; at < 8 * words; at++)
-        for (unsigned change = 1; change < 256; change += at_the_end ? 5 : 17) {
-            bytes[at] ^= (unsigned char)change;
-            MUST(bitm_text_check(block, words) == BITM_WRONG);
-            tries += at >= 8 * HEAD;
-            if (opens(block, words, &text)) {
-                MUST(at >= 8 * HEAD);
-                opened++;
-                answers_within(&text);
-            }
-            bytes[at] ^= (unsigned char)change;
-        }
-    MUST(opened == tries);
-    for (size_t len = 0; at_the_end && len < words; len++) {
-        uint64_t *const prefix = block + (words - len); /* moved, so that it ends at the guard */
-        memmove(prefix, block, 8 * len);
-        MUST(!opens(prefix, len, &text) && bitm_text_check(prefix, len) == BITM_WRONG);
-        block = built(&plain, &words);
-    }
-    MUST(!opens(block, SIZE_MAX, &text) && bitm_text_check(block, words) == BITM_OK);
+    uint64_t *const block = built(&plain, &words);
+    changed_bytes(&of_text, block, words, at_the_end ? 5 : 17);
+    cut_off(&of_text, block, words);
     uint64_t scratch[6], of_matrix;
     MUST(bitm_matrix_size(3, 2, &of_matrix) == BITM_OK);
     MUST(bitm_matrix_build(plain.letters, 3, 2, scratch, 6, block, of_matrix) == BITM_OK);
-    MUST(!opens(block, of_matrix, &text) && bitm_text_check(block, of_matrix) == BITM_WRONG);
+    MUST(refuses(&of_text, block, of_matrix));
 }
 
 /* Words that are not those of a text, of which each checksum is right; and random words alone. */
 static void random_blocks(void)
 {
     static struct plain plain;
-    struct bitm_text text;
     for (size_t turn = 0; turn < 300; turn++) {
         size_t words;
         draw_text(&plain, 1 + draw() % 200, 1 + draw() % 30, 5, 1 + (uint32_t)turn % 40);
@@ -282,11 +258,9 @@ static void random_blocks(void)
         }
         block[8] = draw() % (plain.len + 1), block[9] = 1 + draw() % 50;
         seal(block);
-        MUST(opens(block, words, &text));
-        answers_within(&text);
-        MUST(bitm_text_check(block, words) == BITM_WRONG);
-        for (size_t at = 0; at < words; at++) block[at] = draw();
-        MUST(!opens(block, words, &text) && bitm_text_check(block, words) == BITM_WRONG);
+        MUST(opens_to_queries(&of_text, block, words) && bitm_text_check(block, words) == BITM_WRONG);
+        draw_words(block, words);
+        MUST(refuses(&of_text, block, words));
     }
 }
 
@@ -312,9 +286,9 @@ static void other_headers(void)
         if (i == 9) block[18 + 4 * 12] = 0, block[2] -= 64, words -= 8;
         seal(block);
         if (i == 9)
-            MUST(opens(block, words, &text) && text.used_len == 0); /* of numbers */
+            MUST(opens(&of_text, block, words, &text) && text.used_len == 0); /* of numbers */
         else
-            MUST(!opens(block, words, &text) && bitm_text_check(block, words) == BITM_WRONG);
+            MUST(refuses(&of_text, block, words));
     }
 }
 
@@ -351,7 +325,7 @@ static void other_structs(void)
         if (i == 15) bad.step += (uint64_t)1 << 32;
         if (i == 16) bad.marks = bad.letters;
         if (i >= 17) bad.used = text.starts, bad.used_len = (const size_t[3]){1, 3, 5}[i - 17];
-        uint64_t *const list = list_at_the_guard(8 * LIST);
+        uint64_t *const list = untouched_at(OF_LIST, 8 * LIST);
         ANSWER(bitm_text_len(&bad, out));
         MUST(status == BITM_BAD_SIZE);
         ANSWER(bitm_text_count(&bad, &pattern, 1, out));
@@ -376,20 +350,21 @@ static void other_structs(void)
     }
 }
 
+static void tests(void)
+{
+    drawn_texts();
+    no_texts();
+    changed_blocks(false);
+    changed_blocks(true);
+    random_blocks();
+    other_headers();
+    other_structs();
+}
+
 int main(int argc, char **argv)
 {
     take_seed(argc, argv);
-    for (unsigned place = 0; place < PLACES; place++) places[place] = guard(8 * ROOM);
-    for (int end = 0; end < 2; end++) {
-        at_the_end = end;
-        drawn_texts();
-        no_texts();
-        changed_blocks(false);
-        changed_blocks(true);
-        random_blocks();
-        other_headers();
-        other_structs();
-    }
+    on_either_side(8 * ROOM, tests);
     printf("texts: blocks answer as a comparison at each position, each changed byte and each prefix is refused, and "
            "queries of any words stay within their range\n");
     return 0;

@@ -1,10 +1,8 @@
 /* Trees in blocks: the answers beside a plain tree of parents; degrees that are those of no tree; blocks of which each
- * byte is changed, each prefix, and blocks whose words and tables hold random numbers. Each block, and each number that
- * is written, ends where a page begins that may not be touched, so a read or write outside ends the program. */
+ * byte is changed, each prefix, and blocks whose words and tables hold random numbers. All is beside pages that may not
+ * be touched (places.h). */
 #define _DEFAULT_SOURCE
-#include "guard.h"
-
-#include <string.h>
+#include "changed.h"
 
 enum { NODES = 3000, SMALL = 9, LIST = 64 };
 
@@ -14,22 +12,7 @@ struct plain {
     uint64_t degrees[NODES], parents[NODES], first[NODES];
 };
 
-static struct guarded for_block, for_out, for_degrees;
-
-static uint64_t *out_at_the_guard(void)
-{
-    uint64_t *out = ends_at_the_guard(&for_out, sizeof *out);
-    *out = UNTOUCHED;
-    return out;
-}
-
-/* What the call answers; the number is as it was where the status is not BITM_OK. */
-#define ANSWER(call)                                       \
-    do {                                                   \
-        out = out_at_the_guard();                          \
-        status = (call);                                   \
-        MUST(status == BITM_OK || *out == UNTOUCHED);      \
-    } while (0)
+enum { OF_DEGREES = OF_MORE };
 
 /* A drawn tree: each node has from 0 to `most` children, as long as there are nodes left; a path where most is 1. */
 static void draw_tree(struct plain *tree, size_t len, uint64_t most)
@@ -47,14 +30,13 @@ static void draw_tree(struct plain *tree, size_t len, uint64_t most)
     MUST(known == len);
 }
 
-/* The block of the tree, which ends at the guard, between degrees that do so too. */
+/* The block of the tree, at the guard, of degrees that are so too. */
 static uint64_t *built(const struct plain *tree, uint64_t *words)
 {
     MUST(bitm_tree_size(tree->len, words) == BITM_OK && *words % 8 == 0);
-    uint64_t *block = ends_at_the_guard(&for_block, 8 * *words);
-    uint64_t *degrees = ends_at_the_guard(&for_degrees, 8 * tree->len);
+    uint64_t *block = untouched_at(OF_BLOCK, 8 * *words); /* memory that is written may hold anything */
+    uint64_t *degrees = placed(OF_DEGREES, 8 * tree->len);
     memcpy(degrees, tree->degrees, 8 * tree->len);
-    memset(block, UNTOUCHED, 8 * *words); /* memory that is written may hold anything */
     MUST(bitm_tree_build(degrees, tree->len, block, *words) == BITM_OK);
     return block;
 }
@@ -108,12 +90,6 @@ static void answers_as(const struct plain *plain, const struct bitm_tree *tree)
     }
 }
 
-/* An item of a list of answers is what the call of one query answers. */
-static bool is_item(uint64_t item, uint32_t status, uint64_t answer)
-{
-    return item == (status == BITM_OK ? answer : status == BITM_NONE ? BITM_NO_ANSWER : BITM_WRONG_TABLES);
-}
-
 /* Lists of nodes, some of which are none, beside the calls of one query. */
 static void lists_as_single_calls(const struct bitm_tree *tree)
 {
@@ -134,11 +110,11 @@ static void lists_as_single_calls(const struct bitm_tree *tree)
     MUST(counted(status, of_list[2], LIST, counts) == BITM_OK);
     for (size_t i = 0; i < LIST; i++) {
         ANSWER(bitm_tree_parent(tree, nodes[i], out));
-        MUST(is_item(of_list[0][i], status, *out));
+        MUST(of_list[0][i] == item_of(status, *out));
         ANSWER(bitm_tree_degree(tree, nodes[i], out));
-        MUST(is_item(of_list[1][i], status, *out));
+        MUST(of_list[1][i] == item_of(status, *out));
         ANSWER(bitm_tree_child(tree, nodes[i], ks[i], out));
-        MUST(is_item(of_list[2][i], status, *out));
+        MUST(of_list[2][i] == item_of(status, *out));
     }
     counts = no_counts;
     memset(of_list, UNTOUCHED, sizeof of_list);
@@ -149,13 +125,14 @@ static void lists_as_single_calls(const struct bitm_tree *tree)
         MUST(bitm_tree_child_list(tree, nodes, LIST, ks, LIST - less, list, LIST, &counts) == BITM_BAD_SIZE);
         MUST(bitm_tree_child_list(tree, nodes, LIST, ks, LIST, list, LIST - less, &counts) == BITM_BAD_SIZE);
     }
-    MUST(counts.missing == UNTOUCHED && counts.wrong == UNTOUCHED && of_list[0][0] == 0x4d4d4d4d4d4d4d4d);
+    MUST(counts.missing == UNTOUCHED && counts.wrong == UNTOUCHED && is_untouched(of_list, sizeof of_list));
     MUST(bitm_tree_parent_list(tree, NULL, 0, NULL, 0, &counts) == BITM_OK && counts.missing == 0 && counts.wrong == 0);
 }
 
 /* Whatever the block holds: every call returns, within its range, and each way up ends. */
-static void answers_within(const struct bitm_tree *tree)
+static void answers_within(const void *opened)
 {
+    const struct bitm_tree *const tree = opened;
     uint64_t *out;
     uint32_t status;
     for (size_t node = 0; node < tree->len + 2; node++) {
@@ -211,13 +188,13 @@ static void no_trees(void)
         const size_t len = i < 7 ? 2 : 3;
         MUST(bitm_tree_size(len, &words) == BITM_OK);
         MUST(bitm_tree_build(none[i], len, room, words) == BITM_WRONG);
-        for (size_t k = 0; k < 8 * 80; k++) MUST(((unsigned char *)room)[k] == UNTOUCHED);
+        MUST(is_untouched(room, sizeof room));
     }
     static const uint64_t four[4] = {2, 0, 1, 0};
     MUST(bitm_tree_build(NULL, 0, room, words) == BITM_WRONG);
     for (size_t len = 0; len < 80; len++) {
         MUST(bitm_tree_build(four, 4, room, len) == (len == words ? BITM_OK : BITM_BAD_SIZE));
-        if (len < words) MUST(room[0] == 0x4d4d4d4d4d4d4d4d);
+        MUST(len >= words || is_untouched(room, sizeof room));
     }
     words = UNTOUCHED;
     MUST(bitm_tree_size((size_t)1 << 60, &words) == BITM_BAD_SIZE && words == UNTOUCHED);
@@ -225,49 +202,24 @@ static void no_trees(void)
     MUST(bitm_tree_size(((size_t)1 << 60) - 1, &words) == BITM_OK && words < (uint64_t)1 << 59);
 }
 
-static const struct bitm_tree untouched = {.len = UNTOUCHED};
-
-/* bitm_tree_open leaves the struct as it was where it refuses the block. */
-static bool opens(const uint64_t *block, size_t words, struct bitm_tree *tree)
+static uint32_t open_block(const uint64_t *block, size_t words, void *opened)
 {
-    *tree = untouched;
-    const uint32_t status = bitm_tree_open(block, words, tree);
-    MUST(status == BITM_OK || (status == BITM_WRONG && memcmp(tree, &untouched, sizeof *tree) == 0));
-    return status == BITM_OK;
+    return bitm_tree_open(block, words, opened);
 }
 
-/* Each byte of a small block changed to each of the 255 others, and each prefix of it. */
+static const struct kind of_tree = {32, sizeof(struct bitm_tree), bitm_tree_check, open_block, answers_within};
+
 static void changed_blocks(void)
 {
     static struct plain plain;
-    struct bitm_tree tree;
     uint64_t words;
-    size_t opened = 0;
     draw_tree(&plain, SMALL, 3);
     uint64_t *const block = built(&plain, &words);
-    unsigned char *const bytes = (unsigned char *)block;
-    for (size_t at = 0; at < 8 * words; at++)
-        for (unsigned change = 1; change < 256; change++) {
-            bytes[at] ^= (unsigned char)change;
-            MUST(bitm_tree_check(block, words) == BITM_WRONG);
-            if (opens(block, words, &tree)) {
-                MUST(at >= 256); /* the header and the directory are looked at */
-                opened++;
-                answers_within(&tree);
-            }
-            bytes[at] ^= (unsigned char)change;
-        }
-    MUST(opened == 255 * (8 * words - 256));
-    for (size_t len = 0; len < words; len++) {
-        uint64_t *const prefix = block + (words - len); /* moved, so that it ends at the guard */
-        memmove(prefix, block, 8 * len);
-        MUST(!opens(prefix, len, &tree) && bitm_tree_check(prefix, len) == BITM_WRONG);
-        built(&plain, &words);
-    }
-    MUST(!opens(block, SIZE_MAX, &tree) && bitm_tree_check(block, words) == BITM_OK);
+    changed_bytes(&of_tree, block, words, 1);
+    cut_off(&of_tree, block, words);
 }
 
-/* Random words behind a right header, of which more and more are those of the tree; and random words alone. */
+/* Random words after a right header, and random words alone. */
 static void random_blocks(void)
 {
     static struct plain plain;
@@ -276,14 +228,12 @@ static void random_blocks(void)
         uint64_t words;
         draw_tree(&plain, 1 + draw() % 700, 1 + draw() % 9);
         uint64_t *const block = built(&plain, &words);
-        const uint64_t share = turn % 8;
-        for (size_t at = 32; at < words; at++)
-            if (draw() % 8 >= share) block[at] = share % 2 ? draw() : draw() & draw() & draw();
-        MUST(opens(block, words, &tree));
+        spoil(block, of_tree.head, words, turn);
+        MUST(opens(&of_tree, block, words, &tree));
         answers_within(&tree);
         if (bitm_tree_check(block, words) == BITM_OK) answers_as(&plain, &tree);
-        for (size_t at = 0; at < words; at++) block[at] = draw();
-        MUST(!opens(block, words, &tree) && bitm_tree_check(block, words) == BITM_WRONG);
+        draw_words(block, words);
+        MUST(refuses(&of_tree, block, words));
     }
 }
 
@@ -332,15 +282,19 @@ static void wrong_lengths(void)
     }
 }
 
-int main(int argc, char **argv)
+static void tests(void)
 {
-    take_seed(argc, argv);
-    for_block = guard((size_t)1 << 16), for_out = guard(8), for_degrees = guard(8 * NODES);
     drawn_trees();
     no_trees();
     changed_blocks();
     random_blocks();
     wrong_lengths();
+}
+
+int main(int argc, char **argv)
+{
+    take_seed(argc, argv);
+    on_either_side((size_t)1 << 16, tests);
     printf("trees: blocks answer as a plain tree, each changed byte and each prefix is refused, and queries of any "
            "words stay within their range\n");
     return 0;

@@ -1,40 +1,11 @@
 // Lists of numbers in C++ beside plain vectors: owners, views, ranges, lists, files, threads; numbers that are too
 // wide, blocks that are spoilt or cut, and what is left of an owner that was moved.
-#include <bitm.hpp>
+#include "blocks.hpp"
 
-#include <algorithm>
-#include <cstdio>
-#include <cstdlib>
 #include <list>
-#include <random>
-#include <sstream>
-#include <string>
-#include <thread>
-#include <vector>
 
-using u64 = std::uint64_t;
-using Words = std::vector<u64>;
 using Matrix = bitm::wavelet_matrix;
 using View = bitm::wavelet_matrix_view;
-using bitm::maybe_position;
-
-[[noreturn]] static void broken(int line, const char *what)
-{
-    std::fprintf(stderr, "matrices.cpp:%d: not so: %s\n", line, what), std::exit(1);
-}
-#define MUST(...) ((__VA_ARGS__) ? void() : broken(__LINE__, #__VA_ARGS__))
-
-template <class Error, class Call> static bool throws(Call call)
-{
-    try {
-        call();
-    } catch (const Error &) {
-        return true;
-    }
-    return false;
-}
-
-static std::mt19937_64 draw(29);
 
 static Words drawn(u64 count, unsigned bits)
 {
@@ -140,44 +111,14 @@ static void refused()
     for (const std::uint32_t width : {65u, ~0u}) MUST(!Matrix::try_of(wide, width) && !Matrix::try_of({}, width));
     MUST(Matrix(wide, 4).width() == 4 && Matrix(wide, 64).width() == 64 && Matrix(wide).width() == 4);
     MUST(Matrix({0, 0}).width() == 1 && Matrix({~u64{}}).width() == 64 && Matrix(bitm::words_in()).width() == 1);
-    const Words short_of(2);
-    MUST(!Matrix::try_of_bytes({}) && !View::try_in(short_of) && !View::try_in({}));
-    MUST(throws<bitm::wrong_file>([&] { (void)View::in(short_of); }));
-    MUST(Matrix::try_load("no/such/file").error().code == bitm::errc::no_file);
 }
 
 static void owners(const Words &plain)
 {
-    Matrix a(plain), b(plain.begin(), plain.end(), 64), none;
+    const Matrix a(plain), b(plain.begin(), plain.end(), 64);
     const std::list<u64> listed(plain.begin(), plain.end());
-    MUST(a == Matrix(listed.begin(), listed.end()) && a != none && b.width() == 64);
-    Matrix copy = a, moved = std::move(a);
-    same(copy, plain), same(moved, plain), same(moved.view(), plain), same(b, plain);
-    same(a, {}), same(none, {}), same(none.view(), {}), same(View(), {}), same(Matrix(none), {});
-    a = copy, copy = Matrix(), same(copy, {}), same(a, plain);
-    swap(a, copy), same(a, {}), same(copy, plain);
-    a = std::move(copy), same(a, plain), same(copy, {});
-    MUST(a.view() == a && a.view() != none.view() && none.bytes().size() == 0);
-}
-
-static void files(const Words &plain, const std::string &path)
-{
-    const Matrix m(plain);
-    m.save(path);
-    std::stringstream stream, cut;
-    m.save(stream) << "more";
-    cut.write(reinterpret_cast<const char *>(m.bytes().data()), static_cast<std::streamsize>(m.bytes().size() - 1));
-    same(Matrix::load(path, bitm::verify::yes), plain), same(Matrix::map(path, bitm::verify::yes), plain);
-    same(Matrix::load(stream, bitm::verify::yes), plain), MUST(stream.get() == 'm' && !Matrix::try_load(cut));
-    MUST(Matrix::map(path) == m && Matrix::of_bytes(m.bytes()) == m && Matrix(Matrix::map(path)) == m);
-    MUST(!bitm::tree::try_load(path) && !bitm::sequence::try_map(path));
-    Words file(m.block().begin(), m.block().end());
-    file.resize(file.size() + 7, 5); // words after the block are not its own
-    const View view = View::in(file);
-    same(view, plain), MUST(view == m && view.block().data() == file.data());
-    bitm::tree{1, 0}.save(path);
-    MUST(Matrix::try_load(path).error().code == bitm::errc::wrong_file && !Matrix::try_map(path));
-    std::remove(path.c_str());
+    MUST(a == Matrix(listed.begin(), listed.end()) && b.width() == 64), same(b, plain);
+    copies_and_moves(a, [&](const auto &it) { same(it, plain); }, [](const auto &it) { same(it, {}); });
 }
 
 // Answers of a block that may hold anything: inside, or an error.
@@ -201,23 +142,8 @@ static void any(const View &m)
 static void spoilt()
 {
     const Matrix m(drawn(90, 5));
-    const Words good(m.block().begin(), m.block().end());
-    const std::size_t start = static_cast<std::size_t>(m.raw().words - m.block().data());
-    for (std::size_t word = 0; word < good.size(); word++)
-        for (unsigned bit = 0; bit < 64; bit += 1 + bit % 5) {
-            Words block = good;
-            block[word] ^= u64{1} << bit;
-            const auto view = View::try_in(block);
-            MUST(view.has_value() ==
-                 (word >= start)); // the header and the directory have checksums that opening compares
-            if (view) MUST(!view->check()), any(*view);
-        }
-    for (std::size_t len = 0; len < good.size(); len++) MUST(!View::try_in(bitm::words_in(good.data(), len)));
-    for (int turn = 0; turn < 300; turn++) {
-        Words block = good;
-        for (std::size_t word = start; word < block.size(); word++) block[word] = draw() & draw();
-        any(View::in(block));
-    }
+    MUST(m.raw().words == m.block().data() + 40);
+    spoilt_blocks(m, 40, 1, any);
 }
 
 static void threads()
@@ -241,7 +167,10 @@ int main(int, char **argv)
     std::vector<Words> all{{}, {0}, {~u64{}}, {3, 1, 4, 1, 5, 1}, Words(700, 6)};
     for (u64 count = 1; count < 20; count++) all.push_back(drawn(count * count, 1 + static_cast<unsigned>(count * 3)));
     all.push_back(drawn(3000, 12));
-    for (const Words &plain : all) same(Matrix(plain), plain), files(plain, path);
+    for (const Words &plain : all) {
+        const Matrix m(plain);
+        same(m, plain), files_of(m, path, [&](const auto &it) { same(it, plain); });
+    }
     owners(all[3]), owners(all.back());
     std::puts("matrices: ok");
     return 0;

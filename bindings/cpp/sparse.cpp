@@ -1,39 +1,9 @@
 // Sparse bits in C++ beside plain lists of positions: owners, views, lists, files, threads; positions that are refused,
 // blocks that are spoilt or cut, and what is left of an owner that was moved.
-#include <bitm.hpp>
+#include "blocks.hpp"
 
-#include <algorithm>
-#include <cstdio>
-#include <cstdlib>
-#include <random>
-#include <sstream>
-#include <string>
-#include <thread>
-#include <vector>
-
-using u64 = std::uint64_t;
-using Words = std::vector<u64>;
 using Sparse = bitm::sparse_bits;
 using View = bitm::sparse_bits_view;
-using bitm::maybe_position;
-
-[[noreturn]] static void broken(int line, const char *what)
-{
-    std::fprintf(stderr, "sparse.cpp:%d: not so: %s\n", line, what), std::exit(1);
-}
-#define MUST(...) ((__VA_ARGS__) ? void() : broken(__LINE__, #__VA_ARGS__))
-
-template <class Error, class Call> static bool throws(Call call)
-{
-    try {
-        call();
-    } catch (const Error &) {
-        return true;
-    }
-    return false;
-}
-
-static std::mt19937_64 draw(31);
 
 // The positions of the 1 bits of the given number of bits.
 struct Plain {
@@ -144,49 +114,19 @@ template <class S> static void same(const S &s, const Plain &plain)
 
 static void refused()
 {
-    const Words twice{3, 3}, falls{4, 3}, some{3, 9}, few(2);
+    const Words twice{3, 3}, falls{4, 3}, some{3, 9};
     MUST(Sparse::try_of(twice, 100).error().code == bitm::errc::unsorted && !Sparse::try_of(falls, 100));
     MUST(Sparse::try_of(some, 9).error() == bitm::failure{bitm::errc::outside, 9, 9, "a position"});
     MUST(throws<std::out_of_range>([&] { Sparse s(some, 9); }) &&
          throws<std::invalid_argument>([&] { Sparse s(twice, 100); }));
     MUST(Sparse(some, 10).size() == 10 && Sparse({}, 7).size() == 7 && Sparse({}, 0).empty());
-    MUST(!Sparse::try_of_bytes({}) && !View::try_in(few) && !View::try_in({}));
-    MUST(throws<bitm::wrong_file>([&] { (void)View::in(few); }));
-    MUST(Sparse::try_load("no/such/file").error().code == bitm::errc::no_file);
 }
 
 static void owners(const Plain &plain)
 {
-    Sparse a(plain.positions, plain.size), none;
-    MUST(a == Sparse(plain.positions, plain.size) && a != none && a != Sparse(plain.positions, plain.size + 1));
-    Sparse copy = a, moved = std::move(a);
-    same(copy, plain), same(moved, plain), same(moved.view(), plain);
-    same(a, {}), same(none, {}), same(none.view(), {}), same(View(), {}), same(Sparse(none), {});
-    a = copy, copy = Sparse(), same(copy, {}), same(a, plain);
-    swap(a, copy), same(a, {}), same(copy, plain);
-    a = std::move(copy), same(a, plain), same(copy, {});
-    MUST(a.view() == a && a.view() != none.view() && none.bytes().size() == 0);
-}
-
-static void files(const Plain &plain, const std::string &path)
-{
-    const Sparse s(plain.positions, plain.size);
-    s.save(path);
-    std::stringstream stream, cut;
-    s.save(stream) << "more";
-    cut.write(reinterpret_cast<const char *>(s.bytes().data()), static_cast<std::streamsize>(s.bytes().size() - 1));
-    same(Sparse::load(path, bitm::verify::yes), plain);
-    const Sparse mapped = Sparse::map(path, bitm::verify::yes), read = Sparse::load(stream, bitm::verify::yes);
-    same(mapped, plain), same(read, plain);
-    MUST(stream.get() == 'm' && !Sparse::try_load(cut) && mapped == s && Sparse::of_bytes(s.bytes()) == s);
-    MUST(!bitm::tree::try_load(path) && !bitm::wavelet_matrix::try_load(path));
-    Words file(s.block().begin(), s.block().end());
-    file.resize(file.size() + 7, 5); // words after the block are not its own
-    const View view = View::in(file);
-    same(view, plain), MUST(view == s && view.block().data() == file.data());
-    bitm::tree{1, 0}.save(path);
-    MUST(Sparse::try_load(path).error().code == bitm::errc::wrong_file && !Sparse::try_map(path));
-    std::remove(path.c_str());
+    const Sparse a(plain.positions, plain.size);
+    MUST(a == Sparse(plain.positions, plain.size) && a != Sparse(plain.positions, plain.size + 1));
+    copies_and_moves(a, [&](const auto &it) { same(it, plain); }, [](const auto &it) { same(it, {}); });
 }
 
 // Answers of a block that may hold anything: inside, or an error.
@@ -207,23 +147,8 @@ static void spoilt()
 {
     const Plain plain = drawn(50, 90, 4);
     const Sparse s(plain.positions, plain.size);
-    const Words good(s.block().begin(), s.block().end());
-    const std::size_t start = static_cast<std::size_t>(s.raw().positions.words - s.block().data());
-    for (std::size_t word = 0; word < good.size(); word++)
-        for (unsigned bit = 0; bit < 64; bit += 1 + bit % 5) {
-            Words block = good;
-            block[word] ^= u64{1} << bit;
-            const auto view = View::try_in(block);
-            MUST(view.has_value() ==
-                 (word >= start)); // the header and the directory have checksums that opening compares
-            if (view) MUST(!view->check()), any(*view);
-        }
-    for (std::size_t len = 0; len < good.size(); len++) MUST(!View::try_in(bitm::words_in(good.data(), len)));
-    for (int turn = 0; turn < 300; turn++) {
-        Words block = good;
-        for (std::size_t word = start; word < block.size(); word++) block[word] = draw() & draw();
-        any(View::in(block));
-    }
+    MUST(s.raw().positions.words == s.block().data() + 32);
+    spoilt_blocks(s, 32, 1, any);
 }
 
 static void threads()
@@ -248,7 +173,7 @@ int main(int, char **argv)
     for (u64 count = 1; count < 30; count++) all.push_back(drawn(count * count, u64{1} << count, count % 3 * 70));
     for (const Plain &plain : all) {
         const Sparse s(plain.positions, plain.size);
-        same(s, plain), files(plain, path);
+        same(s, plain), files_of(s, path, [&](const auto &it) { same(it, plain); });
     }
     owners(all[3]), owners(all.back());
     std::puts("sparse: ok");

@@ -1,40 +1,13 @@
 // The index of a text in C++ beside a plain search in the text: owners, views, files, threads; blocks that are spoilt
 // or cut, and what is left of an owner that was moved. The argument is the file of a block,
 // bindings/tests/sea_shells.block.
-#include <bitm.hpp>
+#include "blocks.hpp"
 
-#include <algorithm>
-#include <cstdio>
-#include <cstdlib>
-#include <random>
 #include <set>
-#include <sstream>
-#include <string>
-#include <thread>
-#include <vector>
 
-using u64 = std::uint64_t;
-using Words = std::vector<u64>;
 using Text = bitm::text_index;
 using View = bitm::text_index_view;
 
-[[noreturn]] static void broken(int line, const char *what)
-{
-    std::fprintf(stderr, "texts.cpp:%d: not so: %s\n", line, what), std::exit(1);
-}
-#define MUST(...) ((__VA_ARGS__) ? void() : broken(__LINE__, #__VA_ARGS__))
-
-template <class Error, class Call> static bool throws(Call call)
-{
-    try {
-        call();
-    } catch (const Error &) {
-        return true;
-    }
-    return false;
-}
-
-static std::mt19937_64 draw(37);
 static const std::string verse = "she sells sea shells on the sea shore";
 
 // The positions at which a pattern stands in a text, in the order of the rest of the text from there on.
@@ -105,15 +78,8 @@ template <class T> static void same(const T &t, const std::string &text)
 
 static void owners(const Text &given)
 {
-    Text a = given, none;
-    MUST(a == given && a != none && a.view() == given && none.width() == 1);
-    Text copy = a, moved = std::move(a);
-    same(copy, verse), same(moved, verse), same(moved.view(), verse);
-    same(a, ""), same(none, ""), same(none.view(), ""), same(View(), ""), same(Text(none), "");
-    a = copy, copy = Text(), same(copy, ""), same(a, verse);
-    swap(a, copy), same(a, ""), same(copy, verse);
-    a = std::move(copy), same(a, verse), same(copy, "");
-    MUST(a.width() == 4 && none.bytes().size() == 0);
+    MUST(Text(given) == given && given.view() == given && given.width() == 4 && Text().width() == 1);
+    copies_and_moves(given, [](const auto &it) { same(it, verse); }, [](const auto &it) { same(it, ""); });
 }
 
 // What is built of bytes and of numbers, beside plain searches, and what is refused.
@@ -147,28 +113,6 @@ static void built(const Text &given)
     MUST(throws<std::invalid_argument>([&] { (void)Text::of_letters(numbers, 1); }));
 }
 
-static void files(const Text &given, const std::string &path)
-{
-    given.save(path);
-    std::stringstream stream, cut;
-    given.save(stream) << "more";
-    cut.write(reinterpret_cast<const char *>(given.bytes().data()),
-              static_cast<std::streamsize>(given.bytes().size() - 1));
-    same(Text::load(path, bitm::verify::yes), verse);
-    const Text mapped = Text::map(path, bitm::verify::yes), read = Text::load(stream, bitm::verify::yes);
-    same(mapped, verse), same(read, verse);
-    MUST(stream.get() == 'm' && !Text::try_load(cut) && mapped == given && Text::of_bytes(given.bytes()) == given);
-    MUST(!bitm::tree::try_load(path) && !bitm::wavelet_matrix::try_load(path) && !bitm::sparse_bits::try_load(path));
-    Words file(given.block().begin(), given.block().end());
-    file.resize(file.size() + 7, 5); // words after the block are not its own
-    const View view = View::in(file);
-    same(view, verse), MUST(view == given && view.block().data() == file.data());
-    bitm::tree{1, 0}.save(path);
-    MUST(Text::try_load(path).error().code == bitm::errc::wrong_file && !Text::try_map(path));
-    MUST(Text::try_load("no/such/file").error().code == bitm::errc::no_file);
-    std::remove(path.c_str());
-}
-
 // Answers of a block that may hold anything: inside, or an error.
 static void any(const View &t)
 {
@@ -188,27 +132,6 @@ static void any(const View &t)
     MUST(!part || part->size() == 3);
 }
 
-static void spoilt(const Text &given)
-{
-    const Words good(given.block().begin(), given.block().end());
-    const std::size_t start = static_cast<std::size_t>(given.raw().letters.words - given.block().data());
-    for (std::size_t word = 0; word < good.size(); word++)
-        for (unsigned bit = 0; bit < 64; bit += 7 + bit % 5) {
-            Words block = good;
-            block[word] ^= u64{1} << bit;
-            const auto view = View::try_in(block);
-            MUST(view.has_value() == (word >= start)); // opening compares the checksums of header and directory
-            if (view) MUST(!view->check()), any(*view);
-        }
-    for (std::size_t len = 0; len < good.size(); len++) MUST(!View::try_in(bitm::words_in(good.data(), len)));
-    for (int turn = 0; turn < 300; turn++) {
-        Words block = good;
-        for (std::size_t word = start; word < block.size(); word++) block[word] = draw() & draw();
-        any(View::in(block));
-    }
-    MUST(!Text::try_of_bytes({}) && !View::try_in({}) && throws<bitm::wrong_file>([] { (void)View::in({}); }));
-}
-
 static void threads(const Text &given)
 {
     const View view = given.view();
@@ -223,8 +146,10 @@ static void threads(const Text &given)
 int main(int, char **argv)
 {
     const Text given = Text::load(argv[1], bitm::verify::yes);
-    same(given, verse), owners(given), built(given), files(given, argv[0] + std::string(".text")), spoilt(given),
-        threads(given);
+    same(given, verse), owners(given), built(given), threads(given);
+    files_of(given, argv[0] + std::string(".text"), [](const auto &it) { same(it, verse); });
+    MUST(given.raw().letters.words == given.block().data() + 72);
+    spoilt_blocks(given, 72, 5, any);
     std::puts("texts: ok");
     return 0;
 }

@@ -1,38 +1,8 @@
 // Trees in C++ beside plain lists of parents and children: owners, views, files, lists, threads; degrees of no tree,
 // blocks that are spoilt or cut, and what is left of an owner that was moved.
-#include <bitm.hpp>
+#include "blocks.hpp"
 
-#include <algorithm>
-#include <cstdio>
-#include <cstdlib>
-#include <fstream>
 #include <list>
-#include <random>
-#include <sstream>
-#include <string>
-#include <thread>
-#include <vector>
-
-using u64 = std::uint64_t;
-using Words = std::vector<u64>;
-
-[[noreturn]] static void broken(int line, const char *what)
-{
-    std::fprintf(stderr, "trees.cpp:%d: not so: %s\n", line, what), std::exit(1);
-}
-#define MUST(...) ((__VA_ARGS__) ? void() : broken(__LINE__, #__VA_ARGS__))
-
-template <class Error, class Call> static bool throws(Call call)
-{
-    try {
-        call();
-    } catch (const Error &) {
-        return true;
-    }
-    return false;
-}
-
-static std::mt19937_64 draw(23);
 
 // The degrees of a drawn tree: a node has up to `most` children, as long as there are nodes left.
 static Words drawn(u64 count, u64 most)
@@ -58,9 +28,9 @@ struct Plain {
                 children[node].push_back(next), parents.push_back(node), ranks.push_back(k);
     }
 };
-static bitm::maybe_position at(const Words &list, u64 index)
+static maybe_position at(const Words &list, u64 index)
 {
-    return index < list.size() ? bitm::maybe_position(list[index]) : std::nullopt;
+    return index < list.size() ? maybe_position(list[index]) : std::nullopt;
 }
 
 // Each answer that does not throw is that of the call that does.
@@ -114,7 +84,7 @@ template <class Tree> static void same(const Tree &t, const Words &degrees)
         const Words &children = plain.children[node];
         const auto siblings = node ? plain.children[plain.parents[node]] : Words();
         const u64 place = node ? plain.ranks[node] : 0;
-        MUST(t.parent(node) == (node ? bitm::maybe_position(plain.parents[node]) : std::nullopt));
+        MUST(t.parent(node) == (node ? maybe_position(plain.parents[node]) : std::nullopt));
         MUST(t.degree(node) == degrees[node] && t.is_leaf(node) == children.empty());
         MUST(node ? t.child_rank(node).value() == place : !t.child_rank(node));
         const bitm::node_range found = t.children(node);
@@ -138,11 +108,7 @@ static void refused()
         MUST(throws<std::invalid_argument>([&] { bitm::tree t(degrees); }));
     }
     MUST(bitm::message({bitm::errc::no_tree}) == "bitm: the degrees are those of no tree");
-    MUST(bitm::tree::try_load("no/such/file").error().code == bitm::errc::no_file);
     MUST(bitm::tree::try_map("/dev/null").error().code == bitm::errc::wrong_file);
-    const Words short_of(2);
-    MUST(!bitm::tree::try_of_bytes({}) && !bitm::tree_view::try_in(short_of) && !bitm::tree_view::try_in({}));
-    MUST(throws<bitm::wrong_file>([&] { (void)bitm::tree_view::in(short_of); }));
 }
 
 // An owner that was moved, or made of nothing, has no nodes, and a view of it neither.
@@ -156,18 +122,10 @@ template <class Tree> static void of_none(const Tree &t)
 
 static void owners(const Words &degrees)
 {
-    bitm::tree a(degrees), b(degrees.begin(), degrees.end()), none;
+    const bitm::tree a(degrees), b(degrees.begin(), degrees.end());
     const std::list<u64> listed(degrees.begin(), degrees.end());
-    MUST(a == b && a == bitm::tree(listed.begin(), listed.end()) && a != none);
-    bitm::tree copy = a, moved = std::move(a);
-    same(copy, degrees), same(moved, degrees), same(moved.view(), degrees);
-    of_none(a), of_none(none), of_none(none.view()), of_none(bitm::tree_view()), of_none(bitm::tree(none));
-    MUST(none.bytes().size() == 0);
-    a = copy, copy = bitm::tree(), of_none(copy), same(a, degrees);
-    swap(a, copy), of_none(a), same(copy, degrees);
-    copy = *&copy, same(copy, degrees);
-    a = std::move(copy), same(a, degrees), of_none(copy);
-    MUST(a.view() == a && a == b && a.view() != none.view());
+    MUST(a == b && a == bitm::tree(listed.begin(), listed.end()));
+    copies_and_moves(a, [&](const auto &it) { same(it, degrees); }, [](const auto &it) { of_none(it); });
     // Changed after the call: the tree is the owner's.
     Words mine = degrees;
     const bitm::tree kept(mine);
@@ -175,32 +133,11 @@ static void owners(const Words &degrees)
     same(kept, degrees);
 }
 
-static void files(const Words &degrees, const std::string &path)
-{
-    const bitm::tree t(degrees);
-    t.save(path);
-    std::stringstream stream, cut;
-    t.save(stream) << "more";
-    cut.write(reinterpret_cast<const char *>(t.bytes().data()), static_cast<std::streamsize>(t.bytes().size() - 1));
-    same(bitm::tree::load(path, bitm::verify::yes), degrees), same(bitm::tree::map(path, bitm::verify::yes), degrees);
-    same(bitm::tree::load(stream, bitm::verify::yes), degrees), MUST(stream.get() == 'm');
-    same(bitm::tree::of_bytes(t.bytes()), degrees), MUST(!bitm::tree::try_load(cut));
-    MUST(bitm::tree::map(path) == t && bitm::tree(bitm::tree::map(path)) == t);
-    Words file(t.block().begin(), t.block().end());
-    file.resize(file.size() + 7, 5); // words after the block are not its own
-    const bitm::tree_view view = bitm::tree_view::in(file);
-    same(view, degrees), MUST(view == t && view.block().data() == file.data());
-    MUST(!bitm::rank_index::try_load(path) && !bitm::sequence::try_map(path) && !bitm::perfect_hash::try_load(path));
-    bitm::rank_index(bitm::bits("0101")).save(path);
-    MUST(bitm::tree::try_load(path).error().code == bitm::errc::wrong_file && !bitm::tree::try_map(path));
-    std::remove(path.c_str());
-}
-
 // Answers of a block that may hold anything: inside, or an error.
 static void any(const bitm::tree_view &t)
 {
     const u64 n = t.size();
-    const auto inside = [&](const bitm::result<bitm::maybe_position> &found) {
+    const auto inside = [&](const bitm::result<maybe_position> &found) {
         if (!found)
             MUST(found.error().code == bitm::errc::wrong);
         else
@@ -224,27 +161,7 @@ static void any(const bitm::tree_view &t)
 
 static void spoilt()
 {
-    const bitm::tree t(drawn(90, 4));
-    const Words good(t.block().begin(), t.block().end());
-    for (std::size_t word = 0; word < good.size(); word++)
-        for (unsigned bit = 0; bit < 64; bit++) {
-            Words block = good;
-            block[word] ^= u64{1} << bit;
-            const auto view = bitm::tree_view::try_in(block);
-            MUST(view.has_value() == (word >= 32)); // the header and the directory have checksums that opening compares
-            const bitm::span<const unsigned char> bytes(reinterpret_cast<const unsigned char *>(block.data()),
-                                                        8 * block.size());
-            MUST(!bitm::tree::try_of_bytes(bytes, bitm::verify::yes));
-            if (view) MUST(!view->check()), any(*view);
-        }
-    for (std::size_t len = 0; len < good.size(); len++)
-        MUST(!bitm::tree_view::try_in(bitm::words_in(good.data(), len)));
-    for (int turn = 0; turn < 300; turn++) {
-        Words block = good;
-        for (std::size_t word = 32; word < block.size(); word++)
-            block[word] = draw() & draw() & (turn % 2 ? ~u64{} : draw());
-        any(bitm::tree_view::in(block));
-    }
+    spoilt_blocks(bitm::tree(drawn(90, 4)), 32, 1, any);
 }
 
 static void threads()
@@ -266,7 +183,10 @@ int main(int, char **argv)
     all[1][0] = 499; // a root with all others
     for (u64 count = 1; count < 40; count++) all.push_back(drawn(count, 1 + count % 4));
     for (const u64 most : {u64{1}, u64{3}, u64{60}}) all.push_back(drawn(2200, most));
-    for (const Words &degrees : all) same(bitm::tree(degrees), degrees), owners(degrees), files(degrees, path);
+    for (const Words &degrees : all) {
+        const bitm::tree t(degrees);
+        same(t, degrees), owners(degrees), files_of(t, path, [&](const auto &it) { same(it, degrees); });
+    }
     std::puts("trees: ok");
     return 0;
 }

@@ -15,21 +15,10 @@ BITM_NAMESPACE_BEGIN
 
 namespace detail {
 
-// The dictionary whose block begins these words, and how many words the block has.
-struct opened_dictionary {
-    bitm_dictionary raw{};
-    std::size_t len = 0;
-};
-inline result<opened_dictionary> dictionary_in(const std::uint64_t *file, std::size_t words) noexcept
-{
-    opened_dictionary found;
-    found.len = block_len(file, words);
-    if (found.len == 0 || found.len > words || bitm_dictionary_open(file, found.len, &found.raw) != BITM_OK)
-        return failure{errc::wrong_file};
-    return found;
-}
+// The block of a dictionary.
+struct dictionary_kind : block_kind<dictionary_kind, bitm_dictionary, bitm_dictionary_open> {};
 
-template <class Self> class dictionary_calls {
+template <class Self> class dictionary_calls : public block_calls<Self, dictionary_kind> {
 public:
     // How many keys there are, and whether there are none; the seed that is added to a key to hash it; the keys in the
     // order of their numbers; all of it as C takes it, and the block.
@@ -37,8 +26,8 @@ public:
     bool empty() const noexcept { return size() == 0; }
     std::uint64_t seed() const noexcept { return raw().seed; }
     words_in keys() const noexcept BITM_LIFETIMEBOUND { return {raw().keys, raw().keys_len}; }
-    const bitm_dictionary &raw() const noexcept BITM_LIFETIMEBOUND { return self().raw_; }
-    words_in block() const noexcept BITM_LIFETIMEBOUND { return self().block_of(); }
+    const bitm_dictionary &raw() const noexcept BITM_LIFETIMEBOUND { return this->self().own_.raw(); }
+    words_in block() const noexcept BITM_LIFETIMEBOUND { return this->self().own_.words(); }
 
     // The number of a key, which is where it stands among the keys; none for what is no key. And whether there is one.
     maybe_position find(std::uint64_t key) const { return try_find(key).value(); }
@@ -52,41 +41,10 @@ public:
 
     // Of a list, into memory of the caller's as long as it: out[i] is the number of keys[i], or bitm::no_answer. Where
     // the block is noticed to be wrong, the call fails once all is answered.
-    void find(words_in keys, words_out out) const
-    {
-        need_apart(keys, out);
-        bitm_list_counts counts{};
-        const std::uint32_t status =
-            bitm_dictionary_find_list(&raw(), keys.data(), keys.size(), out.data(), out.size(), &counts);
-        need_list(status, counts);
-    }
+    void find(words_in keys, words_out out) const { answer_list(bitm_dictionary_find_list, keys, out, &raw()); }
 
     // Whether the block is as it was written and holds a dictionary: looks at all of it.
-    bool check() const noexcept
-    {
-        const words_in all = block();
-        return all.empty() || bitm_dictionary_check(all.data(), all.size()) == BITM_OK;
-    }
-
-    // The same dictionary: the same block.
-    template <class Other> friend bool operator==(const dictionary_calls &a, const dictionary_calls<Other> &b) noexcept
-    {
-        const words_in x = a.block(), y = b.block();
-        return x.size() == y.size() && (x.empty() || std::memcmp(x.data(), y.data(), 8 * x.size()) == 0);
-    }
-    template <class Other> friend bool operator!=(const dictionary_calls &a, const dictionary_calls<Other> &b) noexcept
-    {
-        return !(a == b);
-    }
-
-protected:
-    dictionary_calls() noexcept = default;
-    ~dictionary_calls() = default;
-    dictionary_calls(const dictionary_calls &) noexcept = default;
-    dictionary_calls &operator=(const dictionary_calls &) noexcept = default;
-
-private:
-    const Self &self() const noexcept { return static_cast<const Self &>(*this); }
+    bool check() const noexcept { return checked(bitm_dictionary_check, block()); }
 };
 
 } // namespace detail
@@ -98,11 +56,9 @@ public:
     dictionary_view() noexcept = default;
     static result<dictionary_view> try_in(detail::kept<const std::uint64_t> file BITM_LIFETIMEBOUND) noexcept
     {
-        const result<detail::opened_dictionary> found = detail::dictionary_in(file.data(), file.size());
+        const auto found = detail::dictionary_kind::in(file.data(), file.size());
         if (!found) return found.error();
-        dictionary_view view;
-        view.raw_ = found->raw, view.block_ = words_in(file.data(), found->len);
-        return view;
+        return dictionary_view(*found);
     }
     static dictionary_view in(detail::kept<const std::uint64_t> file BITM_LIFETIMEBOUND)
     {
@@ -112,14 +68,14 @@ public:
 private:
     friend class dictionary;
     friend class detail::dictionary_calls<dictionary_view>;
-    words_in block_of() const noexcept { return block_; }
+    explicit dictionary_view(const detail::in_block<detail::dictionary_kind> &found) noexcept : own_(found) {}
 
-    bitm_dictionary raw_{};
-    words_in block_;
+    detail::in_block<detail::dictionary_kind> own_;
 };
 
 // A dictionary that owns its block, made of its keys.
-class BITM_OWNER dictionary : public detail::dictionary_calls<dictionary>, public detail::stored_calls<dictionary> {
+class BITM_OWNER dictionary : public detail::dictionary_calls<dictionary>,
+                              public detail::stored_calls<dictionary, detail::dictionary_kind> {
 public:
     // No keys; of keys, words or a list: fails where one comes twice. `percent` bits of a level for 100 keys: 100 takes
     // least memory, 200 less time.
@@ -139,43 +95,12 @@ public:
                                              });
     }
 
-    // A copy; or all of another, which has no keys then; an exchange.
-    dictionary(const dictionary &other) : dictionary_calls(), stored_calls()
-    {
-        if (other.used_)
-            *this = opened(detail::copied(other.block_.data(), 8 * other.used_).value(), verify::no).value();
-    }
-    dictionary(dictionary &&other) noexcept { swap(other); }
-    dictionary &operator=(const dictionary &other)
-    {
-        dictionary copy(other);
-        swap(copy);
-        return *this;
-    }
-    dictionary &operator=(dictionary &&other) noexcept
-    {
-        dictionary moved(std::move(other));
-        swap(moved);
-        return *this;
-    }
-    ~dictionary() = default;
-    void swap(dictionary &other) noexcept
-    {
-        block_.swap(other.block_), std::swap(used_, other.used_), std::swap(raw_, other.raw_);
-    }
-    friend void swap(dictionary &a, dictionary &b) noexcept { a.swap(b); }
-
     // Views, which the owner has to outlive, of the dictionary and of its keys; the block, and all of it as C takes it.
     // Deleted for temporaries.
-    dictionary_view view() const &noexcept BITM_LIFETIMEBOUND
-    {
-        dictionary_view view;
-        view.raw_ = raw_, view.block_ = block_of();
-        return view;
-    }
-    words_in keys() const &noexcept BITM_LIFETIMEBOUND { return {raw_.keys, raw_.keys_len}; }
-    words_in block() const &noexcept BITM_LIFETIMEBOUND { return block_of(); }
-    const bitm_dictionary &raw() const &noexcept BITM_LIFETIMEBOUND { return raw_; }
+    dictionary_view view() const &noexcept BITM_LIFETIMEBOUND { return dictionary_view(own_.found()); }
+    words_in keys() const &noexcept BITM_LIFETIMEBOUND { return {raw().keys, raw().keys_len}; }
+    words_in block() const &noexcept BITM_LIFETIMEBOUND { return own_.words(); }
+    const bitm_dictionary &raw() const &noexcept BITM_LIFETIMEBOUND { return own_.raw(); }
     void view() const && = delete;
     void keys() const && = delete;
     void block() const && = delete;
@@ -183,8 +108,6 @@ public:
 
 private:
     friend class detail::dictionary_calls<dictionary>;
-    friend class detail::stored_calls<dictionary>;
-    words_in block_of() const noexcept { return {block_.data(), used_}; }
 
     // The tables of the levels, each key at its number, and the block of these.
     static result<dictionary> of_levels(words_in words, words_in sizes, words_in keys, std::uint64_t seed)
@@ -212,29 +135,6 @@ private:
         if (built != BITM_OK) return detail::error_of(built);
         return opened(std::move(all), verify::no);
     }
-    static std::size_t needed(const std::uint64_t *file, std::size_t have) noexcept
-    {
-        return detail::block_len(file, have);
-    }
-    static result<std::size_t> size_of(const std::uint64_t *file, std::size_t words) noexcept
-    {
-        const result<detail::opened_dictionary> found = detail::dictionary_in(file, words);
-        if (!found) return found.error();
-        return found->len;
-    }
-    static result<dictionary> opened(detail::block &&all, verify how) noexcept
-    {
-        const result<detail::opened_dictionary> found = detail::dictionary_in(all.data(), all.size());
-        if (!found) return found.error();
-        dictionary made;
-        made.block_.swap(all), made.used_ = found->len, made.raw_ = found->raw;
-        if (how == verify::yes && !made.check()) return failure{errc::wrong};
-        return made;
-    }
-
-    detail::block block_;
-    std::size_t used_ = 0;
-    bitm_dictionary raw_{};
 };
 
 BITM_NAMESPACE_END

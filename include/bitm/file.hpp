@@ -13,7 +13,7 @@
 #ifndef BITM_FILE_HPP
 #define BITM_FILE_HPP
 
-#include <bitm/memory.hpp>
+#include <bitm/block.hpp>
 
 #include <cerrno>
 #include <iosfwd>
@@ -161,13 +161,6 @@ result<block> streamed(std::basic_istream<Char, Traits> &from, Needed &&needed)
     }
     return all;
 }
-// The number of words of a file that its header gives.
-inline std::size_t needed_of(const std::uint64_t *file, std::size_t) noexcept
-{
-    bitm_stored header;
-    std::memcpy(&header, file, sizeof header);
-    return static_cast<std::size_t>(header.size / 8);
-}
 
 inline result<block> copied(const void *bytes, std::size_t size)
 {
@@ -177,24 +170,8 @@ inline result<block> copied(const void *bytes, std::size_t size)
     return all;
 }
 
-// The header of a file of some kind.
-inline result<bitm_stored> header_of(const std::uint64_t *file, std::size_t words, std::uint64_t kind) noexcept
-{
-    bitm_stored header;
-    if (words < sizeof header / 8 || bitm_stored_read(file, words, &header) != BITM_OK || header.kind != kind)
-        return failure{errc::wrong_file};
-    return header;
-}
-
-// How many words a structure in a block has, by the first words of its header: 0 where they are not those of a block.
-constexpr std::size_t block_head = 3;
-constexpr std::uint64_t block_mark = 0x036261746D746962; // "bitmtab" and the version
-inline std::size_t block_len(const std::uint64_t *file, std::size_t words) noexcept
-{
-    return words < block_head || file[0] != block_mark ? 0 : static_cast<std::size_t>(file[2] / 8);
-}
-
-// The value: fails where there is none, with the name of the file where it is one that the system or the format refuses.
+// The value: fails where there is none, with the name of the file where it is one that the system or the format
+// refuses.
 template <class T> T of_file(result<T> made, const path_of &path)
 {
     if (BITM_RARELY(!made.has_value())) {
@@ -205,14 +182,14 @@ template <class T> T of_file(result<T> made, const path_of &path)
     return std::move(made).value();
 }
 
-// Saving and loading of owners that are one block. `Self` has `opened(block, verify)` and `size_of(words)`.
-template <class Self> class stored_calls {
+// Saving and loading of owners that are one block. `Self` has `check()`.
+template <class Self, class Kind> class stored_calls {
 public:
     // The file: header and parts. An owner that was built of no bits has one too; one that was default constructed has
     // no bytes.
     span<const unsigned char> bytes() const &noexcept BITM_LIFETIMEBOUND
     {
-        return {reinterpret_cast<const unsigned char *>(self().block_.data()), 8 * self().used_};
+        return {reinterpret_cast<const unsigned char *>(own_.words().data()), 8 * own_.words().size()};
     }
     void bytes() const && = delete;
 
@@ -230,30 +207,30 @@ public:
     {
         result<block> all = mapped(path);
         if (!all) return all.error();
-        const result<std::size_t> size = Self::size_of(all->data(), all->size()); // before memory for a copy is taken
-        if (!size) return size.error();
-        result<block> copy = copied(all->data(), 8 * *size);
+        const result<in_block<Kind>> found = Kind::in(all->data(), all->size()); // before memory for a copy is taken
+        if (!found) return found.error();
+        result<block> copy = copied(all->data(), 8 * found->words().size());
         if (!copy) return copy.error();
-        return Self::opened(std::move(*copy), how);
+        return opened(std::move(*copy), how);
     }
     static result<Self> try_map(path_of path, verify how = verify::no)
     {
         result<block> all = mapped(path);
         if (!all) return all.error();
-        return Self::opened(std::move(*all), how);
+        return opened(std::move(*all), how);
     }
     static result<Self> try_of_bytes(span<const unsigned char> bytes, verify how = verify::no)
     {
         result<block> all = copied(bytes.data(), bytes.size());
         if (!all) return all.error();
-        return Self::opened(std::move(*all), how);
+        return opened(std::move(*all), how);
     }
     template <class Char, class Traits>
     static result<Self> try_load(std::basic_istream<Char, Traits> &from, verify how = verify::no)
     {
-        result<block> all = streamed(from, Self::needed);
+        result<block> all = streamed(from, Kind::needed);
         if (!all) return all.error();
-        return Self::opened(std::move(*all), how);
+        return opened(std::move(*all), how);
     }
     static Self load(path_of path, verify how = verify::no) { return of_file(try_load(path, how), path); }
     static Self map(path_of path, verify how = verify::no) { return of_file(try_map(path, how), path); }
@@ -267,16 +244,31 @@ public:
         return try_load(from, how).value();
     }
 
+    // An exchange. (A copy has a block of its own; what was moved from is empty.)
+    void swap(Self &other) noexcept { own_.swap(other.own_); }
+    friend void swap(Self &a, Self &b) noexcept { a.swap(b); }
+
 protected:
     stored_calls() noexcept = default;
     ~stored_calls() = default;
-    stored_calls(const stored_calls &) noexcept = default;
-    stored_calls &operator=(const stored_calls &) noexcept = default;
+    stored_calls(const stored_calls &) = default;
+    stored_calls(stored_calls &&) noexcept = default;
+    stored_calls &operator=(const stored_calls &) = default;
+    stored_calls &operator=(stored_calls &&) noexcept = default;
 
-    static std::size_t needed(const std::uint64_t *file, std::size_t have) noexcept { return needed_of(file, have); }
+    static result<Self> opened(block &&all, verify how) noexcept
+    {
+        const result<in_block<Kind>> found = Kind::in(all.data(), all.size());
+        if (!found) return found.error();
+        Self made;
+        made.own_ = owned<Kind>(std::move(all), *found);
+        if (how == verify::yes && !made.check()) return failure{errc::wrong};
+        return made;
+    }
+
+    owned<Kind> own_;
 
 private:
-    const Self &self() const noexcept { return static_cast<const Self &>(*this); }
     span<const unsigned char> bytes_() const noexcept { return bytes(); }
 };
 

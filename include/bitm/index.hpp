@@ -50,13 +50,21 @@ inline const char *fault_of(sampling how) noexcept
     return is_log2(how.zeros) ? "size is above 2^64 - 64" : "sampling::zeros is neither 0 nor 7 to 31";
 }
 
+// The file of an index.
+struct index_kind : stored_kind<index_kind, bitm_index, BITM_STORED_INDEX> {
+    static bitm_index of(const std::uint64_t *file, const bitm_stored &header) noexcept
+    {
+        return bitm_stored_index_of(file, &header);
+    }
+};
+
 template <class Self> class index_calls {
 public:
     // How many bits there are, and whether there are none.
     std::uint64_t size() const noexcept { return raw().bits_len; }
     bool empty() const noexcept { return size() == 0; }
     // All of it as C takes it.
-    const bitm_index &raw() const noexcept BITM_LIFETIMEBOUND { return self().raw_; }
+    const bitm_index &raw() const noexcept BITM_LIFETIMEBOUND { return self().own_.raw(); }
     bool operator[](std::uint64_t at) const { return bit_of(parts(), at); }
     bool at(std::uint64_t at) const { return bit_of(parts(), at); }
 
@@ -179,11 +187,7 @@ private:
     }
     template <class Call> void list(Call call, bool one, words_in queries, words_out out) const
     {
-        need_apart(queries, out);
-        bitm_list_counts counts{};
-        const std::uint32_t status =
-            call(&raw(), one, queries.data(), queries.size(), out.data(), out.size(), &counts);
-        need_list(status, counts);
+        answer_list(call, queries, out, &raw(), one);
     }
 };
 
@@ -195,18 +199,16 @@ public:
     // Of no bits.
     rank_index_view() noexcept = default;
     // Fails where the lengths do not fit together.
-    explicit rank_index_view(const bitm_index &raw) : raw_(raw)
+    explicit rank_index_view(const bitm_index &raw) : own_(raw, {})
     {
-        if (const char *const fault = bitm_index_fault(&raw_)) fail(detail::bad_size(fault));
+        if (const char *const fault = bitm_index_fault(&raw)) fail(detail::bad_size(fault));
     }
     // The index in the words of a file that was mapped or read.
     static result<rank_index_view> try_in(detail::kept<const std::uint64_t> file BITM_LIFETIMEBOUND) noexcept
     {
-        const result<bitm_stored> header = detail::header_of(file.data(), file.size(), BITM_STORED_INDEX);
-        if (!header) return header.error();
-        rank_index_view view;
-        view.raw_ = bitm_stored_index_of(file.data(), &*header);
-        return view;
+        const auto found = detail::index_kind::in(file.data(), file.size());
+        if (!found) return found.error();
+        return rank_index_view(*found);
     }
     static rank_index_view in(detail::kept<const std::uint64_t> file BITM_LIFETIMEBOUND)
     {
@@ -223,22 +225,25 @@ public:
 private:
     friend class rank_index;
     friend class detail::index_calls<rank_index_view>;
-    bitm_index raw_{};
+    explicit rank_index_view(const detail::in_block<detail::index_kind> &found) noexcept : own_(found) {}
+
+    detail::in_block<detail::index_kind> own_;
 };
 
 // An index that owns its bits and tables: one block of memory, which is the file. Moves are cheap and leave an empty
 // one.
-class BITM_OWNER rank_index : public detail::index_calls<rank_index>, public detail::stored_calls<rank_index> {
+class BITM_OWNER rank_index : public detail::index_calls<rank_index>,
+                              public detail::stored_calls<rank_index, detail::index_kind> {
 public:
     // Of no bits; of a copy of bits, of words (all, or the first `size` bits), or of an iterator's bools.
     rank_index() noexcept = default;
     explicit rank_index(bits_view of, sampling how = {})
     {
-        bitm_stored header = roomed(of.size(), how);
-        const std::uint64_t *const words = of.words_data();
-        detail::need(bitm_stored_write_index(words, of.words_len(), of.size(), how.ones, how.zeros, block_.data(),
-                                             block_.size(), &header));
-        keep(header);
+        bitm_stored header;
+        detail::block all = roomed(of.size(), how, header);
+        detail::need(bitm_stored_write_index(of.words_data(), of.words_len(), of.size(), how.ones, how.zeros,
+                                             all.data(), all.size(), &header));
+        keep(std::move(all), header);
     }
     explicit rank_index(const bits &of, sampling how = {}) : rank_index(of.view(), how) {}
     explicit rank_index(words_in words, maybe_position size = {}, sampling how = {})
@@ -252,9 +257,9 @@ public:
     // An index of `size` bits, which `fill` writes into words of zeros: without a copy.
     template <class Fill> static rank_index build(std::uint64_t size, sampling how, Fill &&fill)
     {
-        rank_index made;
-        bitm_stored header = made.roomed(size, how);
-        std::uint64_t *const file = made.block_.data();
+        bitm_stored header;
+        detail::block all = roomed(size, how, header);
+        std::uint64_t *const file = all.data();
         std::uint64_t *const words = bitm_stored_room(file, header.words);
         fill(words_out(words, header.words.len));
         detail::need(bitm_bits_clear_from(words, header.words.len, size));
@@ -272,45 +277,13 @@ public:
             detail::need(bitm_stored_index(size, how.ones, used[0], how.zeros, used[1], &header));
         }
         std::memcpy(file, &header, sizeof header);
-        made.keep(header);
+        rank_index made;
+        made.keep(std::move(all), header);
         return made;
     }
 
-    // A copy; or all of another, which has no bits then; an exchange.
-    rank_index(const rank_index &other) : index_calls(), stored_calls(), block_(other.used_), used_(other.used_)
-    {
-        if (used_ == 0) return;
-        std::memcpy(block_.data(), other.block_.data(), 8 * used_);
-        const bitm_stored header = *detail::header_of(block_.data(), used_, BITM_STORED_INDEX);
-        raw_ = bitm_stored_index_of(block_.data(), &header);
-    }
-    rank_index(rank_index &&other) noexcept { swap(other); }
-    rank_index &operator=(const rank_index &other)
-    {
-        rank_index copy(other);
-        swap(copy);
-        return *this;
-    }
-    rank_index &operator=(rank_index &&other) noexcept
-    {
-        rank_index moved(std::move(other));
-        swap(moved);
-        return *this;
-    }
-    ~rank_index() = default;
-    void swap(rank_index &other) noexcept
-    {
-        block_.swap(other.block_), std::swap(used_, other.used_), std::swap(raw_, other.raw_);
-    }
-    friend void swap(rank_index &a, rank_index &b) noexcept { a.swap(b); }
-
     // Views and ranges, which the owner has to outlive; all of it as C takes it. Deleted for temporaries.
-    rank_index_view view() const &noexcept BITM_LIFETIMEBOUND
-    {
-        rank_index_view view;
-        view.raw_ = raw_;
-        return view;
-    }
+    rank_index_view view() const &noexcept BITM_LIFETIMEBOUND { return rank_index_view(own_.found()); }
     const bitm_index &raw() const &noexcept BITM_LIFETIMEBOUND { return index_calls::raw(); }
     bits_view as_bits() const &BITM_LIFETIMEBOUND { return plain(); }
     ones_range ones(std::uint64_t from = 0) const &BITM_LIFETIMEBOUND { return plain().ones(from); }
@@ -327,19 +300,17 @@ public:
 
 private:
     friend class detail::index_calls<rank_index>;
-    friend class detail::stored_calls<rank_index>;
-    // Takes memory for the file of any such index: the header with as many samples as there can be.
-    bitm_stored roomed(std::uint64_t size, sampling how)
+    // Memory for the file of any such index, and its header with as many samples as there can be.
+    static detail::block roomed(std::uint64_t size, sampling how, bitm_stored &header)
     {
-        bitm_stored header;
         detail::need(bitm_stored_index_room(size, how.ones, how.zeros, &header), detail::fault_of(how));
-        block_ = detail::block(header.size / 8);
-        return header;
+        return detail::block(header.size / 8);
     }
-    void keep(const bitm_stored &header) noexcept
+    void keep(detail::block &&all, const bitm_stored &header) noexcept
     {
-        used_ = header.size / 8;
-        raw_ = bitm_stored_index_of(block_.data(), &header);
+        const detail::in_block<detail::index_kind> found(bitm_stored_index_of(all.data(), &header),
+                                                         {all.data(), static_cast<std::size_t>(header.size / 8)});
+        own_ = detail::owned<detail::index_kind>(std::move(all), found);
     }
     // Builds samples in their place in the file: how many there are.
     static std::uint64_t sampled(const bitm_index &over, bool one, std::uint32_t log2, std::uint64_t *file,
@@ -351,26 +322,6 @@ private:
                                               samples.len, bitm_stored_room(file, starts), starts.len, &used));
         return used;
     }
-    static result<std::size_t> size_of(const std::uint64_t *file, std::size_t words) noexcept
-    {
-        const result<bitm_stored> header = detail::header_of(file, words, BITM_STORED_INDEX);
-        if (!header) return header.error();
-        return static_cast<std::size_t>(header->size / 8);
-    }
-    static result<rank_index> opened(detail::block &&all, verify how) noexcept
-    {
-        const result<bitm_stored> header = detail::header_of(all.data(), all.size(), BITM_STORED_INDEX);
-        if (!header) return header.error();
-        rank_index made;
-        made.block_.swap(all), made.used_ = header->size / 8;
-        made.raw_ = bitm_stored_index_of(made.block_.data(), &*header);
-        if (how == verify::yes && !made.check()) return failure{errc::wrong};
-        return made;
-    }
-
-    detail::block block_;
-    std::size_t used_ = 0; // words of the file
-    bitm_index raw_{};
 };
 
 BITM_NAMESPACE_END

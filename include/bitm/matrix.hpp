@@ -39,38 +39,26 @@ namespace detail {
 // The words and counts of a matrix of no numbers, of one bit each: what an owner or a view that was default constructed
 // queries.
 inline constexpr std::uint64_t no_numbers[1] = {0};
-inline bitm_matrix empty_matrix() noexcept
-{
-    bitm_matrix raw{};
-    raw.width = 1;
-    raw.words = raw.upper = raw.lower = raw.ones = raw.zeros = no_numbers;
-    raw.ones_len = raw.zeros_len = 1;
-    return raw;
-}
-
-// The matrix whose block begins these words, and how many words the block has.
-struct opened_matrix {
-    bitm_matrix raw{};
-    std::size_t len = 0;
+struct matrix_kind : block_kind<matrix_kind, bitm_matrix, bitm_matrix_open> {
+    static bitm_matrix none() noexcept
+    {
+        bitm_matrix raw{};
+        raw.width = 1;
+        raw.words = raw.upper = raw.lower = raw.ones = raw.zeros = no_numbers;
+        raw.ones_len = raw.zeros_len = 1;
+        return raw;
+    }
 };
-inline result<opened_matrix> matrix_in(const std::uint64_t *file, std::size_t words) noexcept
-{
-    opened_matrix found;
-    found.len = block_len(file, words);
-    if (found.len == 0 || found.len > words || bitm_matrix_open(file, found.len, &found.raw) != BITM_OK)
-        return failure{errc::wrong_file};
-    return found;
-}
 
-template <class Self> class matrix_calls {
+template <class Self> class matrix_calls : public block_calls<Self, matrix_kind> {
 public:
     // How many numbers there are, and whether there are none; how many bits each has at most; all of it as C takes it,
     // and the block.
     std::uint64_t size() const noexcept { return raw().len; }
     bool empty() const noexcept { return size() == 0; }
     std::uint32_t width() const noexcept { return static_cast<std::uint32_t>(raw().width); }
-    const bitm_matrix &raw() const noexcept BITM_LIFETIMEBOUND { return self().raw_; }
-    words_in block() const noexcept BITM_LIFETIMEBOUND { return self().block_of(); }
+    const bitm_matrix &raw() const noexcept BITM_LIFETIMEBOUND { return this->self().own_.raw(); }
+    words_in block() const noexcept BITM_LIFETIMEBOUND { return this->self().own_.words(); }
 
     // The number at an index: fails past the end.
     std::uint64_t operator[](std::uint64_t index) const { return try_at(index).value(); }
@@ -163,34 +151,12 @@ public:
     }
 
     // Whether the block is as it was written and holds a matrix: looks at all of it, twice.
-    bool check() const noexcept
-    {
-        const words_in all = block();
-        return all.empty() || bitm_matrix_check(all.data(), all.size()) == BITM_OK;
-    }
-
-    // The same numbers in the same width: the same block.
-    template <class Other> friend bool operator==(const matrix_calls &a, const matrix_calls<Other> &b) noexcept
-    {
-        const words_in x = a.block(), y = b.block();
-        return x.size() == y.size() && (x.empty() || std::memcmp(x.data(), y.data(), 8 * x.size()) == 0);
-    }
-    template <class Other> friend bool operator!=(const matrix_calls &a, const matrix_calls<Other> &b) noexcept
-    {
-        return !(a == b);
-    }
-
-protected:
-    matrix_calls() noexcept = default;
-    ~matrix_calls() = default;
-    matrix_calls(const matrix_calls &) noexcept = default;
-    matrix_calls &operator=(const matrix_calls &) noexcept = default;
+    bool check() const noexcept { return checked(bitm_matrix_check, block()); }
 
 private:
     using range_call = std::uint32_t (*)(const bitm_matrix *, std::size_t, std::size_t, std::uint64_t, std::uint64_t *);
     using pairs_call = std::uint32_t (*)(const bitm_matrix *, const std::uint64_t *, std::size_t, const std::uint64_t *,
                                          std::size_t, std::uint64_t *, std::size_t, bitm_list_counts *);
-    const Self &self() const noexcept { return static_cast<const Self &>(*this); }
     result<maybe_position> of_range(range_call call, std::uint64_t from, std::uint64_t to,
                                     std::uint64_t asked) const noexcept
     {
@@ -226,11 +192,9 @@ public:
     wavelet_matrix_view() noexcept = default;
     static result<wavelet_matrix_view> try_in(detail::kept<const std::uint64_t> file BITM_LIFETIMEBOUND) noexcept
     {
-        const result<detail::opened_matrix> found = detail::matrix_in(file.data(), file.size());
+        const auto found = detail::matrix_kind::in(file.data(), file.size());
         if (!found) return found.error();
-        wavelet_matrix_view view;
-        view.raw_ = found->raw, view.block_ = words_in(file.data(), found->len);
-        return view;
+        return wavelet_matrix_view(*found);
     }
     static wavelet_matrix_view in(detail::kept<const std::uint64_t> file BITM_LIFETIMEBOUND)
     {
@@ -238,21 +202,20 @@ public:
     }
 
     // The numbers in their order, and backwards.
-    matrix_iterator begin() const noexcept { return {raw_, 0}; }
-    matrix_iterator end() const noexcept { return {raw_, raw_.len}; }
+    matrix_iterator begin() const noexcept { return {raw(), 0}; }
+    matrix_iterator end() const noexcept { return {raw(), raw().len}; }
 
 private:
     friend class wavelet_matrix;
     friend class detail::matrix_calls<wavelet_matrix_view>;
-    words_in block_of() const noexcept { return block_; }
+    explicit wavelet_matrix_view(const detail::in_block<detail::matrix_kind> &found) noexcept : own_(found) {}
 
-    bitm_matrix raw_ = detail::empty_matrix();
-    words_in block_;
+    detail::in_block<detail::matrix_kind> own_;
 };
 
 // A list of numbers that owns its block.
 class BITM_OWNER wavelet_matrix : public detail::matrix_calls<wavelet_matrix>,
-                                  public detail::stored_calls<wavelet_matrix> {
+                                  public detail::stored_calls<wavelet_matrix, detail::matrix_kind> {
 public:
     // The types of a container.
     using value_type = std::uint64_t;
@@ -270,7 +233,8 @@ public:
     {
     }
     template <class It, class = typename std::iterator_traits<It>::iterator_category>
-    wavelet_matrix(It first, It last, std::uint32_t width = 0) : wavelet_matrix(gather(first, last), width)
+    wavelet_matrix(It first, It last, std::uint32_t width = 0)
+        : wavelet_matrix(detail::gathered::of(first, last), width)
     {
         static_assert(std::is_unsigned_v<typename std::iterator_traits<It>::value_type>, "numbers without a sign");
     }
@@ -288,44 +252,13 @@ public:
         return opened(std::move(all), verify::no);
     }
 
-    // A copy; or all of another, which has no numbers then; an exchange.
-    wavelet_matrix(const wavelet_matrix &other) : matrix_calls(), stored_calls()
-    {
-        if (other.used_)
-            *this = opened(detail::copied(other.block_.data(), 8 * other.used_).value(), verify::no).value();
-    }
-    wavelet_matrix(wavelet_matrix &&other) noexcept { swap(other); }
-    wavelet_matrix &operator=(const wavelet_matrix &other)
-    {
-        wavelet_matrix copy(other);
-        swap(copy);
-        return *this;
-    }
-    wavelet_matrix &operator=(wavelet_matrix &&other) noexcept
-    {
-        wavelet_matrix moved(std::move(other));
-        swap(moved);
-        return *this;
-    }
-    ~wavelet_matrix() = default;
-    void swap(wavelet_matrix &other) noexcept
-    {
-        block_.swap(other.block_), std::swap(used_, other.used_), std::swap(raw_, other.raw_);
-    }
-    friend void swap(wavelet_matrix &a, wavelet_matrix &b) noexcept { a.swap(b); }
-
     // Views and iterators, which the owner has to outlive; the block, and all of it as C takes it. Deleted for
     // temporaries.
-    wavelet_matrix_view view() const &noexcept BITM_LIFETIMEBOUND
-    {
-        wavelet_matrix_view view;
-        view.raw_ = raw_, view.block_ = block_of();
-        return view;
-    }
-    words_in block() const &noexcept BITM_LIFETIMEBOUND { return block_of(); }
-    const bitm_matrix &raw() const &noexcept BITM_LIFETIMEBOUND { return raw_; }
-    matrix_iterator begin() const &noexcept BITM_LIFETIMEBOUND { return {raw_, 0}; }
-    matrix_iterator end() const &noexcept BITM_LIFETIMEBOUND { return {raw_, raw_.len}; }
+    wavelet_matrix_view view() const &noexcept BITM_LIFETIMEBOUND { return wavelet_matrix_view(own_.found()); }
+    words_in block() const &noexcept BITM_LIFETIMEBOUND { return own_.words(); }
+    const bitm_matrix &raw() const &noexcept BITM_LIFETIMEBOUND { return own_.raw(); }
+    matrix_iterator begin() const &noexcept BITM_LIFETIMEBOUND { return {raw(), 0}; }
+    matrix_iterator end() const &noexcept BITM_LIFETIMEBOUND { return {raw(), raw().len}; }
     void view() const && = delete;
     void block() const && = delete;
     void raw() const && = delete;
@@ -334,16 +267,9 @@ public:
 
 private:
     friend class detail::matrix_calls<wavelet_matrix>;
-    friend class detail::stored_calls<wavelet_matrix>;
     wavelet_matrix(const detail::gathered &numbers, std::uint32_t width)
         : wavelet_matrix(words_in(numbers.data(), numbers.size()), width)
     {
-    }
-    template <class It> static detail::gathered gather(It first, It last)
-    {
-        detail::gathered numbers;
-        for (; first != last; ++first) numbers.push(*first);
-        return numbers;
     }
     // How many bits the largest number has, and at least 1.
     static std::uint32_t width_of(words_in numbers) noexcept
@@ -354,30 +280,6 @@ private:
         for (; all > 0; all >>= 1) width++;
         return width;
     }
-    words_in block_of() const noexcept { return {block_.data(), used_}; }
-    static std::size_t needed(const std::uint64_t *file, std::size_t have) noexcept
-    {
-        return detail::block_len(file, have);
-    }
-    static result<std::size_t> size_of(const std::uint64_t *file, std::size_t words) noexcept
-    {
-        const result<detail::opened_matrix> found = detail::matrix_in(file, words);
-        if (!found) return found.error();
-        return found->len;
-    }
-    static result<wavelet_matrix> opened(detail::block &&all, verify how) noexcept
-    {
-        const result<detail::opened_matrix> found = detail::matrix_in(all.data(), all.size());
-        if (!found) return found.error();
-        wavelet_matrix made;
-        made.block_.swap(all), made.used_ = found->len, made.raw_ = found->raw;
-        if (how == verify::yes && !made.check()) return failure{errc::wrong};
-        return made;
-    }
-
-    detail::block block_;
-    std::size_t used_ = 0;
-    bitm_matrix raw_ = detail::empty_matrix();
 };
 
 BITM_NAMESPACE_END

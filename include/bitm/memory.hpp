@@ -78,6 +78,16 @@ inline void need_apart(words_in read, words_out written)
     if (BITM_RARELY(overlap(read, {written.data(), written.size()}))) fail({errc::overlap});
 }
 
+// A list of answers by a call of C, which takes the structure and more before the queries: fails where the lengths do
+// not fit together, and, once all is answered, where an answer says that the tables are wrong.
+template <class Call, class... Before> void answer_list(Call call, words_in queries, words_out out, Before... before)
+{
+    need_apart(queries, out);
+    bitm_list_counts counts{};
+    const std::uint32_t status = call(before..., queries.data(), queries.size(), out.data(), out.size(), &counts);
+    need_list(status, counts);
+}
+
 // An argument that is kept: a temporary container does not convert.
 template <class T> class BITM_POINTER kept {
 public:
@@ -174,6 +184,12 @@ private:
 // Numbers gathered one by one in a block that grows.
 class gathered {
 public:
+    template <class It> static gathered of(It first, It last)
+    {
+        gathered all;
+        for (; first != last; ++first) all.push(*first);
+        return all;
+    }
     void push(std::uint64_t number)
     {
         if (len_ == all_.size()) {

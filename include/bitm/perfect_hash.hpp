@@ -27,6 +27,31 @@ inline std::size_t hash_tail_len(const std::uint64_t *tail, std::size_t tail_len
     return hash_head + static_cast<std::size_t>(tail[4]);
 }
 
+// The file of a perfect hash.
+struct hash_kind {
+    using raw_type = bitm_hash;
+    static bitm_hash none() noexcept { return {}; }
+    static std::size_t needed(const std::uint64_t *file, std::size_t have) noexcept
+    {
+        const std::size_t begin = needed_of(file, have);
+        if (have < begin + hash_head) return begin + hash_head;
+        return begin + hash_head + static_cast<std::size_t>(file[begin + 4] <= hash_levels ? file[begin + 4] : 0);
+    }
+    static result<in_block<hash_kind>> in(const std::uint64_t *file, std::size_t words) noexcept
+    {
+        const result<bitm_stored> header = header_of(file, words, BITM_STORED_INDEX);
+        if (!header) return header.error();
+        const std::size_t begin = header->size / 8;
+        const std::uint64_t *const tail = file + begin;
+        const std::size_t tail_len = hash_tail_len(tail, words - begin, header->words.len);
+        if (tail_len == 0) return failure{errc::wrong_file};
+        bitm_hash raw{};
+        raw.index = bitm_stored_index_of(file, &*header);
+        raw.keys = tail[1], raw.sizes = tail + hash_head, raw.sizes_len = tail[4];
+        return in_block<hash_kind>(raw, {file, begin + tail_len});
+    }
+};
+
 // What is made of the words and sizes of the levels of some hashes: fails where two of these are equal. The levels have
 // about e^(100 / percent) * percent / 100 bits for each key: more room where that is not enough.
 template <class Made, class Make> result<Made> by_levels(words_in hashes, unsigned percent, Make &&make)
@@ -48,7 +73,7 @@ template <class Made, class Make> result<Made> by_levels(words_in hashes, unsign
 
 } // namespace detail
 
-class BITM_OWNER perfect_hash : public detail::stored_calls<perfect_hash> {
+class BITM_OWNER perfect_hash : public detail::stored_calls<perfect_hash, detail::hash_kind> {
 public:
     // Of no keys.
     perfect_hash() noexcept = default;
@@ -68,77 +93,46 @@ public:
     }
 
     // How many keys.
-    std::uint64_t size() const noexcept { return raw_.keys; }
+    std::uint64_t size() const noexcept { return raw().keys; }
     bool empty() const noexcept { return size() == 0; }
     // The number of a hash, below size(); none where it is that of no key (most others get some number).
     maybe_position operator()(std::uint64_t hash) const
     {
         std::uint64_t out = 0;
-        const std::uint32_t status = bitm_hash_get(&raw_, hash, &out);
+        const std::uint32_t status = bitm_hash_get(&raw(), hash, &out);
         return detail::found(status, out);
     }
     result<maybe_position> try_number(std::uint64_t hash) const noexcept
     {
         std::uint64_t out = 0;
-        const std::uint32_t status = bitm_hash_get(&raw_, hash, &out);
+        const std::uint32_t status = bitm_hash_get(&raw(), hash, &out);
         return detail::tried(status, out);
     }
     // Of a list: out[i] is the number of hashes[i], or bitm::no_answer.
     void operator()(words_in hashes, words_out out) const
     {
-        detail::need_apart(hashes, out);
-        bitm_list_counts counts{};
-        const std::uint32_t status =
-            bitm_hash_get_list(&raw_, hashes.data(), hashes.size(), out.data(), out.size(), &counts);
-        detail::need_list(status, counts);
+        detail::answer_list(bitm_hash_get_list, hashes, out, &raw());
     }
     // Whether the tables are those of the words, and there are as many 1 bits as keys.
     bool check() const noexcept
     {
         std::uint64_t ones = 0;
-        return bitm_index_check(&raw_.index) == BITM_OK && bitm_index_count(&raw_.index, true, &ones) == BITM_OK &&
+        return bitm_index_check(&raw().index) == BITM_OK && bitm_index_count(&raw().index, true, &ones) == BITM_OK &&
                ones == size();
     }
-    const bitm_hash &raw() const &noexcept BITM_LIFETIMEBOUND { return raw_; }
-    words_in sizes() const &noexcept BITM_LIFETIMEBOUND { return {raw_.sizes, raw_.sizes_len}; }
+    const bitm_hash &raw() const &noexcept BITM_LIFETIMEBOUND { return own_.raw(); }
+    words_in sizes() const &noexcept BITM_LIFETIMEBOUND { return {raw().sizes, raw().sizes_len}; }
     void raw() const && = delete;
     void sizes() const && = delete;
 
-    // A copy; or all of another, which has no keys then; an exchange.
-    perfect_hash(const perfect_hash &other) : stored_calls()
-    {
-        if (other.used_)
-            *this = opened(detail::copied(other.block_.data(), 8 * other.used_).value(), verify::no).value();
-    }
-    perfect_hash(perfect_hash &&other) noexcept { swap(other); }
-    perfect_hash &operator=(const perfect_hash &other)
-    {
-        perfect_hash copy(other);
-        swap(copy);
-        return *this;
-    }
-    perfect_hash &operator=(perfect_hash &&other) noexcept
-    {
-        perfect_hash moved(std::move(other));
-        swap(moved);
-        return *this;
-    }
-    ~perfect_hash() = default;
-    void swap(perfect_hash &other) noexcept
-    {
-        block_.swap(other.block_), std::swap(used_, other.used_), std::swap(raw_, other.raw_);
-    }
-    friend void swap(perfect_hash &a, perfect_hash &b) noexcept { a.swap(b); }
     // The same hash: the same bytes.
     friend bool operator==(const perfect_hash &a, const perfect_hash &b) noexcept
     {
-        return a.size() == b.size() && a.used_ == b.used_ &&
-               (a.used_ == 0 || std::memcmp(a.block_.data(), b.block_.data(), 8 * a.used_) == 0);
+        return detail::same_words(a.own_.words(), b.own_.words());
     }
     friend bool operator!=(const perfect_hash &a, const perfect_hash &b) noexcept { return !(a == b); }
 
 private:
-    friend class detail::stored_calls<perfect_hash>;
     static constexpr std::size_t head = detail::hash_head;
 
     template <class It, class Hash> static detail::gathered hashed(It first, It last, Hash &&hash)
@@ -176,38 +170,6 @@ private:
         if (sizes.size()) std::memcpy(after + head, sizes.data(), 8 * sizes.size());
         return opened(std::move(all), verify::no);
     }
-    static std::size_t needed(const std::uint64_t *file, std::size_t have) noexcept
-    {
-        const std::size_t begin = detail::needed_of(file, have);
-        if (have < begin + head) return begin + head;
-        return begin + head + static_cast<std::size_t>(file[begin + 4] <= detail::hash_levels ? file[begin + 4] : 0);
-    }
-    static result<std::size_t> size_of(const std::uint64_t *file, std::size_t words) noexcept
-    {
-        const result<bitm_stored> header = detail::header_of(file, words, BITM_STORED_INDEX);
-        if (!header) return header.error();
-        const std::size_t begin = header->size / 8;
-        const std::size_t tail = detail::hash_tail_len(file + begin, words - begin, header->words.len);
-        if (tail == 0) return failure{errc::wrong_file};
-        return begin + tail;
-    }
-    static result<perfect_hash> opened(detail::block &&all, verify how) noexcept
-    {
-        const result<std::size_t> size = size_of(all.data(), all.size());
-        if (!size) return size.error();
-        const bitm_stored header = *detail::header_of(all.data(), all.size(), BITM_STORED_INDEX);
-        perfect_hash made;
-        made.block_.swap(all), made.used_ = *size;
-        made.raw_.index = bitm_stored_index_of(made.block_.data(), &header);
-        const std::uint64_t *const after = made.block_.data() + header.size / 8;
-        made.raw_.keys = after[1], made.raw_.sizes = after + head, made.raw_.sizes_len = after[4];
-        if (how == verify::yes && !made.check()) return failure{errc::wrong};
-        return made;
-    }
-
-    detail::block block_;
-    std::size_t used_ = 0;
-    bitm_hash raw_{};
 };
 
 BITM_NAMESPACE_END

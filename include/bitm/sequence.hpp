@@ -14,7 +14,8 @@
 BITM_NAMESPACE_BEGIN
 
 // A sequence that owns its parts, made from numbers that never fall: one block of memory, which is the file.
-class BITM_OWNER sequence : public detail::sequence_calls<sequence>, public detail::stored_calls<sequence> {
+class BITM_OWNER sequence : public detail::sequence_calls<sequence>,
+                            public detail::stored_calls<sequence, detail::sequence_kind> {
 public:
     // The types of a container.
     using value_type = std::uint64_t;
@@ -26,7 +27,7 @@ public:
     explicit sequence(words_in numbers) : sequence(try_of(numbers).value()) {}
     sequence(std::initializer_list<std::uint64_t> numbers) : sequence(words_in(numbers.begin(), numbers.size())) {}
     template <class It, class = typename std::iterator_traits<It>::iterator_category>
-    sequence(It first, It last) : sequence(gather(first, last))
+    sequence(It first, It last) : sequence(detail::gathered::of(first, last))
     {
         static_assert(std::is_unsigned_v<typename std::iterator_traits<It>::value_type>, "numbers without a sign");
     }
@@ -49,44 +50,11 @@ public:
         return opened(std::move(all), verify::no);
     }
 
-    // A copy; or all of another, which is empty then; an exchange.
-    sequence(const sequence &other) : sequence_calls(), stored_calls(), block_(other.used_), used_(other.used_)
-    {
-        if (used_ == 0) return;
-        std::memcpy(block_.data(), other.block_.data(), 8 * used_);
-        const bitm_stored header = *detail::header_of(block_.data(), used_, BITM_STORED_SEQUENCE);
-        raw_ = bitm_stored_sequence_of(block_.data(), &header);
-    }
-    sequence(sequence &&other) noexcept { swap(other); }
-    sequence &operator=(const sequence &other)
-    {
-        sequence copy(other);
-        swap(copy);
-        return *this;
-    }
-    sequence &operator=(sequence &&other) noexcept
-    {
-        sequence moved(std::move(other));
-        swap(moved);
-        return *this;
-    }
-    ~sequence() = default;
-    void swap(sequence &other) noexcept
-    {
-        block_.swap(other.block_), std::swap(used_, other.used_), std::swap(raw_, other.raw_);
-    }
-    friend void swap(sequence &a, sequence &b) noexcept { a.swap(b); }
-
     // Views and walks, which the owner has to outlive; the parts as C takes them. Deleted for temporaries.
-    sequence_view view() const &noexcept BITM_LIFETIMEBOUND
-    {
-        sequence_view view;
-        view.raw_ = raw_;
-        return view;
-    }
-    const bitm_sequence &raw() const &noexcept BITM_LIFETIMEBOUND { return raw_; }
-    sequence_iterator begin() const &noexcept BITM_LIFETIMEBOUND { return {raw_, 0}; }
-    sequence_iterator end() const &noexcept BITM_LIFETIMEBOUND { return {raw_, raw_.len}; }
+    sequence_view view() const &noexcept BITM_LIFETIMEBOUND { return sequence_view(own_.found()); }
+    const bitm_sequence &raw() const &noexcept BITM_LIFETIMEBOUND { return own_.raw(); }
+    sequence_iterator begin() const &noexcept BITM_LIFETIMEBOUND { return {raw(), 0}; }
+    sequence_iterator end() const &noexcept BITM_LIFETIMEBOUND { return {raw(), raw().len}; }
     std::reverse_iterator<sequence_iterator> rbegin() const &BITM_LIFETIMEBOUND
     {
         return std::reverse_iterator<sequence_iterator>(end());
@@ -95,8 +63,8 @@ public:
     {
         return std::reverse_iterator<sequence_iterator>(begin());
     }
-    sequence_iterator lower_bound(std::uint64_t value) const &BITM_LIFETIMEBOUND { return {raw_, rank(value)}; }
-    sequence_walk walk(std::uint64_t from = 0) const &BITM_LIFETIMEBOUND { return {raw_, from}; }
+    sequence_iterator lower_bound(std::uint64_t value) const &BITM_LIFETIMEBOUND { return {raw(), rank(value)}; }
+    sequence_walk walk(std::uint64_t from = 0) const &BITM_LIFETIMEBOUND { return {raw(), from}; }
     void lower_bound(std::uint64_t) const && = delete;
     void view() const && = delete;
     void raw() const && = delete;
@@ -108,34 +76,7 @@ public:
 
 private:
     friend class detail::sequence_calls<sequence>;
-    friend class detail::stored_calls<sequence>;
     explicit sequence(const detail::gathered &numbers) : sequence(words_in(numbers.data(), numbers.size())) {}
-    template <class It> static detail::gathered gather(It first, It last)
-    {
-        detail::gathered numbers;
-        for (; first != last; ++first) numbers.push(*first);
-        return numbers;
-    }
-    static result<std::size_t> size_of(const std::uint64_t *file, std::size_t words) noexcept
-    {
-        const result<bitm_stored> header = detail::header_of(file, words, BITM_STORED_SEQUENCE);
-        if (!header) return header.error();
-        return static_cast<std::size_t>(header->size / 8);
-    }
-    static result<sequence> opened(detail::block &&all, verify how) noexcept
-    {
-        const result<bitm_stored> header = detail::header_of(all.data(), all.size(), BITM_STORED_SEQUENCE);
-        if (!header) return header.error();
-        sequence made;
-        made.block_.swap(all), made.used_ = header->size / 8;
-        made.raw_ = bitm_stored_sequence_of(made.block_.data(), &*header);
-        if (how == verify::yes && !made.check()) return failure{errc::wrong};
-        return made;
-    }
-
-    detail::block block_;
-    std::size_t used_ = 0;
-    bitm_sequence raw_{};
 };
 
 // Calls `each` with each number that is in both, once however often it is there. The shorter one should be first.

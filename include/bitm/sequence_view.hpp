@@ -136,12 +136,20 @@ private:
 
 namespace detail {
 
+// The file of a sequence.
+struct sequence_kind : stored_kind<sequence_kind, bitm_sequence, BITM_STORED_SEQUENCE> {
+    static bitm_sequence of(const std::uint64_t *file, const bitm_stored &header) noexcept
+    {
+        return bitm_stored_sequence_of(file, &header);
+    }
+};
+
 template <class Self> class sequence_calls {
 public:
     // How many numbers there are, and whether there are none; all of it as C takes it.
     std::uint64_t size() const noexcept { return raw().len; }
     bool empty() const noexcept { return size() == 0; }
-    const bitm_sequence &raw() const noexcept BITM_LIFETIMEBOUND { return static_cast<const Self &>(*this).raw_; }
+    const bitm_sequence &raw() const noexcept BITM_LIFETIMEBOUND { return static_cast<const Self &>(*this).own_.raw(); }
 
     // The number at an index: fails past the end.
     std::uint64_t operator[](std::uint64_t at) const { return number_of(raw(), at); }
@@ -246,12 +254,9 @@ protected:
     sequence_calls &operator=(const sequence_calls &) noexcept = default;
 
 private:
-    template <class Call> void list(Call call, words_in values, words_out out) const
+    template <class Call> void list(Call call, words_in queries, words_out out) const
     {
-        need_apart(values, out);
-        bitm_list_counts counts{};
-        const std::uint32_t status = call(&raw(), values.data(), values.size(), out.data(), out.size(), &counts);
-        need_list(status, counts);
+        answer_list(call, queries, out, &raw());
     }
 };
 
@@ -267,33 +272,33 @@ public:
 
     // Of no numbers; of parts: fails where their lengths do not fit together; in the words of a file, mapped or read.
     sequence_view() noexcept = default;
-    explicit sequence_view(const bitm_sequence &raw) : raw_(raw)
+    explicit sequence_view(const bitm_sequence &raw) : own_(raw, {})
     {
-        if (const char *const fault = bitm_sequence_fault(&raw_)) fail(detail::bad_size(fault));
+        if (const char *const fault = bitm_sequence_fault(&raw)) fail(detail::bad_size(fault));
     }
     static result<sequence_view> try_in(detail::kept<const std::uint64_t> file BITM_LIFETIMEBOUND) noexcept
     {
-        const result<bitm_stored> header = detail::header_of(file.data(), file.size(), BITM_STORED_SEQUENCE);
-        if (!header) return header.error();
-        sequence_view view;
-        view.raw_ = bitm_stored_sequence_of(file.data(), &*header);
-        return view;
+        const auto found = detail::sequence_kind::in(file.data(), file.size());
+        if (!found) return found.error();
+        return sequence_view(*found);
     }
     static sequence_view in(detail::kept<const std::uint64_t> file BITM_LIFETIMEBOUND) { return try_in(file).value(); }
 
     // The numbers in order, and backwards: each is one selection.
-    sequence_iterator begin() const noexcept { return {raw_, 0}; }
-    sequence_iterator end() const noexcept { return {raw_, raw_.len}; }
+    sequence_iterator begin() const noexcept { return {raw(), 0}; }
+    sequence_iterator end() const noexcept { return {raw(), raw().len}; }
     std::reverse_iterator<sequence_iterator> rbegin() const { return std::reverse_iterator<sequence_iterator>(end()); }
     std::reverse_iterator<sequence_iterator> rend() const { return std::reverse_iterator<sequence_iterator>(begin()); }
     // The first number that is at least a value, by one search; end() where there is none.
-    sequence_iterator lower_bound(std::uint64_t value) const { return {raw_, rank(value)}; }
-    sequence_walk walk(std::uint64_t from = 0) const { return {raw_, from}; }
+    sequence_iterator lower_bound(std::uint64_t value) const { return {raw(), rank(value)}; }
+    sequence_walk walk(std::uint64_t from = 0) const { return {raw(), from}; }
 
 private:
     friend class sequence;
     friend class detail::sequence_calls<sequence_view>;
-    bitm_sequence raw_{};
+    explicit sequence_view(const detail::in_block<detail::sequence_kind> &found) noexcept : own_(found) {}
+
+    detail::in_block<detail::sequence_kind> own_;
 };
 
 BITM_NAMESPACE_END

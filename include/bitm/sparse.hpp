@@ -19,35 +19,23 @@ namespace detail {
 
 // The words of no positions: what an owner or a view that was default constructed queries.
 inline constexpr std::uint64_t no_positions[1] = {0};
-inline bitm_sparse empty_sparse() noexcept
-{
-    bitm_sparse raw{};
-    raw.positions.words = raw.positions.upper = raw.positions.lower = no_positions;
-    raw.positions.words_len = raw.positions.upper_len = raw.positions.lower_len = 1;
-    return raw;
-}
-
-// The sparse bits whose block begins these words, and how many words the block has.
-struct opened_sparse {
-    bitm_sparse raw{};
-    std::size_t len = 0;
+struct sparse_kind : block_kind<sparse_kind, bitm_sparse, bitm_sparse_open> {
+    static bitm_sparse none() noexcept
+    {
+        bitm_sparse raw{};
+        raw.positions.words = raw.positions.upper = raw.positions.lower = no_positions;
+        raw.positions.words_len = raw.positions.upper_len = raw.positions.lower_len = 1;
+        return raw;
+    }
 };
-inline result<opened_sparse> sparse_in(const std::uint64_t *file, std::size_t words) noexcept
-{
-    opened_sparse found;
-    found.len = block_len(file, words);
-    if (found.len == 0 || found.len > words || bitm_sparse_open(file, found.len, &found.raw) != BITM_OK)
-        return failure{errc::wrong_file};
-    return found;
-}
 
-template <class Self> class sparse_calls {
+template <class Self> class sparse_calls : public block_calls<Self, sparse_kind> {
 public:
     // How many bits there are, and whether there are none; all of it as C takes it, and the block.
     std::uint64_t size() const noexcept { return raw().bits_len; }
     bool empty() const noexcept { return size() == 0; }
-    const bitm_sparse &raw() const noexcept BITM_LIFETIMEBOUND { return self().raw_; }
-    words_in block() const noexcept BITM_LIFETIMEBOUND { return self().block_of(); }
+    const bitm_sparse &raw() const noexcept BITM_LIFETIMEBOUND { return this->self().own_.raw(); }
+    words_in block() const noexcept BITM_LIFETIMEBOUND { return this->self().own_.words(); }
 
     // The bit at a position: fails past the end.
     bool operator[](std::uint64_t position) const { return try_at(position).value(); }
@@ -104,48 +92,17 @@ public:
     // Lists, into memory of the caller's as long as the queries: out[i] answers queries[i] (a bit as 0 or 1), or is
     // bitm::no_answer (also for a position past the end). Where the block is noticed to be wrong, the call fails once
     // all is answered.
-    void at(words_in positions, words_out out) const
-    {
-        need_apart(positions, out);
-        bitm_list_counts counts{};
-        const std::uint32_t status =
-            bitm_sparse_get_list(&raw(), positions.data(), positions.size(), out.data(), out.size(), &counts);
-        need_list(status, counts);
-    }
+    void at(words_in positions, words_out out) const { answer_list(bitm_sparse_get_list, positions, out, &raw()); }
     void rank(words_in positions, words_out out) const { list(bitm_sparse_rank_list, true, positions, out); }
     void rank0(words_in positions, words_out out) const { list(bitm_sparse_rank_list, false, positions, out); }
     void select(words_in ranks, words_out out) const { list(bitm_sparse_select_list, true, ranks, out); }
     void select0(words_in ranks, words_out out) const { list(bitm_sparse_select_list, false, ranks, out); }
 
     // Whether the block is as it was written and holds sparse bits: looks at all of it.
-    bool check() const noexcept
-    {
-        const words_in all = block();
-        return all.empty() || bitm_sparse_check(all.data(), all.size()) == BITM_OK;
-    }
-
-    // The same bits: the same block.
-    template <class Other> friend bool operator==(const sparse_calls &a, const sparse_calls<Other> &b) noexcept
-    {
-        const words_in x = a.block(), y = b.block();
-        return x.size() == y.size() && (x.empty() || std::memcmp(x.data(), y.data(), 8 * x.size()) == 0);
-    }
-    template <class Other> friend bool operator!=(const sparse_calls &a, const sparse_calls<Other> &b) noexcept
-    {
-        return !(a == b);
-    }
-
-protected:
-    sparse_calls() noexcept = default;
-    ~sparse_calls() = default;
-    sparse_calls(const sparse_calls &) noexcept = default;
-    sparse_calls &operator=(const sparse_calls &) noexcept = default;
+    bool check() const noexcept { return checked(bitm_sparse_check, block()); }
 
 private:
     using query_call = std::uint32_t (*)(const bitm_sparse *, bool, std::uint64_t, std::uint64_t *);
-    using list_call = std::uint32_t (*)(const bitm_sparse *, bool, const std::uint64_t *, std::size_t, std::uint64_t *,
-                                        std::size_t, bitm_list_counts *);
-    const Self &self() const noexcept { return static_cast<const Self &>(*this); }
     result<std::uint64_t> counted(bool one, std::uint64_t position) const noexcept
     {
         std::uint64_t out = 0;
@@ -159,13 +116,9 @@ private:
         const std::uint32_t status = call(&raw(), one, asked, &out);
         return tried(status, out);
     }
-    void list(list_call call, bool one, words_in queries, words_out out) const
+    template <class Call> void list(Call call, bool one, words_in queries, words_out out) const
     {
-        need_apart(queries, out);
-        bitm_list_counts counts{};
-        const std::uint32_t status =
-            call(&raw(), one, queries.data(), queries.size(), out.data(), out.size(), &counts);
-        need_list(status, counts);
+        answer_list(call, queries, out, &raw(), one);
     }
 };
 
@@ -178,11 +131,9 @@ public:
     sparse_bits_view() noexcept = default;
     static result<sparse_bits_view> try_in(detail::kept<const std::uint64_t> file BITM_LIFETIMEBOUND) noexcept
     {
-        const result<detail::opened_sparse> found = detail::sparse_in(file.data(), file.size());
+        const auto found = detail::sparse_kind::in(file.data(), file.size());
         if (!found) return found.error();
-        sparse_bits_view view;
-        view.raw_ = found->raw, view.block_ = words_in(file.data(), found->len);
-        return view;
+        return sparse_bits_view(*found);
     }
     static sparse_bits_view in(detail::kept<const std::uint64_t> file BITM_LIFETIMEBOUND)
     {
@@ -190,19 +141,19 @@ public:
     }
 
     // The positions of the 1 bits.
-    sequence_view positions() const { return sequence_view(raw_.positions); }
+    sequence_view positions() const { return sequence_view(raw().positions); }
 
 private:
     friend class sparse_bits;
     friend class detail::sparse_calls<sparse_bits_view>;
-    words_in block_of() const noexcept { return block_; }
+    explicit sparse_bits_view(const detail::in_block<detail::sparse_kind> &found) noexcept : own_(found) {}
 
-    bitm_sparse raw_ = detail::empty_sparse();
-    words_in block_;
+    detail::in_block<detail::sparse_kind> own_;
 };
 
 // Sparse bits that own their block, made from the positions of the 1 bits.
-class BITM_OWNER sparse_bits : public detail::sparse_calls<sparse_bits>, public detail::stored_calls<sparse_bits> {
+class BITM_OWNER sparse_bits : public detail::sparse_calls<sparse_bits>,
+                               public detail::stored_calls<sparse_bits, detail::sparse_kind> {
 public:
     // No bits; `size` bits of which those at the positions are 1 bits, words or a list: fails where a position is not
     // greater than the one before it, or not less than `size`.
@@ -225,43 +176,12 @@ public:
         return opened(std::move(all), verify::no);
     }
 
-    // A copy; or all of another, which has no bits then; an exchange.
-    sparse_bits(const sparse_bits &other) : sparse_calls(), stored_calls()
-    {
-        if (other.used_)
-            *this = opened(detail::copied(other.block_.data(), 8 * other.used_).value(), verify::no).value();
-    }
-    sparse_bits(sparse_bits &&other) noexcept { swap(other); }
-    sparse_bits &operator=(const sparse_bits &other)
-    {
-        sparse_bits copy(other);
-        swap(copy);
-        return *this;
-    }
-    sparse_bits &operator=(sparse_bits &&other) noexcept
-    {
-        sparse_bits moved(std::move(other));
-        swap(moved);
-        return *this;
-    }
-    ~sparse_bits() = default;
-    void swap(sparse_bits &other) noexcept
-    {
-        block_.swap(other.block_), std::swap(used_, other.used_), std::swap(raw_, other.raw_);
-    }
-    friend void swap(sparse_bits &a, sparse_bits &b) noexcept { a.swap(b); }
-
     // Views, which the owner has to outlive, of the bits and of the positions of the 1 bits; the block, and all of it
     // as C takes it. Deleted for temporaries.
-    sparse_bits_view view() const &noexcept BITM_LIFETIMEBOUND
-    {
-        sparse_bits_view view;
-        view.raw_ = raw_, view.block_ = block_of();
-        return view;
-    }
-    sequence_view positions() const &BITM_LIFETIMEBOUND { return sequence_view(raw_.positions); }
-    words_in block() const &noexcept BITM_LIFETIMEBOUND { return block_of(); }
-    const bitm_sparse &raw() const &noexcept BITM_LIFETIMEBOUND { return raw_; }
+    sparse_bits_view view() const &noexcept BITM_LIFETIMEBOUND { return sparse_bits_view(own_.found()); }
+    sequence_view positions() const &BITM_LIFETIMEBOUND { return sequence_view(raw().positions); }
+    words_in block() const &noexcept BITM_LIFETIMEBOUND { return own_.words(); }
+    const bitm_sparse &raw() const &noexcept BITM_LIFETIMEBOUND { return own_.raw(); }
     void view() const && = delete;
     void positions() const && = delete;
     void block() const && = delete;
@@ -269,31 +189,6 @@ public:
 
 private:
     friend class detail::sparse_calls<sparse_bits>;
-    friend class detail::stored_calls<sparse_bits>;
-    words_in block_of() const noexcept { return {block_.data(), used_}; }
-    static std::size_t needed(const std::uint64_t *file, std::size_t have) noexcept
-    {
-        return detail::block_len(file, have);
-    }
-    static result<std::size_t> size_of(const std::uint64_t *file, std::size_t words) noexcept
-    {
-        const result<detail::opened_sparse> found = detail::sparse_in(file, words);
-        if (!found) return found.error();
-        return found->len;
-    }
-    static result<sparse_bits> opened(detail::block &&all, verify how) noexcept
-    {
-        const result<detail::opened_sparse> found = detail::sparse_in(all.data(), all.size());
-        if (!found) return found.error();
-        sparse_bits made;
-        made.block_.swap(all), made.used_ = found->len, made.raw_ = found->raw;
-        if (how == verify::yes && !made.check()) return failure{errc::wrong};
-        return made;
-    }
-
-    detail::block block_;
-    std::size_t used_ = 0;
-    bitm_sparse raw_ = detail::empty_sparse();
 };
 
 BITM_NAMESPACE_END

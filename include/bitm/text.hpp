@@ -23,46 +23,34 @@ namespace detail {
 
 // The parts of the index of no letters: what an owner or a view that was default constructed queries.
 inline constexpr std::uint64_t no_letters[2] = {0, 1}, of_no_letters[1] = {(1ull << 32) + (1ull << 43) + (1ull << 54)};
-inline bitm_text empty_text() noexcept
-{
-    bitm_text raw{};
-    raw.letters.width = raw.marks.width = raw.marks.len = raw.step = 1;
-    raw.letters.ones = raw.letters.zeros = raw.marks.ones = raw.marks.zeros = raw.samples = raw.marks.upper =
-        no_letters;
-    raw.letters.ones_len = raw.letters.zeros_len = raw.marks.ones_len = raw.marks.zeros_len = raw.samples_len = 1;
-    raw.marks.words = no_letters + 1, raw.marks.lower = of_no_letters;
-    raw.marks.words_len = raw.marks.upper_len = raw.marks.lower_len = 1;
-    return raw;
-}
-
-// The index whose block begins these words, and how many words the block has.
-struct opened_text {
-    bitm_text raw{};
-    std::size_t len = 0;
+struct text_kind : block_kind<text_kind, bitm_text, bitm_text_open> {
+    static bitm_text none() noexcept
+    {
+        bitm_text raw{};
+        raw.letters.width = raw.marks.width = raw.marks.len = raw.step = 1;
+        raw.letters.ones = raw.letters.zeros = raw.marks.ones = raw.marks.zeros = raw.samples = raw.marks.upper =
+            no_letters;
+        raw.letters.ones_len = raw.letters.zeros_len = raw.marks.ones_len = raw.marks.zeros_len = raw.samples_len = 1;
+        raw.marks.words = no_letters + 1, raw.marks.lower = of_no_letters;
+        raw.marks.words_len = raw.marks.upper_len = raw.marks.lower_len = 1;
+        return raw;
+    }
 };
-inline result<opened_text> text_in(const std::uint64_t *file, std::size_t words) noexcept
-{
-    opened_text found;
-    found.len = block_len(file, words);
-    if (found.len == 0 || found.len > words || bitm_text_open(file, found.len, &found.raw) != BITM_OK)
-        return failure{errc::wrong_file};
-    return found;
-}
 
 inline const std::uint8_t *bytes_of(std::string_view pattern) noexcept
 {
     return reinterpret_cast<const std::uint8_t *>(pattern.data());
 }
 
-template <class Self> class text_calls {
+template <class Self> class text_calls : public block_calls<Self, text_kind> {
 public:
     // How many letters the text has, and whether it has none; how many bits a letter takes; all of it as C takes it,
     // and the block.
     std::uint64_t size() const noexcept { return raw().letters.len; }
     bool empty() const noexcept { return size() == 0; }
     std::uint64_t width() const noexcept { return raw().letters.width; }
-    const bitm_text &raw() const noexcept BITM_LIFETIMEBOUND { return self().raw_; }
-    words_in block() const noexcept BITM_LIFETIMEBOUND { return self().block_of(); }
+    const bitm_text &raw() const noexcept BITM_LIFETIMEBOUND { return this->self().own_.raw(); }
+    words_in block() const noexcept BITM_LIFETIMEBOUND { return this->self().own_.words(); }
 
     // At how many positions a pattern stands.
     std::uint64_t count(std::string_view pattern) const { return try_count(pattern).value(); }
@@ -133,31 +121,7 @@ public:
     }
 
     // Whether the block is as it was written and holds the index of a text: looks at all of it, and walks through it.
-    bool check() const noexcept
-    {
-        const words_in all = block();
-        return all.empty() || bitm_text_check(all.data(), all.size()) == BITM_OK;
-    }
-
-    // The same text and samples: the same block.
-    template <class Other> friend bool operator==(const text_calls &a, const text_calls<Other> &b) noexcept
-    {
-        const words_in x = a.block(), y = b.block();
-        return x.size() == y.size() && (x.empty() || std::memcmp(x.data(), y.data(), 8 * x.size()) == 0);
-    }
-    template <class Other> friend bool operator!=(const text_calls &a, const text_calls<Other> &b) noexcept
-    {
-        return !(a == b);
-    }
-
-protected:
-    text_calls() noexcept = default;
-    ~text_calls() = default;
-    text_calls(const text_calls &) noexcept = default;
-    text_calls &operator=(const text_calls &) noexcept = default;
-
-private:
-    const Self &self() const noexcept { return static_cast<const Self &>(*this); }
+    bool check() const noexcept { return checked(bitm_text_check, block()); }
 };
 
 } // namespace detail
@@ -169,11 +133,9 @@ public:
     text_index_view() noexcept = default;
     static result<text_index_view> try_in(detail::kept<const std::uint64_t> file BITM_LIFETIMEBOUND) noexcept
     {
-        const result<detail::opened_text> found = detail::text_in(file.data(), file.size());
+        const auto found = detail::text_kind::in(file.data(), file.size());
         if (!found) return found.error();
-        text_index_view view;
-        view.raw_ = found->raw, view.block_ = words_in(file.data(), found->len);
-        return view;
+        return text_index_view(*found);
     }
     static text_index_view in(detail::kept<const std::uint64_t> file BITM_LIFETIMEBOUND)
     {
@@ -183,15 +145,15 @@ public:
 private:
     friend class text_index;
     friend class detail::text_calls<text_index_view>;
-    words_in block_of() const noexcept { return block_; }
+    explicit text_index_view(const detail::in_block<detail::text_kind> &found) noexcept : own_(found) {}
 
-    bitm_text raw_ = detail::empty_text();
-    words_in block_;
+    detail::in_block<detail::text_kind> own_;
 };
 
 // The index of a text that owns its block: of a text, or loaded or mapped from a file that save() or `bitm text build`
 // wrote.
-class BITM_OWNER text_index : public detail::text_calls<text_index>, public detail::stored_calls<text_index> {
+class BITM_OWNER text_index : public detail::text_calls<text_index>,
+                              public detail::stored_calls<text_index, detail::text_kind> {
 public:
     // Of no letters; of bytes; of numbers below `letters`, the size of the alphabet, of each of which a word is kept. A
     // position is kept each `step` letters: the fewer, the less memory, and the longer it takes to find a position or a
@@ -227,76 +189,20 @@ public:
         return opened(std::move(all), verify::no);
     }
 
-    // A copy; or all of another, which has no letters then; an exchange.
-    text_index(const text_index &other) : text_calls(), stored_calls()
-    {
-        if (other.used_)
-            *this = opened(detail::copied(other.block_.data(), 8 * other.used_).value(), verify::no).value();
-    }
-    text_index(text_index &&other) noexcept { swap(other); }
-    text_index &operator=(const text_index &other)
-    {
-        text_index copy(other);
-        swap(copy);
-        return *this;
-    }
-    text_index &operator=(text_index &&other) noexcept
-    {
-        text_index moved(std::move(other));
-        swap(moved);
-        return *this;
-    }
-    ~text_index() = default;
-    void swap(text_index &other) noexcept
-    {
-        block_.swap(other.block_), std::swap(used_, other.used_), std::swap(raw_, other.raw_);
-    }
-    friend void swap(text_index &a, text_index &b) noexcept { a.swap(b); }
-
     // A view, which the owner has to outlive; the block, and all of it as C takes it. Deleted for temporaries.
-    text_index_view view() const &noexcept BITM_LIFETIMEBOUND
-    {
-        text_index_view view;
-        view.raw_ = raw_, view.block_ = block_of();
-        return view;
-    }
-    words_in block() const &noexcept BITM_LIFETIMEBOUND { return block_of(); }
-    const bitm_text &raw() const &noexcept BITM_LIFETIMEBOUND { return raw_; }
+    text_index_view view() const &noexcept BITM_LIFETIMEBOUND { return text_index_view(own_.found()); }
+    words_in block() const &noexcept BITM_LIFETIMEBOUND { return own_.words(); }
+    const bitm_text &raw() const &noexcept BITM_LIFETIMEBOUND { return own_.raw(); }
     void view() const && = delete;
     void block() const && = delete;
     void raw() const && = delete;
 
 private:
     friend class detail::text_calls<text_index>;
-    friend class detail::stored_calls<text_index>;
-    words_in block_of() const noexcept { return {block_.data(), used_}; }
     static std::uint32_t *halves_of(detail::block &scratch) noexcept
     {
         return reinterpret_cast<std::uint32_t *>(scratch.data());
     }
-    static std::size_t needed(const std::uint64_t *file, std::size_t have) noexcept
-    {
-        return detail::block_len(file, have);
-    }
-    static result<std::size_t> size_of(const std::uint64_t *file, std::size_t words) noexcept
-    {
-        const result<detail::opened_text> found = detail::text_in(file, words);
-        if (!found) return found.error();
-        return found->len;
-    }
-    static result<text_index> opened(detail::block &&all, verify how) noexcept
-    {
-        const result<detail::opened_text> found = detail::text_in(all.data(), all.size());
-        if (!found) return found.error();
-        text_index made;
-        made.block_.swap(all), made.used_ = found->len, made.raw_ = found->raw;
-        if (how == verify::yes && !made.check()) return failure{errc::wrong};
-        return made;
-    }
-
-    detail::block block_;
-    std::size_t used_ = 0;
-    bitm_text raw_ = detail::empty_text();
 };
 
 BITM_NAMESPACE_END

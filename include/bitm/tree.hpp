@@ -49,35 +49,23 @@ namespace detail {
 
 // The words of a tree of no nodes: what an owner or a view that was default constructed queries.
 inline constexpr std::uint64_t no_nodes[1] = {0};
-inline bitm_tree empty_tree() noexcept
-{
-    bitm_tree raw{};
-    raw.words = raw.upper = raw.lower = no_nodes;
-    raw.words_len = raw.upper_len = raw.lower_len = 1;
-    return raw;
-}
-
-// The tree whose block begins these words, and how many words the block has.
-struct opened_tree {
-    bitm_tree raw{};
-    std::size_t len = 0;
+struct tree_kind : block_kind<tree_kind, bitm_tree, bitm_tree_open> {
+    static bitm_tree none() noexcept
+    {
+        bitm_tree raw{};
+        raw.words = raw.upper = raw.lower = no_nodes;
+        raw.words_len = raw.upper_len = raw.lower_len = 1;
+        return raw;
+    }
 };
-inline result<opened_tree> tree_in(const std::uint64_t *file, std::size_t words) noexcept
-{
-    opened_tree found;
-    found.len = block_len(file, words);
-    if (found.len == 0 || found.len > words || bitm_tree_open(file, found.len, &found.raw) != BITM_OK)
-        return failure{errc::wrong_file};
-    return found;
-}
 
-template <class Self> class tree_calls {
+template <class Self> class tree_calls : public block_calls<Self, tree_kind> {
 public:
     // How many nodes there are, and whether there are none; all of it as C takes it, and the block.
     std::uint64_t size() const noexcept { return raw().len; }
     bool empty() const noexcept { return size() == 0; }
-    const bitm_tree &raw() const noexcept BITM_LIFETIMEBOUND { return self().raw_; }
-    words_in block() const noexcept BITM_LIFETIMEBOUND { return self().block_of(); }
+    const bitm_tree &raw() const noexcept BITM_LIFETIMEBOUND { return this->self().own_.raw(); }
+    words_in block() const noexcept BITM_LIFETIMEBOUND { return this->self().own_.words(); }
 
     // The parent of a node; none at the root and where there is no such node.
     maybe_position parent(std::uint64_t node) const { return ask(bitm_tree_parent, node); }
@@ -150,34 +138,10 @@ public:
     }
 
     // Whether the block is as it was written and holds a tree: looks at all of it, three times.
-    bool check() const noexcept
-    {
-        const words_in all = block();
-        return all.empty() || bitm_tree_check(all.data(), all.size()) == BITM_OK;
-    }
-
-    // The same tree: the same block.
-    template <class Other> friend bool operator==(const tree_calls &a, const tree_calls<Other> &b) noexcept
-    {
-        const words_in x = a.block(), y = b.block();
-        return x.size() == y.size() && (x.empty() || std::memcmp(x.data(), y.data(), 8 * x.size()) == 0);
-    }
-    template <class Other> friend bool operator!=(const tree_calls &a, const tree_calls<Other> &b) noexcept
-    {
-        return !(a == b);
-    }
-
-protected:
-    tree_calls() noexcept = default;
-    ~tree_calls() = default;
-    tree_calls(const tree_calls &) noexcept = default;
-    tree_calls &operator=(const tree_calls &) noexcept = default;
+    bool check() const noexcept { return checked(bitm_tree_check, block()); }
 
 private:
     using node_call = std::uint32_t (*)(const bitm_tree *, std::size_t, std::uint64_t *);
-    using list_call = std::uint32_t (*)(const bitm_tree *, const std::uint64_t *, std::size_t, std::uint64_t *,
-                                        std::size_t, bitm_list_counts *);
-    const Self &self() const noexcept { return static_cast<const Self &>(*this); }
     maybe_position ask(node_call call, std::uint64_t node) const
     {
         std::uint64_t out = 0;
@@ -190,12 +154,9 @@ private:
         const std::uint32_t status = call(&raw(), node, &out);
         return tried(status, out);
     }
-    void list(list_call call, words_in nodes, words_out out) const
+    template <class Call> void list(Call call, words_in queries, words_out out) const
     {
-        need_apart(nodes, out);
-        bitm_list_counts counts{};
-        const std::uint32_t status = call(&raw(), nodes.data(), nodes.size(), out.data(), out.size(), &counts);
-        need_list(status, counts);
+        answer_list(call, queries, out, &raw());
     }
 };
 
@@ -208,32 +169,29 @@ public:
     tree_view() noexcept = default;
     static result<tree_view> try_in(detail::kept<const std::uint64_t> file BITM_LIFETIMEBOUND) noexcept
     {
-        const result<detail::opened_tree> found = detail::tree_in(file.data(), file.size());
+        const auto found = detail::tree_kind::in(file.data(), file.size());
         if (!found) return found.error();
-        tree_view view;
-        view.raw_ = found->raw, view.block_ = words_in(file.data(), found->len);
-        return view;
+        return tree_view(*found);
     }
     static tree_view in(detail::kept<const std::uint64_t> file BITM_LIFETIMEBOUND) { return try_in(file).value(); }
 
 private:
     friend class tree;
     friend class detail::tree_calls<tree_view>;
-    words_in block_of() const noexcept { return block_; }
+    explicit tree_view(const detail::in_block<detail::tree_kind> &found) noexcept : own_(found) {}
 
-    bitm_tree raw_ = detail::empty_tree();
-    words_in block_;
+    detail::in_block<detail::tree_kind> own_;
 };
 
 // A tree that owns its block, made from how many children each node has.
-class BITM_OWNER tree : public detail::tree_calls<tree>, public detail::stored_calls<tree> {
+class BITM_OWNER tree : public detail::tree_calls<tree>, public detail::stored_calls<tree, detail::tree_kind> {
 public:
     // Of no nodes; of the degrees of the nodes, as words, a list or iterators: fails where they are those of no tree.
     tree() noexcept = default;
     explicit tree(words_in degrees) : tree(try_of(degrees).value()) {}
     tree(std::initializer_list<std::uint64_t> degrees) : tree(words_in(degrees.begin(), degrees.size())) {}
     template <class It, class = typename std::iterator_traits<It>::iterator_category> tree(It first, It last)
-        : tree(gather(first, last))
+        : tree(detail::gathered::of(first, last))
     {
         static_assert(std::is_unsigned_v<typename std::iterator_traits<It>::value_type>, "numbers without a sign");
     }
@@ -248,79 +206,17 @@ public:
         return opened(std::move(all), verify::no);
     }
 
-    // A copy; or all of another, which has no nodes then; an exchange.
-    tree(const tree &other) : tree_calls(), stored_calls()
-    {
-        if (other.used_)
-            *this = opened(detail::copied(other.block_.data(), 8 * other.used_).value(), verify::no).value();
-    }
-    tree(tree &&other) noexcept { swap(other); }
-    tree &operator=(const tree &other)
-    {
-        tree copy(other);
-        swap(copy);
-        return *this;
-    }
-    tree &operator=(tree &&other) noexcept
-    {
-        tree moved(std::move(other));
-        swap(moved);
-        return *this;
-    }
-    ~tree() = default;
-    void swap(tree &other) noexcept
-    {
-        block_.swap(other.block_), std::swap(used_, other.used_), std::swap(raw_, other.raw_);
-    }
-    friend void swap(tree &a, tree &b) noexcept { a.swap(b); }
-
     // A view, which the owner has to outlive; the block, and all of it as C takes it. Deleted for temporaries.
-    tree_view view() const &noexcept BITM_LIFETIMEBOUND
-    {
-        tree_view view;
-        view.raw_ = raw_, view.block_ = block_of();
-        return view;
-    }
-    words_in block() const &noexcept BITM_LIFETIMEBOUND { return block_of(); }
-    const bitm_tree &raw() const &noexcept BITM_LIFETIMEBOUND { return raw_; }
+    tree_view view() const &noexcept BITM_LIFETIMEBOUND { return tree_view(own_.found()); }
+    words_in block() const &noexcept BITM_LIFETIMEBOUND { return own_.words(); }
+    const bitm_tree &raw() const &noexcept BITM_LIFETIMEBOUND { return own_.raw(); }
     void view() const && = delete;
     void block() const && = delete;
     void raw() const && = delete;
 
 private:
     friend class detail::tree_calls<tree>;
-    friend class detail::stored_calls<tree>;
     explicit tree(const detail::gathered &degrees) : tree(words_in(degrees.data(), degrees.size())) {}
-    template <class It> static detail::gathered gather(It first, It last)
-    {
-        detail::gathered degrees;
-        for (; first != last; ++first) degrees.push(*first);
-        return degrees;
-    }
-    words_in block_of() const noexcept { return {block_.data(), used_}; }
-    static std::size_t needed(const std::uint64_t *file, std::size_t have) noexcept
-    {
-        return detail::block_len(file, have);
-    }
-    static result<std::size_t> size_of(const std::uint64_t *file, std::size_t words) noexcept
-    {
-        const result<detail::opened_tree> found = detail::tree_in(file, words);
-        if (!found) return found.error();
-        return found->len;
-    }
-    static result<tree> opened(detail::block &&all, verify how) noexcept
-    {
-        const result<detail::opened_tree> found = detail::tree_in(all.data(), all.size());
-        if (!found) return found.error();
-        tree made;
-        made.block_.swap(all), made.used_ = found->len, made.raw_ = found->raw;
-        if (how == verify::yes && !made.check()) return failure{errc::wrong};
-        return made;
-    }
-
-    detail::block block_;
-    std::size_t used_ = 0;
-    bitm_tree raw_ = detail::empty_tree();
 };
 
 BITM_NAMESPACE_END

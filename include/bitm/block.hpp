@@ -1,0 +1,151 @@
+// Structures in blocks of memory, of an owner or in memory of the caller's: how one is found in a block, copied and
+// compared. Part of the other headers.
+//
+//     const bitm::tree t{2, 0, 1, 0};
+//     const bitm::tree copy = t;                                       // has a block of its own
+//     const std::vector<std::uint64_t> file(t.block().begin(), t.block().end());
+//     const bitm::tree_view v = bitm::tree_view::in(file);             // reads the block where it lies
+//     std::cout << (copy == t) << ' ' << (v == t) << '\n';              // 1 1
+#ifndef BITM_BLOCK_HPP
+#define BITM_BLOCK_HPP
+
+#include <bitm/memory.hpp>
+
+BITM_NAMESPACE_BEGIN
+
+namespace detail {
+
+// The number of words of a file that its header gives.
+inline std::size_t needed_of(const std::uint64_t *file, std::size_t) noexcept
+{
+    bitm_stored header;
+    std::memcpy(&header, file, sizeof header);
+    return static_cast<std::size_t>(header.size / 8);
+}
+
+// The header of a file of some kind.
+inline result<bitm_stored> header_of(const std::uint64_t *file, std::size_t words, std::uint64_t kind) noexcept
+{
+    bitm_stored header;
+    if (words < sizeof header / 8 || bitm_stored_read(file, words, &header) != BITM_OK || header.kind != kind)
+        return failure{errc::wrong_file};
+    return header;
+}
+
+// How many words a structure in a block has, by the first words of its header: 0 where they are not those of a block.
+constexpr std::size_t block_head = 3;
+constexpr std::uint64_t block_mark = 0x036261746D746962; // "bitmtab" and the version
+inline std::size_t block_len(const std::uint64_t *file, std::size_t words) noexcept
+{
+    return words < block_head || file[0] != block_mark ? 0 : static_cast<std::size_t>(file[2] / 8);
+}
+
+// A structure in a block: as C takes it, and the words that are its own. `Kind` finds it by `in(words, len)`, and has
+// what an owner or a view that was default constructed queries.
+template <class Kind> class in_block {
+public:
+    using raw_type = typename Kind::raw_type;
+    in_block() noexcept = default;
+    in_block(const raw_type &raw, words_in words) noexcept : raw_(raw), words_(words) {}
+    const raw_type &raw() const noexcept BITM_LIFETIMEBOUND { return raw_; }
+    words_in words() const noexcept { return words_; }
+
+private:
+    raw_type raw_ = Kind::none();
+    words_in words_;
+};
+
+// A block with the structure in it: a copy copies the block, and what was moved from has none.
+template <class Kind> class owned {
+public:
+    owned() noexcept = default;
+    owned(block &&all, const in_block<Kind> &found) noexcept : all_(std::move(all)), found_(found) {}
+    owned(const owned &other) : all_(other.words().size())
+    {
+        if (other.words().empty()) return;
+        std::memcpy(all_.data(), other.words().data(), 8 * all_.size());
+        found_ = Kind::in(all_.data(), all_.size()).value();
+    }
+    owned(owned &&other) noexcept { swap(other); }
+    owned &operator=(const owned &other) { return *this = owned(other); }
+    owned &operator=(owned &&other) noexcept
+    {
+        owned moved(std::move(other));
+        swap(moved);
+        return *this;
+    }
+    ~owned() = default;
+    void swap(owned &other) noexcept { all_.swap(other.all_), std::swap(found_, other.found_); }
+    const in_block<Kind> &found() const noexcept BITM_LIFETIMEBOUND { return found_; }
+    const typename Kind::raw_type &raw() const noexcept BITM_LIFETIMEBOUND { return found_.raw(); }
+    words_in words() const noexcept BITM_LIFETIMEBOUND { return found_.words(); }
+
+private:
+    block all_;
+    in_block<Kind> found_;
+};
+
+// What the kinds have in common whose blocks begin with the mark of blocks: `Open` is the call of C that opens one.
+template <class Kind, class Raw, std::uint32_t (*Open)(const std::uint64_t *, std::size_t, Raw *)> struct block_kind {
+    using raw_type = Raw;
+    static Raw none() noexcept { return {}; }
+    static std::size_t needed(const std::uint64_t *file, std::size_t have) noexcept { return block_len(file, have); }
+    static result<in_block<Kind>> in(const std::uint64_t *file, std::size_t words) noexcept
+    {
+        Raw raw{};
+        const std::size_t len = block_len(file, words);
+        if (len == 0 || len > words || Open(file, len, &raw) != BITM_OK) return failure{errc::wrong_file};
+        return in_block<Kind>(raw, {file, len});
+    }
+};
+
+// The same of those whose files begin with a header of theirs, of the sort `Stored`: `Kind::of` finds the parts.
+template <class Kind, class Raw, std::uint64_t Stored> struct stored_kind {
+    using raw_type = Raw;
+    static Raw none() noexcept { return {}; }
+    static std::size_t needed(const std::uint64_t *file, std::size_t have) noexcept { return needed_of(file, have); }
+    static result<in_block<Kind>> in(const std::uint64_t *file, std::size_t words) noexcept
+    {
+        const result<bitm_stored> header = header_of(file, words, Stored);
+        if (!header) return header.error();
+        return in_block<Kind>(Kind::of(file, *header), {file, static_cast<std::size_t>(header->size / 8)});
+    }
+};
+
+// Whether the call of C that looks at all of a block passes it; and whether two are the same.
+inline bool checked(std::uint32_t (*check)(const std::uint64_t *, std::size_t), words_in all) noexcept
+{
+    return all.empty() || check(all.data(), all.size()) == BITM_OK;
+}
+inline bool same_words(words_in a, words_in b) noexcept
+{
+    return a.size() == b.size() && (a.empty() || std::memcmp(a.data(), b.data(), 8 * a.size()) == 0);
+}
+
+// The base of the calls that the owner of a block and a view of one share.
+template <class Self, class Kind> class block_calls {
+public:
+    // The same structure: the same block.
+    template <class Other> friend bool operator==(const block_calls &a, const block_calls<Other, Kind> &b) noexcept
+    {
+        return same_words(a.self().block(), static_cast<const Other &>(b).block());
+    }
+    template <class Other> friend bool operator!=(const block_calls &a, const block_calls<Other, Kind> &b) noexcept
+    {
+        return !(a == b);
+    }
+
+protected:
+    block_calls() noexcept = default;
+    ~block_calls() = default;
+    block_calls(const block_calls &) noexcept = default;
+    block_calls &operator=(const block_calls &) noexcept = default;
+
+    const Self &self() const noexcept { return static_cast<const Self &>(*this); }
+};
+
+} // namespace detail
+
+BITM_NAMESPACE_END
+
+#endif
