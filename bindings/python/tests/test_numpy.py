@@ -176,6 +176,7 @@ def test_the_interpreter_goes_on_in_each_list_and_build(tmp_path):
     asked = numpy.arange(1 << 18) % 1000
     text, keys, hashed = "01" * (1 << 20), numpy.arange(1 << 16), PerfectHash(numpy.arange(1 << 16))
     rising, words = numpy.sort(asked), bytes(1 << 23)
+    large, hash_of_many = Index(words), PerfectHash(numpy.arange(1 << 22))  # a check of few bits ends before a thread wakes
     shards = bitm.Shards.build([index, index], tmp_path)
     assert shards.rank(1 << 20) and shards.rank(5)
     many = [lambda: index.rank_list(asked), lambda: index.rank0_list(asked), lambda: index.select_list(asked, missing=0),
@@ -183,7 +184,8 @@ def test_the_interpreter_goes_on_in_each_list_and_build(tmp_path):
             lambda: sequence.last_at_most_list(asked, missing=0), lambda: sequence.contains_list(asked), lambda: hashed.get_list(keys),
             lambda: BitVector.from_indices(asked), lambda: BitVector.from_bits(text), lambda: BitVector.from_words(words),
             lambda: EliasFano(rising), lambda: Index(words), lambda: PerfectHash(keys), sequence.to_numpy,
-            lambda: sequence.intersection(sequence), lambda: sequence.union(sequence), sequence.check, index.check, hashed.check,
+            lambda: sequence.intersection(sequence), lambda: sequence.union(sequence), sequence.check, large.check,
+            hash_of_many.check,
             lambda: shards.rank_list(asked), lambda: shards.select_list(asked, missing=0)]
     assert [at for at, call in enumerate(many) if not gives_way(call, 200)] == []
 
