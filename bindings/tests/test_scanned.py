@@ -1,5 +1,5 @@
 """Indexes of texts that are built in C beside one scan of each text: how often patterns stand in it, and where. With LARGE=1 a
-million patterns each, and texts of 2^30 letters, which take 10 GB and up to 20 minutes."""
+million patterns each, and texts of 2^30 letters, which take 10 GB and 20 minutes of a processor each."""
 import pathlib
 import shutil
 
@@ -41,4 +41,4 @@ def test_file(name, program, tmp_path):
 def test_drawn(name, program, tmp_path):
     if name == "sentences" and not WORDS.is_file():
         pytest.skip(f"no {WORDS}")
-    bash(f"timeout 1200 {program} {PATTERNS} {DRAWN[name]}", tmp_path)
+    bash(f"timeout 3600 {program} {PATTERNS} {DRAWN[name]}", tmp_path)
