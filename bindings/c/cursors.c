@@ -56,7 +56,7 @@ static void stands(const struct bitm_cursor *cursor, const struct list *list)
     MUST(cursor->position == (cursor->number >> list->made.width) + list->at);
 }
 
-/* Cursors at the first numbers of so many sequences. */
+/* Cursors at the first numbers of the given number of sequences. */
 static struct bitm_cursor *started(size_t n)
 {
     struct bitm_cursor *cursors = ends_at_the_guard(&of_cursors, n * sizeof *cursors);

@@ -51,7 +51,7 @@ static inline struct bitm_list_counts *counts_at_the_guard(void)
         MUST(status == BITM_OK || *out == UNTOUCHED);                                                                  \
     } while (0)
 
-/* Runs the tests on either side, with so many bytes for each array at most. */
+/* Runs the tests on either side; an array has at most the given number of bytes. */
 static inline void on_either_side(size_t room, void (*tests)(void))
 {
     for (unsigned place = 0; place < PLACES; place++) places[place] = guard(room);

@@ -23,7 +23,7 @@ export class InBlock {
     #kind;
     #block;
 
-    /** Of a copy, or of so many words, which fill(at) writes. They are freed once the owner is garbage. */
+    /** Of a copy, or of a number of words, which fill(at) writes. They are freed once the owner is garbage. */
     constructor(kind, owner, from, fill = () => {}) {
         const block = from instanceof Copied ? from.block : new Block(BEFORE + 8 * from);
         this.#kind = kind;

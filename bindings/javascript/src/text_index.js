@@ -37,7 +37,7 @@ function withPattern(pattern, isOfBytes, names, body) {
     });
 }
 
-/** A block of so many words, which fill(at) writes. */
+/** A block of the given number of words, which fill(at) writes. */
 class Made {
     constructor(words, fill) {
         this.words = words;

@@ -93,7 +93,7 @@ test("what is not built", () => {
     const gone = new Uint8Array(4);
     structuredClone(gone.buffer, { transfer: [gone.buffer] });
     assert.throws(() => TextIndex.of(gone), TypeError);
-    assert.throws(() => TextIndex.ofLetters([0], 2 ** 32 - 1), RangeError, "no memory for so many letters");
+    assert.throws(() => TextIndex.ofLetters([0], 2 ** 32 - 1), RangeError, "no memory for that many letters");
     assert.throws(() => new TextIndex({ words: 9, fill: () => {} }), TypeError);
     assert.equal(bitm.memoryUse().used, before);
 });
