@@ -38,6 +38,7 @@ pub use bitm_bits::{
     init_bits25, init_bits57, laws, n_lowest_bits, n_lowest_bits_0_64, n_lowest_bits_1_64,
     set_bits25, set_bits57, words,
 };
+pub use bitm_many::lists::{rank_many_on, select_many_on, total_select_many_on};
 pub use bitm_select::answer::Answer;
 pub use bitm_select::entry::complement_entry;
 pub use bitm_select::levels::{
@@ -45,7 +46,6 @@ pub use bitm_select::levels::{
     U64_PER_L1_ENTRY, U64_PER_L2_ENTRY, U64_PER_L2_RECORDS,
 };
 pub use bitm_select::quarters::{bit_and_rank_by_quarters_on, make_quarters, rank_by_quarters_on};
-pub use bitm_select::search::many::{rank_many_on, select_many_on, total_select_many_on};
 pub use bitm_select::search::ranking::{bit_and_rank_on, bit_on, rank_on, total_rank_on};
 pub use bitm_select::search::selected::{NO_ANSWER, WRONG_TABLES};
 pub use bitm_select::search::selecting::{binary_select_on, total_select_on};

@@ -1,7 +1,7 @@
 -- Answers of a group that is written at once, after those that stand.
 use Rattle.std.proofs.Common.{◌≡◌, ℕ, ◌+◌, ◌-◌, ◌<◌, ◌≤◌, List, length, take, drop, slice_index, inl, inr, sym, ap, ◌∙◌, subst, arith}
 use Rattle.std.proofs.lemmas.Bool.{cases_lt}
-use Rattle.bitm_select.proofs.lemmas.ManyLemmas.{part_item, put_below, put_inside}
+use Rattle.bitm_many.proofs.lemmas.ManyLemmas.{part_item, put_below, put_inside}
 use borrow.Rule.Slice.PartMut.{put_mid}
 
 -- the same of two lists that are asked side by side

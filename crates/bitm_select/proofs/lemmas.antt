@@ -1,10 +1,7 @@
-pub mod HalfLemmas
-pub mod ManyLemmas
 pub mod MarkLemmas
 pub mod RecordLemmas
 pub mod SearchLemmas
 pub mod SelectedLemmas
-pub mod SideLemmas
 pub mod SoughtLemmas
 pub mod ToldLemmas
 pub use Rattle.bitm_tables.proofs.lemmas.EntryLemmas

@@ -1,5 +1,4 @@
 pub mod Answers
-pub mod Many
 pub mod Search
 pub mod Told
 pub use Rattle.bit_lists.specs.Bits

@@ -7,7 +7,7 @@ use Rattle.bitm_tables.specs.Entry.{before_in_part, lower_entry}
 pub use Rattle.bitm_tables.specs.Entry.{entries_from, negation, padded_bits}
 use Rattle.bitm_tables.specs.Tables.{HasTables, Lists}
 use Rattle.bitm_select.specs.Told.{told_entry}
-use Rattle.bitm_select.specs.declared.search.entries.EntryRange.{EntryRange}
+use Rattle.bitm_select.specs.declared.search.entry_range.EntryRange.{EntryRange}
 
 -- the bits of which 1 bits are sought: the padded bits, all negated where v is false, so that a missing bit of the last
 -- entry counts as a 0 bit

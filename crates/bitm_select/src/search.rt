@@ -1,10 +1,7 @@
 //! Rank and selection over a source of words and tables, each with a bound on its reads.
 
 pub mod entries;
-pub mod loaded;
-pub mod many;
-pub mod query;
-pub mod ranks;
+pub mod entry_range;
 pub mod record;
 pub mod selected;
 pub mod selecting;

@@ -6,7 +6,7 @@ pub use Rattle.bit_lists.specs.Count
 pub use Rattle.bitm.specs.Density
 pub use Rattle.bitm_select.specs.Answers
 pub use Rattle.bitm_select.specs.Entry
-pub use Rattle.bitm_select.specs.Many
+pub use Rattle.bitm_many.specs.Many
 pub use Rattle.bitm_select.specs.Reads
 pub use Rattle.bitm_select.specs.Search
 pub use Rattle.bitm_select.specs.Tables

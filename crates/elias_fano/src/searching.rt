@@ -16,8 +16,7 @@ ghost use Rattle.elias_fano.specs.Told.{IfPlace, PartsAt, TellsBelow, TellsLess,
 
 use crate::low::LowDigits;
 use bitm::{Answer, TableSource, n_lowest_bits, total_select_on};
-use bitm_select::search::many::ByTables;
-use bitm_select::search::selecting::search_on;
+use bitm_select::search::selecting::{ByTables, search_on};
 
 /// The number whose part above its low bits is `above`: the low bits are fragment `at`.
 ///

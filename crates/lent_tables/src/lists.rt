@@ -7,9 +7,9 @@ ghost use Rattle.bitm_select.specs.Reads.{OnlyReads};
 ghost use Rattle.bitm_select.specs.Tables.{HasSizes};
 
 use crate::lent::Lent;
-use bitm_select::search::many::{ByTables, FindsEntries, tell_many_on};
+use bitm_many::lists::{FindsEntries, tell_many_on};
 use bitm_select::search::selected::told;
-use bitm_select::search::selecting::total_select_on;
+use bitm_select::search::selecting::{ByTables, total_select_on};
 use bitm_select::source::{Probe, TableSource};
 
 /// The position with a rank, by the codes of lists. Not inlined: the loop that calls it where there are no words would

@@ -22,7 +22,8 @@ use bitm::samples::first_entry;
 use bitm_select::answer::Answer;
 use bitm_select::entry::{entries_of_part, ones_to_entry};
 use bitm_select::levels::L2_ENTRIES_PER_L1_ENTRY;
-use bitm_select::search::entries::{EntryRange, last_entry, last_in_range, sought_entry};
+use bitm_select::search::entries::{last_entry, sought_entry};
+use bitm_select::search::entry_range::{EntryRange, last_in_range};
 use bitm_select::search::selecting::search_on;
 use bitm_select::source::TableSource;
 

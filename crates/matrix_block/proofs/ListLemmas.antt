@@ -2,7 +2,7 @@
 use Rattle.std.proofs.Common.{rules, ◌≡◌, ℕ, ◌+◌, ◌-◌, ◌<◌, ◌≤◌, List, length, take, drop, slice_index, inl, inr, sym, ap, ◌∙◌, subst, arith}
 use Rattle.std.proofs.lemmas.Bool.{cases_lt}
 use Rattle.std.proofs.lemmas.List.{places}
-use Rattle.bitm_select.proofs.lemmas.ManyLemmas.{part_item, put_below, put_inside}
+use Rattle.bitm_many.proofs.lemmas.ManyLemmas.{part_item, put_below, put_inside}
 use borrow.Rule.Slice.PartMut.{put_mid}
 
 -- behind the part all is as it was

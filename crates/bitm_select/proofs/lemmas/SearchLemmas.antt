@@ -13,6 +13,10 @@ no_step r at step none = ap (λ (n : ℕ). at + n * step % 18446744073709551616)
 pub one_step : (r at step : ℕ) → r ≡ 1 → step ≤ 2 ^ 20 → at + r * step % 18446744073709551616 ≡ at + step
 one_step r at step one small = ap (λ (n : ℕ). at + n * step % 18446744073709551616) one ∙ omega (arith, small)
 
+-- a step of the search is over no more than half of a part
+pub step_few : (size : ℕ) → size < 21 → 2 ^ size ≤ 2 ^ 20
+step_few size h = let le : size ≤ 20 = omega (arith, h) in pow_mono le
+
 -- a power of two that is at most 2^21
 pub few_halvings : (k n : ℕ) → 2 ^ k ≤ n → n ≤ 2 ^ 21 → k ≤ 21
 few_halvings k n least few =

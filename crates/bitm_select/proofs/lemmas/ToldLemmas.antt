@@ -7,12 +7,9 @@ use Rattle.bit_lists.proofs.BitLaws.{counts_grow, ones_and_zeros}
 use Rattle.bit_lists.proofs.lemmas.BitsLemmas.{length-bits_of}
 use Rattle.std.proofs.lemmas.Bool.{cases_lt}
 use Rattle.bitm_tables.specs.Entry.{FieldsFit, greatest_entry, lower_entry, record_field, entries_from, less}
-use Rattle.bitm_select.specs.Answers.{IsSelectedFrom}
-use Rattle.bitm_select.specs.Many.{IsToldRecord}
 use Rattle.bitm_select.specs.Search.{entry_in, sought_bits, sought_in, IsLastEntry, IsLastFound}
 use Rattle.bitm_tables.specs.Tables.{HasSizes, HasTables, Lists}
 use Rattle.bitm_select.specs.Told.{count_from_word, told_entry, told_part, told_to, EntryTellsNone, IfAbsent, TellsNone}
-use Rattle.bitm_select.specs.declared.search.loaded.InRecord.{InRecord}
 use Rattle.bitm_tables.specs.declared.answer.Answer.{Answer}
 use Rattle.bitm_tables.specs.declared.answer.Answer.TheVariants.{Found, Absent, Wrong}
 use Rattle.bitm_tables.proofs.lemmas.EntryLemmas.{entry-fits, entry-complement}
@@ -67,7 +64,7 @@ last_found bit lists sized part r there found inside last told =
 -- ---- where Absent is answered
 
 -- what stands from a word on is what a count that begins there leaves
-from_word : (words : List ℕ) (v : Bool) (k r : ℕ) → count_of (bits_of words) v ≤ ones_before (sought_bits v (bits_of words)) (64 * k) + r
+pub from_word : (words : List ℕ) (v : Bool) (k r : ℕ) → count_of (bits_of words) v ≤ ones_before (sought_bits v (bits_of words)) (64 * k) + r
     → count_of (bits_of words) v - count_before (bits_of words) v (64 * k) ≤ r
 from_word words true k r le = omega (arith, le, ones_before-sought_bits (bits_of words) (64 * k))
 from_word words false k r le =
@@ -147,38 +144,3 @@ nothing_in [] [] (x ∷ ls) v r w u l = absurd (omega (arith, l))
 pub nothing_tells : (lists : Lists) (v : Bool) (r : ℕ) → HasSizes lists → length lists.upper ≡ 0 → TellsNone v lists r
 nothing_tells lists v r sized none =
     nothing_in lists.words lists.upper lists.lower v r (omega (arith, sized.upper_len, none)) none (omega (arith, sized.upper_len, sized.lower_len, none))
-
--- a record behind which no word stands tells none where what is left of the rank did not wrap and the
--- words have no more
-pub record_none : (lists : Lists) (v : Bool) (rank : ℕ) (at : InRecord) → HasSizes lists → IsToldRecord v lists rank at → rank < 2 ^ 64
-    → at.rest ≤ rank → (s : Answer ℕ) → IfAbsent s (length lists.words ≤ at.first + 8)
-    → IsSelectedFrom lists.words v at.first (ones_before (sought_bits v (bits_of lists.words)) (64 * at.first) + at.rest) s
-    → IfAbsent s (TellsNone v lists rank)
-record_none lists v rank at sized told fits within (Found p) last is = tt
-record_none lists v rank at sized told fits within Wrong last is = tt
-record_none lists v rank at sized told fits within Absent last is =
-    let e = told.entry in
-    let k = told.k in
-    let p = told.part in
-    let entry_is : length lists.lower - 1 ≡ e = omega (arith, sized.lower_len, told.inside, told.first, told.few, last) in
-    let part_is : length lists.upper - 1 ≡ p =
-    omega (arith, sized.upper_len, sized.lower_len, told.there, told.inside, told.from, told.to, told.first, told.few, last) in
-    let none : count_from_word lists v at.first ≤ at.rest = from_word lists.words v at.first at.rest is in
-    let first : at.first ≡ 32 * e + 8 * k = omega (arith, told.first) in
-    let after : count_from_word lists v (32 * e + 8 * k) ≤ at.rest = subst (λ (n : ℕ). count_from_word lists v n ≤ at.rest) first none in
-    let total : (told_part v lists p + told_to (told_entry v lists e) k) % 2 ^ 64 + count_from_word lists v (32 * e + 8 * k) ≤ rank =
-    omega (arith, after, told.total, within, fits) in
-    record {
-      k = k;
-      inside = told.few;
-      last = omega (arith, last, first, entry_is);
-      count =
-          subst
-          (λ (q : ℕ).
-          (told_part v lists q + told_to (told_entry v lists (length lists.lower - 1)) k) % 2 ^ 64
-          + count_from_word lists v (32 * (length lists.lower - 1) + 8 * k) ≤ rank)
-          (sym part_is)
-          (subst
-          (λ (a : ℕ). (told_part v lists p + told_to (told_entry v lists a) k) % 2 ^ 64 + count_from_word lists v (32 * a + 8 * k) ≤ rank)
-          (sym entry_is) total);
-    }

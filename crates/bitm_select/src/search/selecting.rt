@@ -14,7 +14,6 @@ ghost use Rattle.bitm_tables.specs.Entry.{less};
 ghost use Rattle.bitm_select.specs.Told.{told_part, IfAbsent, TellsNone};
 
 use crate::search::entries::last_entry;
-use crate::search::many::ByTables;
 use crate::search::record::{NOT_READ, in_packed};
 use crate::search::selected::found;
 use bitm_tables::answer::Answer;
@@ -45,6 +44,10 @@ pub trait FindsEntry<const BIT: u8, T: TableSource> {
             → ReadsAtMost (T.reads source.old) (T.reads source.new) 0 lowers_led 0 }
         ensures same { T.lists source.new ≡ T.lists source.old };
 }
+
+/// Finds entries by the two tables alone.
+#[derive(Clone, Copy)]
+pub struct ByTables;
 
 impl<const BIT: u8, T: TableSource> FindsEntry<BIT, T> for ByTables {
     ghost lowers = { 23 };

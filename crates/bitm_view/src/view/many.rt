@@ -7,8 +7,9 @@ ghost use Rattle.bitm_select.specs.Answers.{RanksTold, RankTold, SelectTold, Tol
 ghost use Rattle.bitm_select.specs.Reads.{OnlyReads};
 
 use crate::view::IndexView;
-use bitm_select::search::many::{ByTables, FindsEntries, total_rank_many_on};
+use bitm_many::lists::{FindsEntries, total_rank_many_on};
 use bitm_select::search::selected::{NO_ANSWER, WRONG_TABLES};
+use bitm_select::search::selecting::ByTables;
 use bitm_select::source::{Probe, TableSource};
 use lent_tables::{LentSamples, select_list_on};
 

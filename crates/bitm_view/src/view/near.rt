@@ -12,8 +12,7 @@ ghost use Rattle.bitm.specs.Answer.TheVariants.{Found, Absent, Wrong};
 
 use crate::view::IndexView;
 use bitm_select::answer::Answer;
-use bitm_select::search::many::ByTables;
-use bitm_select::search::selecting::FindsEntry;
+use bitm_select::search::selecting::{ByTables, FindsEntry};
 use bitm_select::source::{Probe, TableSource};
 use lent_tables::{ByGuess, is_one};
 

@@ -1,7 +1,7 @@
 -- The answers of a group follow those of the groups before.
 use Rattle.std.proofs.Common.{◌≡◌, ℕ, ◌+◌, ◌≤◌, ◌∙◌, length, slice_index, subst, arith}
 use Rattle.bitm_view.specs.Queries.{selected_by}
-use Rattle.bitm_select.proofs.lemmas.ManyLemmas.{part_long, put_long}
+use Rattle.bitm_many.proofs.lemmas.ManyLemmas.{part_long, put_long}
 use Rattle.bitm_block_c.specs.Matrix.{IsRank}
 use Rattle.bitm_block_c.proofs.RankListLemmas.{both_follow}
 use Rattle.bitm_block_c.proofs.matrix_lists.rank_each.Goals as goal

@@ -4,8 +4,7 @@ use Rattle.std.proofs.lemmas.Bool.{cases_lt}
 use Rattle.std.proofs.lemmas.Nat.{pow-add, pow_pos}
 use Rattle.bitm_tables.specs.Entry.{before_in_part, entries_from}
 use Rattle.bitm_select.specs.Search.{sought_in, Between}
-use Rattle.bitm_select.proofs.lemmas.ManyLemmas.{step_few}
-use Rattle.bitm_select.proofs.lemmas.SearchLemmas.{goes_over, goes_under, no_step, one_step}
+use Rattle.bitm_select.proofs.lemmas.SearchLemmas.{goes_over, goes_under, no_step, one_step, step_few}
 use Rattle.bitm_select.proofs.lemmas.SoughtLemmas.{low_is}
 use Rattle.bitm_select.proofs.search.entries.step.Goals as goal
 

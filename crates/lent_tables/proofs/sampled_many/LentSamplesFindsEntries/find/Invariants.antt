@@ -1,7 +1,7 @@
 use Rattle.std.proofs.Common.{◌≡◌, ℕ, ◌+◌, ◌*◌, ◌<◌, ◌≤◌, length, slice_index, slice_index_or}
 use Rattle.bit_lists.specs.Bits.{digit_count}
-use Rattle.bitm_select.specs.Many.{IsSearch}
-use Rattle.bitm_select.specs.declared.search.query.Query.{Query}
+use Rattle.bitm_many.specs.Many.{IsSearch}
+use Rattle.bitm_many.specs.declared.query.Query.{Query}
 use Rattle.lent_tables.proofs.sampled_many.LentSamplesFindsEntries.find.Given as goal
 
 -- the entries that were found, and the reads of each

@@ -2,7 +2,7 @@
 use Rattle.std.proofs.Common.{◌≡◌, ℕ, ◌+◌, ◌-◌, ◌<◌, ◌≤◌, ◌∙◌, length, slice_index, arith}
 use Rattle.bitm.specs.Answer.TheVariants.{Found}
 use Rattle.lent_levels.specs.Walk.{IsNumberAt}
-use Rattle.bitm_select.proofs.lemmas.ManyLemmas.{part_long, put_long}
+use Rattle.bitm_many.proofs.lemmas.ManyLemmas.{part_long, put_long}
 use Rattle.matrix_block.proofs.ListLemmas.{answers_follow_to, kept_from}
 use Rattle.matrix_block.proofs.matrix.MatrixView.get_list.Goals as goal
 use Rattle.matrix_block.proofs.matrix.MatrixView.get_list.Goals.{After-get_group-found}

@@ -1,0 +1,3 @@
+pub mod HalfLemmas
+pub mod ManyLemmas
+pub mod SideLemmas
