@@ -2,35 +2,18 @@
 -- `#[tactic(auto, using(bitm::proofs::BitLaws::counts_grow))]`.
 use Rattle.std.proofs.Common.{arith}
 use Rattle.bit_lists.specs.Count.{count_before}
-use Rattle.bit_lists.specs.Laws.{ReadAfterWrite, NegatedTwice, SwappedTwice, SwappedWithItself, DigitsBoundPowers}
-use Rattle.bit_lists.specs.Laws.{OnesAndZeros, OnesAndZerosOfContent, CountsGrow, CountAfterItem, NoneBeforeTheFirst}
-use Rattle.bit_lists.specs.Laws.{AtMostOnePicked, OnePickedForEachRank, NonePickedFromTheCountOn, RankOfPicked}
-use Rattle.bit_lists.specs.Laws.{PickedByRank, NextOneIsSelected, PlacesRise, PlacesArePicked, PlacesAreCounted}
-use Rattle.bit_lists.specs.Laws.{AllBitsCome, NoBitsCome, BitsComeFromTheFront, BitsComeFromTheBack, EachBitOnce}
-use Rattle.bit_lists.specs.StretchLaws.{ItemOfStretch, CountInStretch, PickedInStretch, PickedBetween, CountIsOfSame}
-use Rattle.bit_lists.specs.StretchLaws.{EqualItemsCount, EqualItemsCountForOne, CountsAgree}
-use Rattle.bit_lists.specs.StretchLaws.{BitsAreJoined, BitIsDigit, ItemAfterWrite}
-use Rattle.bit_lists.specs.WriteLaws.{BitsAreCounted, PlaceIsInside, WordIsItsBits, ZerosHaveNoOnes, ZerosAreCounted}
-use Rattle.bit_lists.specs.WriteLaws.{ZerosAreZero, NoItemsAreZero, LengthIsKept, OneBitIsSet, ItemIsWritten}
-use Rattle.bit_lists.specs.WriteLaws.{ItemBesideIsKept, NumberBesideIsKept, CountBeforeIsKept, OneMoreIsSet}
-use Rattle.bit_lists.specs.WriteLaws.{OneMoreIsCleared, LastOneIsSet}
-use Rattle.bit_lists.proofs.lemmas.BesideLemmas.{count_before-with_number, counts-cleared, counts-set}
-use Rattle.bit_lists.proofs.lemmas.BesideLemmas.{item-with_number_beside, item-zeros, number_at-none}
-use Rattle.bit_lists.proofs.lemmas.BesideLemmas.{number_at-with_number_beside, number_at-word, number_at-zeros}
-use Rattle.bit_lists.proofs.lemmas.BesideLemmas.{places-set, zeros-counted}
+use Rattle.bit_lists.specs.Laws.{ReadAfterWrite, NegatedTwice, SwappedTwice, SwappedWithItself, DigitsBoundPowers, OnesAndZeros, OnesAndZerosOfContent, CountsGrow, CountAfterItem, NoneBeforeTheFirst, AtMostOnePicked, OnePickedForEachRank, NonePickedFromTheCountOn, RankOfPicked, PickedByRank, NextOneIsSelected, PlacesRise, PlacesArePicked, PlacesAreCounted, AllBitsCome, NoBitsCome, BitsComeFromTheFront, BitsComeFromTheBack, EachBitOnce}
+use Rattle.bit_lists.specs.StretchLaws.{ItemOfStretch, CountInStretch, PickedInStretch, PickedBetween, CountIsOfSame, EqualItemsCount, EqualItemsCountForOne, CountsAgree, BitsAreJoined, BitIsDigit, ItemAfterWrite}
+use Rattle.bit_lists.specs.WriteLaws.{BitsAreCounted, PlaceIsInside, WordIsItsBits, ZerosHaveNoOnes, ZerosAreCounted, ZerosAreZero, NoItemsAreZero, LengthIsKept, OneBitIsSet, ItemIsWritten, ItemBesideIsKept, NumberBesideIsKept, CountBeforeIsKept, OneMoreIsSet, OneMoreIsCleared, LastOneIsSet}
+use Rattle.bit_lists.proofs.lemmas.BesideLemmas.{count_before-with_number, counts-cleared, counts-set, item-with_number_beside, item-zeros, number_at-none, number_at-with_number_beside, number_at-word, number_at-zeros, places-set, zeros-counted}
 use Rattle.bit_lists.proofs.lemmas.BitsLemmas.{item-bits_of, length-bits_of}
-use Rattle.bit_lists.proofs.lemmas.ComingLemmas.{bits_coming_all, bits_coming_first, bits_coming_last}
-use Rattle.bit_lists.proofs.lemmas.ComingLemmas.{bits_coming_none, bits_coming_parts}
-use Rattle.bit_lists.proofs.lemmas.CountLemmas.{count_before-le, count_before-none, count_before_more}
-use Rattle.bit_lists.proofs.lemmas.CountLemmas.{ones_before-add-zeros_before, ones_of-add-zeros_of}
-use Rattle.bit_lists.proofs.lemmas.CutLemmas.{item-stretch, cut_count, cut_pick, rank_between, same_items}
-use Rattle.bit_lists.proofs.lemmas.CutLemmas.{run_count, run_count_other, same_count, bits_of-append, written_alone}
+use Rattle.bit_lists.proofs.lemmas.ComingLemmas.{bits_coming_all, bits_coming_first, bits_coming_last, bits_coming_none, bits_coming_parts}
+use Rattle.bit_lists.proofs.lemmas.CountLemmas.{count_before-le, count_before-none, count_before_more, ones_before-add-zeros_before, ones_of-add-zeros_of}
+use Rattle.bit_lists.proofs.lemmas.CutLemmas.{item-stretch, cut_count, cut_pick, rank_between, same_items, run_count, run_count_other, same_count, bits_of-append, written_alone}
 use Rattle.bit_lists.proofs.lemmas.DigitLemmas.{digit_count-power}
 use Rattle.bit_lists.proofs.lemmas.FlipLemmas.{with_flips-with_flips}
-use Rattle.bit_lists.proofs.lemmas.NumberLemmas.{item-with_number_inside, length-with_number, number_at-with_number}
-use Rattle.bit_lists.proofs.lemmas.NumberLemmas.{with_number-one}
-use Rattle.bit_lists.proofs.lemmas.PickLemmas.{MatchesFirstOne-selected, Picks-places, Picks-rank, length-places}
-use Rattle.bit_lists.proofs.lemmas.PickLemmas.{none_picked, places-rise, same_from_Picks, some_picked}
+use Rattle.bit_lists.proofs.lemmas.NumberLemmas.{item-with_number_inside, length-with_number, number_at-with_number, with_number-one}
+use Rattle.bit_lists.proofs.lemmas.PickLemmas.{MatchesFirstOne-selected, Picks-places, Picks-rank, length-places, none_picked, places-rise, same_from_Picks, some_picked}
 use Rattle.bit_lists.proofs.lemmas.SwapLemmas.{with_swapped-itself, with_swapped-with_swapped}
 
 -- a number that was written, and fits its width, is the number that is read there

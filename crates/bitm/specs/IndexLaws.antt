@@ -2,8 +2,8 @@
 use Rattle.std.specs.Prelude.{◌≡◌, ℕ, ◌^◌, ◌<◌, Bool, List, count_ones}
 use Rattle.bit_lists.specs.Bits.{low_digits, IsShort}
 use Rattle.bit_lists.specs.Count.{ones_before}
-use Rattle.bitm_select.specs.Entry.{FieldsFit, lower_entry}
-use Rattle.bitm_select.specs.Tables.{HasSizes, HasTables, Lists}
+use Rattle.bitm_tables.specs.Entry.{FieldsFit, lower_entry}
+use Rattle.bitm_tables.specs.Tables.{HasSizes, HasTables, Lists}
 
 -- no field of an entry of a lower table exceeds its greatest value
 abbrev pub EntriesFit : Type 0

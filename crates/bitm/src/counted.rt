@@ -4,8 +4,8 @@ ghost use Rattle.bit_lists.specs.Count.{ones_before, zeros_before, ones_of, zero
 ghost use Rattle.bitm.specs.Counted.{one_more_rank, one_more_selection, no_queries};
 
 use crate::queries::{HasBits, Rank, Select, Select0};
-use bitm_select::source::Probe;
-use bitm_select::source::counts::ReadCounts;
+use bitm_tables::source::Probe;
+use bitm_tables::source::counts::ReadCounts;
 use std::marker::Model;
 
 /// A borrowed value, and how many ranks and selections were made in it. The counts take no bytes at run time.

@@ -5,17 +5,17 @@ ghost use Rattle.std.specs.Int.{div_ceil};
 ghost use Rattle.bit_lists.specs.Bits.{bits_of, IsShort};
 ghost use Rattle.bit_lists.specs.Count.{ones_of};
 ghost use Rattle.bitm_bits.specs.Size.{saturated_size};
-ghost use Rattle.bitm_select.specs.Reads.{none_read};
-ghost use Rattle.bitm_select.specs.Tables.{AreTablesOf, IsIndexed, upper_of, lower_of};
+ghost use Rattle.bitm_tables.specs.Reads.{none_read};
+ghost use Rattle.bitm_tables.specs.Tables.{AreTablesOf, IsIndexed, upper_of, lower_of};
 
 mod many;
 
 use crate::queries::{Access, HasBits, Rank, Select, Select0};
 use bitm_bits::{CloneWords, GetSize};
-use bitm_select::search::ranking::{bit_and_rank_on, bit_on, rank_on};
-use bitm_select::source::Probe;
-use bitm_select::tables::{self, Tables};
 use bitm_strategies::{BinaryRankSearch, Select0ForRank101111, SelectForRank101111};
+use bitm_tables::ranking::{bit_and_rank_on, bit_on, rank_on};
+use bitm_tables::source::Probe;
+use bitm_tables::tables::{self, Tables};
 use std::alloc::{AllocError, Global};
 use std::boxed::BoxedSlice;
 use std::convert::AsSlice;

@@ -32,30 +32,31 @@ pub mod ranges;
 pub mod samples;
 mod simple;
 
-pub use bitm_bits::{
-    BitAccess, BitAccessMut, BitBIterator, BitIterator, BitOnesIterator, BitVec, BitWriter,
-    BitZerosIterator, CloneWords, GetSize, bits_to_store, ceiling_div, get_bits25, get_bits57,
-    init_bits25, init_bits57, laws, n_lowest_bits, n_lowest_bits_0_64, n_lowest_bits_1_64,
-    set_bits25, set_bits57, words,
+pub use bit_lists::laws;
+pub use bit_words::{
+    BitBIterator, BitIterator, BitOnesIterator, BitZerosIterator, bits_to_store, ceiling_div,
+    get_bits25, get_bits57, init_bits25, init_bits57, n_lowest_bits, n_lowest_bits_0_64,
+    n_lowest_bits_1_64, set_bits25, set_bits57, words,
 };
+pub use bitm_bits::{BitAccess, BitAccessMut, BitVec, BitWriter, CloneWords, GetSize};
 pub use bitm_many::lists::{rank_many_on, select_many_on, total_select_many_on};
-pub use bitm_select::answer::Answer;
-pub use bitm_select::entry::complement_entry;
-pub use bitm_select::levels::{
-    BITS_PER_L1_ENTRY, BITS_PER_L2_ENTRY, BITS_PER_L2_RECORDS, L2_ENTRIES_PER_L1_ENTRY,
-    U64_PER_L1_ENTRY, U64_PER_L2_ENTRY, U64_PER_L2_RECORDS,
-};
-pub use bitm_select::quarters::{bit_and_rank_by_quarters_on, make_quarters, rank_by_quarters_on};
-pub use bitm_select::search::ranking::{bit_and_rank_on, bit_on, rank_on, total_rank_on};
 pub use bitm_select::search::selected::{NO_ANSWER, WRONG_TABLES};
 pub use bitm_select::search::selecting::{binary_select_on, total_select_on};
-pub use bitm_select::source::counts::ReadCounts;
-pub use bitm_select::source::{Probe, TableSource};
 pub use bitm_strategies::{
     AdaptiveCombinedSamplingDensity, BinaryRankSearch, CombinedSampling, CombinedSamplingDensity,
     ConstCombinedSamplingDensity, Select0ForRank101111, SelectForRank101111,
     optimal_combined_sampling,
 };
+pub use bitm_tables::answer::Answer;
+pub use bitm_tables::entry::complement_entry;
+pub use bitm_tables::levels::{
+    BITS_PER_L1_ENTRY, BITS_PER_L2_ENTRY, BITS_PER_L2_RECORDS, L2_ENTRIES_PER_L1_ENTRY,
+    U64_PER_L1_ENTRY, U64_PER_L2_ENTRY, U64_PER_L2_RECORDS,
+};
+pub use bitm_tables::quarters::{bit_and_rank_by_quarters_on, make_quarters, rank_by_quarters_on};
+pub use bitm_tables::ranking::{bit_and_rank_on, bit_on, rank_on, total_rank_on};
+pub use bitm_tables::source::counts::ReadCounts;
+pub use bitm_tables::source::{Probe, TableSource};
 pub use broadword::{byte_sums, bytes_at_most, select64};
 pub use index::{ArrayWithRank101111, RankSelect101111};
 pub use near::near_zero_on;

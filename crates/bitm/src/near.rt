@@ -2,11 +2,11 @@
 ghost use Rattle.std.specs.Prelude.{false, IfSome};
 ghost use Rattle.bit_lists.specs.Bits.{IsShort};
 ghost use Rattle.bit_lists.specs.Count.{IsFirstFrom};
-ghost use Rattle.bitm_select.specs.Reads.{OnlyReads};
-ghost use Rattle.bitm_select.specs.Tables.{bits_in};
+ghost use Rattle.bitm_tables.specs.Reads.{OnlyReads};
+ghost use Rattle.bitm_tables.specs.Tables.{bits_in};
 
-use bitm_bits::words;
-use bitm_select::source::TableSource;
+use bit_words::words;
+use bitm_tables::source::TableSource;
 
 /// The position of the first 0 bit from `from` on among `WORDS` words, of which the first has position `from`; `None`
 /// where these have no such bit.

@@ -1,8 +1,7 @@
 //! The queries of a value's bits: rank, access and selection.
 ghost use Rattle.std.specs.Prelude.{◌≡◌, ◌<◌, ◌≤◌, List, Bool, length, SomeIff, true, false};
 ghost use Rattle.bit_lists.specs.Bits.{item};
-ghost use Rattle.bit_lists.specs.Count.{ones_before, zeros_before, ones_of, zeros_of};
-ghost use Rattle.bit_lists.specs.Count.{IsRank, IsRank0, IsSelect, Picks};
+ghost use Rattle.bit_lists.specs.Count.{ones_before, zeros_before, ones_of, zeros_of, IsRank, IsRank0, IsSelect, Picks};
 
 /// A value that rank and selection see as a list of bits.
 pub trait HasBits {

@@ -8,9 +8,10 @@ ghost use Rattle.bit_lists.specs.Count.{ones_before, ones_of, IsRank};
 ghost use Rattle.bitm.specs.Simple.{HasFewOnes, simple_table_of};
 
 use crate::queries::{Access, HasBits, Rank};
-use bitm_bits::{CloneWords, GetSize, words};
-use bitm_select::search::ranking::ones_of_words;
-use bitm_select::tables::ones_of_record;
+use bit_words::words;
+use bitm_bits::{CloneWords, GetSize};
+use bitm_tables::ranking::ones_of_words;
+use bitm_tables::tables::ones_of_record;
 use broadword::ones_through;
 use std::alloc::{AllocError, Global};
 use std::boxed::BoxedSlice;

@@ -1,10 +1,11 @@
 -- The number of a hash that is sought below some limit.
 use Rattle.std.proofs.Common.{◌≡◌, ℕ, ◌-◌, ◌^◌, ◌≤◌, List, min, subst, arith}
-use Rattle.bitm.proofs.Callers.{few_ones, length-bits_of}
-use Rattle.bitm.specs.Count.{ones_of}
-use Rattle.bitm.specs.Tables.{HasTables, Lists, bits_in}
-use Rattle.bitm.specs.Answer.{Answer}
-use Rattle.bitm.specs.Answer.TheVariants.{Found, Absent, Wrong}
+use Rattle.bit_lists.proofs.lemmas.CountLemmas.{few_ones}
+use Rattle.bit_lists.proofs.lemmas.BitsLemmas.{length-bits_of}
+use Rattle.bit_lists.specs.Count.{ones_of}
+use Rattle.bitm_tables.specs.Tables.{HasTables, Lists, bits_in}
+use Rattle.bitm_tables.specs.declared.answer.Answer.{Answer}
+use Rattle.bitm_tables.specs.declared.answer.Answer.TheVariants.{Found, Absent, Wrong}
 use Rattle.perfect_hash.specs.Asking.{IsBelow, IsNumbered}
 use Rattle.hash_levels.specs.Numbers.{number_by, AreSizes}
 use Rattle.bitm_abi.specs.Hash.{IsHashNumber}

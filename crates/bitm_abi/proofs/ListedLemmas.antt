@@ -2,8 +2,8 @@
 use Rattle.std.proofs.Common.{◌≡◌, ℕ, ◌↔◌, Bool, true, false, IsTrue, List, refl, sym, inl, arith}
 use Rattle.std.proofs.lemmas.Bool.{false≢true}
 use Rattle.std.specs.List.{Contains}
-use Rattle.elias_fano_view.specs.LentParts.{Holds, LentParts}
-use Rattle.elias_fano_view.specs.Told.{TellsLess}
+use Rattle.elias_fano.specs.LentParts.{Holds, LentParts}
+use Rattle.elias_fano.specs.Told.{TellsLess}
 use Rattle.bitm_abi.specs.Sequence.{IsContained}
 
 -- a truth is 0 or 1

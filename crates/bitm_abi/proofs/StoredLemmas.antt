@@ -1,7 +1,7 @@
 -- What the numbers of a header say of its parts.
 use Rattle.std.proofs.Common.{◌≡◌, ℕ, zero, suc, ◌+◌, ◌-◌, ◌*◌, ◌/◌, ◌^◌, ◌<◌, ◌≤◌, ◌⊎◌, sym, subst, ap, ◌∙◌, ◌↔◌, inl, inr, arith}
 use Rattle.std.proofs.Math.Nat.{div-le_self, mul-le-mul_left}
-use Rattle.bitm.specs.Density.{clamped_log}
+use Rattle.bitm_strategies.specs.Density.{clamped_log}
 use Rattle.bitm_view.specs.Block.{sample_room}
 use Rattle.bitm_abi.specs.Stored.{IsAlike, IsBounded, IsIndex, IsLaidOut, IsSequence, LiesWithin}
 use Rattle.bitm_abi.specs.declared.layout.Span.{Span}

@@ -1,7 +1,7 @@
 -- What the library answers is what the status and the number say.
 use Rattle.std.proofs.Common.{◌≡◌, ℕ, sym, subst}
 use Rattle.bitm_abi.specs.Status.{answer_of, Exported, IsReported}
-use Rattle.bitm.specs.Answer.{Answer}
+use Rattle.bitm_tables.specs.declared.answer.Answer.{Answer}
 
 -- P is what the library says of an answer over what is lent, which is what the view has
 pub told : {T L : Type 0} (P : L → Answer T → Type 0) (lent view : L) → lent ≡ view → (sized : Type 0) → sized

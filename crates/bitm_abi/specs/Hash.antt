@@ -1,8 +1,8 @@
 -- A perfect hash as C passes it, and the number of a hash.
 use Rattle.std.specs.Prelude.{ℕ, ◌≤◌, List}
-use Rattle.bitm.specs.Answer.{Answer}
-use Rattle.bitm.specs.Count.{ones_of}
-use Rattle.bitm.specs.Tables.{HasTables, Lists, bits_in}
+use Rattle.bitm_tables.specs.declared.answer.Answer.{Answer}
+use Rattle.bit_lists.specs.Count.{ones_of}
+use Rattle.bitm_tables.specs.Tables.{HasTables, Lists, bits_in}
 use Rattle.lent_tables.specs.Sizes.{lists_of}
 use Rattle.perfect_hash.specs.Asking.{IsBelow, IsNumbered}
 use Rattle.hash_levels.specs.Numbers.{number_by, AreSizes}

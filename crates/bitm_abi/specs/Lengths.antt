@@ -1,6 +1,6 @@
 -- Whether words of the caller have the bits that a call needs.
 use Rattle.std.specs.Prelude.{ℕ, ◌+◌, ◌*◌, ◌^◌, ◌<◌, ◌≤◌, List, length}
-use Rattle.bitm.specs.Bits.{IsShort}
+use Rattle.bit_lists.specs.Bits.{IsShort}
 
 -- the words have bits_len bits
 abbrev pub HasBits : List ℕ → ℕ → Type 0

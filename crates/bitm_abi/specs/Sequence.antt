@@ -1,14 +1,14 @@
 -- A sequence as C passes it, and items of lists of its answers.
 use Rattle.std.specs.Prelude.{◌≡◌, ℕ, ◌-◌, ◌^◌, ◌≤◌, ◌↔◌, ◌⊎◌, List}
 use Rattle.std.specs.List.{Contains}
-use Rattle.bitm.specs.Answer.{Answer}
-use Rattle.bitm.specs.Tables.{HasSizes}
+use Rattle.bitm_tables.specs.declared.answer.Answer.{Answer}
+use Rattle.bitm_tables.specs.Tables.{HasSizes}
 use Rattle.bitm_view.specs.Queries.{selected_by}
 use Rattle.lent_tables.specs.Sizes.{lists_of}
-use Rattle.elias_fano_view.specs.Answers.{IsLast, IsPlaceOf}
-use Rattle.elias_fano_view.specs.LentParts.{parts_of, HasLengths, LentParts, Holds}
+use Rattle.elias_fano.specs.Answers.{IsLast, IsPlaceOf}
+use Rattle.elias_fano.specs.LentParts.{parts_of, HasLengths, LentParts, Holds}
 use Rattle.elias_fano_view.specs.Lists.{written_count}
-use Rattle.elias_fano_view.specs.Told.{IfLast, TellsAtMost, TellsLess}
+use Rattle.elias_fano.specs.Told.{IfLast, TellsAtMost, TellsLess}
 use Rattle.elias_fano_view.specs.declared.lists.ListAnswer.{ListAnswer}
 use Rattle.elias_fano_view.specs.declared.lists.ListAnswer.TheVariants.{WrongLength}
 use Rattle.elias_fano_view.specs.declared.sizes.Sizes.{Sizes}

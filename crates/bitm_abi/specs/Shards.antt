@@ -1,16 +1,15 @@
 -- Shards as C passes them.
 use Rattle.std.specs.Prelude.{◌≡◌, ℕ, ◌+◌, List, Bool, Option, Some, None, All, length, map, zero, suc}
-use Rattle.bitm.specs.Answer.{Answer}
-use Rattle.bitm.specs.Answer.TheVariants.{Found, Absent, Wrong}
+use Rattle.bitm_tables.specs.declared.answer.Answer.{Answer}
+use Rattle.bitm_tables.specs.declared.answer.Answer.TheVariants.{Found, Absent, Wrong}
 use Rattle.bitm_view.specs.Cut.{bits_of_cut, IsSizedCut}
-use Rattle.bitm_view.specs.Tables.{HasTables}
+use Rattle.bitm_tables.specs.Tables.{HasTables}
 use Rattle.bitm_abi.specs.Index.{cut_of}
 use Rattle.bitm_abi.specs.declared.index.Index.{Index}
 use Rattle.bitm_abi.specs.declared.shards.Prefixes.{Prefixes}
 use Rattle.bitm_abi.specs.declared.shards.ShardPlace.{ShardPlace}
 use Rattle.bitm_abi.specs.declared.shards.Shards.{Shards}
-use Rattle.sharded_index.specs.Prefixes.{prefixes_of, ArePrefixes, HasLengths}
-use Rattle.sharded_index.specs.Prefixes.{Prefixes as Counts}
+use Rattle.sharded_index.specs.Prefixes.{prefixes_of, ArePrefixes, HasLengths, Prefixes as Counts}
 use Rattle.sharded_index.specs.declared.counts.Kind.{Kind}
 use Rattle.sharded_index.specs.declared.counts.Kind.TheVariants.{Positions, Zeros, Ones}
 use Rattle.sharded_index.specs.declared.counts.Place.{Place}

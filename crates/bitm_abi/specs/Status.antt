@@ -1,7 +1,7 @@
 -- What the exported calls answer: a status, and a number written where the caller says.
 use Rattle.std.specs.Prelude.{◌≡◌, ◌≢◌, ℕ, ◌⊎◌, if◌then◌else◌, nat_eq}
-use Rattle.bitm.specs.Answer.{Answer}
-use Rattle.bitm.specs.Answer.TheVariants.{Found, Absent, Wrong}
+use Rattle.bitm_tables.specs.declared.answer.Answer.{Answer}
+use Rattle.bitm_tables.specs.declared.answer.Answer.TheVariants.{Found, Absent, Wrong}
 
 -- A status is 0 where the answer was written, 1 where there is no such position, bit or number, 2 where a length is
 -- wrong, and 3 where the tables are not those of the words, or the parts not those of a sequence.

@@ -2,7 +2,7 @@
 ghost use Rattle.std.specs.Prelude.{◌≡◌, if◌then◌else◌, MatchOption};
 ghost use Rattle.bitm_abi.specs.Status.{IsReported};
 
-use bitm_view::Answer;
+use bitm_tables::answer::Answer;
 
 /// The answer was written.
 pub const OK: u32 = 0;

@@ -3,7 +3,7 @@ ghost use Rattle.std.specs.Prelude.{◌≡◌, ◌≢◌, ◌↔◌, IsTrue};
 ghost use Rattle.bitm_abi.specs.Lists.{AreCounted};
 
 use crate::answer::{BAD_SIZE, OK};
-use bitm_view::{NO_ANSWER, WRONG_TABLES};
+use bitm_select::search::selected::{NO_ANSWER, WRONG_TABLES};
 
 /// The number of codes in a list of answers.
 #[repr(C)]

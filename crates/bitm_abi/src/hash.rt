@@ -1,11 +1,12 @@
 //! A perfect hash as C passes it, and the numbers of a list of hashes.
 ghost use Rattle.std.specs.Prelude.{◌≡◌, ℕ, ◌<◌, ◌≤◌, ◌↔◌, IsTrue, false, length, slice_index, SomeIff};
-ghost use Rattle.bitm.specs.Tables.{HasSizes};
+ghost use Rattle.bitm_tables.specs.Tables.{HasSizes};
 ghost use Rattle.bitm_view.specs.Queries.{ranked_by};
 ghost use Rattle.bitm_abi.specs.Hash.{hash_lists, IsHashNumber};
 
 use crate::index::Index;
-use bitm_view::{Answer, NO_ANSWER, WRONG_TABLES};
+use bitm_select::search::selected::{NO_ANSWER, WRONG_TABLES};
+use bitm_tables::answer::Answer;
 use lent_tables::Lent;
 use perfect_hash::total_number_on;
 

@@ -1,8 +1,7 @@
 //! Where each part of a stored index or sequence is in its file.
 ghost use Rattle.std.specs.Prelude.{◌≡◌, ◌+◌, ◌*◌, ◌^◌, ◌<◌, ◌≤◌, ◌↔◌, IsTrue};
 ghost use Rattle.bitm_view.specs.Block.{starts_of};
-ghost use Rattle.bitm_abi.specs.Stored.{checksum_of, mixed, span_from, span_mixed};
-ghost use Rattle.bitm_abi.specs.Stored.{IsAlike, IsBounded, IsLaidOut};
+ghost use Rattle.bitm_abi.specs.Stored.{checksum_of, mixed, span_from, span_mixed, IsAlike, IsBounded, IsLaidOut};
 
 use lent_tables::{lower_len, upper_len};
 

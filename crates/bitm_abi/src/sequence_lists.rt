@@ -2,7 +2,8 @@
 ghost use Rattle.std.specs.Prelude.{◌≡◌, ◌<◌, ◌↔◌, ℕ, IsTrue, false, length, slice_index};
 ghost use Rattle.bitm_abi.specs.Sequence.{sought_by, IsContained, IsPredecessor};
 
-use bitm_view::{Answer, NO_ANSWER, WRONG_TABLES};
+use bitm_select::search::selected::{NO_ANSWER, WRONG_TABLES};
+use bitm_tables::answer::Answer;
 use elias_fano_view::LentSequence;
 
 /// Writes the predecessor of each value. Returns false, and writes nothing, exactly where `out` is not as long as

@@ -1,7 +1,7 @@
 -- A node that is found, a degree, a rank, an index and a position is no code.
 use Rattle.std.proofs.Common.{ℕ, ◌-◌, ◌^◌, ◌<◌, arith, mul-le-mul_right}
-use Rattle.bitm.specs.Answer.{Answer}
-use Rattle.bitm.specs.Answer.TheVariants.{Found, Absent, Wrong}
+use Rattle.bitm_tables.specs.declared.answer.Answer.{Answer}
+use Rattle.bitm_tables.specs.declared.answer.Answer.TheVariants.{Found, Absent, Wrong}
 use Rattle.louds_block.specs.Answers.{IsChildWithin, IsDegreeWithin, IsParentWithin}
 use Rattle.elias_fano.specs.Answers.{IsPlaceOf}
 use Rattle.lent_levels.specs.Answers.{IsIndexWithin, IsRankWithin}

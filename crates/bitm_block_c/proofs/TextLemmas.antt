@@ -2,8 +2,8 @@
 -- letter is one.
 use Rattle.std.proofs.Common.{◌≡◌, ℕ, ◌⊎◌, ◌<◌, ◌≤◌, List, length, inl, inr, refl, sym, subst, arith}
 use Rattle.std.specs.Prelude.{⊤, Option, Some, None}
-use Rattle.bitm.specs.Answer.{Answer}
-use Rattle.bitm.specs.Answer.TheVariants.{Found}
+use Rattle.bitm_tables.specs.declared.answer.Answer.{Answer}
+use Rattle.bitm_tables.specs.declared.answer.Answer.TheVariants.{Found}
 use Rattle.bitm_abi.specs.Status.{answer_of, Exported, IsReported}
 use Rattle.text_block.specs.Block.{TextParts}
 use Rattle.bitm_block_c.specs.Text.{IsPartIn}

@@ -1,6 +1,6 @@
 -- A perfect hash and a dictionary in a block as C passes them, and what the exported calls answer.
 use Rattle.std.specs.Prelude.{ℕ, List}
-use Rattle.bitm.specs.Answer.{Answer}
+use Rattle.bitm_tables.specs.declared.answer.Answer.{Answer}
 use Rattle.bitm_abi.specs.Hash.{hash_lists}
 use Rattle.bitm_abi.specs.Status.{Exported}
 use Rattle.bitm_abi.specs.declared.hash.Hash.{Hash}

@@ -1,12 +1,11 @@
 -- A matrix in a block as C passes it, and what the exported calls answer.
 use Rattle.std.specs.Prelude.{ℕ, ◌⊎◌, slice_range}
-use Rattle.bitm.specs.Answer.{Answer}
-use Rattle.bitm.specs.Answer.TheVariants.{Absent, Wrong}
+use Rattle.bitm_tables.specs.declared.answer.Answer.{Answer}
+use Rattle.bitm_tables.specs.declared.answer.Answer.TheVariants.{Absent, Wrong}
 use Rattle.bitm_abi.specs.Status.{Exported}
 use Rattle.lent_levels.specs.Answers.{IsIndexOf, IsIndexWithin}
 use Rattle.lent_levels.specs.Walk.{IsNumberAt, IsRankAt}
-use Rattle.lent_levels.specs.Ranges.{IsCountOf, IsCountWithin, IsNextOf, IsNextWithin, IsPreviousOf, IsPreviousWithin}
-use Rattle.lent_levels.specs.Ranges.{IsSmallestOf, IsSmallestWithin}
+use Rattle.lent_levels.specs.Ranges.{IsCountOf, IsCountWithin, IsNextOf, IsNextWithin, IsPreviousOf, IsPreviousWithin, IsSmallestOf, IsSmallestWithin}
 use Rattle.lent_levels.specs.Levels.{levels_of}
 use Rattle.matrix_block.specs.Block.{items_in, parts_of, HasLengths, HoldsMatrix, MatrixParts}
 use Rattle.matrix_levels.specs.Numbers.{count_less}

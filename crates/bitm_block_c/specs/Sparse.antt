@@ -1,6 +1,6 @@
 -- Sparse bits in a block as C passes them, and what the exported calls answer.
 use Rattle.std.specs.Prelude.{ℕ, ◌+◌, Bool, List, min}
-use Rattle.bitm.specs.Answer.{Answer}
+use Rattle.bitm_tables.specs.declared.answer.Answer.{Answer}
 use Rattle.bitm_abi.specs.Sequence.{lent_parts, IsSized}
 use Rattle.bitm_abi.specs.Status.{Exported}
 use Rattle.bitm_select.specs.Answers.{IsFoundFrom, IsSelected}

@@ -1,6 +1,6 @@
 -- The index of a text in a block as C passes it, and what the exported calls answer.
 use Rattle.std.specs.Prelude.{ℕ, ◌≤◌, List, length}
-use Rattle.bitm.specs.Answer.{Answer}
+use Rattle.bitm_tables.specs.declared.answer.Answer.{Answer}
 use Rattle.bitm_abi.specs.Status.{Exported}
 use Rattle.text_block.specs.Answers.{ArePositionsOf, ArePositionsWithin, IsCountOf, IsCountWithin, IsPartOf, IsPartWithin}
 use Rattle.text_block.specs.Block.{parts_of, text_of_parts, HasTextLengths, HoldsIndex, TextParts}

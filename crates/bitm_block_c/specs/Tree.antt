@@ -1,12 +1,10 @@
 -- A tree in a block as C passes it, and what the exported calls answer.
 use Rattle.std.specs.Prelude.{⊤, ℕ, ◌<◌, ◌==◌, Bool}
-use Rattle.bitm.specs.Answer.{Answer}
-use Rattle.bitm.specs.Answer.TheVariants.{Found, Absent, Wrong}
+use Rattle.bitm_tables.specs.declared.answer.Answer.{Answer}
+use Rattle.bitm_tables.specs.declared.answer.Answer.TheVariants.{Found, Absent, Wrong}
 use Rattle.bitm_abi.specs.Status.{Exported}
 use Rattle.louds.specs.Counted.{degrees_in, IsLouds}
-use Rattle.louds_block.specs.Answers.{IsChildOf, IsChildWithin, IsChildRankOf, IsChildRankWithin, IsDegreeOf, IsDegreeWithin}
-use Rattle.louds_block.specs.Answers.{IsLeafOf, IsLeafWithin, IsNextSiblingOf, IsNextSiblingWithin}
-use Rattle.louds_block.specs.Answers.{IsParentOf, IsParentWithin, IsPreviousSiblingOf, IsPreviousSiblingWithin}
+use Rattle.louds_block.specs.Answers.{IsChildOf, IsChildWithin, IsChildRankOf, IsChildRankWithin, IsDegreeOf, IsDegreeWithin, IsLeafOf, IsLeafWithin, IsNextSiblingOf, IsNextSiblingWithin, IsParentOf, IsParentWithin, IsPreviousSiblingOf, IsPreviousSiblingWithin}
 use Rattle.louds_block.specs.Block.{parts_of, HasLengths, TreeParts}
 use Rattle.bitm_block_c.specs.declared.lists.Asked.{Asked}
 use Rattle.bitm_block_c.specs.declared.lists.Asked.TheVariants.{Parent, Degree}

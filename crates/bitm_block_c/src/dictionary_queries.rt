@@ -8,7 +8,7 @@ ghost use Rattle.bitm_block_c.specs.Dictionary.{dictionary_parts, FindAnswered, 
 use crate::dictionary::Dictionary;
 use crate::lists::code_of;
 use bitm_abi::{BAD_SIZE, ListCounts, report, report_list};
-use bitm_view::WRONG_TABLES;
+use bitm_select::search::selected::WRONG_TABLES;
 use hash_block::DictionaryView;
 
 /// The number of a key, which is where it stands among the keys.

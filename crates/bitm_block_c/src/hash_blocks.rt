@@ -1,12 +1,11 @@
 //! A perfect hash in a block: how many words it takes, writing it, opening it as a hash and checking it.
 ghost use Rattle.std.specs.Prelude.{◌≡◌, ◌≢◌, ◌*◌, ◌≤◌, ◌↔◌, ◌⊎◌, length};
 ghost use Rattle.bit_lists.specs.Bits.{bits_of};
-ghost use Rattle.bitm.specs.Tables.{HasSizes};
+ghost use Rattle.bitm_tables.specs.Tables.{HasSizes};
 ghost use Rattle.bitm_block.specs.Header.{count_in, section_in};
 ghost use Rattle.bitm_block.specs.Layout.{end_of};
 ghost use Rattle.block_tables.specs.Sections.{tables_in};
-ghost use Rattle.hash_block.specs.Block.{hash_in, hash_sections, AreFew, CanHold};
-ghost use Rattle.hash_block.specs.Block.{IsBlockOf, IsHashBlock, IsSoundBlock};
+ghost use Rattle.hash_block.specs.Block.{hash_in, hash_sections, AreFew, CanHold, IsBlockOf, IsHashBlock, IsSoundBlock};
 ghost use Rattle.bitm_abi.specs.Hash.{hash_lists};
 ghost use Rattle.bitm_block_c.specs.Dictionary.{hash_parts};
 

@@ -4,7 +4,7 @@ ghost use Rattle.bit_lists.specs.Bits.{bits_of};
 ghost use Rattle.bitm_block.specs.Header.{count_in};
 ghost use Rattle.bitm_block.specs.Layout.{end_of};
 ghost use Rattle.bits_block.specs.Block.{bits_in_block, bits_sections, CanHold, IsBitsBlock, IsBlockOf, IsSoundBlock};
-ghost use Rattle.bitm.specs.Tables.{HasSizes, HasTables};
+ghost use Rattle.bitm_tables.specs.Tables.{HasSizes, HasTables};
 ghost use Rattle.block_tables.specs.Sections.{tables_in};
 ghost use Rattle.bitm_abi.specs.Index.{cut_of};
 ghost use Rattle.bitm_block_c.specs.IndexBlock.{HasNoSamples};

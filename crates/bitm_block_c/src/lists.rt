@@ -7,7 +7,8 @@ ghost use Rattle.bitm_block_c.specs.Tree.{tree_parts, Answers, IsChild, IsFoundB
 
 use crate::tree::Tree;
 use bitm_abi::{BAD_SIZE, ListCounts, report_list};
-use bitm_view::{Answer, NO_ANSWER, WRONG_TABLES};
+use bitm_select::search::selected::{NO_ANSWER, WRONG_TABLES};
+use bitm_tables::answer::Answer;
 use louds_block::LoudsView;
 
 /// A query of each node of a list.

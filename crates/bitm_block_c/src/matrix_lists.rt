@@ -1,6 +1,6 @@
 //! Lists of queries of a matrix in a block.
 ghost use Rattle.std.specs.Prelude.{◌≡◌, ◌≢◌, ◌<◌, ◌≤◌, ◌↔◌, ℕ, length, slice_index};
-ghost use Rattle.bitm.specs.Answer.TheVariants.{Found};
+ghost use Rattle.bitm_tables.specs.declared.answer.Answer.TheVariants.{Found};
 ghost use Rattle.bitm_abi.specs.Lists.{AreCounted};
 ghost use Rattle.bitm_view.specs.Queries.{selected_by};
 ghost use Rattle.elias_fano_view.specs.Lists.{IsKeptFrom};
@@ -10,7 +10,7 @@ ghost use Rattle.bitm_block_c.specs.Matrix.{matrix_parts, IsIndex, IsNumber, IsR
 use crate::lists::code_of;
 use crate::matrix::Matrix;
 use bitm_abi::{BAD_SIZE, ListCounts, OK, report_list};
-use bitm_view::Answer;
+use bitm_tables::answer::Answer;
 use matrix_block::MatrixView;
 use tuning::RANKS_SIDE_BY_SIDE;
 

@@ -2,8 +2,7 @@
 ghost use Rattle.std.specs.Prelude.{◌≡◌, ◌≢◌, ◌*◌, ◌^◌, ◌<◌, ◌↔◌, ◌⊎◌, All, length};
 ghost use Rattle.bitm_block.specs.Layout.{end_of};
 ghost use Rattle.lent_levels.specs.Levels.{AreNumbers};
-ghost use Rattle.matrix_block.specs.Block.{matrix_in, matrix_sections, CanHold};
-ghost use Rattle.matrix_block.specs.Block.{IsBlockOf, IsMatrixBlock, IsSoundBlock};
+ghost use Rattle.matrix_block.specs.Block.{matrix_in, matrix_sections, CanHold, IsBlockOf, IsMatrixBlock, IsSoundBlock};
 ghost use Rattle.bitm_block_c.specs.Matrix.{matrix_parts};
 
 use crate::matrix::Matrix;

@@ -5,7 +5,7 @@ ghost use Rattle.bitm_block_c.specs.Tree.{LeafAnswered, NextSiblingAnswered, Par
 
 use crate::tree::Tree;
 use bitm_abi::{BAD_SIZE, report};
-use bitm_view::Answer;
+use bitm_tables::answer::Answer;
 
 /// The parent of a node.
 #[unsafe(no_mangle)]

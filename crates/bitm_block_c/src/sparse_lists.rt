@@ -9,7 +9,7 @@ use crate::lists::code_of;
 use crate::queries::as_number;
 use crate::sparse::Sparse;
 use bitm_abi::{BAD_SIZE, ListCounts, report_list};
-use bitm_view::WRONG_TABLES;
+use bitm_select::search::selected::WRONG_TABLES;
 use sparse_block::SparseView;
 
 /// A query of each number of a list.

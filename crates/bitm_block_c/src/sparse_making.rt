@@ -11,7 +11,8 @@ use crate::sequence_blocks::sequence_at;
 use crate::sparse::Sparse;
 use bitm_abi::{BAD_SIZE, OK, UNSORTED, WRONG};
 use bitm_block::Block;
-use sparse_block::{BuildError, SparseView, build, check, size};
+use sequence_block::size;
+use sparse_block::{BuildError, SparseView, build, check};
 
 /// Writes how many words the block of `ones` 1 bits takes, the last of which is at position `last`.
 #[unsafe(no_mangle)]

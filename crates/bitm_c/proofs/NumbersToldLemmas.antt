@@ -2,8 +2,8 @@
 use Rattle.std.proofs.Common.{◌≡◌, ℕ, ◌↔◌, Bool, true, false, IsTrue, List, inl, refl, arith}
 use Rattle.std.proofs.lemmas.Bool.{false≢true}
 use Rattle.std.specs.List.{Contains}
-use Rattle.elias_fano_view.specs.LentParts.{Holds}
-use Rattle.elias_fano_view.specs.Told.{TellsLess}
+use Rattle.elias_fano.specs.LentParts.{Holds}
+use Rattle.elias_fano.specs.Told.{TellsLess}
 use Rattle.bitm_c.specs.Numbers.{ContainsAnswered}
 use Rattle.bitm_abi.specs.Sequence.{lent_parts, IsSized}
 use Rattle.bitm_abi.specs.declared.sequence.Sequence.{Sequence}

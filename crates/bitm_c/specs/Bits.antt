@@ -1,7 +1,7 @@
 -- What the exported calls answer of the first bits of words: a status, and what is written where the caller says.
 use Rattle.std.specs.Prelude.{◌≡◌, ◌≢◌, ℕ, ◌<◌, ◌≤◌, ◌↔◌, ◌⊎◌, Bool, not, List, length}
-use Rattle.bitm.specs.Bits.{item}
-use Rattle.bitm.specs.Count.{IsFirstFrom}
+use Rattle.bit_lists.specs.Bits.{item}
+use Rattle.bit_lists.specs.Count.{IsFirstFrom}
 use Rattle.bit_slices.specs.First.{first_bits, IsLastUpTo}
 use Rattle.bitm_abi.specs.Lengths.{HasCountedBits}
 

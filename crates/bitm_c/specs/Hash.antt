@@ -1,6 +1,6 @@
 -- What the exported calls of perfect hashes answer.
 use Rattle.std.specs.Prelude.{◌≡◌, ℕ, ◌^◌, ◌<◌, ◌≤◌, List, length}
-use Rattle.bitm.specs.Tables.{HasSizes}
+use Rattle.bitm_tables.specs.Tables.{HasSizes}
 use Rattle.hash_levels.specs.declared.in_place.Made.{Made}
 use Rattle.bitm_abi.specs.Hash.{hash_lists, IsHashNumber}
 use Rattle.bitm_abi.specs.Status.{Exported}

@@ -1,8 +1,8 @@
 -- What the exported calls answer of numbers around a value.
 use Rattle.std.specs.Prelude.{◌≡◌, ◌≢◌, ℕ, ◌≤◌, ◌↔◌, ◌⊎◌, List}
 use Rattle.std.specs.List.{Contains}
-use Rattle.elias_fano_view.specs.LentParts.{Holds}
-use Rattle.elias_fano_view.specs.Told.{TellsLess}
+use Rattle.elias_fano.specs.LentParts.{Holds}
+use Rattle.elias_fano.specs.Told.{TellsLess}
 use Rattle.bitm_abi.specs.Sequence.{lent_parts, IsPredecessor, IsSized}
 use Rattle.bitm_abi.specs.Status.{Exported}
 use Rattle.bitm_abi.specs.declared.sequence.Sequence.{Sequence}

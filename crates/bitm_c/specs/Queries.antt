@@ -1,6 +1,6 @@
 -- What the exported calls answer of the first bits of words: a status, and a number written where the caller says.
 use Rattle.std.specs.Prelude.{◌≡◌, ℕ, ◌+◌, ◌-◌, ◌<◌, ◌≤◌, Bool, List, length, min, slice_index}
-use Rattle.bitm.specs.Count.{count_before, count_of, Picks}
+use Rattle.bit_lists.specs.Count.{count_before, count_of, Picks}
 use Rattle.bitm_view.specs.Cut.{Cut, IsSizedCut}
 use Rattle.bitm_view.specs.Queries.{NextIn, PreviousIn, RanksIn, SelectsIn}
 use Rattle.bitm_abi.specs.Status.{Exported}

@@ -1,9 +1,9 @@
 -- What the exported calls on sequences answer: a status, and a number written where the caller says.
 use Rattle.std.specs.Prelude.{ℕ, List}
-use Rattle.elias_fano_view.specs.LentParts.{LentParts, Holds}
-use Rattle.elias_fano_view.specs.Answers.{IsFirst, IsItem, IsOfPlace, IsPlaceOf}
-use Rattle.elias_fano_view.specs.Told.{IfPlace, TellsLess}
-use Rattle.bitm.specs.Answer.{Answer}
+use Rattle.elias_fano.specs.LentParts.{LentParts, Holds}
+use Rattle.elias_fano.specs.Answers.{IsFirst, IsItem, IsOfPlace, IsPlaceOf}
+use Rattle.elias_fano.specs.Told.{IfPlace, TellsLess}
+use Rattle.bitm_tables.specs.declared.answer.Answer.{Answer}
 use Rattle.bitm_abi.specs.Sequence.{lent_parts, IsSized}
 use Rattle.bitm_abi.specs.Status.{Exported}
 use Rattle.bitm_abi.specs.declared.sequence.Sequence.{Sequence}

@@ -1,12 +1,11 @@
 -- What the exported calls answer of bits in shards: which shard holds a position or a rank, and of the joined bits.
 use Rattle.std.specs.Prelude.{◌≡◌, ℕ, ◌+◌, ◌-◌, ◌^◌, ◌<◌, Bool, List, Option, Some, None}
-use Rattle.bitm.specs.Answer.{Answer}
-use Rattle.bitm_view.specs.Answers.{IsFoundFrom, IsSelected}
+use Rattle.bitm_tables.specs.declared.answer.Answer.{Answer}
+use Rattle.bitm_select.specs.Answers.{IsFoundFrom, IsSelected}
 use Rattle.lent_tables.specs.Nearest.{IsNext, IsPrevious}
 use Rattle.lent_tables.specs.Ranks.{IsCountWithin, IsRanked}
 use Rattle.sharded_index.specs.Joined.{joined, kind_of}
-use Rattle.sharded_index.specs.Prefixes.{claimed_in_all, ArePrefixes, HasLengths, IsClaimedBy, IsPlaced}
-use Rattle.sharded_index.specs.Prefixes.{Prefixes as Counts}
+use Rattle.sharded_index.specs.Prefixes.{claimed_in_all, ArePrefixes, HasLengths, IsClaimedBy, IsPlaced, Prefixes as Counts}
 use Rattle.sharded_index.specs.Shards.{IfFoundHasBit, IsOfRank}
 use Rattle.sharded_index.specs.declared.counts.Kind.{Kind}
 use Rattle.sharded_index.specs.declared.counts.Kind.TheVariants.{Positions}

@@ -1,13 +1,13 @@
 //! Single bits and numbers in the caller's words. A bit vector may end inside a word.
 ghost use Rattle.std.specs.Prelude.{◌≡◌, ◌≢◌, ◌+◌, ◌*◌, ◌%◌, ◌^◌, ◌<◌, ◌≤◌, if◌then◌else◌};
-ghost use Rattle.bitm.specs.Bits.{bits_of, item};
-ghost use Rattle.bitm.specs.Number.{number_at, with_number};
+ghost use Rattle.bit_lists.specs.Bits.{bits_of, item};
+ghost use Rattle.bit_lists.specs.Number.{number_at, with_number};
 ghost use Rattle.bit_slices.specs.First.{first_bits};
 ghost use Rattle.bitm_c.specs.Bits.{IsStatus};
 ghost use Rattle.bitm_abi.specs.Lengths.{HasBits};
 
 use bit_slices::{fragment_in, number_in, set_fragment_in, set_number_in};
-use bitm::words;
+use bit_words::words;
 use bitm_abi::{BAD_SIZE, NONE, OK, done, has_bits, tell};
 
 /// The bit at `position`, as 0 or 1.

@@ -1,7 +1,7 @@
 //! A few bits that begin anywhere in the caller's bytes, read and written by one little-endian word.
 ghost use Rattle.std.specs.Prelude.{◌≡◌, ◌≢◌, ◌+◌, ◌/◌, ◌≤◌, ◌↔◌, length};
-ghost use Rattle.bitm.specs.Bytes.{byte_bits_of, byte_window, with_window};
-ghost use Rattle.bitm.specs.Number.{number_of_bits};
+ghost use Rattle.bit_words.specs.Bytes.{byte_bits_of, byte_window, with_window};
+ghost use Rattle.bit_lists.specs.Number.{number_of_bits};
 
 use bitm_abi::{NONE, OK, has_bytes};
 

@@ -1,6 +1,6 @@
 //! Copies and comparisons of ranges of bits in the caller's words.
 ghost use Rattle.std.specs.Prelude.{◌≡◌, ◌≢◌, ◌≤◌, ◌↔◌};
-ghost use Rattle.bitm.specs.Bits.{bits_of};
+ghost use Rattle.bit_lists.specs.Bits.{bits_of};
 ghost use Rattle.bit_slices.specs.Copied.{AreSame, IsCopied};
 ghost use Rattle.bitm_abi.specs.Lengths.{HasRange};
 

@@ -1,8 +1,8 @@
 //! Numbers in the bits of the caller's words: negated, exchanged or filled. How many words a bit vector takes.
 ghost use Rattle.std.specs.Prelude.{◌≡◌, ◌≢◌, ℕ, ◌+◌, ◌*◌, ◌%◌, ◌^◌, ◌<◌, ◌≤◌, bit_xor};
 ghost use Rattle.std.specs.Int.{div_ceil};
-ghost use Rattle.bitm.specs.Bits.{bits_of, item};
-ghost use Rattle.bitm.specs.Number.{number_at, with_number, with_swapped};
+ghost use Rattle.bit_lists.specs.Bits.{bits_of, item};
+ghost use Rattle.bit_lists.specs.Number.{number_at, with_number, with_swapped};
 ghost use Rattle.bitm_c.specs.Bits.{IsStatus};
 ghost use Rattle.bitm_abi.specs.Lengths.{HasBits};
 

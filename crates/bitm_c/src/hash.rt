@@ -1,9 +1,9 @@
 //! Minimal perfect hashes in the caller's memory: their levels, built one by one or in one call, and the number of a
 //! hash by the index over the words of all levels. The caller hashes the keys.
 ghost use Rattle.std.specs.Prelude.{◌≡◌, ◌≢◌, ℕ, ◌-◌, ◌<◌, ◌≤◌, ◌^◌, ◌↔◌, length, min, slice_index, take};
-ghost use Rattle.bitm.specs.Bits.{bits_of, IsShort};
-ghost use Rattle.bitm.specs.Count.{ones_of};
-ghost use Rattle.bitm.specs.Tables.{HasSizes};
+ghost use Rattle.bit_lists.specs.Bits.{bits_of, IsShort};
+ghost use Rattle.bit_lists.specs.Count.{ones_of};
+ghost use Rattle.bitm_tables.specs.Tables.{HasSizes};
 ghost use Rattle.bitm_view.specs.Queries.{ranked_by};
 ghost use Rattle.hash_levels.specs.InPlace.{IsMade};
 ghost use Rattle.hash_levels.specs.Levels.{left_of, AreSized, IsLevel, Leave};

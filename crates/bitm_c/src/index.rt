@@ -1,9 +1,9 @@
 //! Building and checking tables that lie in the caller's memory.
 ghost use Rattle.std.specs.Prelude.{◌≡◌, ◌≢◌, ◌^◌, ◌↔◌, ◌⊎◌};
 ghost use Rattle.std.specs.Int.{div_ceil};
-ghost use Rattle.bitm.specs.Bits.{bits_of};
-ghost use Rattle.bitm.specs.Count.{ones_of};
-ghost use Rattle.bitm.specs.Tables.{HasSizes, HasTables};
+ghost use Rattle.bit_lists.specs.Bits.{bits_of};
+ghost use Rattle.bit_lists.specs.Count.{ones_of};
+ghost use Rattle.bitm_tables.specs.Tables.{HasSizes, HasTables};
 ghost use Rattle.lent_tables.specs.Sizes.{lists_of};
 ghost use Rattle.bitm_view.specs.Cut.{IsSizedCut};
 ghost use Rattle.bitm_abi.specs.Index.{cut_of};

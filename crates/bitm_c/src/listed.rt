@@ -1,6 +1,6 @@
 //! Bits at a list of positions.
 ghost use Rattle.std.specs.Prelude.{◌≡◌, ◌≢◌, ◌↔◌};
-ghost use Rattle.bitm.specs.Bits.{bits_of};
+ghost use Rattle.bit_lists.specs.Bits.{bits_of};
 ghost use Rattle.bit_slices.specs.Listed.{outside_of, IsSetAt};
 ghost use Rattle.bitm_abi.specs.Lengths.{HasBits};
 

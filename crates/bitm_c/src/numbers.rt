@@ -1,7 +1,7 @@
 //! More queries of a sequence: the predecessor of a value, whether a value is one of the numbers, and the numbers in
 //! order.
 ghost use Rattle.std.specs.Prelude.{◌≡◌, ◌≢◌, ◌-◌, ◌≤◌, ◌↔◌, ℕ, List, length, min};
-ghost use Rattle.elias_fano_view.specs.LentParts.{Holds};
+ghost use Rattle.elias_fano.specs.LentParts.{Holds};
 ghost use Rattle.elias_fano_view.specs.Lists.{AreItemsFrom, IsKeptFrom};
 ghost use Rattle.bitm_c.specs.Numbers.{ContainsAnswered, LastAnswered};
 ghost use Rattle.bitm_abi.specs.Sequence.{lent_parts, IsSized};

@@ -1,6 +1,6 @@
 //! Lists of ranks and selections of an index, and the positions of its bits and their number.
 ghost use Rattle.std.specs.Prelude.{◌≡◌, ◌≢◌, ◌<◌, ◌↔◌, ℕ, length, slice_index};
-ghost use Rattle.bitm.specs.Count.{count_of};
+ghost use Rattle.bit_lists.specs.Count.{count_of};
 ghost use Rattle.bitm_view.specs.Cut.{bits_of_cut, IsSizedCut};
 ghost use Rattle.bitm_view.specs.Queries.{ranked_by, selected_by, RanksIn, SelectsIn};
 ghost use Rattle.bitm_c.specs.Queries.{PlacesWritten};

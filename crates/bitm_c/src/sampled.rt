@@ -1,7 +1,7 @@
 //! Samples in the caller's memory: how to build and how to check them.
 ghost use Rattle.std.specs.Prelude.{◌≡◌, ◌≢◌, ◌≤◌, ◌↔◌, ◌⊎◌, ℕ, length, slice_index, take};
-ghost use Rattle.bitm.specs.Density.{clamped_log};
-ghost use Rattle.bitm.specs.Tables.{HasTables, bits_in};
+ghost use Rattle.bitm_strategies.specs.Density.{clamped_log};
+ghost use Rattle.bitm_tables.specs.Tables.{HasTables, bits_in};
 ghost use Rattle.lent_tables.specs.Samples.{AreSamples, AreSamplesOf, HasRoom, enough_samples};
 ghost use Rattle.bitm_view.specs.Cut.{IsSizedCut};
 ghost use Rattle.bitm_abi.specs.Index.{cut_of};

@@ -1,11 +1,12 @@
 //! The selection of an index, and the nearest bits of a position. Each kind of bit has its own code.
-ghost use Rattle.bitm.specs.Count.{as_bit};
+ghost use Rattle.bit_lists.specs.Count.{as_bit};
 ghost use Rattle.bitm_view.specs.Queries.{SelectsIn};
 ghost use Rattle.bitm_c.specs.Queries.{NextAnswered, PreviousAnswered, SelectAnswered};
 ghost use Rattle.bitm_abi.specs.Index.{cut_of};
 
 use bitm_abi::{BAD_SIZE, Index, report};
-use bitm_view::{Answer, IndexView};
+use bitm_tables::answer::Answer;
+use bitm_view::IndexView;
 use tuning::WORDS_AT_HAND;
 
 /// `bitm_index_select` of 1 bits; of 0 bits where `BIT` is 0.

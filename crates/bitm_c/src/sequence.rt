@@ -3,7 +3,7 @@ ghost use Rattle.std.specs.Prelude.{◌≡◌, ◌≢◌, ◌<◌, ◌≤◌, �
 ghost use Rattle.lent_tables.specs.Sizes.{lists_of};
 ghost use Rattle.elias_fano.specs.Parts.{width_of};
 ghost use Rattle.elias_fano.specs.Sequence.{HasFall};
-ghost use Rattle.elias_fano_view.specs.LentParts.{parts_of, AreParts, Holds};
+ghost use Rattle.elias_fano.specs.LentParts.{parts_of, AreParts, Holds};
 ghost use Rattle.elias_fano_view.specs.Lists.{AreItems, IsKeptFrom};
 ghost use Rattle.elias_fano_view.specs.Sizes.{sizes_of, HasRoom, IsLargest};
 ghost use Rattle.bitm_c.specs.Sequence.{ItemAnswered, PlaceAnswered};

@@ -1,11 +1,11 @@
 //! Bitwise operations on two bit vectors of the caller, word by word.
 ghost use Rattle.std.specs.Prelude.{◌≡◌, ◌≢◌, ℕ, ◌*◌, ◌<◌, ◌≤◌, ◌↔◌, ◌&&◌, ◌||◌, not, if◌then◌else◌, length};
-ghost use Rattle.bitm.specs.Bits.{bits_of, item};
+ghost use Rattle.bit_lists.specs.Bits.{bits_of, item};
 ghost use Rattle.bit_slices.specs.Where.{AreDisjoint, IsSubset};
 ghost use Rattle.bitm_abi.specs.Lengths.{HasBits};
 
 use bit_slices::has_where;
-use bitm::words;
+use bit_words::words;
 use bitm_abi::{BAD_SIZE, OK, has_bits};
 
 /// Keeps each 1 bit where `other` has a 1 bit too, and clears all others.

@@ -1,8 +1,8 @@
 //! Selection in a word, and the numbers that the layout of a structure depends on.
 ghost use Rattle.std.specs.Prelude.{◌≡◌, ◌≢◌, ◌<◌, ◌↔◌, true};
-ghost use Rattle.bitm.specs.Bits.{digit_count, low_digits};
-ghost use Rattle.bitm.specs.Count.{ones_before, Picks};
-ghost use Rattle.bitm.specs.Density.{clamped_log, optimal_log};
+ghost use Rattle.bit_lists.specs.Bits.{digit_count, low_digits};
+ghost use Rattle.bit_lists.specs.Count.{ones_before, Picks};
+ghost use Rattle.bitm_strategies.specs.Density.{clamped_log, optimal_log};
 
 use bitm_abi::{NONE, OK};
 

@@ -1,6 +1,6 @@
 -- A cursor as C passes it: the numbers from it on, and when they are those of its sequence.
 use Rattle.std.specs.Prelude.{◌≡◌, ℕ, ◌≤◌, List, drop}
-use Rattle.bitm.specs.Answer.{Answer}
+use Rattle.bitm_tables.specs.declared.answer.Answer.{Answer}
 use Rattle.elias_fano.specs.LentParts.{Holds}
 use Rattle.elias_fano.specs.Parts.{items_of}
 use Rattle.postings.specs.Moves.{IfFound, IsAnswered, IsHere}

@@ -4,8 +4,8 @@ ghost use Rattle.bitm_abi.specs.Sequence.{lent_parts, IsSized};
 ghost use Rattle.postings.specs.Moves.{IfFound, IsAnswered};
 ghost use Rattle.bitm_lists_c.specs.Cursor.{left_in, spot_of, IsRight};
 
-use bitm::Answer;
 use bitm_abi::Sequence;
+use bitm_tables::answer::Answer;
 use elias_fano::LowDigits;
 use lent_tables::Lent;
 use postings::{Spot, TotalCursor, total_next_on};

@@ -1,6 +1,6 @@
 //! A cursor is set to the first number of its sequence, and moves on.
 ghost use Rattle.std.specs.Prelude.{◌≡◌, ◌≢◌, ◌↔◌, ◌⊎◌, ℕ, List};
-ghost use Rattle.elias_fano_view.specs.LentParts.{Holds};
+ghost use Rattle.elias_fano.specs.LentParts.{Holds};
 ghost use Rattle.bitm_abi.specs.Sequence.{lent_parts, IsSized};
 ghost use Rattle.bitm_abi.specs.Status.{Exported};
 ghost use Rattle.bitm_lists_c.specs.Cursor.{left_in, IsNextOf, IsRight};

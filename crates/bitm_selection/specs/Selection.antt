@@ -1,9 +1,9 @@
 -- What calls read that select among the bits of a source.
 use Rattle.std.specs.Prelude.{ℕ, ◌+◌, ◌*◌, length}
-use Rattle.bitm.specs.Bits.{digit_count}
-use Rattle.bitm.specs.ReadCounts.{ReadCounts}
-use Rattle.bitm.specs.Reads.{OnlyReads}
-use Rattle.bitm.specs.Tables.{Lists}
+use Rattle.bit_lists.specs.Bits.{digit_count}
+use Rattle.bitm_tables.specs.declared.source.counts.ReadCounts.{ReadCounts}
+use Rattle.bitm_tables.specs.Reads.{OnlyReads}
+use Rattle.bitm_tables.specs.Tables.{Lists}
 
 -- what a selection by binary search reads at most
 abbrev pub by_halves : Lists → ReadCounts

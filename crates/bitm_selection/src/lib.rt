@@ -11,16 +11,15 @@
 #![tactic(auto)]
 
 ghost use Rattle.std.specs.Prelude.{◌≡◌, ◌*◌, ◌<◌, List, ℕ, ⊤, true, false};
-ghost use Rattle.bitm.specs.Count.{ones_of, zeros_of, Picks};
-ghost use Rattle.bitm.specs.ReadCounts.{ReadCounts};
-ghost use Rattle.bitm.specs.Reads.{none_read};
-ghost use Rattle.bitm.specs.Tables.{bits_in, IsIndexed, Lists};
+ghost use Rattle.bit_lists.specs.Count.{ones_of, zeros_of, Picks};
+ghost use Rattle.bitm_tables.specs.declared.source.counts.ReadCounts.{ReadCounts};
+ghost use Rattle.bitm_tables.specs.Reads.{none_read};
+ghost use Rattle.bitm_tables.specs.Tables.{bits_in, IsIndexed, Lists};
 ghost use Rattle.bitm_selection.specs.Selection.{by_halves, OnlySelectsBy};
 
-use bitm::{
-    BinaryRankSearch, RankSelect101111, Select, Select0, Select0ForRank101111, SelectForRank101111,
-    TableSource,
-};
+use bitm::{RankSelect101111, Select, Select0};
+use bitm_strategies::{BinaryRankSearch, Select0ForRank101111, SelectForRank101111};
+use bitm_tables::source::TableSource;
 use std::convert::AsSlice;
 
 /// A way to select among the bits of a source.

@@ -3,7 +3,7 @@ pub mod Samples
 pub use Rattle.bit_lists.specs.Bits
 pub use Rattle.bit_lists.specs.Count
 pub use Rattle.bitm_bits.specs.Size
-pub use Rattle.bitm_select.specs.Entry
-pub use Rattle.bitm_select.specs.Reads
+pub use Rattle.bitm_tables.specs.Entry
+pub use Rattle.bitm_tables.specs.Reads
 pub use Rattle.bitm_select.specs.Search
-pub use Rattle.bitm_select.specs.Tables
+pub use Rattle.bitm_tables.specs.Tables

@@ -4,10 +4,10 @@ use Rattle.std.specs.Int.{div_ceil}
 use Rattle.std.specs.List.{range_with_len}
 use Rattle.bit_lists.specs.Bits.{bits_of, digit, digit_count, IsShort}
 use Rattle.bit_lists.specs.Count.{ones_of, ones_before, count_before, count_of, as_bit, places}
-use Rattle.bitm_select.specs.Reads.{ReadsAtMost}
+use Rattle.bitm_tables.specs.Reads.{ReadsAtMost}
 use Rattle.bitm_select.specs.Search.{sought_in, IsLastPart}
-use Rattle.bitm_select.specs.Tables.{AreTablesOf, Lists}
-use Rattle.bitm_select.specs.ReadCounts.{ReadCounts}
+use Rattle.bitm_tables.specs.Tables.{AreTablesOf, Lists}
+use Rattle.bitm_tables.specs.declared.source.counts.ReadCounts.{ReadCounts}
 use Rattle.bitm_strategies.specs.declared.sampled.PartBegin.{PartBegin}
 use Rattle.bitm_strategies.specs.declared.samples.Summary.{Summary}
 

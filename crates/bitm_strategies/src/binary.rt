@@ -2,13 +2,13 @@
 ghost use Rattle.std.specs.Prelude.{◌≡◌, ◌+◌, length, true, false, IsOk, IfOk};
 ghost use Rattle.bit_lists.specs.Bits.{bits_of, digit_count, IsShort};
 ghost use Rattle.bit_lists.specs.Count.{ones_of, IsSelect};
-ghost use Rattle.bitm_select.specs.Reads.{OnlyReads};
-ghost use Rattle.bitm_select.specs.Tables.{AreTablesOf, IsIndexed, bits_in};
+ghost use Rattle.bitm_tables.specs.Reads.{OnlyReads};
+ghost use Rattle.bitm_tables.specs.Tables.{AreTablesOf, IsIndexed, bits_in};
 
 use crate::traits::{Select0ForRank101111, SelectForRank101111};
 use bitm_bits::GetSize;
 use bitm_select::search::selecting::binary_select_on;
-use bitm_select::source::{Probe, TableSource};
+use bitm_tables::source::{Probe, TableSource};
 use std::alloc::{AllocError, Global};
 
 /// Selects by binary search: the upper block by the upper table, the lower block by the lower one, then its basic

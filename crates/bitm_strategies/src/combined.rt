@@ -4,14 +4,14 @@ ghost use Rattle.bit_lists.specs.Bits.{bits_of, IsShort};
 ghost use Rattle.bit_lists.specs.Count.{ones_of, as_bit, IsSelect};
 ghost use Rattle.bitm_bits.specs.Size.{saturated_size};
 ghost use Rattle.bitm_strategies.specs.Samples.{SampledReads, Supported, IsSampleCount};
-ghost use Rattle.bitm_select.specs.Tables.{AreTablesOf, HasTables, bits_in};
+ghost use Rattle.bitm_tables.specs.Tables.{AreTablesOf, HasTables, bits_in};
 
 use crate::density::CombinedSamplingDensity;
 use crate::sampled::sampled_select_on;
 use crate::samples::{Summary, items_among, make_samples};
 use crate::traits::{Select0ForRank101111, SelectForRank101111};
 use bitm_bits::GetSize;
-use bitm_select::source::{Probe, TableSource};
+use bitm_tables::source::{Probe, TableSource};
 use std::alloc::{AllocError, Global};
 use std::boxed::BoxedSlice;
 use std::marker::Model;

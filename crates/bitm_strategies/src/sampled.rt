@@ -2,16 +2,16 @@
 ghost use Rattle.std.specs.Prelude.{◌≡◌, ◌+◌, ◌-◌, ◌*◌, ◌/◌, ◌%◌, ◌^◌, ◌<◌, ◌≤◌, length, if◌then◌else◌};
 ghost use Rattle.bit_lists.specs.Bits.{bits_of, digit, digit_count, IsShort};
 ghost use Rattle.bit_lists.specs.Count.{as_bit, IsSelect};
-ghost use Rattle.bitm_select.specs.Reads.{ReadsAtMost};
+ghost use Rattle.bitm_tables.specs.Reads.{ReadsAtMost};
 ghost use Rattle.bitm_strategies.specs.Samples.{parts, samples_of, sample_starts_of, IsSampledPart, SampledReads};
-ghost use Rattle.bitm_select.specs.Tables.{HasTables};
-ghost use Rattle.bitm_select.specs.ReadCounts.{ReadCounts};
+ghost use Rattle.bitm_tables.specs.Tables.{HasTables};
+ghost use Rattle.bitm_tables.specs.declared.source.counts.ReadCounts.{ReadCounts};
 
 use crate::walking::walk;
 use bitm_select::search::record::in_packed;
 use bitm_select::search::selected::found;
 use bitm_select::search::selecting::{before_part, last_part};
-use bitm_select::source::TableSource;
+use bitm_tables::source::TableSource;
 
 /// The entry at which a sample lets the selection of this rank begin, counted in its upper block, where a sample stands
 /// for 2^`log2` items.

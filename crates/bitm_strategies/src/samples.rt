@@ -18,13 +18,13 @@
 ghost use Rattle.std.specs.Prelude.{◌≡◌, ◌+◌, ◌-◌, ◌*◌, ◌^◌, ◌<◌, ◌≤◌, ◌++◌, Bool, List, length, min, IfOk};
 ghost use Rattle.std.specs.Box.{boxed_slice_items};
 ghost use Rattle.bit_lists.specs.Count.{count_of, ones_before, ones_of, as_bit};
-ghost use Rattle.bitm_select.specs.Entry.{lower_entry};
+ghost use Rattle.bitm_tables.specs.Entry.{lower_entry, entries_from};
 ghost use Rattle.bitm_strategies.specs.Samples.{IsSized, IsSummaryOf, part_of, sample};
 ghost use Rattle.bitm_strategies.specs.Samples.{intervals, part_samples, samples_of, sample_starts_of};
-ghost use Rattle.bitm_select.specs.Search.{IsLastEntry, entries_from, items_to, sought_bits};
+ghost use Rattle.bitm_select.specs.Search.{IsLastEntry, items_to, sought_bits};
 
-use bitm_select::entry::{complement_entry, entries_of_part, ones_to_entry};
-use bitm_select::levels::L2_ENTRIES_PER_L1_ENTRY;
+use bitm_tables::entry::{complement_entry, entries_of_part, ones_to_entry};
+use bitm_tables::levels::L2_ENTRIES_PER_L1_ENTRY;
 use std::alloc::{AllocError, Global};
 use std::boxed::BoxedSlice;
 

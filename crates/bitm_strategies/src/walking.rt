@@ -1,16 +1,16 @@
 //! The search for an entry of an upper block by a walk from an earlier one.
 ghost use Rattle.std.specs.Prelude.{◌≡◌, ◌+◌, ◌-◌, ◌*◌, ◌/◌, ◌<◌, ◌≤◌, length};
 ghost use Rattle.bit_lists.specs.Bits.{bits_of, IsShort};
-ghost use Rattle.bitm_select.specs.Entry.{lower_entry};
-ghost use Rattle.bitm_select.specs.Reads.{ReadsAtMost};
-ghost use Rattle.bitm_select.specs.Search.{entry_in, IsAbove, IsLastEntry, entries_from, items_to, sought_in};
-ghost use Rattle.bitm_select.specs.Tables.{HasTables};
+ghost use Rattle.bitm_tables.specs.Entry.{lower_entry, entries_from};
+ghost use Rattle.bitm_tables.specs.Reads.{ReadsAtMost};
+ghost use Rattle.bitm_select.specs.Search.{entry_in, IsAbove, IsLastEntry, items_to, sought_in};
+ghost use Rattle.bitm_tables.specs.Tables.{HasTables};
 
-use bitm_select::entry::{entries_of_part, ones_to_entry};
-use bitm_select::levels::L2_ENTRIES_PER_L1_ENTRY;
 use bitm_select::search::entries::sought_entry;
 use bitm_select::search::record::NOT_READ;
-use bitm_select::source::TableSource;
+use bitm_tables::entry::{entries_of_part, ones_to_entry};
+use bitm_tables::levels::L2_ENTRIES_PER_L1_ENTRY;
+use bitm_tables::source::TableSource;
 
 /// The last entry of an upper block, from entry `from` on, with no more than `rank` of the kind before it in the upper
 /// block: its position in the upper block, what it packs, and how many of the kind stand in the upper block before the

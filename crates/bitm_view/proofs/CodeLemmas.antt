@@ -5,9 +5,9 @@ use Rattle.std.proofs.lemmas.List.{length-take-le}
 use Rattle.bit_lists.proofs.lemmas.BitsLemmas.{length-bits_of}
 use Rattle.bit_lists.specs.Count.{count_of}
 use Rattle.bitm_select.specs.Answers.{RankTold, SelectTold}
-use Rattle.bitm_select.specs.Tables.{bits_in}
-use Rattle.bitm.specs.Answer.{Answer}
-use Rattle.bitm.specs.Answer.TheVariants.{Found, Absent, Wrong}
+use Rattle.bitm_tables.specs.Tables.{bits_in}
+use Rattle.bitm_tables.specs.declared.answer.Answer.{Answer}
+use Rattle.bitm_tables.specs.declared.answer.Answer.TheVariants.{Found, Absent, Wrong}
 use Rattle.bitm_view.proofs.CutLemmas.{cut_counted, cut_found, cut_none, cut_past, cut_wrong}
 use Rattle.bitm_view.specs.Cut.{Cut, IsSizedCut}
 use Rattle.bitm_view.specs.Queries.{ranked_by, selected_by, RanksIn, SelectsIn}

@@ -6,14 +6,13 @@ use Rattle.bit_lists.proofs.lemmas.CutLemmas.{same_count}
 use Rattle.bit_lists.proofs.lemmas.CountLemmas.{count_before-le, ones_before-add-zeros_before}
 use Rattle.bit_lists.specs.Bits.{item}
 use Rattle.bit_lists.specs.Count.{count_before, count_of, Picks}
-use Rattle.bitm_select.specs.Tables.{bits_in}
-use Rattle.bitm.specs.Answer.TheVariants.{Found, Absent, Wrong}
+use Rattle.bitm_tables.specs.Tables.{bits_in}
+use Rattle.bitm_tables.specs.declared.answer.Answer.TheVariants.{Found, Absent, Wrong}
 use Rattle.bitm_view.specs.Cut.{Cut, bits_of_cut, IsWithin}
 use Rattle.bitm_view.specs.Queries.{RanksIn, SelectsIn}
 use Rattle.lent_tables.specs.Counting.{Ranks, Selects}
 use Rattle.lent_tables.specs.Ranks.{IsRanked}
-use Rattle.bitm.specs.Answer.{Answer}
-use Rattle.bitm.specs.Answer.TheVariants.{Found, Absent, Wrong}
+use Rattle.bitm_tables.specs.declared.answer.Answer.{Answer}
 
 module _ (b : List Bool) (v : Bool) (len : ℕ) (within : len ≤ length b) where
   long : length (take len b) ≡ len

@@ -4,8 +4,8 @@ use Rattle.std.proofs.lemmas.List.{length-take-le}
 use Rattle.bit_lists.proofs.lemmas.CountLemmas.{count_before-le}
 use Rattle.bit_lists.proofs.lemmas.PickLemmas.{IsFirstFrom-Picks, IsLastTo-Picks, none_to}
 use Rattle.bit_lists.specs.Count.{count_before, IsFirstFrom, IsLastTo, Picks}
-use Rattle.bitm_select.specs.Tables.{HasTables, bits_in}
-use Rattle.bitm.specs.Answer.TheVariants.{Found, Absent, Wrong}
+use Rattle.bitm_tables.specs.Tables.{HasTables, bits_in}
+use Rattle.bitm_tables.specs.declared.answer.Answer.TheVariants.{Found, Absent, Wrong}
 use Rattle.bitm_view.specs.Cut.{Cut, bits_of_cut, IsWithin}
 use Rattle.bitm_view.specs.Queries.{NextIn, PreviousIn, RanksIn, SelectsIn}
 use Rattle.lent_tables.proofs.NearestLemmas.{none_after}

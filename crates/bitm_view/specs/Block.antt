@@ -2,8 +2,8 @@
 use Rattle.std.specs.Prelude.{◌≡◌, ◌≢◌, ℕ, zero, suc, ◌+◌, ◌-◌, ◌*◌, ◌^◌, ◌<◌, ◌≤◌, Bool, true, false, List, length, take, drop}
 use Rattle.std.specs.Int.{div_ceil}
 use Rattle.bit_lists.specs.Bits.{bits_of, item}
-use Rattle.bitm.specs.Density.{clamped_log}
-use Rattle.bitm_select.specs.Tables.{HasTables}
+use Rattle.bitm_strategies.specs.Density.{clamped_log}
+use Rattle.bitm_tables.specs.Tables.{HasTables}
 use Rattle.lent_tables.specs.Samples.{enough_samples, AreSamples}
 use Rattle.lent_tables.specs.Sizes.{lists_of}
 

@@ -1,7 +1,7 @@
 -- The bits of words up to a length that is no multiple of 64.
 use Rattle.std.specs.Prelude.{◌≡◌, ℕ, ◌<◌, ◌≤◌, ◌⊎◌, Bool, List, length, take}
 use Rattle.bit_lists.specs.Bits.{item}
-use Rattle.bitm_select.specs.Tables.{HasSizes, Lists, bits_in}
+use Rattle.bitm_tables.specs.Tables.{HasSizes, Lists, bits_in}
 use Rattle.bitm_select.specs.Told.{TellsNone}
 
 -- words and their tables, and how many of the bits belong to the bit vector

@@ -3,13 +3,13 @@ pub mod Cut
 pub mod Queries
 pub use Rattle.bit_lists.specs.Bits
 pub use Rattle.bit_lists.specs.Count
-pub use Rattle.bitm.specs.Density
+pub use Rattle.bitm_strategies.specs.Density
 pub use Rattle.bitm_select.specs.Answers
-pub use Rattle.bitm_select.specs.Entry
+pub use Rattle.bitm_tables.specs.Entry
 pub use Rattle.bitm_many.specs.Many
-pub use Rattle.bitm_select.specs.Reads
+pub use Rattle.bitm_tables.specs.Reads
 pub use Rattle.bitm_select.specs.Search
-pub use Rattle.bitm_select.specs.Tables
+pub use Rattle.bitm_tables.specs.Tables
 pub use Rattle.bitm_select.specs.Told
 pub use Rattle.lent_tables.specs.Counting
 pub use Rattle.lent_tables.specs.Nearest

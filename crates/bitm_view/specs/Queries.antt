@@ -1,9 +1,9 @@
 -- What a query answers of the bit vector that starts the words, over tables that may hold anything.
 use Rattle.std.specs.Prelude.{ℕ, ◌+◌, ◌-◌, ◌^◌, Bool, if◌then◌else◌, nat_eq}
 use Rattle.bitm_select.specs.Answers.{HasBit, IsFoundFrom}
-use Rattle.bitm_select.specs.Tables.{HasTables}
-use Rattle.bitm.specs.Answer.{Answer}
-use Rattle.bitm.specs.Answer.TheVariants.{Found, Absent, Wrong}
+use Rattle.bitm_tables.specs.Tables.{HasTables}
+use Rattle.bitm_tables.specs.declared.answer.Answer.{Answer}
+use Rattle.bitm_tables.specs.declared.answer.Answer.TheVariants.{Found, Absent, Wrong}
 use Rattle.bitm_view.specs.Cut.{Cut, bits_of_cut, TellsNoneOf}
 use Rattle.lent_tables.specs.Counting.{IsCounting, IsSelection}
 use Rattle.lent_tables.specs.Nearest.{IsNext, IsPrevious}

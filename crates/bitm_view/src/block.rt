@@ -3,8 +3,8 @@ ghost use Rattle.std.specs.Prelude.{◌≡◌, ◌≢◌, ◌*◌, ◌≤◌, �
 ghost use Rattle.std.specs.Int.{div_ceil};
 ghost use Rattle.bit_lists.specs.Bits.{bits_of};
 ghost use Rattle.bit_lists.specs.Count.{as_bit};
-ghost use Rattle.bitm.specs.Density.{clamped_log};
-ghost use Rattle.bitm_select.specs.Tables.{bits_in, HasTables};
+ghost use Rattle.bitm_strategies.specs.Density.{clamped_log};
+ghost use Rattle.bitm_tables.specs.Tables.{bits_in, HasTables};
 ghost use Rattle.bitm_view.specs.Block.{sample_room, starts_of, AreFirst, HasBlockRoom, IsBlock};
 ghost use Rattle.lent_tables.specs.Samples.{AreSamples, HasRoom};
 

@@ -24,10 +24,10 @@
 mod block;
 mod view;
 
-pub use bitm_select::answer::Answer;
-pub use bitm_select::search::ranking::total_rank_on;
 pub use bitm_select::search::selected::{NO_ANSWER, WRONG_TABLES};
 pub use bitm_select::search::selecting::{ByTables, total_select_on};
+pub use bitm_tables::answer::Answer;
+pub use bitm_tables::ranking::total_rank_on;
 pub use block::{build_block, has_block_room};
 pub use lent_tables::{
     ByGuess, Lent, LentSamples, build, clear, clear_from, lower_len, ones_from, ranked_on,

@@ -2,23 +2,23 @@
 ghost use Rattle.std.specs.Prelude.{◌≡◌, ◌+◌, ◌-◌, ◌<◌, ◌≤◌, ℕ, Bool, MatchOption, length, min, slice_index, true};
 ghost use Rattle.bit_lists.specs.Bits.{digit_count};
 ghost use Rattle.bit_lists.specs.Count.{count_before, count_of, as_bit, Picks};
-ghost use Rattle.bitm_select.specs.Tables.{HasTables, bits_in};
+ghost use Rattle.bitm_tables.specs.Tables.{HasTables, bits_in};
 ghost use Rattle.bitm_select.specs.Told.{IfAbsent};
 ghost use Rattle.bitm_view.specs.Cut.{bits_of_cut, cut_at, Cut, IsWithin, TellsNoneOf};
 ghost use Rattle.bitm_view.specs.Queries.{RanksIn, SelectsIn};
 ghost use Rattle.lent_tables.specs.Counting.{Selects};
 ghost use Rattle.lent_tables.specs.Ranks.{IsCountWithin, IsRanked};
 ghost use Rattle.bitm_select.specs.Answers.{HasBit, IsSelected};
-ghost use Rattle.bitm_select.specs.Reads.{OnlyReads, ReadsAtMost};
+ghost use Rattle.bitm_tables.specs.Reads.{OnlyReads, ReadsAtMost};
 
 mod many;
 mod near;
 
 use bit_slices::positions_in;
-use bitm::words;
-use bitm_select::answer::Answer;
+use bit_words::words;
 use bitm_select::search::selecting::{ByTables, FindsEntry, search_on};
-use bitm_select::source::{Probe, TableSource};
+use bitm_tables::answer::Answer;
+use bitm_tables::source::{Probe, TableSource};
 use lent_tables::{ByGuess, Lent, LentSamples, is_one, ranked_on};
 use std::marker::Model;
 

@@ -7,7 +7,7 @@ use Rattle.bitm_block.specs.Layout.{head_of, part_in}
 use Rattle.bitm_block.specs.Written.{IsSealed}
 use Rattle.bitm_block.specs.declared.head.Head.{Head}
 use Rattle.bitm_block.specs.declared.layout.Section.{Section}
-use Rattle.bitm_select.specs.Tables.{Lists}
+use Rattle.bitm_tables.specs.Tables.{Lists}
 use Rattle.lent_tables.specs.Sizes.{lists_of}
 use Rattle.block_tables.specs.Sections.{tables_in}
 use Rattle.bits_block.specs.Block.{bits_head, bits_sections, lists_at, AreBits, IsBlockOf}

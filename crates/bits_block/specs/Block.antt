@@ -5,7 +5,7 @@ use Rattle.bitm_block.specs.Header.{IsBlock, IsVerified}
 use Rattle.bitm_block.specs.Layout.{end_of, part_in}
 use Rattle.bitm_block.specs.declared.head.Head.{Head}
 use Rattle.bitm_block.specs.declared.layout.Section.{Section}
-use Rattle.bitm_select.specs.Tables.{bits_in, HasSizes, HasTables, Lists}
+use Rattle.bitm_tables.specs.Tables.{bits_in, HasSizes, HasTables, Lists}
 use Rattle.bitm_view.specs.Block.{AreFirst}
 use Rattle.bitm_view.specs.Cut.{cut_at, Cut}
 use Rattle.lent_tables.specs.Sizes.{lists_of}

@@ -25,7 +25,8 @@ mod error;
 mod opening;
 mod sections;
 
-pub use bitm_view::{Answer, IndexView};
+pub use bitm_tables::answer::Answer;
+pub use bitm_view::IndexView;
 pub use building::build;
 pub use error::BuildError;
 pub use opening::{check, open};

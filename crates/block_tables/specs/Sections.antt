@@ -3,7 +3,7 @@ use Rattle.std.specs.Prelude.{◌≡◌, ℕ, ◌^◌, ◌≤◌, List, [], ◌�
 use Rattle.std.specs.Int.{div_ceil}
 use Rattle.bitm_block.specs.Header.{count_in, section_in}
 use Rattle.bitm_block.specs.declared.layout.Section.{Section}
-use Rattle.bitm_select.specs.Tables.{Lists}
+use Rattle.bitm_tables.specs.Tables.{Lists}
 use Rattle.lent_tables.specs.Sizes.{lists_of}
 
 -- a section of a role and a number of items

@@ -1,7 +1,7 @@
 //! Words and their tables as the first three sections of a block.
 ghost use Rattle.std.specs.Prelude.{◌≡◌, ◌≤◌, ◌<◌, ◌^◌, ◌↔◌, IsTrue, SomeIff};
 ghost use Rattle.bitm_block.specs.Header.{count_in};
-ghost use Rattle.bitm_select.specs.Tables.{HasSizes};
+ghost use Rattle.bitm_tables.specs.Tables.{HasSizes};
 ghost use Rattle.block_tables.specs.Sections.{table_sections, tables_in, HasTableSections};
 
 use crate::entries::as_entries;

@@ -2,7 +2,7 @@
 ghost use Rattle.std.specs.Prelude.{◌≡◌, ◌↔◌, IsTrue};
 ghost use Rattle.bit_lists.specs.Bits.{bits_of};
 ghost use Rattle.bit_lists.specs.Count.{ones_of};
-ghost use Rattle.bitm_select.specs.Tables.{HasSizes, HasTables};
+ghost use Rattle.bitm_tables.specs.Tables.{HasSizes, HasTables};
 ghost use Rattle.lent_tables.specs.Sizes.{lists_of};
 
 use crate::entries::{as_entries, as_entries_mut};

@@ -1,7 +1,7 @@
 -- Low digits of the next items that were read at once, several items' by one read.
 use Rattle.std.specs.Prelude.{◌≡◌, ℕ, ◌+◌, ◌-◌, ◌*◌, ◌≤◌, List, length}
-use Rattle.bitm.specs.Bits.{bits_of}
-use Rattle.bitm.specs.Number.{number_at}
+use Rattle.bit_lists.specs.Bits.{bits_of}
+use Rattle.bit_lists.specs.Number.{number_at}
 
 -- the digits are those of fragments of l bits from fragment i on, with all of those before fragment until, which is at
 -- most end

@@ -1,8 +1,8 @@
 -- What the definitions say of one another. Each law is the contract of a function of `laws`.
 use Rattle.std.specs.Prelude.{◌≡◌, ℕ, ◌+◌, ◌*◌, ◌<◌, ◌≤◌, ◌↔◌, true, List, length, slice_index}
 use Rattle.std.specs.List.Sorted.{IsNonDecreasing}
-use Rattle.bitm.specs.Bits.{bits_of}
-use Rattle.bitm.specs.Count.{ones_before, Picks}
+use Rattle.bit_lists.specs.Bits.{bits_of}
+use Rattle.bit_lists.specs.Count.{ones_before, Picks}
 use Rattle.elias_fano.specs.Parts.{upper_place, width_of, low_words_of, upper_words_of, IsUpper, ArePartsOf, items_of}
 use Rattle.elias_fano.specs.Sequence.{Reaches}
 

@@ -1,7 +1,7 @@
 -- The borrowed parts of a sequence, which may hold anything.
 use Rattle.std.specs.Prelude.{◌≡◌, ℕ, ◌*◌, ◌^◌, ◌<◌, ◌≤◌, List, length}
 use Rattle.std.specs.Int.{div_ceil}
-use Rattle.bitm.specs.Tables.{HasTables, Lists}
+use Rattle.bitm_tables.specs.Tables.{HasTables, Lists}
 use Rattle.elias_fano.specs.Low.{Lows}
 use Rattle.elias_fano.specs.Parts.{ArePartsOf}
 

@@ -1,7 +1,7 @@
 -- The low bits of items as they are read, and how many items share their high bits.
 use Rattle.std.specs.Prelude.{◌≡◌, ℕ, ◌==◌, ◌+◌, ◌*◌, ◌/◌, ◌^◌, ◌<◌, ◌≤◌, List, length, count_by}
-use Rattle.bitm.specs.Bits.{bits_of}
-use Rattle.bitm.specs.Number.{number_at}
+use Rattle.bit_lists.specs.Bits.{bits_of}
+use Rattle.bit_lists.specs.Number.{number_at}
 
 -- the words of the low bits, how many bits each item has there, and how many fragments were read so far
 pub record Lows : Type 0 where

@@ -1,7 +1,7 @@
 -- What an iterator over the numbers of a sequence still gives, and where their ones stand.
 use Rattle.std.specs.Prelude.{◌≡◌, ℕ, ◌-◌, ◌*◌, ◌<◌, ◌≤◌, List, length, take, drop}
-use Rattle.bitm.specs.Bits.{bits_of}
-use Rattle.bitm.specs.Count.{ones_before}
+use Rattle.bit_lists.specs.Bits.{bits_of}
+use Rattle.bit_lists.specs.Count.{ones_before}
 use Rattle.elias_fano.specs.Parts.{upper_place, upper_places, width_of, ArePartsOf, IsUpper}
 
 -- the items of a range of places

@@ -1,12 +1,13 @@
 -- What parts claim of how many numbers are less than a value, whatever they hold.
 use Rattle.std.specs.Prelude.{◌≡◌, ⊤, ℕ, ◌+◌, ◌-◌, ◌/◌, ◌%◌, ◌^◌, ◌<◌, ◌≤◌, ◌⊎◌, false, length}
-use Rattle.bitm.specs.Bits.{item}
-use Rattle.bitm.specs.Tables.{Lists, bits_in}
-use Rattle.bitm_select.specs.Told.{less, TellsNone}
+use Rattle.bit_lists.specs.Bits.{item}
+use Rattle.bitm_tables.specs.Tables.{Lists, bits_in}
+use Rattle.bitm_tables.specs.Entry.{less}
+use Rattle.bitm_select.specs.Told.{TellsNone}
 use Rattle.elias_fano.specs.LentParts.{LentParts}
 use Rattle.elias_fano.specs.Low.{fragment, unread}
-use Rattle.bitm.specs.Answer.{Answer}
-use Rattle.bitm.specs.Answer.TheVariants.{Found, Absent, Wrong}
+use Rattle.bitm_tables.specs.declared.answer.Answer.{Answer}
+use Rattle.bitm_tables.specs.declared.answer.Answer.TheVariants.{Found, Absent, Wrong}
 
 -- a 0 bit of the words is c positions after z, as numbers of 64 bits
 pub record HasZeroAfter (lists : Lists) (z c : ℕ) : Type 0 where

@@ -3,7 +3,7 @@ ghost use Rattle.std.specs.Prelude.{◌≡◌, ◌*◌, ◌^◌, ◌<◌, ◌≤
 ghost use Rattle.elias_fano.specs.Ahead.{IsAhead};
 ghost use Rattle.elias_fano.specs.Low.{unread, HasFragments};
 
-use bitm::words;
+use bit_words::words;
 
 /// Low bits that are not used yet, those of the next number lowest.
 #[derive(Copy, Clone, Drop)]

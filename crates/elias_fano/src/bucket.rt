@@ -1,10 +1,9 @@
 //! The bucket of a value, from where it starts, and the search for the successor of the value there.
-ghost use Rattle.std.specs.Prelude.{◌≡◌, ◌+◌, ◌*◌, ◌/◌, ◌^◌, ◌<◌, ◌≤◌, ℕ, List, length, IfSome, MatchOption};
-ghost use Rattle.std.specs.Prelude.{IsSomeAnd};
-ghost use Rattle.bitm.specs.Bits.{digit_count};
-ghost use Rattle.bitm.specs.Count.{zeros_of};
-ghost use Rattle.bitm.specs.Reads.{OnlyReads};
-ghost use Rattle.bitm.specs.Tables.{bits_in, HasSizes, HasTables};
+ghost use Rattle.std.specs.Prelude.{◌≡◌, ◌+◌, ◌*◌, ◌/◌, ◌^◌, ◌<◌, ◌≤◌, ℕ, List, length, IfSome, MatchOption, IsSomeAnd};
+ghost use Rattle.bit_lists.specs.Bits.{digit_count};
+ghost use Rattle.bit_lists.specs.Count.{zeros_of};
+ghost use Rattle.bitm_tables.specs.Reads.{OnlyReads};
+ghost use Rattle.bitm_tables.specs.Tables.{bits_in, HasSizes, HasTables};
 ghost use Rattle.elias_fano.specs.Buckets.{BeginsAt, CountsTo, HasEnds};
 ghost use Rattle.elias_fano.specs.LentParts.{parts_with, AreParts, Holds};
 ghost use Rattle.elias_fano.specs.Low.{sharing, ReadsFragments};
@@ -13,7 +12,9 @@ ghost use Rattle.elias_fano.specs.Sequence.{IsFirstAtLeast};
 
 use crate::low::LowDigits;
 use crate::searching::{count_at_zero, count_to, place_in_bucket};
-use bitm::{Answer, TableSource, index_laws, near_zero_on};
+use bitm::{index_laws, near_zero_on};
+use bitm_tables::answer::Answer;
+use bitm_tables::source::TableSource;
 
 // In how many words the end of a bucket is looked for before it is selected.
 const NEAR: usize = 8;

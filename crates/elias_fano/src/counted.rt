@@ -1,15 +1,18 @@
 //! Calls on the parts of one sequence, over any source of its upper words: what they read is counted.
 ghost use Rattle.std.specs.Prelude.{◌≡◌, ◌+◌, ◌*◌, ◌<◌, ◌≤◌, ◌↔◌, ℕ, List, IsTrue, length, slice_index};
 ghost use Rattle.std.specs.List.{Contains};
-ghost use Rattle.bitm.specs.Bits.{digit_count};
-ghost use Rattle.bitm.specs.Reads.{OnlyReads, ReadsAtMost};
+ghost use Rattle.bit_lists.specs.Bits.{digit_count};
+ghost use Rattle.bitm_tables.specs.Reads.{OnlyReads, ReadsAtMost};
 ghost use Rattle.elias_fano.specs.LentParts.{parts_of, parts_with, AreParts, Holds};
 ghost use Rattle.elias_fano.specs.Low.{sharing, ReadsFragments};
 ghost use Rattle.elias_fano.specs.Sequence.{IsFirstAtLeast, IsLastAtMost, ReachesTo};
 
 use crate::low::LowDigits;
 use crate::searching::{first_on, item_at_one, total_item_on};
-use bitm::{Answer, TableSource, index_laws, total_select_on};
+use bitm::index_laws;
+use bitm_select::search::selecting::total_select_on;
+use bitm_tables::answer::Answer;
+use bitm_tables::source::TableSource;
 
 /// Number `at` of a sequence.
 #[inline(always)]

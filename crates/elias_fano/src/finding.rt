@@ -5,7 +5,7 @@ ghost use Rattle.elias_fano.specs.Sequence.{IsFirstAtLeast, IsLastAtMost, Reache
 
 use crate::bucket::first_from_on;
 use crate::sequence::Sequence;
-use bitm::{Select0ForRank101111, SelectForRank101111};
+use bitm_strategies::{Select0ForRank101111, SelectForRank101111};
 
 impl<S: SelectForRank101111, S0: Select0ForRank101111> Sequence<S, S0> {
     /// The least index whose number is at least `v` (the successor); `None` exactly where there is none.

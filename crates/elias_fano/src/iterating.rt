@@ -2,14 +2,14 @@
 ghost use Rattle.std.specs.Prelude.{◌≡◌, ◌≤◌, ℕ, List, length, drop, Some, IfSome};
 ghost use Rattle.std.specs.Iterator.{YieldsFirst, YieldsLast, item_count, UpTo, at_most};
 ghost use Rattle.std.specs.Iterator.SizeHint.{IsWithinCount};
-ghost use Rattle.bitm.specs.Bits.{bits_of};
-ghost use Rattle.bitm.specs.Count.{ones_before};
+ghost use Rattle.bit_lists.specs.Bits.{bits_of};
+ghost use Rattle.bit_lists.specs.Count.{ones_before};
 ghost use Rattle.elias_fano.specs.Parts.{ArePartsOf};
 
 use crate::ahead::{Ahead, look_ahead, numbers_at_once};
 use crate::low::LowDigits;
 use crate::searching::item_at_one;
-use bitm::{BitOnesIterator, n_lowest_bits, words};
+use bit_words::{BitOnesIterator, n_lowest_bits, words};
 use std::iter::{DoubleEndedIterator, ExactSizeIterator, FusedIterator, Iterator};
 use std::marker::Model;
 

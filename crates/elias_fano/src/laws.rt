@@ -5,7 +5,7 @@ ghost use Rattle.elias_fano.specs.Laws.{OneForEachItem, ItemsArePicked, PartsHol
 ghost use Rattle.elias_fano.specs.Sequence.{IsSequence};
 
 use crate::sequence::Sequence;
-use bitm::{Select0ForRank101111, SelectForRank101111};
+use bitm_strategies::{Select0ForRank101111, SelectForRank101111};
 
 /// The numbers of a sequence never decrease; there are fewer than 2^56 of them, each below 2^64.
 #[inline(always)]

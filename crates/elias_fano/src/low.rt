@@ -1,9 +1,11 @@
 //! The low bits of a sequence's numbers. A search reads a fragment by a call that counts it, and by no other.
 ghost use Rattle.std.specs.Prelude.{◌≡◌, ◌+◌, ◌<◌, ◌≤◌, ◌^◌};
-ghost use Rattle.bitm.specs.Number.{IsFragmentInRange};
+ghost use Rattle.bit_lists.specs.Number.{IsFragmentInRange};
 ghost use Rattle.elias_fano.specs.Low.{fragment, unread};
 
-use bitm::{Probe, ReadCounts, words};
+use bit_words::words;
+use bitm_tables::source::Probe;
+use bitm_tables::source::counts::ReadCounts;
 use std::marker::Model;
 
 /// The words of the low bits, a fragment of `width` bits for each number; each fragment that is read is counted.

@@ -5,7 +5,8 @@ ghost use Rattle.std.specs.List.Sorted.{IsNonDecreasing};
 ghost use Rattle.elias_fano.specs.Parts.{width_at, width_of, low_words_of, upper_words_of, IsLow, IsUpper};
 ghost use Rattle.elias_fano.specs.Sequence.{largest, IsSequence};
 
-use bitm::{BitVec, bits_to_store, n_lowest_bits, words};
+use bit_words::{bits_to_store, n_lowest_bits, words};
+use bitm_bits::BitVec;
 use std::alloc::{AllocError, Global};
 use std::boxed::BoxedSlice;
 

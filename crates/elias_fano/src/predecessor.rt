@@ -1,9 +1,9 @@
 //! The last number that is at most a value, and whether a value is one of the numbers. The parts may hold anything.
 ghost use Rattle.std.specs.Prelude.{◌≡◌, ◌+◌, ◌*◌, ◌≤◌, ◌↔◌, ℕ, List, false, IfSome, IsTrue, length, IsSomeAnd};
 ghost use Rattle.std.specs.List.{Contains};
-ghost use Rattle.bitm.specs.Bits.{digit_count};
-ghost use Rattle.bitm.specs.Reads.{OnlyReads};
-ghost use Rattle.bitm.specs.Tables.{HasSizes};
+ghost use Rattle.bit_lists.specs.Bits.{digit_count};
+ghost use Rattle.bitm_tables.specs.Reads.{OnlyReads};
+ghost use Rattle.bitm_tables.specs.Tables.{HasSizes};
 ghost use Rattle.elias_fano.specs.Answers.{IsLast, IsPlaceOf};
 ghost use Rattle.elias_fano.specs.LentParts.{parts_with, HasLengths, Holds};
 ghost use Rattle.elias_fano.specs.Low.{sharing, ReadsFragments};
@@ -12,7 +12,8 @@ ghost use Rattle.elias_fano.specs.Told.{IfLast, TellsAtMost, TellsLess};
 
 use crate::low::LowDigits;
 use crate::searching::{total_first_at_least_on, total_item_on};
-use bitm::{Answer, TableSource};
+use bitm_tables::answer::Answer;
+use bitm_tables::source::TableSource;
 
 /// How many numbers are at most `v`: those before the first that is at least `v + 1`; `None` only where the parts are
 /// wrong.

@@ -2,11 +2,11 @@
 //! anything: the calls on a sequence's own are those on any parts.
 ghost use Rattle.std.specs.Prelude.{◌≡◌, ◌≢◌, ◌+◌, ◌-◌, ◌*◌, ◌/◌, ◌%◌, ◌^◌, ◌<◌, ◌≤◌, ℕ, List, IsSomeAnd};
 ghost use Rattle.std.specs.Prelude.{length, slice_index, false, IfSome};
-ghost use Rattle.bitm.specs.Bits.{bits_of, digit_count};
-ghost use Rattle.bitm.specs.Count.{Picks};
-ghost use Rattle.bitm.specs.Reads.{OnlyReads};
-ghost use Rattle.bitm.specs.Tables.{HasSizes, HasTables};
-ghost use Rattle.bitm_select.specs.Told.{less};
+ghost use Rattle.bit_lists.specs.Bits.{bits_of, digit_count};
+ghost use Rattle.bit_lists.specs.Count.{Picks};
+ghost use Rattle.bitm_tables.specs.Reads.{OnlyReads};
+ghost use Rattle.bitm_tables.specs.Tables.{HasSizes, HasTables};
+ghost use Rattle.bitm_tables.specs.Entry.{less};
 ghost use Rattle.elias_fano.specs.Answers.{IsFirst, IsItem, IsOfPlace, IsPlaceOf};
 ghost use Rattle.elias_fano.specs.Buckets.{CountsTo, CountsBelow, HasEnds, LowsRise, Splits};
 ghost use Rattle.elias_fano.specs.LentParts.{parts_with, HasLengths, Holds};
@@ -15,8 +15,10 @@ ghost use Rattle.elias_fano.specs.Parts.{ArePartsOf, HasFragment, HasOneAt, IsUp
 ghost use Rattle.elias_fano.specs.Told.{IfPlace, PartsAt, TellsBelow, TellsLess, TellsTo};
 
 use crate::low::LowDigits;
-use bitm::{Answer, TableSource, n_lowest_bits, total_select_on};
-use bitm_select::search::selecting::{ByTables, search_on};
+use bit_words::n_lowest_bits;
+use bitm_select::search::selecting::{ByTables, search_on, total_select_on};
+use bitm_tables::answer::Answer;
+use bitm_tables::source::TableSource;
 
 /// The number whose part above its low bits is `above`: the low bits are fragment `at`.
 ///

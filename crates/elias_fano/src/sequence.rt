@@ -2,11 +2,11 @@
 ghost use Rattle.std.specs.Prelude.{◌≡◌, ◌+◌, ◌*◌, ◌/◌, ◌^◌, ◌<◌, ◌≤◌, ◌↔◌, IsErrOf, SomeIff, MatchOption};
 ghost use Rattle.std.specs.Prelude.{length, slice_index, drop, IfOk};
 ghost use Rattle.std.specs.Int.{div_ceil};
-ghost use Rattle.bitm.specs.Bits.{IsShort};
-ghost use Rattle.bitm.specs.Count.{zeros_of};
-ghost use Rattle.bitm.specs.Size.{saturated_size};
-ghost use Rattle.bitm.specs.Reads.{none_read};
-ghost use Rattle.bitm.specs.Tables.{bits_in, HasTables};
+ghost use Rattle.bit_lists.specs.Bits.{IsShort};
+ghost use Rattle.bit_lists.specs.Count.{zeros_of};
+ghost use Rattle.bitm_bits.specs.Size.{saturated_size};
+ghost use Rattle.bitm_tables.specs.Reads.{none_read};
+ghost use Rattle.bitm_tables.specs.Tables.{bits_in, HasTables};
 ghost use Rattle.elias_fano.specs.Buckets.{BeginsAt};
 ghost use Rattle.elias_fano.specs.Numbers.{HasBefore};
 ghost use Rattle.elias_fano.specs.Parts.{width_of, low_words_of, upper_words_of, IsLow, IsUpper};
@@ -18,10 +18,13 @@ use crate::iterating::Numbers;
 use crate::low::LowDigits;
 use crate::making::{make_low, make_upper, width_for};
 use crate::searching::item_at_one;
-use bitm::{
-    AdaptiveCombinedSamplingDensity, BinaryRankSearch, CloneWords, CombinedSampling, GetSize,
-    Probe, RankSelect101111, Select, Select0, Select0ForRank101111, SelectForRank101111,
+use bitm::{RankSelect101111, Select, Select0};
+use bitm_bits::{CloneWords, GetSize};
+use bitm_strategies::{
+    AdaptiveCombinedSamplingDensity, BinaryRankSearch, CombinedSampling, Select0ForRank101111,
+    SelectForRank101111,
 };
+use bitm_tables::source::Probe;
 use std::alloc::{AllocError, Global};
 use std::boxed::BoxedSlice;
 use std::convert::AsSlice;

@@ -6,11 +6,12 @@ use Rattle.std.proofs.lemmas.List.FromFn.{length-map-range_with_len, get_or-map-
 use Rattle.std.proofs.lemmas.Nat.{div-mul-add, mod-mul-add, pow-add, mul-add-lt}
 use Rattle.std.proofs.Math.Nat.{mul-le-mul_right}
 use Rattle.std.specs.Int.{div_ceil}
-use Rattle.bitm.proofs.BitLaws.{bits_are_counted, ones_and_zeros, at_most_one_picked, places_are_picked, places_are_counted}
-use Rattle.bitm.proofs.Callers.{number_at-lt, rank_below}
-use Rattle.bitm.specs.Bits.{bits_of, item}
-use Rattle.bitm.specs.Count.{ones_of, places, Picks}
-use Rattle.bitm.specs.Number.{number_at}
+use Rattle.bit_lists.proofs.BitLaws.{bits_are_counted, ones_and_zeros, at_most_one_picked, places_are_picked, places_are_counted}
+use Rattle.bit_lists.proofs.lemmas.NumberLemmas.{number_at-lt}
+use Rattle.bit_lists.proofs.lemmas.PickLemmas.{rank_below}
+use Rattle.bit_lists.specs.Bits.{bits_of, item}
+use Rattle.bit_lists.specs.Count.{ones_of, places, Picks}
+use Rattle.bit_lists.specs.Number.{number_at}
 use Rattle.elias_fano.proofs.lemmas.ItemLemmas.{held-is}
 use Rattle.elias_fano.proofs.lemmas.UpperLemmas.{places_are}
 use Rattle.elias_fano.specs.Low.{unread, HasFragments}

@@ -1,10 +1,11 @@
 -- Ones of one word, as they stand among all, and how many are counted up to them.
 use Rattle.std.proofs.Common.{◌≡◌, ℕ, zero, suc, ◌+◌, ◌-◌, ◌*◌, ◌/◌, ◌%◌, ◌<◌, ◌≤◌, true, false, cond, Bool, List, [], ◌∷◌, length, get_or, slice_index, subst, sym, ap, ◌∙◌, ⊎_elim, arith}
 use Rattle.std.proofs.lemmas.Bool.{cases_lt}
-use Rattle.bitm.proofs.Callers.{item-bits_of, length-bits_of, picked_by_its_rank}
-use Rattle.bitm.proofs.BitLaws.{count_after_item}
-use Rattle.bitm.specs.Bits.{bits_of, digit, item}
-use Rattle.bitm.specs.Count.{ones_before, IsFirstFrom, Picks}
+use Rattle.bit_lists.proofs.lemmas.BitsLemmas.{item-bits_of, length-bits_of}
+use Rattle.bit_lists.proofs.Callers.{picked_by_its_rank}
+use Rattle.bit_lists.proofs.BitLaws.{count_after_item}
+use Rattle.bit_lists.specs.Bits.{bits_of, digit, item}
+use Rattle.bit_lists.specs.Count.{ones_before, IsFirstFrom, Picks}
 
 module _ (words : List ℕ) (q w : ℕ) (inside : q < length words) (is : w ≡ get_or words q 0) where
   -- a bit of the word alone is that of the content

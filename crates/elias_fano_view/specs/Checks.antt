@@ -1,8 +1,8 @@
 -- The numbers that two vectors hold, as a walk over the 1 bits finds them.
 use Rattle.std.specs.Prelude.{◌≡◌, ℕ, ◌+◌, ◌-◌, ◌*◌, ◌^◌, ◌<◌, ◌≤◌, true, List, slice_index}
-use Rattle.bitm.specs.Bits.{bits_of}
-use Rattle.bitm.specs.Count.{places}
-use Rattle.bitm.specs.Number.{number_at}
+use Rattle.bit_lists.specs.Bits.{bits_of}
+use Rattle.bit_lists.specs.Count.{places}
+use Rattle.bit_lists.specs.Number.{number_at}
 
 -- number j: its high bits, followed by its low bits
 abbrev pub held_item : ℕ → List ℕ → List ℕ → ℕ → ℕ

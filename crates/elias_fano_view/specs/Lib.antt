@@ -2,10 +2,10 @@ pub mod Checks
 pub mod Error
 pub mod Lists
 pub mod Sizes
-pub use Rattle.bitm.specs.Bits
-pub use Rattle.bitm.specs.Count
-pub use Rattle.bitm.specs.Number
-pub use Rattle.bitm.specs.Tables
+pub use Rattle.bit_lists.specs.Bits
+pub use Rattle.bit_lists.specs.Count
+pub use Rattle.bit_lists.specs.Number
+pub use Rattle.bitm_tables.specs.Tables
 pub use Rattle.elias_fano.specs.Answers
 pub use Rattle.elias_fano.specs.LentParts
 pub use Rattle.elias_fano.specs.Low

@@ -1,10 +1,10 @@
 -- The answers to lists of queries.
 use Rattle.std.specs.Prelude.{◌≡◌, ◌≢◌, ⊤, ℕ, ◌+◌, ◌-◌, ◌/◌, ◌%◌, ◌^◌, ◌<◌, ◌≤◌, ◌⊎◌, true, false, List, length, slice_index}
-use Rattle.bitm.specs.Answers.{SelectTold}
-use Rattle.bitm.specs.Tables.{Lists}
+use Rattle.bitm_select.specs.Answers.{SelectTold}
+use Rattle.bitm_tables.specs.Tables.{Lists}
 use Rattle.elias_fano.specs.Sequence.{Reaches}
 use Rattle.elias_fano.specs.Told.{TellsLess}
-use Rattle.elias_fano_view.specs.LentParts.{LentParts, Holds}
+use Rattle.elias_fano.specs.LentParts.{LentParts, Holds}
 use Rattle.elias_fano_view.specs.declared.lists.ListAnswer.{ListAnswer}
 use Rattle.elias_fano_view.specs.declared.lists.ListAnswer.TheVariants.{All, AbsentAt, WrongAt, WrongLength}
 

@@ -2,20 +2,21 @@
 //! with the high bits of the value.
 ghost use Rattle.std.specs.Prelude.{◌≡◌, ◌-◌, ◌/◌, ◌^◌, ◌<◌, ◌≤◌, ℕ, List, length, slice_index, false, IsSomeAnd};
 ghost use Rattle.std.specs.Prelude.{IfSome};
-ghost use Rattle.bitm.specs.Answers.{SelectTold};
-ghost use Rattle.bitm.specs.Bits.{digit_count, IsShort};
-ghost use Rattle.bitm.specs.Tables.{HasTables, Lists};
+ghost use Rattle.bitm_select.specs.Answers.{SelectTold};
+ghost use Rattle.bit_lists.specs.Bits.{digit_count, IsShort};
+ghost use Rattle.bitm_tables.specs.Tables.{HasTables, Lists};
 ghost use Rattle.elias_fano.specs.Buckets.{CountsTo, CountsBelow};
 ghost use Rattle.elias_fano.specs.Parts.{IsUpper};
-ghost use Rattle.elias_fano_view.specs.Answers.{IsFirst, IsPlaceOf};
-ghost use Rattle.elias_fano_view.specs.LentParts.{parts_with, Holds};
+ghost use Rattle.elias_fano.specs.Answers.{IsFirst, IsPlaceOf};
+ghost use Rattle.elias_fano.specs.LentParts.{parts_with, Holds};
 ghost use Rattle.elias_fano_view.specs.Lists.{EndsTold};
-ghost use Rattle.elias_fano_view.specs.Low.{sharing, HasFragments, ReadsFragments};
-ghost use Rattle.elias_fano_view.specs.Told.{IfPlace, TellsBelow, TellsLess, TellsTo};
+ghost use Rattle.elias_fano.specs.Low.{sharing, HasFragments, ReadsFragments};
+ghost use Rattle.elias_fano.specs.Told.{IfPlace, TellsBelow, TellsLess, TellsTo};
 
-use bitm::{NO_ANSWER, WRONG_TABLES};
+use bitm_select::search::selected::{NO_ANSWER, WRONG_TABLES};
+use bitm_tables::answer::Answer;
+use elias_fano::LowDigits;
 use elias_fano::building::{count_at_zero, place_in_bucket};
-use elias_fano::{Answer, LowDigits};
 
 /// Writes the high bits of each value less `less`, or 0 where that is negative.
 #[inline(always)]

@@ -1,15 +1,14 @@
 //! Whether parts are those of a sequence.
-ghost use Rattle.std.specs.Prelude.{◌≡◌, ◌-◌, ◌*◌, ◌^◌, ◌<◌, ◌≤◌, ◌↔◌, ℕ, IsTrue, List, length};
-ghost use Rattle.std.specs.Prelude.{MatchOption, SomeIff};
+ghost use Rattle.std.specs.Prelude.{◌≡◌, ◌-◌, ◌*◌, ◌^◌, ◌<◌, ◌≤◌, ◌↔◌, ℕ, IsTrue, List, length, MatchOption, SomeIff};
 ghost use Rattle.std.specs.Int.{div_ceil};
-ghost use Rattle.bitm.specs.Bits.{bits_of, IsShort};
-ghost use Rattle.bitm.specs.Count.{ones_of};
+ghost use Rattle.bit_lists.specs.Bits.{bits_of, IsShort};
+ghost use Rattle.bit_lists.specs.Count.{ones_of};
 ghost use Rattle.elias_fano.specs.Low.{joined_item, unread, HasFragments, ReadsFragments};
 ghost use Rattle.elias_fano.specs.Parts.{ArePartsOf, HasFragment};
 ghost use Rattle.elias_fano_view.specs.Checks.{AreNumbers};
 
 use crate::sizes::Sizes;
-use bitm::{BitOnesIterator, words};
+use bit_words::{BitOnesIterator, words};
 use elias_fano::LowDigits;
 use elias_fano::building::join_digits;
 use std::iter::Iterator;

@@ -1,16 +1,15 @@
 //! The parts of a sequence, written into the caller's memory.
-ghost use Rattle.std.specs.Prelude.{◌≡◌, ◌^◌, ◌<◌, ◌≤◌, ◌↔◌, IsErrOf, IfOk, IsErr, IsTrue, SomeIff, length};
-ghost use Rattle.std.specs.Prelude.{replicate};
+ghost use Rattle.std.specs.Prelude.{◌≡◌, ◌^◌, ◌<◌, ◌≤◌, ◌↔◌, IsErrOf, IfOk, IsErr, IsTrue, SomeIff, length, replicate};
 ghost use Rattle.lent_tables.specs.Sizes.{lists_of};
 ghost use Rattle.std.specs.List.Sorted.{IsNonDecreasing};
 ghost use Rattle.elias_fano.specs.Parts.{width_of, upper_words_of, IsUpper};
 ghost use Rattle.elias_fano.specs.Sequence.{HasFall};
-ghost use Rattle.elias_fano_view.specs.LentParts.{parts_of, Holds};
+ghost use Rattle.elias_fano.specs.LentParts.{parts_of, Holds};
 ghost use Rattle.elias_fano_view.specs.Sizes.{HasRoom};
 
 use crate::error::BuildError;
 use crate::sizes::Sizes;
-use bitm::words::set_bit;
+use bit_words::words::set_bit;
 use elias_fano::building::{is_rising, largest_of, write_low};
 use lent_tables::clear;
 

@@ -34,7 +34,8 @@ mod lists;
 mod sequence;
 mod sizes;
 
-pub use elias_fano::{Answer, total_first_at_least_on, total_item_on};
+pub use bitm_tables::answer::Answer;
+pub use elias_fano::{total_first_at_least_on, total_item_on};
 pub use error::BuildError;
 pub use filling::build;
 pub use lists::ListAnswer;

@@ -1,12 +1,12 @@
 //! Lists of queries: the numbers at a list of indices, and the successors of a list of values.
 ghost use Rattle.std.specs.Prelude.{◌≡◌, ◌<◌, ◌↔◌, ℕ, IsTrue, List, length, slice_index, false};
-ghost use Rattle.elias_fano_view.specs.LentParts.{Holds};
+ghost use Rattle.elias_fano.specs.LentParts.{Holds};
 ghost use Rattle.elias_fano_view.specs.Lists.{written_count, AreItems, EndsTold, IsKeptFrom, IsListed, IsNeverWrong};
 ghost use Rattle.elias_fano_view.specs.Lists.{PlaceTold};
 
 use crate::sequence::LentSequence;
-use bitm::{NO_ANSWER, WRONG_TABLES};
-use elias_fano::Answer;
+use bitm_select::search::selected::{NO_ANSWER, WRONG_TABLES};
+use bitm_tables::answer::Answer;
 use tuning::SELECTIONS_SIDE_BY_SIDE;
 
 /// How far a list of indices was answered.

@@ -1,23 +1,24 @@
 //! A sequence whose parts are borrowed.
 ghost use Rattle.std.specs.Prelude.{◌≡◌, ◌+◌, ◌*◌, ◌/◌, ◌^◌, ◌<◌, ◌≤◌, ◌↔◌, ℕ, SomeIff};
 ghost use Rattle.std.specs.Prelude.{IsTrue, List, length, slice_index, true};
-ghost use Rattle.bitm.specs.Answers.{SelectTold};
-ghost use Rattle.bitm.specs.Tables.{Lists};
+ghost use Rattle.bitm_select.specs.Answers.{SelectTold};
+ghost use Rattle.bitm_tables.specs.Tables.{Lists};
 ghost use Rattle.elias_fano.specs.Parts.{HasFragment};
-ghost use Rattle.elias_fano_view.specs.Answers.{IsFirst, IsItem, IsOfPlace, IsPlaceOf};
-ghost use Rattle.elias_fano_view.specs.LentParts.{parts_of, parts_with, AreParts, HasLengths, Holds};
+ghost use Rattle.elias_fano.specs.Answers.{IsFirst, IsItem, IsOfPlace, IsPlaceOf};
+ghost use Rattle.elias_fano.specs.LentParts.{parts_of, parts_with, AreParts, HasLengths, Holds};
 ghost use Rattle.elias_fano_view.specs.Lists.{AreAhead, AreZerosAhead, EndsTold, ZeroTold};
-ghost use Rattle.elias_fano_view.specs.Low.{unread, ReadsFragments};
-ghost use Rattle.elias_fano_view.specs.Told.{IfPlace, TellsLess};
+ghost use Rattle.elias_fano.specs.Low.{unread, ReadsFragments};
+ghost use Rattle.elias_fano.specs.Told.{IfPlace, TellsLess};
 
 mod finding;
 mod items;
 
 use crate::bucket::{place_of, rank_each};
 use crate::checking::are_parts;
-use bitm::WRONG_TABLES;
+use bitm_select::search::selected::WRONG_TABLES;
+use bitm_tables::answer::Answer;
 use elias_fano::building::item_at_one;
-use elias_fano::{Answer, LowDigits, total_first_at_least_on, total_item_on};
+use elias_fano::{LowDigits, total_first_at_least_on, total_item_on};
 use lent_tables::Lent;
 use std::marker::Model;
 use tuning::SELECTIONS_SIDE_BY_SIDE;

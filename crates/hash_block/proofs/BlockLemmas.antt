@@ -1,19 +1,19 @@
 -- What is written for a hash, or for a dictionary, is its block.
 use Rattle.std.proofs.Common.{◌≡◌, ℕ, ◌+◌, ◌*◌, ◌<◌, ◌≤◌, List, [], ◌∷◌, ◌++◌, length, get_or, slice_index, Option, refl, sym, ap, ◌∙◌, subst, arith}
 use Rattle.std.proofs.lemmas.List.{append-nil}
-use Rattle.bitm.specs.Bits.{bits_of}
-use Rattle.bitm.specs.Count.{ones_of}
-use Rattle.bitm.specs.Tables.{bits_in, HasSizes, HasTables, Lists}
+use Rattle.bit_lists.specs.Bits.{bits_of}
+use Rattle.bit_lists.specs.Count.{ones_of}
+use Rattle.bitm_tables.specs.Tables.{bits_in, HasSizes, HasTables, Lists}
 use Rattle.bitm_block.proofs.PartsLemmas.{count_is, entry_is, laid, part, part_is, section_is, HaveLengths, Part}
 use Rattle.bitm_block.specs.Header.{section_in}
 use Rattle.bitm_block.specs.Layout.{head_of, no_section, part_in}
 use Rattle.bitm_block.specs.Written.{IsSealed}
 use Rattle.bitm_block.specs.declared.head.Head.{Head}
 use Rattle.bitm_block.specs.declared.layout.Section.{Section}
-use Rattle.bitm_view.specs.Sizes.{lists_of}
+use Rattle.lent_tables.specs.Sizes.{lists_of}
 use Rattle.block_tables.specs.Sections.{tables_in}
-use Rattle.perfect_hash.specs.Numbers.{number_by, AreSizes}
-use Rattle.perfect_hash.specs.Perfect.{IsMinimalPerfect}
+use Rattle.hash_levels.specs.Numbers.{number_by, AreSizes}
+use Rattle.hash_levels.specs.Perfect.{IsMinimalPerfect}
 use Rattle.hash_block.specs.Block.{hash_head, hash_in, hash_sections, AreParts, IsBlockOf, StandsIn}
 use Rattle.hash_block.specs.Dictionary.{added, dictionary_sections, number_of_key, IsDictionaryOf, KeysStandIn, StandAtNumbers}
 use Rattle.hash_block.proofs.KeyLemmas.{only, own}

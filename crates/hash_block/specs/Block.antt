@@ -1,15 +1,15 @@
 -- A block that holds a minimal perfect hash.
 use Rattle.std.specs.Prelude.{◌≡◌, ℕ, ◌^◌, ◌<◌, ◌≤◌, Bool, List, [], ◌∷◌, length, slice_index}
 use Rattle.std.specs.Int.{div_ceil}
-use Rattle.bitm.specs.Bits.{bits_of}
-use Rattle.bitm.specs.Tables.{bits_in, HasSizes, HasTables}
+use Rattle.bit_lists.specs.Bits.{bits_of}
+use Rattle.bitm_tables.specs.Tables.{bits_in, HasSizes, HasTables}
 use Rattle.bitm_block.specs.Header.{count_in, section_in, IsBlock, IsVerified}
 use Rattle.bitm_block.specs.Layout.{end_of, part_in}
 use Rattle.bitm_block.specs.declared.head.Head.{Head}
 use Rattle.bitm_block.specs.declared.layout.Section.{Section}
-use Rattle.bitm_view.specs.Sizes.{lists_of}
+use Rattle.lent_tables.specs.Sizes.{lists_of}
 use Rattle.block_tables.specs.Sections.{section_of, tables_in, HasTableSections}
-use Rattle.perfect_hash.specs.Numbers.{AreSizes}
+use Rattle.hash_levels.specs.Numbers.{AreSizes}
 use Rattle.hash_block.specs.Parts.{HasLengths, HashParts, IsHash}
 
 -- the numbers of the header of a hash of n keys

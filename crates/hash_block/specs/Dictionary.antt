@@ -1,15 +1,15 @@
 -- A block that holds a dictionary of numbers: a minimal perfect hash, and each key at its number.
 use Rattle.std.specs.Prelude.{◌≡◌, ◌≢◌, ◌==◌, if◌then◌else◌, ⊤, ℕ, ◌+◌, ◌%◌, ◌^◌, ◌<◌, ◌≤◌, List, [], ◌∷◌, length, slice_get, slice_index, Option, Some}
 use Rattle.std.specs.Int.{div_ceil}
-use Rattle.bitm.specs.Answer.{Answer}
-use Rattle.bitm.specs.Answer.TheVariants.{Found, Absent, Wrong}
-use Rattle.bitm.specs.Bits.{bits_of}
-use Rattle.bitm.specs.Tables.{bits_in}
+use Rattle.bitm_tables.specs.declared.answer.Answer.{Answer}
+use Rattle.bitm_tables.specs.declared.answer.Answer.TheVariants.{Found, Absent, Wrong}
+use Rattle.bit_lists.specs.Bits.{bits_of}
+use Rattle.bitm_tables.specs.Tables.{bits_in}
 use Rattle.bitm_block.specs.Header.{count_in, section_in, IsVerified}
 use Rattle.bitm_block.specs.Layout.{end_of, part_in}
 use Rattle.bitm_block.specs.declared.layout.Section.{Section}
 use Rattle.block_tables.specs.Sections.{section_of}
-use Rattle.perfect_hash.specs.Numbers.{number_by, AreSizes}
+use Rattle.hash_levels.specs.Numbers.{number_by, AreSizes}
 use Rattle.hash_block.specs.Block.{hash_in, AreFew, AreParts, IsHashBlock}
 use Rattle.hash_block.specs.declared.hashing.Added.{Added}
 use Rattle.hash_block.specs.Parts.{HasLengths, HashParts, IsHash}

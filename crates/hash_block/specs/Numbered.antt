@@ -1,9 +1,9 @@
 -- Levels that give each of some keys a number of its own.
 use Rattle.std.specs.Prelude.{◌≡◌, ℕ, ◌^◌, ◌<◌, List, length, Option}
-use Rattle.bitm.specs.Bits.{bits_of}
-use Rattle.bitm.specs.Count.{ones_of}
-use Rattle.perfect_hash.specs.Numbers.{number_by}
-use Rattle.perfect_hash.specs.Perfect.{IsMinimalPerfect}
+use Rattle.bit_lists.specs.Bits.{bits_of}
+use Rattle.bit_lists.specs.Count.{ones_of}
+use Rattle.hash_levels.specs.Numbers.{number_by}
+use Rattle.hash_levels.specs.Perfect.{IsMinimalPerfect}
 use Rattle.bitm_block.specs.Layout.{end_of}
 use Rattle.hash_block.specs.Dictionary.{added, dictionary_sections, DictionaryParts}
 

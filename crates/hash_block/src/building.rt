@@ -1,21 +1,21 @@
 //! The block of a hash, written into the caller's memory.
 ghost use Rattle.std.specs.Prelude.{◌≡◌, ◌≢◌, ◌^◌, ◌<◌, ◌≤◌, ◌↔◌, IfErr, IfOk, IsErr, IsErrOf, IsOk, length};
 ghost use Rattle.std.specs.Int.{div_ceil};
-ghost use Rattle.bitm.specs.Bits.{bits_of};
-ghost use Rattle.bitm.specs.Count.{ones_of};
+ghost use Rattle.bit_lists.specs.Bits.{bits_of};
+ghost use Rattle.bit_lists.specs.Count.{ones_of};
 ghost use Rattle.bitm_block.specs.Layout.{end_of};
 ghost use Rattle.bitm_block.specs.Written.{IsSealed};
-ghost use Rattle.perfect_hash.specs.Numbers.{AreSizes};
-ghost use Rattle.hash_block.specs.Block.{hash_head, hash_sections};
-ghost use Rattle.hash_block.specs.Block.{AreFew, AreParts, CanHold, IsBlockOf, StandsIn};
+ghost use Rattle.hash_levels.specs.Numbers.{AreSizes};
+ghost use Rattle.hash_block.specs.Block.{hash_head, hash_sections, AreFew, AreParts, CanHold, IsBlockOf, StandsIn};
 
 use crate::error::BuildError;
 use crate::levels::are_levels;
 use crate::sections::{block_len, hash_head, hash_sections};
-use bitm::{RankSelect101111, Select0ForRank101111, SelectForRank101111};
+use bitm::RankSelect101111;
 use bitm_block::{aligned, seal};
-use bitm_view::{lower_len, upper_len};
+use bitm_strategies::{Select0ForRank101111, SelectForRank101111};
 use block_tables::{as_entries, as_entries_mut, fill_tables};
+use lent_tables::{lower_len, upper_len};
 use perfect_hash::PerfectHash;
 use std::convert::AsSlice;
 

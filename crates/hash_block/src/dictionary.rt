@@ -1,6 +1,6 @@
 //! A dictionary of numbers in memory that may hold anything.
 ghost use Rattle.std.specs.Prelude.{◌≡◌, ◌+◌, ◌<◌, ◌≤◌, ◌↔◌, ℕ, IsTrue, length, slice_index, Some, SomeIff};
-ghost use Rattle.bitm.specs.Reads.{none_read, ReadsAtMost};
+ghost use Rattle.bitm_tables.specs.Reads.{none_read, ReadsAtMost};
 ghost use Rattle.perfect_hash.specs.Asking.{IsBelow};
 ghost use Rattle.hash_block.specs.Dictionary.{dictionary_in, kept, number_of_key, IsDictionary};
 ghost use Rattle.hash_block.specs.Dictionary.{IsDictionaryBlock, IsFound, IsHeld, IsSoundDictionary};
@@ -10,10 +10,10 @@ use crate::hashing::Added;
 use crate::opening::open;
 use crate::sections::KEYS;
 use crate::view::HashView;
-use bitm::ReadCounts;
 use bitm_block::Block;
-use bitm_view::Answer;
-use perfect_hash::KeyHash;
+use bitm_tables::answer::Answer;
+use bitm_tables::source::counts::ReadCounts;
+use hash_levels::KeyHash;
 use std::marker::Model;
 
 /// A dictionary of numbers in memory that may hold anything: a hash, and the keys in the order of their numbers.

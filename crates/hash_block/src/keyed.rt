@@ -1,11 +1,11 @@
 //! The block of a dictionary, written into the caller's memory.
 ghost use Rattle.std.specs.Prelude.{◌≡◌, ◌≢◌, ◌^◌, ◌<◌, ◌≤◌, ◌↔◌, IfErr, IfOk, IsErrOf, IsOk, length};
-ghost use Rattle.bitm.specs.Bits.{bits_of};
-ghost use Rattle.bitm.specs.Count.{ones_of};
+ghost use Rattle.bit_lists.specs.Bits.{bits_of};
+ghost use Rattle.bit_lists.specs.Count.{ones_of};
 ghost use Rattle.bitm_block.specs.Layout.{end_of};
 ghost use Rattle.bitm_block.specs.Written.{IsSealed};
 ghost use Rattle.perfect_hash.specs.Parts.{number_of};
-ghost use Rattle.perfect_hash.specs.Perfect.{IsMinimalPerfect};
+ghost use Rattle.hash_levels.specs.Perfect.{IsMinimalPerfect};
 ghost use Rattle.hash_block.specs.Block.{hash_head};
 ghost use Rattle.hash_block.specs.Dictionary.{dictionary_sections, hashed, number_of_key};
 ghost use Rattle.hash_block.specs.Dictionary.{AreFewKeys, CanHoldKeys, IsDictionary, IsDictionaryOf};
@@ -16,8 +16,9 @@ use crate::error::BuildError;
 use crate::hashing::Added;
 use crate::keyed_parts::write_key_parts;
 use crate::sections::{dictionary_sections, dictionary_size, hash_head};
-use bitm::{HasBits, Rank, RankSelect101111, Select0ForRank101111, SelectForRank101111};
+use bitm::{HasBits, Rank, RankSelect101111};
 use bitm_block::seal;
+use bitm_strategies::{Select0ForRank101111, SelectForRank101111};
 use perfect_hash::PerfectHash;
 use std::convert::AsSlice;
 

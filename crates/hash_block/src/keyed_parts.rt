@@ -1,10 +1,10 @@
 //! The sections of a dictionary, written where its block has them.
 ghost use Rattle.std.specs.Prelude.{◌≡◌, ◌≤◌, length};
-ghost use Rattle.bitm.specs.Bits.{bits_of};
-ghost use Rattle.bitm.specs.Tables.{HasSizes, HasTables};
-ghost use Rattle.bitm_view.specs.Sizes.{lists_of};
-ghost use Rattle.perfect_hash.specs.Numbers.{AreSizes};
-ghost use Rattle.perfect_hash.specs.Perfect.{IsMinimalPerfect};
+ghost use Rattle.bit_lists.specs.Bits.{bits_of};
+ghost use Rattle.bitm_tables.specs.Tables.{HasSizes, HasTables};
+ghost use Rattle.lent_tables.specs.Sizes.{lists_of};
+ghost use Rattle.hash_levels.specs.Numbers.{AreSizes};
+ghost use Rattle.hash_levels.specs.Perfect.{IsMinimalPerfect};
 ghost use Rattle.hash_block.specs.Dictionary.{number_of_key, CanHoldKeys, KeysStandIn, StandAtNumbers};
 ghost use Rattle.hash_block.specs.Numbered.{key_number, NumberKeys};
 ghost use Rattle.hash_block.specs.Parts.{IsHash};
@@ -12,8 +12,8 @@ ghost use Rattle.hash_block.specs.Parts.{IsHash};
 use crate::building::write_levels;
 use crate::view::HashView;
 use bitm_block::aligned;
-use bitm_view::{Lent, lower_len, upper_len};
 use block_tables::as_entries;
+use lent_tables::{Lent, lower_len, upper_len};
 
 /// Writes each key at its number.
 ///

@@ -38,7 +38,7 @@ mod opening;
 mod sections;
 mod view;
 
-pub use bitm_view::Answer;
+pub use bitm_tables::answer::Answer;
 pub use building::{build, build_of};
 pub use dictionary::{DictionaryView, check_dictionary, open_dictionary};
 pub use error::BuildError;

@@ -1,10 +1,10 @@
 //! A hash in memory that may hold anything.
 ghost use Rattle.std.specs.Prelude.{◌≡◌, ◌+◌, ◌<◌, ◌≤◌, ◌↔◌, IfSome, IsTrue, length, None, SomeIff};
-ghost use Rattle.bitm.specs.Reads.{none_read, ReadsAtMost};
-ghost use Rattle.bitm.specs.Count.{ones_of};
-ghost use Rattle.bitm.specs.Tables.{bits_in, HasTables, IsIndexed};
+ghost use Rattle.bitm_tables.specs.Reads.{none_read, ReadsAtMost};
+ghost use Rattle.bit_lists.specs.Count.{ones_of};
+ghost use Rattle.bitm_tables.specs.Tables.{bits_in, HasTables, IsIndexed};
 ghost use Rattle.perfect_hash.specs.Asking.{IfAbsent, IsBelow, IsNumbered};
-ghost use Rattle.perfect_hash.specs.Numbers.{number_by};
+ghost use Rattle.hash_levels.specs.Numbers.{number_by};
 ghost use Rattle.perfect_hash.specs.Placed.{FitIn};
 ghost use Rattle.hash_block.specs.Dictionary.{number_of_key};
 ghost use Rattle.hash_block.specs.Parts.{IsHash};
@@ -12,9 +12,13 @@ ghost use Rattle.hash_block.specs.Parts.{IsHash};
 use crate::hashing::Added;
 use crate::levels::are_levels;
 use crate::sections::LEVELS;
-use bitm::{ReadCounts, TableSource, rank_on};
-use bitm_view::{Answer, Lent};
-use perfect_hash::{KeyHash, total_number_on};
+use bitm_tables::answer::Answer;
+use bitm_tables::ranking::rank_on;
+use bitm_tables::source::TableSource;
+use bitm_tables::source::counts::ReadCounts;
+use hash_levels::KeyHash;
+use lent_tables::Lent;
+use perfect_hash::total_number_on;
 use std::marker::Model;
 
 /// A minimal perfect hash in memory that may hold anything: the words of all levels with their tables, how many words

@@ -1,7 +1,7 @@
 -- Tables of levels that are counted in the words are those of a matrix.
 use Rattle.std.proofs.Common.{◌≡◌, ℕ, ◌*◌, ◌≤◌, Bool, false, List, length, refl, sym, subst, arith}
 use Rattle.std.proofs.lemmas.Bool.{true≢false}
-use Rattle.bitm.specs.Tables.{bits_in, IsIndexed, Lists}
+use Rattle.bitm_tables.specs.Tables.{bits_in, IsIndexed, Lists}
 use Rattle.matrix_levels.specs.Matrix.{items_of, IsMatrix, LevelTables}
 use Rattle.matrix_levels.proofs.lemmas.MatrixLemmas.{count-whole}
 use Rattle.matrix_levels.proofs.lemmas.StartLemmas.{starts-of-none}

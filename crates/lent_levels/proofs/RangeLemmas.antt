@@ -1,7 +1,7 @@
 -- A range one level on: how many of its items have each bit, and where these stand.
 use Rattle.std.proofs.Common.{◌≡◌, ℕ, ◌+◌, ◌-◌, ◌*◌, ◌/◌, ◌^◌, ◌<◌, ◌≤◌, ◌⊎◌, inl, inr, nat_le, Bool, true, false, if◌then◌else◌, List, length, take, count_by, refl, ap, ◌∙◌, arith, ⊎_elim}
 use Rattle.std.proofs.lemmas.Bool.{cases_lt, le-leb, lt-leb}
-use Rattle.bitm.specs.Bits.{digit}
+use Rattle.bit_lists.specs.Bits.{digit}
 use Rattle.matrix_levels.specs.Levels.{has_digit, has_lesser_prefix, level, partition_place}
 use Rattle.matrix_levels.specs.Matrix.{digit_place, IsMatrixOf, LevelTables}
 use Rattle.matrix_levels.proofs.lemmas.PartLemmas.{moved-both, moved-grows, moved-le, moved-one}

@@ -2,12 +2,12 @@
 use Rattle.std.proofs.Common.{◌≡◌, ℕ, suc, ◌+◌, ◌*◌, ◌^◌, ◌<◌, ◌≤◌, Bool, true, false, if◌then◌else◌, List, length, take, get_or, count_by, refl, sym, ap, ◌∙◌, arith}
 use Rattle.std.proofs.lemmas.List.{length-take-le}
 use Rattle.std.proofs.Math.Nat.{pow-succ'}
-use Rattle.bitm.specs.Bits.{digit, item}
-use Rattle.bitm.specs.Count.{is_same, ones_before}
-use Rattle.bitm.proofs.BitLaws.{count_after_item}
-use Rattle.bitm.specs.ReadCounts.{ReadCounts}
-use Rattle.bitm.specs.Reads.{OnlyReads}
-use Rattle.bitm.specs.Tables.{Lists}
+use Rattle.bit_lists.specs.Bits.{digit, item}
+use Rattle.bit_lists.specs.Count.{is_same, ones_before}
+use Rattle.bit_lists.proofs.BitLaws.{count_after_item}
+use Rattle.bitm_tables.specs.declared.source.counts.ReadCounts.{ReadCounts}
+use Rattle.bitm_tables.specs.Reads.{OnlyReads}
+use Rattle.bitm_tables.specs.Tables.{Lists}
 use Rattle.matrix_levels.specs.Levels.{has_digit, level, partition_place}
 use Rattle.matrix_levels.specs.Matrix.{digit_place, IsMatrixOf, LevelTables}
 use Rattle.matrix_levels.proofs.lemmas.ColumnLemmas.{length-level}

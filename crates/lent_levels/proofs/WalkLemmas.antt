@@ -1,7 +1,7 @@
 -- Items on their way from level to level.
 use Rattle.std.proofs.Common.{◌≤◌, ◌≡◌, ℕ, ◌^◌, ◌<◌, inl, inr, ⊎_elim, subst, arith}
 use Rattle.std.proofs.lemmas.Bool.{cases_lt}
-use Rattle.bitm.specs.Tables.{Lists}
+use Rattle.bitm_tables.specs.Tables.{Lists}
 use Rattle.matrix_levels.specs.Matrix.{numbers_in, IsMatrix, LevelTables}
 use Rattle.matrix_levels.proofs.lemmas.ManyLemmas.{level-first, level-last}
 use Rattle.matrix_levels.proofs.lemmas.WalkLemmas.{level_place-first}

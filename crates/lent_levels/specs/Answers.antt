@@ -1,7 +1,7 @@
 -- What is answered of a matrix in memory that may hold anything, and in that of a matrix.
 use Rattle.std.specs.Prelude.{◌≡◌, ⊤, ℕ, ◌^◌, ◌<◌, ◌≤◌, ◌⊎◌, List, length, slice_index}
-use Rattle.bitm.specs.Answer.{Answer}
-use Rattle.bitm.specs.Answer.TheVariants.{Found, Absent, Wrong}
+use Rattle.bitm_tables.specs.declared.answer.Answer.{Answer}
+use Rattle.bitm_tables.specs.declared.answer.Answer.TheVariants.{Found, Absent, Wrong}
 use Rattle.matrix_levels.specs.Numbers.{count_before, PicksItem}
 
 -- of n numbers of w bits: a number has no more bits, and Absent is answered exactly where there is no number i

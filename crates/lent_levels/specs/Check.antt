@@ -1,6 +1,6 @@
 -- What says that the tables of levels are those of the words.
 use Rattle.std.specs.Prelude.{◌≡◌, ℕ, ◌+◌, ◌*◌, ◌<◌, Bool, List, slice_index}
-use Rattle.bitm.specs.Count.{ones_before, zeros_before}
+use Rattle.bit_lists.specs.Count.{ones_before, zeros_before}
 use Rattle.matrix_levels.specs.Matrix.{LevelTables}
 
 -- the entries of level d are the 1 bits before it and its 0 bits

@@ -1,8 +1,8 @@
 -- What is answered of a range of a matrix's numbers, in memory that may hold anything, and in that of a matrix. A range
 -- has the numbers from index s on and before index e.
 use Rattle.std.specs.Prelude.{◌≡◌, ⊤, ℕ, ◌-◌, ◌^◌, ◌<◌, ◌≤◌, ◌⊎◌, List, Some, None, length, slice_range}
-use Rattle.bitm.specs.Answer.{Answer}
-use Rattle.bitm.specs.Answer.TheVariants.{Found, Absent, Wrong}
+use Rattle.bitm_tables.specs.declared.answer.Answer.{Answer}
+use Rattle.bitm_tables.specs.declared.answer.Answer.TheVariants.{Found, Absent, Wrong}
 use Rattle.matrix_levels.specs.Numbers.{count_equal, IsNextItem, IsPreviousItem, IsSmallest}
 
 -- of n numbers: no more are counted than the range has, and Absent is answered exactly where it ends before it starts, or

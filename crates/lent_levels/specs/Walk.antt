@@ -1,8 +1,8 @@
 -- Items of a matrix, in memory that may hold anything, that go from level to level, many together.
 use Rattle.std.specs.Prelude.{◌≡◌, ℕ, ◌-◌, ◌/◌, ◌^◌, ◌<◌, ◌≤◌, ◌⊎◌, slice_index}
-use Rattle.bitm.specs.Answer.{Answer}
-use Rattle.bitm.specs.Answer.TheVariants.{Found, Absent, Wrong}
-use Rattle.bitm.specs.Tables.{Lists}
+use Rattle.bitm_tables.specs.declared.answer.Answer.{Answer}
+use Rattle.bitm_tables.specs.declared.answer.Answer.TheVariants.{Found, Absent, Wrong}
+use Rattle.bitm_tables.specs.Tables.{Lists}
 use Rattle.matrix_levels.specs.Levels.{level_place}
 use Rattle.matrix_levels.specs.Matrix.{IsMatrix, LevelTables, numbers_in}
 use Rattle.lent_levels.specs.Answers.{IsNumberOf, IsNumberWithin, IsRankOf, IsRankWithin}

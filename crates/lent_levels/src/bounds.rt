@@ -1,7 +1,7 @@
 //! The numbers of a range beside a bound or between two, over any source: words and tables may hold anything.
 ghost use Rattle.std.specs.Prelude.{◌≡◌, ◌+◌, ◌*◌, ◌≤◌, ℕ, List, length, slice_range};
-ghost use Rattle.bitm.specs.Reads.{OnlyReads};
-ghost use Rattle.bitm.specs.Tables.{HasSizes, bits_in};
+ghost use Rattle.bitm_tables.specs.Reads.{OnlyReads};
+ghost use Rattle.bitm_tables.specs.Tables.{HasSizes, bits_in};
 ghost use Rattle.matrix_levels.specs.Matrix.{IsMatrix, numbers_in};
 ghost use Rattle.matrix_levels.specs.Numbers.{count_between, count_less};
 ghost use Rattle.lent_levels.specs.Ranges.{IsCountOf, IsCountWithin};
@@ -10,7 +10,8 @@ ghost use Rattle.lent_levels.specs.Ranges.{IsSmallestOf, IsSmallestWithin};
 
 use crate::levels::LevelsView;
 use crate::stepping::difference;
-use bitm::{Answer, TableSource};
+use bitm_tables::answer::Answer;
+use bitm_tables::source::TableSource;
 
 /// The lesser of two bounds.
 #[inline(always)]

@@ -1,11 +1,12 @@
 //! Whether the tables of levels are those of the words.
 ghost use Rattle.std.specs.Prelude.{◌≡◌, ◌+◌, ◌*◌, ◌<◌, ◌≤◌, ◌↔◌, IsTrue, length};
-ghost use Rattle.bitm.specs.Count.{ones_before, zeros_before};
-ghost use Rattle.bitm.specs.Tables.{IsIndexed, bits_in};
+ghost use Rattle.bit_lists.specs.Count.{ones_before, zeros_before};
+ghost use Rattle.bitm_tables.specs.Tables.{IsIndexed, bits_in};
 ghost use Rattle.lent_levels.specs.Check.{AreCounts, AreCountsAt};
 
 use crate::levels::LevelsView;
-use bitm::{TableSource, rank_on};
+use bitm_tables::ranking::rank_on;
+use bitm_tables::source::TableSource;
 
 /// How many 1 bits stand before an index.
 #[inline(always)]

@@ -2,12 +2,12 @@
 //!
 //! All go from level to level together, so that each waits for memory while the others do.
 ghost use Rattle.std.specs.Prelude.{◌≡◌, ◌+◌, ◌*◌, ◌^◌, ◌<◌, ◌≤◌, ℕ, length, slice_index};
-ghost use Rattle.bitm.specs.Reads.{OnlyReads};
-ghost use Rattle.bitm.specs.Tables.{HasSizes, bits_in};
+ghost use Rattle.bitm_tables.specs.Reads.{OnlyReads};
+ghost use Rattle.bitm_tables.specs.Tables.{HasSizes, bits_in};
 ghost use Rattle.lent_levels.specs.Walk.{IsOnTheWay, IsTold};
 
 use crate::levels::LevelsView;
-use bitm::TableSource;
+use bitm_tables::source::TableSource;
 
 impl<'a> LevelsView<'a> {
     /// Where the item at an index of a level stands at the next one, and its digits with one more. An index past the

@@ -2,13 +2,14 @@
 //!
 //! All go from level to level together, so that each waits for memory while the others do.
 ghost use Rattle.std.specs.Prelude.{◌≡◌, ◌+◌, ◌*◌, ◌<◌, ◌≤◌, ℕ, length, slice_index};
-ghost use Rattle.bitm.specs.Reads.{OnlyReads};
-ghost use Rattle.bitm.specs.Tables.{HasSizes, Lists, bits_in};
+ghost use Rattle.bitm_tables.specs.Reads.{OnlyReads};
+ghost use Rattle.bitm_tables.specs.Tables.{HasSizes, Lists, bits_in};
 ghost use Rattle.lent_levels.specs.Walk.{AreBothOnTheWay, IsRankAt};
 
 use crate::levels::LevelsView;
 use crate::stepping::difference;
-use bitm::{Answer, TableSource};
+use bitm_tables::answer::Answer;
+use bitm_tables::source::TableSource;
 use matrix_levels::{digit_of, fits};
 
 /// An index past the end of every level.

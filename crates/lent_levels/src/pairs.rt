@@ -3,15 +3,16 @@
 //!
 //! All positions go from level to level together, so that each waits for memory while the others do.
 ghost use Rattle.std.specs.Prelude.{◌≡◌, ◌*◌, ◌^◌, ◌<◌, ◌≤◌, IfSome, IsSomeAnd, length};
-ghost use Rattle.bitm.specs.Reads.{OnlyReads};
-ghost use Rattle.bitm.specs.Tables.{HasSizes, bits_in};
+ghost use Rattle.bitm_tables.specs.Reads.{OnlyReads};
+ghost use Rattle.bitm_tables.specs.Tables.{HasSizes, bits_in};
 ghost use Rattle.matrix_levels.specs.Levels.{level_place};
 ghost use Rattle.matrix_levels.specs.Matrix.{IsMatrix, numbers_in};
 ghost use Rattle.lent_levels.specs.Answers.{AreRanksOf, AreRanksWithin, IsItemOf, IsItemWithin};
 
 use crate::levels::LevelsView;
 use crate::stepping::difference;
-use bitm::{Answer, TableSource};
+use bitm_tables::answer::Answer;
+use bitm_tables::source::TableSource;
 use matrix_levels::{digit_of, fits};
 
 impl<'a> LevelsView<'a> {

@@ -1,14 +1,15 @@
 //! The numbers of a range in order, over any source: words and tables may hold anything.
 ghost use Rattle.std.specs.Prelude.{◌≡◌, ◌*◌, ◌-◌, ◌^◌, ◌<◌, ◌≤◌, IfSome, IsSomeAnd, length, slice_range};
-ghost use Rattle.bitm.specs.Reads.{OnlyReads};
-ghost use Rattle.bitm.specs.Tables.{HasSizes, bits_in};
+ghost use Rattle.bitm_tables.specs.Reads.{OnlyReads};
+ghost use Rattle.bitm_tables.specs.Tables.{HasSizes, bits_in};
 ghost use Rattle.matrix_levels.specs.Numbers.{count_equal, IsSmallest};
 ghost use Rattle.matrix_levels.specs.Matrix.{IsMatrix, numbers_in};
 ghost use Rattle.lent_levels.specs.Ranges.{IsSmallestOf, IsSmallestWithin, IsTallyOf, IsTallyWithin};
 
 use crate::levels::LevelsView;
 use crate::ranges::with_digit;
-use bitm::{Answer, TableSource};
+use bitm_tables::answer::Answer;
+use bitm_tables::source::TableSource;
 
 impl<'a> LevelsView<'a> {
     /// The number that would stand at index `k` if the range were sorted, and how often it is in the range; `None`

@@ -1,7 +1,7 @@
 //! A number by its index, and a number's ranks, over any source: words and tables may hold anything.
 ghost use Rattle.std.specs.Prelude.{◌≡◌, ◌*◌, ◌^◌, ◌<◌, ◌≤◌, Some, IfSome, IsSomeAnd, length};
-ghost use Rattle.bitm.specs.Reads.{OnlyReads};
-ghost use Rattle.bitm.specs.Tables.{HasSizes, bits_in};
+ghost use Rattle.bitm_tables.specs.Reads.{OnlyReads};
+ghost use Rattle.bitm_tables.specs.Tables.{HasSizes, bits_in};
 ghost use Rattle.matrix_levels.specs.Levels.{level_place};
 ghost use Rattle.matrix_levels.specs.Matrix.{IsMatrix, numbers_in};
 ghost use Rattle.matrix_levels.specs.Numbers.{count_before};
@@ -9,7 +9,8 @@ ghost use Rattle.lent_levels.specs.Answers.{IsNumberOf, IsNumberWithin, IsRankOf
 
 use crate::levels::LevelsView;
 use crate::stepping::difference;
-use bitm::{Answer, TableSource};
+use bitm_tables::answer::Answer;
+use bitm_tables::source::TableSource;
 use matrix_levels::{digit_of, fits};
 
 impl<'a> LevelsView<'a> {

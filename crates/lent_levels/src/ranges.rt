@@ -1,8 +1,8 @@
 //! Queries of the numbers of a range, over any source: words and tables may hold anything.
 ghost use Rattle.std.specs.Prelude.{◌≡◌, ◌+◌, ◌*◌, ◌-◌, ◌^◌, ◌<◌, ◌≤◌, ℕ, List, Bool, true, false, Some};
 ghost use Rattle.std.specs.Prelude.{IfSome, IsSomeAnd, count_by, if◌then◌else◌, length, slice_range, take};
-ghost use Rattle.bitm.specs.Reads.{OnlyReads};
-ghost use Rattle.bitm.specs.Tables.{HasSizes, bits_in};
+ghost use Rattle.bitm_tables.specs.Reads.{OnlyReads};
+ghost use Rattle.bitm_tables.specs.Tables.{HasSizes, bits_in};
 ghost use Rattle.matrix_levels.specs.Levels.{ArePlacesAfter, has_digit, level, partition_place};
 ghost use Rattle.matrix_levels.specs.Matrix.{IsMatrix, IsMatrixOf, digit_place, level_in, numbers_in};
 ghost use Rattle.matrix_levels.specs.Numbers.{count_less};
@@ -10,7 +10,8 @@ ghost use Rattle.lent_levels.specs.Ranges.{IsCountOf, IsCountWithin};
 
 use crate::levels::LevelsView;
 use crate::stepping::{difference, sum_within};
-use bitm::{Answer, TableSource};
+use bitm_tables::answer::Answer;
+use bitm_tables::source::TableSource;
 use matrix_levels::{digit_of, fits};
 
 /// How many of two kinds of items have this bit.

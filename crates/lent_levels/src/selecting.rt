@@ -1,9 +1,9 @@
 //! The indices of a number, over any source: words and tables may hold anything.
 ghost use Rattle.std.specs.Prelude.{◌≡◌, ◌+◌, ◌*◌, ◌^◌, ◌<◌, ◌≤◌, ℕ, List, Bool, IfSome, IsSomeAnd, length};
-ghost use Rattle.bitm.specs.Answers.{place_in};
-ghost use Rattle.bitm.specs.Count.{count_of, Picks};
-ghost use Rattle.bitm.specs.Reads.{OnlyReads};
-ghost use Rattle.bitm.specs.Tables.{HasSizes, HasTables, bits_in};
+ghost use Rattle.bitm_select.specs.Answers.{place_in};
+ghost use Rattle.bit_lists.specs.Count.{count_of, Picks};
+ghost use Rattle.bitm_tables.specs.Reads.{OnlyReads};
+ghost use Rattle.bitm_tables.specs.Tables.{HasSizes, HasTables, bits_in};
 ghost use Rattle.bitm_selection.specs.Selection.{by_halves, OnlySelectsBy};
 ghost use Rattle.matrix_levels.specs.Levels.{level};
 ghost use Rattle.matrix_levels.specs.Matrix.{IsBitOf, IsMatrix, IsMatrixOf, level_in, numbers_in};
@@ -12,7 +12,9 @@ ghost use Rattle.lent_levels.specs.Answers.{IsIndexAmong, IsIndexOf, IsIndexWith
 
 use crate::levels::LevelsView;
 use crate::stepping::difference;
-use bitm::{Answer, TableSource, total_select_on};
+use bitm_select::search::selecting::total_select_on;
+use bitm_tables::answer::Answer;
+use bitm_tables::source::TableSource;
 use matrix_levels::{digit_of, fits};
 
 /// The position that was found, if one was.

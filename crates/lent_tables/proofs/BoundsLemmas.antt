@@ -4,11 +4,11 @@ use Rattle.std.proofs.lemmas.Bool.{cases_lt}
 use Rattle.std.proofs.lemmas.Nat.{pow_pos}
 use Rattle.std.specs.Int.{div_ceil}
 use Rattle.bit_lists.specs.Count.{count_of, count_before}
-use Rattle.bitm.specs.Samples.{part_of, parts, entry_of, sample, intervals, first_item, walk_start, sample_count_before, samples_of}
+use Rattle.bitm_strategies.specs.Samples.{part_of, parts, entry_of, sample, intervals, first_item, walk_start, sample_count_before, samples_of}
 use Rattle.bitm_strategies.proofs.lemmas.PartLemmas.{count_before-between, entry_last, entry-small, last_least, length-part_of}
 use Rattle.bitm_strategies.proofs.lemmas.SampleLemmas.{before_more, ceil_less, ceil_more, decoded, first_item_is, sample_at, start_at_most, start_inside}
-use Rattle.bitm_select.proofs.lemmas.TableLemmas.{HasEntries}
-use Rattle.bitm_select.specs.Search.{entries_from}
+use Rattle.bitm_tables.proofs.lemmas.TableLemmas.{HasEntries}
+use Rattle.bitm_tables.specs.Entry.{entries_from}
 use Rattle.lent_tables.specs.Samples.{IsBounded}
 
 -- the entries from low on and before end are some, of the part, and item r is among them

@@ -5,10 +5,10 @@ use Rattle.bit_lists.proofs.lemmas.BitsLemmas.{length-bits_of}
 use Rattle.bit_lists.specs.Bits.{bits_of}
 use Rattle.bit_lists.specs.Count.{ones_before}
 use Rattle.bit_slices.proofs.lemmas.PositionLemmas.{placed_more}
-use Rattle.bitm_select.specs.Entry.{lower_entry}
-use Rattle.bitm_select.specs.Tables.{AreTablesOf, HasSizes, lower_of, upper_of}
-use Rattle.bitm_select.proofs.lemmas.TableLemmas.{length-upper_of, length-lower_of, get_or-upper_of, get_or-lower_of}
-use Rattle.bitm_select.proofs.lemmas.TableMakingLemmas.{parts_of_words, entries_of_words}
+use Rattle.bitm_tables.specs.Entry.{lower_entry}
+use Rattle.bitm_tables.specs.Tables.{AreTablesOf, HasSizes, lower_of, upper_of}
+use Rattle.bitm_tables.proofs.lemmas.TableLemmas.{length-upper_of, length-lower_of, get_or-upper_of, get_or-lower_of}
+use Rattle.bitm_tables.proofs.lemmas.TableMakingLemmas.{parts_of_words, entries_of_words}
 use Rattle.lent_tables.specs.Sizes.{IsFilled, lists_of}
 
 -- one more item

@@ -6,7 +6,7 @@ use Rattle.std.proofs.lemmas.Grind.{div_ceil_times}
 use Rattle.std.proofs.lemmas.List.{ext_get_or, get_or-take, length-take-le}
 use Rattle.std.proofs.lemmas.Nat.{one_shl, pow-add, pow_pos}
 use Rattle.std.specs.Int.{div_ceil}
-use Rattle.bitm.specs.Samples.{parts, sample_count_before, samples_of, sample_starts_of}
+use Rattle.bitm_strategies.specs.Samples.{parts, sample_count_before, samples_of, sample_starts_of}
 use Rattle.bitm_strategies.proofs.lemmas.SampleLemmas.{ceil_less, length-samples, length-starts, start_at}
 use Rattle.lent_tables.specs.Samples.{AreSamples, sample_number}
 use Rattle.lent_tables.specs.Sizes.{IsFilled}

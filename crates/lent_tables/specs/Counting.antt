@@ -1,9 +1,9 @@
 -- What a query answers over tables that may hold anything, of all bits of the words.
 use Rattle.std.specs.Prelude.{ℕ, Bool, List, length}
 use Rattle.bitm_select.specs.Answers.{HasBit, IsSelected}
-use Rattle.bitm_select.specs.Tables.{HasTables, Lists, bits_in}
+use Rattle.bitm_tables.specs.Tables.{HasTables, Lists, bits_in}
 use Rattle.bitm_select.specs.Told.{IfAbsent, TellsNone}
-use Rattle.bitm.specs.Answer.{Answer}
+use Rattle.bitm_tables.specs.declared.answer.Answer.{Answer}
 use Rattle.lent_tables.specs.Ranks.{IsCountWithin, IsRanked}
 
 -- the answer of a selection of the bit v with a rank in b: a position that is found has the bit, whatever the tables

@@ -2,8 +2,8 @@
 use Rattle.std.specs.Prelude.{◌≡◌, ℕ, ◌-◌, ◌<◌, ◌≤◌, Bool, not, List, length, min}
 use Rattle.bit_lists.specs.Bits.{item}
 use Rattle.bit_lists.specs.Count.{IsFirstFrom, IsLastTo}
-use Rattle.bitm.specs.Answer.{Answer}
-use Rattle.bitm.specs.Answer.TheVariants.{Found, Absent, Wrong}
+use Rattle.bitm_tables.specs.declared.answer.Answer.{Answer}
+use Rattle.bitm_tables.specs.declared.answer.Answer.TheVariants.{Found, Absent, Wrong}
 
 -- the least position from s on with bit v, and Absent exactly where there is none
 abbrev pub IsNext : List Bool → Bool → ℕ → Answer ℕ → Type 0

@@ -1,8 +1,8 @@
 -- What rank answers, over tables that may hold anything and over those of the words.
 use Rattle.std.specs.Prelude.{◌≡◌, ℕ, ◌<◌, ◌≤◌, Bool, List, length}
 use Rattle.bit_lists.specs.Count.{count_before}
-use Rattle.bitm.specs.Answer.{Answer}
-use Rattle.bitm.specs.Answer.TheVariants.{Found, Absent, Wrong}
+use Rattle.bitm_tables.specs.declared.answer.Answer.{Answer}
+use Rattle.bitm_tables.specs.declared.answer.Answer.TheVariants.{Found, Absent, Wrong}
 
 -- of the first i of `len` bits at most i are counted, and the answer is Absent exactly where there are fewer than i
 -- bits

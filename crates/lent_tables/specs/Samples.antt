@@ -2,9 +2,9 @@
 use Rattle.std.specs.Prelude.{◌≡◌, ℕ, ◌-◌, ◌*◌, ◌^◌, ◌<◌, ◌≤◌, Bool, List, length, slice_index}
 use Rattle.std.specs.Int.{div_ceil}
 use Rattle.bit_lists.specs.Count.{count_before}
-use Rattle.bitm.specs.Density.{clamped_log}
-use Rattle.bitm.specs.Samples.{samples_of, sample_starts_of}
-use Rattle.bitm_select.specs.Tables.{Lists}
+use Rattle.bitm_strategies.specs.Density.{clamped_log}
+use Rattle.bitm_strategies.specs.Samples.{samples_of, sample_starts_of}
+use Rattle.bitm_tables.specs.Tables.{Lists}
 use Rattle.lent_tables.specs.declared.samples.LentSamples.{LentSamples}
 
 -- the two lists are the samples of the bits v of b at logarithm d, and how many there are before each upper block

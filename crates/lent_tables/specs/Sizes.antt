@@ -1,6 +1,6 @@
 -- Borrowed words and two tables, and how far a list is filled.
 use Rattle.std.specs.Prelude.{◌≡◌, ℕ, ◌<◌, List, slice_index}
-use Rattle.bitm_select.specs.Tables.{Lists}
+use Rattle.bitm_tables.specs.Tables.{Lists}
 
 -- words and two tables
 abbrev pub lists_of : List ℕ → List ℕ → List ℕ → Lists

@@ -3,12 +3,12 @@ ghost use Rattle.std.specs.Prelude.{◌≡◌, ◌+◌, ◌*◌, ◌^◌, ◌<�
 ghost use Rattle.std.specs.Int.{div_ceil};
 ghost use Rattle.bit_lists.specs.Bits.{bits_of};
 ghost use Rattle.bit_lists.specs.Count.{ones_before};
-ghost use Rattle.bitm_select.specs.Entry.{lower_entry};
-ghost use Rattle.bitm_select.specs.Tables.{HasSizes, HasTables};
+ghost use Rattle.bitm_tables.specs.Entry.{lower_entry};
+ghost use Rattle.bitm_tables.specs.Tables.{HasSizes, HasTables};
 ghost use Rattle.lent_tables.specs.Sizes.{IsFilled, lists_of};
 
-use bitm_select::levels::L2_ENTRIES_PER_L1_ENTRY;
-use bitm_select::tables::make_entry;
+use bitm_tables::levels::L2_ENTRIES_PER_L1_ENTRY;
+use bitm_tables::tables::make_entry;
 
 /// The number of 1 bits in an upper block, if its lower entries are right; `None` only where the tables are not those
 /// of the words.

@@ -2,7 +2,7 @@
 ghost use Rattle.std.specs.Prelude.{◌≡◌, ◌%◌, ◌<◌, ◌≤◌, ℕ, false, length, replicate, slice_index};
 ghost use Rattle.bit_lists.specs.Bits.{bits_of, item};
 
-use bitm::words;
+use bit_words::words;
 
 /// Clears every second word, from word `first` on.
 #[inline(always)]

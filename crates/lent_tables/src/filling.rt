@@ -3,13 +3,13 @@ ghost use Rattle.std.specs.Prelude.{◌≡◌, ◌+◌, ◌*◌, ◌^◌, ◌<�
 ghost use Rattle.std.specs.Int.{div_ceil};
 ghost use Rattle.bit_lists.specs.Bits.{bits_of, IsShort};
 ghost use Rattle.bit_lists.specs.Count.{ones_before, ones_of};
-ghost use Rattle.bitm_select.specs.Entry.{lower_entry};
-ghost use Rattle.bitm_select.specs.Tables.{HasSizes, HasTables};
+ghost use Rattle.bitm_tables.specs.Entry.{lower_entry};
+ghost use Rattle.bitm_tables.specs.Tables.{HasSizes, HasTables};
 ghost use Rattle.lent_tables.specs.Sizes.{IsFilled, lists_of};
 
 use crate::lent::has_sizes;
-use bitm_select::levels::L2_ENTRIES_PER_L1_ENTRY;
-use bitm_select::tables::make_entry;
+use bitm_tables::levels::L2_ENTRIES_PER_L1_ENTRY;
+use bitm_tables::tables::make_entry;
 
 /// Writes the lower entries of an upper block and returns the number of its 1 bits.
 fn fill_part(words: &[u64], part: usize, lower: &mut [u64]) -> usize

@@ -2,20 +2,20 @@
 //! rank first looks near the guess, entry by entry or in a window, and then searches as `sampled` does.
 ghost use Rattle.std.specs.Prelude.{◌≡◌, ◌+◌, ◌*◌, ◌^◌, ◌<◌, ◌≤◌, length, IfSome};
 ghost use Rattle.bit_lists.specs.Count.{as_bit};
-ghost use Rattle.bitm_select.specs.Entry.{before_in_part};
-ghost use Rattle.bitm_select.specs.Reads.{ReadsAtMost};
-ghost use Rattle.bitm_select.specs.Search.{entries_from, entry_in, sought_in, IsLastFound};
-ghost use Rattle.bitm_select.specs.Tables.{HasSizes, HasTables, bits_in};
+ghost use Rattle.bitm_tables.specs.Entry.{before_in_part, entries_from};
+ghost use Rattle.bitm_tables.specs.Reads.{ReadsAtMost};
+ghost use Rattle.bitm_select.specs.Search.{entry_in, sought_in, IsLastFound};
+ghost use Rattle.bitm_tables.specs.Tables.{HasSizes, HasTables, bits_in};
 ghost use Rattle.lent_tables.specs.Samples.{AreSamplesOf};
 ghost use Rattle.bitm_select.specs.Told.{told_entry};
 
 use crate::sampled::{Bounds, entry_between, entry_by_samples, samples_to};
 use crate::samples::{LentSamples, clamped_log};
-use bitm_select::entry::{entries_of_part, ones_to_entry};
-use bitm_select::levels::L2_ENTRIES_PER_L1_ENTRY;
 use bitm_select::search::entries::{last_entry, sought_entry};
 use bitm_select::search::selecting::FindsEntry;
-use bitm_select::source::TableSource;
+use bitm_tables::entry::{entries_of_part, ones_to_entry};
+use bitm_tables::levels::L2_ENTRIES_PER_L1_ENTRY;
+use bitm_tables::source::TableSource;
 use tuning::{ENTRIES_TO_STEP, ENTRIES_TOO_FAR};
 
 /// The number of entries on either side of a guess that are read one after another.

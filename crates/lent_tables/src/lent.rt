@@ -3,8 +3,8 @@ ghost use Rattle.std.specs.Prelude.{◌≡◌, ◌^◌, ◌↔◌, ◌<◌, ◌�
 ghost use Rattle.std.specs.Int.{div_ceil};
 ghost use Rattle.bit_lists.specs.Bits.{bits_of, IsShort};
 ghost use Rattle.bit_lists.specs.Count.{as_bit, IsRank};
-ghost use Rattle.bitm_select.specs.Reads.{none_read};
-ghost use Rattle.bitm_select.specs.Tables.{HasSizes, HasTables, bits_in};
+ghost use Rattle.bitm_tables.specs.Reads.{none_read};
+ghost use Rattle.bitm_tables.specs.Tables.{HasSizes, HasTables, bits_in};
 ghost use Rattle.bitm_select.specs.Answers.{HasBit, IsSelected};
 ghost use Rattle.bitm_select.specs.Told.{IfAbsent, TellsNone};
 ghost use Rattle.lent_tables.specs.Ranks.{IsCountWithin, IsRanked};
@@ -15,11 +15,11 @@ mod checks;
 
 use crate::checking::are_tables;
 use crate::ranked::ranked_on;
-use bitm_select::answer::Answer;
-use bitm_select::levels::{U64_PER_L1_ENTRY, U64_PER_L2_ENTRY};
-use bitm_select::search::ranking::total_rank_on;
 use bitm_select::search::selecting::total_select_on;
-use bitm_select::source::Probe;
+use bitm_tables::answer::Answer;
+use bitm_tables::levels::{U64_PER_L1_ENTRY, U64_PER_L2_ENTRY};
+use bitm_tables::ranking::total_rank_on;
+use bitm_tables::source::Probe;
 use std::marker::Model;
 use tuning::WORDS_AT_HAND;
 

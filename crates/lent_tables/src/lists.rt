@@ -3,14 +3,14 @@ ghost use Rattle.std.specs.Prelude.{◌≡◌, ◌+◌, ◌*◌, ◌<◌, ◌↔
 ghost use Rattle.bit_lists.specs.Bits.{digit_count};
 ghost use Rattle.bit_lists.specs.Count.{as_bit};
 ghost use Rattle.bitm_select.specs.Answers.{SelectTold, ToldEach};
-ghost use Rattle.bitm_select.specs.Reads.{OnlyReads};
-ghost use Rattle.bitm_select.specs.Tables.{HasSizes};
+ghost use Rattle.bitm_tables.specs.Reads.{OnlyReads};
+ghost use Rattle.bitm_tables.specs.Tables.{HasSizes};
 
 use crate::lent::Lent;
 use bitm_many::lists::{FindsEntries, tell_many_on};
 use bitm_select::search::selected::told;
 use bitm_select::search::selecting::{ByTables, total_select_on};
-use bitm_select::source::{Probe, TableSource};
+use bitm_tables::source::{Probe, TableSource};
 
 /// The position with a rank, by the codes of lists. Not inlined: the loop that calls it where there are no words would
 /// become a call of the C library, which the archive does without.

@@ -1,12 +1,12 @@
 //! A rank over tables that may hold anything.
 ghost use Rattle.std.specs.Prelude.{length};
 ghost use Rattle.lent_tables.specs.Counting.{Ranks};
-ghost use Rattle.bitm_select.specs.Reads.{OnlyReads};
-ghost use Rattle.bitm_select.specs.Tables.{HasSizes};
+ghost use Rattle.bitm_tables.specs.Reads.{OnlyReads};
+ghost use Rattle.bitm_tables.specs.Tables.{HasSizes};
 
-use bitm_select::answer::Answer;
-use bitm_select::search::ranking::total_rank_on;
-use bitm_select::source::TableSource;
+use bitm_tables::answer::Answer;
+use bitm_tables::ranking::total_rank_on;
+use bitm_tables::source::TableSource;
 
 /// The number of 1 bits, or of 0 bits where `one` is false, among the first `index` bits of a source's words.
 ///

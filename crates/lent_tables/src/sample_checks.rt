@@ -1,11 +1,11 @@
 //! Whether samples are those that the tables determine.
 ghost use Rattle.std.specs.Prelude.{◌≡◌, ◌≢◌, ℕ, ◌+◌, ◌^◌, ◌<◌, ◌≤◌, ◌↔◌, Bool, IfSome, IsNone, IsTrue, List, length};
 ghost use Rattle.bit_lists.specs.Count.{as_bit};
-ghost use Rattle.bitm.specs.Samples.{IsSized, IsSummaryOf, sample_count_before, samples_of};
+ghost use Rattle.bitm_strategies.specs.Samples.{IsSized, IsSummaryOf, sample_count_before, samples_of};
 ghost use Rattle.lent_tables.specs.Samples.{AreSamples, sample_number};
 ghost use Rattle.lent_tables.specs.Sizes.{IsFilled};
 
-use bitm::samples::{Summary, items_in, sample_from};
+use bitm_strategies::{Summary, items_in, sample_from};
 
 /// The number of samples of an upper block, if they are those from index `first` on in the list; `None` otherwise.
 fn samples_of_part<const BIT: u8>(

@@ -6,26 +6,26 @@ ghost use Rattle.std.specs.Prelude.{IfSome, IsSome, IsSomeAnd, IsTrue, MatchOpti
 ghost use Rattle.std.specs.Int.{div_ceil};
 ghost use Rattle.bit_lists.specs.Bits.{digit_count};
 ghost use Rattle.bit_lists.specs.Count.{as_bit};
-ghost use Rattle.bitm.specs.Density.{clamped_log};
-ghost use Rattle.bitm_select.specs.Entry.{before_in_part};
-ghost use Rattle.bitm_select.specs.Reads.{OnlyReads, ReadsAtMost};
-ghost use Rattle.bitm.specs.Samples.{part_of, parts, sample_count_before};
-ghost use Rattle.bitm_select.specs.Search.{entries_from, entry_in, sought_in, IsLastFound};
-ghost use Rattle.bitm_select.specs.Tables.{HasSizes, HasTables, bits_in};
+ghost use Rattle.bitm_strategies.specs.Density.{clamped_log};
+ghost use Rattle.bitm_tables.specs.Entry.{before_in_part, entries_from};
+ghost use Rattle.bitm_tables.specs.Reads.{OnlyReads, ReadsAtMost};
+ghost use Rattle.bitm_strategies.specs.Samples.{part_of, parts, sample_count_before};
+ghost use Rattle.bitm_select.specs.Search.{entry_in, sought_in, IsLastFound};
+ghost use Rattle.bitm_tables.specs.Tables.{HasSizes, HasTables, bits_in};
 ghost use Rattle.bitm_select.specs.Answers.{HasBit, IsSelected};
 ghost use Rattle.bitm_select.specs.Told.{told_entry, IfAbsent, TellsNone};
 ghost use Rattle.lent_tables.specs.Samples.{AreSamplesOf, IsBounded};
 
 use crate::guessed::ByGuess;
 use crate::samples::{LentSamples, clamped_log};
-use bitm::samples::first_entry;
-use bitm_select::answer::Answer;
-use bitm_select::entry::{entries_of_part, ones_to_entry};
-use bitm_select::levels::L2_ENTRIES_PER_L1_ENTRY;
 use bitm_select::search::entries::{last_entry, sought_entry};
 use bitm_select::search::entry_range::{EntryRange, last_in_range};
 use bitm_select::search::selecting::search_on;
-use bitm_select::source::TableSource;
+use bitm_strategies::first_entry;
+use bitm_tables::answer::Answer;
+use bitm_tables::entry::{entries_of_part, ones_to_entry};
+use bitm_tables::levels::L2_ENTRIES_PER_L1_ENTRY;
+use bitm_tables::source::TableSource;
 
 /// The number of samples before an upper block; of all samples where there is no such upper block.
 #[inline(always)]

@@ -3,16 +3,16 @@ ghost use Rattle.std.specs.Prelude.{◌≡◌, ◌+◌, ◌<◌, length};
 ghost use Rattle.bit_lists.specs.Bits.{digit_count};
 ghost use Rattle.bit_lists.specs.Count.{as_bit};
 ghost use Rattle.bitm_many.specs.Many.{IsSearch};
-ghost use Rattle.bitm_select.specs.Reads.{ReadsAtMost};
-ghost use Rattle.bitm_select.specs.Tables.{HasSizes};
+ghost use Rattle.bitm_tables.specs.Reads.{ReadsAtMost};
+ghost use Rattle.bitm_tables.specs.Tables.{HasSizes};
 
 use crate::guessed::entry_by_guess;
 use crate::samples::LentSamples;
 use bitm_many::lists::FindsEntries;
 use bitm_many::query::Query;
-use bitm_select::levels::L2_ENTRIES_PER_L1_ENTRY;
 use bitm_select::search::selecting::part_of_rank;
-use bitm_select::source::TableSource;
+use bitm_tables::levels::L2_ENTRIES_PER_L1_ENTRY;
+use bitm_tables::source::TableSource;
 
 /// The query of a rank with its entry: the right one where the tables are those of the words, some entry otherwise.
 #[inline(always)]

@@ -1,6 +1,6 @@
 //! Borrowed samples, and the room that they need.
 ghost use Rattle.std.specs.Prelude.{◌≡◌, ◌≤◌};
-ghost use Rattle.bitm.specs.Density.{clamped_log};
+ghost use Rattle.bitm_strategies.specs.Density.{clamped_log};
 ghost use Rattle.lent_tables.specs.Samples.{enough_samples};
 
 /// A caller's logarithm, clamped to 7 to 31.

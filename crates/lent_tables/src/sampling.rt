@@ -1,11 +1,11 @@
 //! Samples of tables that may hold anything, written into the caller's memory.
 ghost use Rattle.std.specs.Prelude.{◌≡◌, ℕ, ◌+◌, ◌*◌, ◌^◌, ◌<◌, ◌≤◌, Bool, List, length, slice_index, slice_set, take};
 ghost use Rattle.bit_lists.specs.Count.{as_bit};
-ghost use Rattle.bitm.specs.Samples.{IsSized, IsSummaryOf, sample_count_before};
+ghost use Rattle.bitm_strategies.specs.Samples.{IsSized, IsSummaryOf, sample_count_before};
 ghost use Rattle.lent_tables.specs.Samples.{AreSamples, sample_number};
 ghost use Rattle.lent_tables.specs.Sizes.{IsFilled};
 
-use bitm::samples::{Summary, items_in, sample_from};
+use bitm_strategies::{Summary, items_in, sample_from};
 
 /// Writes a sample at index `at`.
 ///

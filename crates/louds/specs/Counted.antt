@@ -1,7 +1,7 @@
 -- A tree in the words of a source whose reads are counted.
 use Rattle.std.specs.Prelude.{ℕ, List}
-use Rattle.bitm.specs.ReadCounts.{ReadCounts}
-use Rattle.bitm.specs.Tables.{IsIndexed, Lists, bits_in}
+use Rattle.bitm_tables.specs.declared.source.counts.ReadCounts.{ReadCounts}
+use Rattle.bitm_tables.specs.Tables.{IsIndexed, Lists, bits_in}
 use Rattle.bitm_selection.specs.Selection.{by_halves, OnlySelectsBy}
 use Rattle.louds.specs.Held.{IsHeld, degrees_of}
 

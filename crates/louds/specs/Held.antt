@@ -2,8 +2,8 @@
 use Rattle.std.specs.Prelude.{◌≡◌, ℕ, ◌+◌, ◌-◌, ◌*◌, ◌^◌, ◌<◌, ◌≤◌, Bool, true, false, List, map, length, take, slice_index, sum}
 use Rattle.std.specs.Int.{div_ceil}
 use Rattle.std.specs.List.{range_with_len}
-use Rattle.bitm.specs.Bits.{item}
-use Rattle.bitm.specs.Count.{places, Picks}
+use Rattle.bit_lists.specs.Bits.{item}
+use Rattle.bit_lists.specs.Count.{places, Picks}
 use Rattle.louds.specs.Tree.{IsTree, IsChild}
 
 -- the place of the zero before the ones of node j; where j is the number of nodes, of the last zero

@@ -3,7 +3,7 @@ ghost use Rattle.std.specs.Prelude.{◌≡◌, ◌<◌, ◌≤◌, ◌↔◌, Is
 ghost use Rattle.louds.specs.Above.{AreBelow, IsAbove, IsAncestor, IsClimbed, IsLowestCommon};
 
 use crate::tree::Louds;
-use bitm::{Select0ForRank101111, SelectForRank101111};
+use bitm_strategies::{Select0ForRank101111, SelectForRank101111};
 use std::ops::Range;
 
 impl<S: SelectForRank101111, S0: Select0ForRank101111> Louds<S, S0> {

@@ -11,7 +11,8 @@ use crate::selecting::{
     child_rank_by, is_leaf_by, next_sibling_by, parent_by, parent_of_by, previous_sibling_by,
     zero_by,
 };
-use bitm::{BinaryRankSearch, TableSource};
+use bitm_strategies::BinaryRankSearch;
+use bitm_tables::source::TableSource;
 
 /// The position of the 0 bit before the 1 bits of a node, or of the last 0 bit.
 #[inline(always)]

@@ -2,7 +2,7 @@
 ghost use Rattle.std.specs.Prelude.{◌≡◌, ◌+◌, ◌*◌, ◌^◌, ◌<◌, ◌≤◌, ◌↔◌, IfErr, IfOk, IfSome, IsErrOf, IsTrue};
 ghost use Rattle.std.specs.Prelude.{length, slice_index};
 ghost use Rattle.std.specs.Int.{div_ceil};
-ghost use Rattle.bitm.specs.Size.{saturated_size};
+ghost use Rattle.bitm_bits.specs.Size.{saturated_size};
 ghost use Rattle.louds.specs.Held.{words_of};
 ghost use Rattle.louds.specs.Labels.{AreLabels, Leads, MatchesChildWith, MatchesWord, Rise};
 ghost use Rattle.louds.specs.Tree.{IsTree};
@@ -10,7 +10,8 @@ ghost use Rattle.louds.specs.Tree.{IsTree};
 use crate::error::{LabelsError, LoudsError};
 use crate::labels::{Packed, all_fit};
 use crate::tree::{Louds, SampledOnes, SampledZeros};
-use bitm::{GetSize, Select0ForRank101111, SelectForRank101111};
+use bitm_bits::GetSize;
+use bitm_strategies::{Select0ForRank101111, SelectForRank101111};
 use std::alloc::{AllocError, Global};
 use std::marker::Model;
 

@@ -4,7 +4,8 @@ ghost use Rattle.std.specs.Box.{boxed_slice_items};
 ghost use Rattle.std.specs.Int.{div_ceil};
 ghost use Rattle.louds.specs.Labels.{HasRoom, numbers_of};
 
-use bitm::{BitVec, GetSize, n_lowest_bits, words};
+use bit_words::{n_lowest_bits, words};
+use bitm_bits::{BitVec, GetSize};
 use std::alloc::{AllocError, Global};
 use std::boxed::BoxedSlice;
 use std::marker::Model;

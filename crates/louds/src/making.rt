@@ -1,10 +1,11 @@
 //! The bits of a tree, in one pass over the degrees.
 ghost use Rattle.std.specs.Prelude.{◌≡◌, ◌+◌, ◌*◌, ◌<◌, ◌≤◌, ◌^◌, ℕ, true, false, length, sum, IfOk};
 ghost use Rattle.std.specs.Box.{boxed_slice_items};
-ghost use Rattle.bitm.specs.Bits.{bits_of, item};
+ghost use Rattle.bit_lists.specs.Bits.{bits_of, item};
 ghost use Rattle.louds.specs.Held.{IsWritten, words_of};
 
-use bitm::{BitVec, words};
+use bit_words::words;
+use bitm_bits::BitVec;
 use std::alloc::{AllocError, Global};
 use std::boxed::BoxedSlice;
 

@@ -1,11 +1,12 @@
 //! The last 0 bit up to a position, where it is near.
 ghost use Rattle.std.specs.Prelude.{◌≡◌, ◌+◌, ◌/◌, ◌<◌, ◌≤◌, ℕ, true, false, length, MatchOption};
-ghost use Rattle.bitm.specs.Bits.{item, IsShort};
-ghost use Rattle.bitm.specs.Count.{IsLastTo};
-ghost use Rattle.bitm.specs.Reads.{OnlyReads};
-ghost use Rattle.bitm.specs.Tables.{bits_in};
+ghost use Rattle.bit_lists.specs.Bits.{item, IsShort};
+ghost use Rattle.bit_lists.specs.Count.{IsLastTo};
+ghost use Rattle.bitm_tables.specs.Reads.{OnlyReads};
+ghost use Rattle.bitm_tables.specs.Tables.{bits_in};
 
-use bitm::{TableSource, words};
+use bit_words::words;
+use bitm_tables::source::TableSource;
 
 /// The position of the last 0 bit up to `to`; `None` only where the `WORDS` words of which the last has position `to`
 /// have no such bit.

@@ -7,7 +7,7 @@ ghost use Rattle.louds.specs.Tree.{AreChildren, IsChild};
 use crate::run::{children_from_on, degree_from_on, ends_after_on};
 use crate::selecting::parent_of_by;
 use crate::tree::Louds;
-use bitm::{Select0ForRank101111, SelectForRank101111};
+use bitm_strategies::{Select0ForRank101111, SelectForRank101111};
 use std::marker::Model;
 use std::ops::Range;
 

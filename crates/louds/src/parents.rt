@@ -5,7 +5,7 @@ ghost use Rattle.louds.specs.Tree.{IsTree};
 
 use crate::error::LoudsError;
 use crate::tree::{Louds, TOO_MANY};
-use bitm::{Select0ForRank101111, SelectForRank101111};
+use bitm_strategies::{Select0ForRank101111, SelectForRank101111};
 use std::alloc::{AllocError, Global};
 
 /// Whether these are the parents of the nodes from 1 on of some tree: each is a node before its child, and none is less

@@ -1,12 +1,14 @@
 //! The 1 bits of a node, its children, from where they begin, over any source: what they read is counted.
 ghost use Rattle.std.specs.Prelude.{◌≡◌, ◌==◌, ◌+◌, ◌^◌, ◌<◌, ◌≤◌, slice_index, IfSome};
-ghost use Rattle.bitm.specs.Reads.{OnlyReads};
+ghost use Rattle.bitm_tables.specs.Reads.{OnlyReads};
 ghost use Rattle.louds.specs.Counted.{degrees_in, IsLouds, OnlySelects};
 ghost use Rattle.louds.specs.Held.{zero_place};
 ghost use Rattle.louds.specs.Tree.{AreChildren, MatchesChild};
 
 use crate::counted::zero_on;
-use bitm::{TableSource, bit_on, near_zero_on};
+use bitm::near_zero_on;
+use bitm_tables::ranking::bit_on;
+use bitm_tables::source::TableSource;
 use std::ops::Range;
 
 /// In how many words an end of a node's 1 bits is looked for before it is selected.

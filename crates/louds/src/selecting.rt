@@ -1,7 +1,7 @@
 //! The calls of a tree that select, over any source and by any selection: those of `counted` and those of the tree run
 //! them.
 ghost use Rattle.std.specs.Prelude.{◌≡◌, ◌==◌, ◌+◌, ◌*◌, ◌^◌, ◌<◌, ◌≤◌, ℕ, slice_index};
-ghost use Rattle.bitm.specs.Reads.{OnlyReads};
+ghost use Rattle.bitm_tables.specs.Reads.{OnlyReads};
 ghost use Rattle.bitm_selection.specs.Selection.{OnlySelectsBy};
 ghost use Rattle.louds.specs.Counted.{degrees_in, IsLouds};
 ghost use Rattle.louds.specs.Held.{zero_place, IsOneOf};
@@ -12,8 +12,9 @@ ghost use Rattle.louds.specs.Tree.{MatchesPreviousSibling};
 use crate::near::near_last_zero_on;
 use crate::node::Node;
 use crate::run::{NEAR, ends_after_on};
-use bitm::{TableSource, bit_on};
 use bitm_selection::Selection;
+use bitm_tables::ranking::bit_on;
+use bitm_tables::source::TableSource;
 
 /// The position of the 0 bit before the 1 bits of a node, or of the last 0 bit.
 #[inline(always)]

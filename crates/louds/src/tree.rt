@@ -3,13 +3,12 @@ ghost use Rattle.std.specs.Prelude.{◌≡◌, ◌==◌, ◌+◌, ◌*◌, ◌^�
 ghost use Rattle.std.specs.Prelude.{slice_index};
 ghost use Rattle.std.specs.Box.{boxed_slice_items};
 ghost use Rattle.std.specs.Int.{div_ceil};
-ghost use Rattle.bitm.specs.Reads.{none_read};
-ghost use Rattle.bitm.specs.Size.{saturated_size};
+ghost use Rattle.bitm_tables.specs.Reads.{none_read};
+ghost use Rattle.bitm_bits.specs.Size.{saturated_size};
 ghost use Rattle.louds.specs.Counted.{degrees_in, IsLouds};
 ghost use Rattle.louds.specs.Held.{words_of, zero_place};
 ghost use Rattle.louds.specs.Tree.{AreChildren, IsTree, MatchesChild, MatchesLastChild};
-ghost use Rattle.louds.specs.Tree.{MatchesParent, MatchesChildRank, MatchesNextSibling};
-ghost use Rattle.louds.specs.Tree.{MatchesPreviousSibling};
+ghost use Rattle.louds.specs.Tree.{MatchesParent, MatchesChildRank, MatchesNextSibling, MatchesPreviousSibling};
 
 use crate::checking::is_tree;
 use crate::error::LoudsError;
@@ -18,10 +17,13 @@ use crate::run::{child_from_on, children_from_on, degree_from_on, end_on};
 use crate::selecting::{
     child_rank_by, is_leaf_by, next_sibling_by, parent_by, previous_sibling_by, zero_by,
 };
-use bitm::{
-    AdaptiveCombinedSamplingDensity, BinaryRankSearch, CombinedSampling, GetSize, Probe,
-    RankSelect101111, Select0ForRank101111, SelectForRank101111,
+use bitm::RankSelect101111;
+use bitm_bits::GetSize;
+use bitm_strategies::{
+    AdaptiveCombinedSamplingDensity, BinaryRankSearch, CombinedSampling, Select0ForRank101111,
+    SelectForRank101111,
 };
+use bitm_tables::source::Probe;
 use std::alloc::{AllocError, Global};
 use std::boxed::BoxedSlice;
 use std::marker::Model;

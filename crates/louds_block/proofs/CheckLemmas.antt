@@ -8,10 +8,10 @@ use Rattle.std.specs.Int.{bit_at}
 use Rattle.bit_lists.proofs.lemmas.BitsLemmas.{item-bits_of_at}
 use Rattle.bit_lists.proofs.lemmas.CountLemmas.{ones_before_more, ones_before-bits_of_in_word}
 use Rattle.bit_lists.proofs.lemmas.WordLemmas.{truth, truth-digit}
-use Rattle.bitm.specs.Bits.{bits_of, item}
-use Rattle.bitm.specs.Count.{ones_before, zeros_before, is_same, places, Picks}
-use Rattle.bitm.proofs.BitLaws.{at_most_one_picked, bits_are_counted, count_after_item, counts_grow, ones_and_zeros, places_are_counted, places_are_picked}
-use Rattle.bitm.proofs.Callers.{zero_below}
+use Rattle.bit_lists.specs.Bits.{bits_of, item}
+use Rattle.bit_lists.specs.Count.{ones_before, zeros_before, is_same, places, Picks}
+use Rattle.bit_lists.proofs.BitLaws.{at_most_one_picked, bits_are_counted, count_after_item, counts_grow, ones_and_zeros, places_are_counted, places_are_picked}
+use Rattle.bit_lists.proofs.Callers.{zero_below}
 use Rattle.louds.proofs.lemmas.TreeLemmas.{sum_all, zero_place_more}
 use Rattle.louds.specs.Held.{degrees_of, words_of, zero_place, IsHeld}
 use Rattle.louds_block.specs.Check.{KeepsLead, Leads}

@@ -1,8 +1,8 @@
 -- Which child of its parent a node is, by the position of its 1 bit and of the 0 bit before those of its parent.
 use Rattle.std.proofs.Common.{◌≡◌, ℕ, ◌+◌, ◌<◌, Some, sym, ap, ◌∙◌, subst}
 use Rattle.std.proofs.lemmas.Option.{same_Some}
-use Rattle.bitm.specs.Answer.TheVariants.{Found}
-use Rattle.bitm.specs.Tables.{Lists}
+use Rattle.bitm_tables.specs.declared.answer.Answer.TheVariants.{Found}
+use Rattle.bitm_tables.specs.Tables.{Lists}
 use Rattle.louds.proofs.lemmas.TreeLemmas.{one_parent}
 use Rattle.louds.specs.Counted.{degrees_in, IsLouds}
 use Rattle.louds.specs.Held.{zero_place, IsOneOf}

@@ -1,7 +1,7 @@
 -- What is answered of a tree in memory that may hold anything, and in that of a tree.
 use Rattle.std.specs.Prelude.{◌≡◌, ⊤, ℕ, ◌+◌, ◌<◌, ◌≤◌, ◌⊎◌, ◌==◌, Bool, List, length, slice_index}
-use Rattle.bitm.specs.Answer.{Answer}
-use Rattle.bitm.specs.Answer.TheVariants.{Found, Absent, Wrong}
+use Rattle.bitm_tables.specs.declared.answer.Answer.{Answer}
+use Rattle.bitm_tables.specs.declared.answer.Answer.TheVariants.{Found, Absent, Wrong}
 use Rattle.louds.specs.Tree.{AreChildren, IsChild, IsFirst, IsLast, IsNextSibling}
 
 -- of n nodes: a parent is a node before v, and Absent is answered exactly at the root and where v is no node

@@ -1,8 +1,8 @@
 -- What says that words hold a tree: each zero before the last has more ones before it than zeros.
 use Rattle.std.specs.Prelude.{◌≡◌, ℕ, ◌+◌, ◌*◌, ◌%◌, ◌^◌, ◌<◌, Bool, false, List, count_ones}
 use Rattle.std.specs.Int.{bit_at}
-use Rattle.bitm.specs.Bits.{item}
-use Rattle.bitm.specs.Count.{ones_before}
+use Rattle.bit_lists.specs.Bits.{item}
+use Rattle.bit_lists.specs.Count.{ones_before}
 
 -- each zero before place m has more ones before it than zeros
 abbrev pub Leads : List Bool → ℕ → Type 0

@@ -1,8 +1,8 @@
 //! Whether words hold a tree: each 0 bit before the last has more 1 bits before it than 0 bits.
 ghost use Rattle.std.specs.Prelude.{◌≡◌, ◌+◌, ◌-◌, ◌*◌, ◌%◌, ◌^◌, ◌<◌, ◌≤◌, ◌↔◌, length, IsTrue};
 ghost use Rattle.std.specs.Prelude.{count_ones, ℕ, MatchOption};
-ghost use Rattle.bitm.specs.Bits.{bits_of};
-ghost use Rattle.bitm.specs.Count.{ones_before};
+ghost use Rattle.bit_lists.specs.Bits.{bits_of};
+ghost use Rattle.bit_lists.specs.Count.{ones_before};
 ghost use Rattle.louds.specs.Held.{degrees_of, words_of, IsHeld};
 ghost use Rattle.louds_block.specs.Check.{KeepsLead, Leads};
 

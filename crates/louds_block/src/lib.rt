@@ -38,7 +38,7 @@ mod siblings;
 mod tree;
 mod writing;
 
-pub use bitm::Answer;
+pub use bitm_tables::answer::Answer;
 pub use building::{build, write_tree};
 pub use children::total_children_on;
 pub use error::BuildError;

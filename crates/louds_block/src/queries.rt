@@ -1,13 +1,15 @@
 //! Parents, children and degrees over any source, of which the words and tables may hold anything.
 ghost use Rattle.std.specs.Prelude.{◌≡◌, ◌+◌, ◌-◌, ◌^◌, ◌<◌, ◌≤◌, ℕ, List, length, IfSome, MatchOption};
-ghost use Rattle.bitm.specs.Tables.{HasSizes};
+ghost use Rattle.bitm_tables.specs.Tables.{HasSizes};
 ghost use Rattle.louds.specs.Counted.{degrees_in, IsLouds, OnlySelects};
 ghost use Rattle.louds.specs.Held.{zero_place, IsOneOf};
 ghost use Rattle.louds.specs.Tree.{IsTree};
 ghost use Rattle.louds_block.specs.Answers.{IsChildOf, IsChildWithin, IsDegreeOf, IsDegreeWithin};
 ghost use Rattle.louds_block.specs.Answers.{IsParentOf, IsParentWithin};
 
-use bitm::{Answer, TableSource, total_select_on};
+use bitm_select::search::selecting::total_select_on;
+use bitm_tables::answer::Answer;
+use bitm_tables::source::TableSource;
 
 /// The parent of a node whose 1 bit stands at a position; `Wrong` only where none does.
 #[inline(always)]

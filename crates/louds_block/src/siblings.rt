@@ -1,13 +1,15 @@
 //! Leaves, siblings and ranks among siblings over any source, of which the words and tables may hold anything.
 ghost use Rattle.std.specs.Prelude.{◌≡◌, ◌+◌, ◌-◌, ◌^◌, ◌<◌, ◌≤◌};
-ghost use Rattle.bitm.specs.Tables.{HasSizes};
+ghost use Rattle.bitm_tables.specs.Tables.{HasSizes};
 ghost use Rattle.louds.specs.Counted.{degrees_in, IsLouds, OnlySelects};
 ghost use Rattle.louds_block.specs.Answers.{IsChildRankOf, IsChildRankWithin, IsLeafOf, IsLeafWithin};
 ghost use Rattle.louds_block.specs.Answers.{IsNextSiblingOf, IsNextSiblingWithin};
 ghost use Rattle.louds_block.specs.Answers.{IsPreviousSiblingOf, IsPreviousSiblingWithin};
 
 use crate::queries::{parent_at, total_one_on, total_zero_on};
-use bitm::{Answer, TableSource, bit_on};
+use bitm_tables::answer::Answer;
+use bitm_tables::ranking::bit_on;
+use bitm_tables::source::TableSource;
 
 /// Whether a node has no children, by its number.
 ///

@@ -1,6 +1,6 @@
 //! A tree in a block that may hold anything.
 ghost use Rattle.std.specs.Prelude.{◌≡◌, ◌^◌, ◌<◌, ◌↔◌, IsTrue, SomeIff};
-ghost use Rattle.bitm.specs.Reads.{none_read};
+ghost use Rattle.bitm_tables.specs.Reads.{none_read};
 ghost use Rattle.louds.specs.Counted.{degrees_in, IsLouds};
 ghost use Rattle.louds_block.specs.Answers.{IsChildOf, IsChildWithin, IsDegreeOf, IsDegreeWithin};
 ghost use Rattle.louds_block.specs.Answers.{IsChildRankOf, IsChildRankWithin, IsLeafOf, IsLeafWithin};
@@ -14,8 +14,8 @@ use crate::sections::{LOUDS, Lens};
 use crate::siblings::{
     total_child_rank_on, total_is_leaf_on, total_next_sibling_on, total_previous_sibling_on,
 };
-use bitm::Answer;
 use bitm_block::Block;
+use bitm_tables::answer::Answer;
 use block_tables::{BlockProbe, are_tables};
 use std::marker::Model;
 

@@ -1,9 +1,9 @@
 //! The bits of a tree, in one pass over the degrees: as `louds` writes them.
 ghost use Rattle.std.specs.Prelude.{◌≡◌, ◌+◌, ◌*◌, ◌<◌, ◌≤◌, ◌^◌, ℕ, false, length, sum};
-ghost use Rattle.bitm.specs.Bits.{bits_of, item};
+ghost use Rattle.bit_lists.specs.Bits.{bits_of, item};
 ghost use Rattle.louds.specs.Held.{IsWritten};
 
-use bitm::words;
+use bit_words::words;
 
 /// Writes 10, and then for each node its degree in 1 bits and a 0 bit, where all bits are 0.
 ///

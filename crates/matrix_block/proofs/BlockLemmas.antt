@@ -2,9 +2,9 @@
 use Rattle.std.proofs.Common.{◌≡◌, ℕ, ◌+◌, ◌*◌, ◌≤◌, List, ◌++◌, length, take, slice_index, append_assoc, length-append, refl, sym, ap, ◌∙◌, subst, arith}
 use Rattle.std.proofs.lemmas.Bool.{true≢false}
 use Rattle.std.specs.List.{slice_range}
-use Rattle.bitm.specs.Bits.{bits_of}
-use Rattle.bitm.specs.Tables.{IsIndexed}
-use Rattle.bitm.proofs.BitLaws.{bits_are_counted}
+use Rattle.bit_lists.specs.Bits.{bits_of}
+use Rattle.bitm_tables.specs.Tables.{IsIndexed}
+use Rattle.bit_lists.proofs.BitLaws.{bits_are_counted}
 use Rattle.bitm_block.proofs.PartsLemmas.{count_is, cut, entry_is, section_is}
 use Rattle.bitm_block.specs.Header.{section_in}
 use Rattle.bitm_block.specs.Layout.{begin_of}

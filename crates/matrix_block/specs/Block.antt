@@ -1,7 +1,7 @@
 -- A block that holds a wavelet matrix.
 use Rattle.std.specs.Prelude.{◌≡◌, ℕ, ◌+◌, ◌^◌, ◌<◌, ◌≤◌, List, [], ◌∷◌, length, slice_index, slice_range, All}
 use Rattle.std.specs.Int.{div_ceil}
-use Rattle.bitm.specs.Tables.{HasSizes, Lists}
+use Rattle.bitm_tables.specs.Tables.{HasSizes, Lists}
 use Rattle.bitm_block.specs.Header.{count_in, section_in, IsBlock, IsVerified}
 use Rattle.bitm_block.specs.Layout.{aligned}
 use Rattle.bitm_block.specs.declared.head.Head.{Head}

@@ -39,7 +39,7 @@ mod matrix;
 mod range_queries;
 mod sections;
 
-pub use bitm::Answer;
+pub use bitm_tables::answer::Answer;
 pub use building::{build, write_tables};
 pub use error::BuildError;
 pub use lent_levels::LevelsView;

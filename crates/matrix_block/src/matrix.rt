@@ -1,16 +1,15 @@
 //! A matrix in a block that may hold anything.
 ghost use Rattle.std.specs.Prelude.{◌≡◌, ◌*◌, ◌≤◌, ◌↔◌, IsTrue, SomeIff, length};
-ghost use Rattle.bitm.specs.Reads.{none_read};
-ghost use Rattle.bitm.specs.Tables.{bits_in};
+ghost use Rattle.bitm_tables.specs.Reads.{none_read};
+ghost use Rattle.bitm_tables.specs.Tables.{bits_in};
 ghost use Rattle.lent_levels.specs.Answers.{IsIndexOf, IsIndexWithin, IsNumberOf, IsNumberWithin};
 ghost use Rattle.lent_levels.specs.Answers.{IsRankOf, IsRankWithin};
 ghost use Rattle.matrix_block.specs.Block.{items_in, matrix_in, parts_of};
-ghost use Rattle.matrix_block.specs.Block.{HasLengths, HasMatrixSections, HoldsMatrix, IsMatrixBlock};
-ghost use Rattle.matrix_block.specs.Block.{IsSoundBlock};
+ghost use Rattle.matrix_block.specs.Block.{HasLengths, HasMatrixSections, HoldsMatrix, IsMatrixBlock, IsSoundBlock};
 
 use crate::sections::{Lens, MATRIX};
-use bitm::Answer;
 use bitm_block::Block;
+use bitm_tables::answer::Answer;
 use block_tables::{BlockProbe, are_tables};
 use lent_levels::{LevelsView, are_counts};
 use std::marker::Model;

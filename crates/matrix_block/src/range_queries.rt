@@ -7,7 +7,7 @@ ghost use Rattle.lent_levels.specs.Ranges.{IsCountOf, IsCountWithin, IsSmallestO
 ghost use Rattle.lent_levels.specs.Ranges.{IsTallyOf, IsTallyWithin};
 
 use crate::matrix::MatrixView;
-use bitm::Answer;
+use bitm_tables::answer::Answer;
 
 impl<'a> MatrixView<'a> {
     /// How many numbers from index `start` on and before index `end` are less than `bound`. Whatever the block holds,

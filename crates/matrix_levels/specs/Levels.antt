@@ -1,7 +1,7 @@
 -- The levels of a matrix: a list of numbers, partitioned by one binary digit after another, the highest first.
 use Rattle.std.specs.Prelude.{◌≡◌, ℕ, ◌+◌, ◌-◌, ◌/◌, ◌^◌, ◌≤◌, ◌==◌, nat_lt, ◌*◌, Bool, true, false, List, [], ◌++◌, length, map, filter, take, count_by, slice_range, min, All, zero, suc}
-use Rattle.bitm.specs.Bits.{digit, digit_count}
-use Rattle.bitm.specs.Count.{is_same}
+use Rattle.bit_lists.specs.Bits.{digit, digit_count}
+use Rattle.bit_lists.specs.Count.{is_same}
 
 -- whether binary digit b of x is v
 abbrev pub has_digit : ℕ → Bool → ℕ → Bool

@@ -2,12 +2,12 @@
 use Rattle.std.specs.Prelude.{◌≡◌, ℕ, ◌+◌, ◌-◌, ◌*◌, ◌/◌, ◌^◌, ◌<◌, ◌≤◌, Bool, true, false, if◌then◌else◌, List, map, take, drop, length, slice_index, count_by, All, zero, suc}
 use Rattle.std.specs.Int.{div_ceil}
 use Rattle.std.specs.List.{range_with_len}
-use Rattle.bitm.specs.Bits.{item}
-use Rattle.bitm.specs.Count.{ones_before, zeros_before, zeros_of, count_of, Picks}
-use Rattle.bitm.specs.Quarters.{AreQuartersOf}
-use Rattle.bitm.specs.Reads.{ReadsAtMost}
-use Rattle.bitm.specs.Tables.{IsIndexed, Lists, bits_in}
-use Rattle.bitm.specs.ReadCounts.{ReadCounts}
+use Rattle.bit_lists.specs.Bits.{item}
+use Rattle.bit_lists.specs.Count.{ones_before, zeros_before, zeros_of, count_of, Picks}
+use Rattle.bitm_tables.specs.Quarters.{AreQuartersOf}
+use Rattle.bitm_tables.specs.Reads.{ReadsAtMost}
+use Rattle.bitm_tables.specs.Tables.{IsIndexed, Lists, bits_in}
+use Rattle.bitm_tables.specs.declared.source.counts.ReadCounts.{ReadCounts}
 use Rattle.matrix_levels.specs.Levels.{columns, has_digit, known_of, level, level_place}
 use Rattle.matrix_levels.specs.Numbers.{PicksItem}
 

@@ -6,7 +6,7 @@ ghost use Rattle.matrix_levels.specs.Numbers.{count_before};
 
 use crate::digits::{digit_of, fits};
 use crate::walk::Levels;
-use bitm::TableSource;
+use bitm_tables::source::TableSource;
 
 impl Levels {
     /// Number `i`.

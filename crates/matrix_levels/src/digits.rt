@@ -1,9 +1,9 @@
 //! The bits of a number.
 ghost use Rattle.std.specs.Prelude.{◌≡◌, ◌<◌, ◌≤◌, ◌*◌, ◌/◌, ◌^◌, ◌↔◌, All, IsTrue};
-ghost use Rattle.bitm.specs.Bits.{digit};
+ghost use Rattle.bit_lists.specs.Bits.{digit};
 ghost use Rattle.matrix_levels.specs.Levels.{known_of};
 
-use bitm::bits_to_store;
+use bit_words::bits_to_store;
 
 /// Whether bit `place` of the number is 1.
 ///

@@ -5,7 +5,7 @@ ghost use Rattle.matrix_levels.specs.Numbers.{GetsEach, RanksEach};
 
 use crate::digits::digit_of;
 use crate::walk::Levels;
-use bitm::TableSource;
+use bitm_tables::source::TableSource;
 
 impl Levels {
     /// For each index the number there; they go to `numbers` in the order of the indices, which are overwritten.

@@ -8,7 +8,7 @@ ghost use Rattle.matrix_levels.specs.Numbers.{count_between, count_less, IsNextI
 
 use crate::digits::{digit_of, fits};
 use crate::walk::Levels;
-use bitm::TableSource;
+use bitm_tables::source::TableSource;
 
 impl Levels {
     /// Of a range of a level: how many items before its start and how many before its end have a 1 bit, and how many of

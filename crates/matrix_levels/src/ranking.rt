@@ -1,15 +1,15 @@
 //! Ranks on the levels of a matrix, by its quarters or by the index alone: what they read is counted.
 ghost use Rattle.std.specs.Prelude.{◌≡◌, ◌+◌, ◌*◌, ◌<◌, ◌≤◌, true, take, count_by, slice_index};
-ghost use Rattle.bitm.specs.Bits.{digit, item};
-ghost use Rattle.bitm.specs.Count.{ones_before};
-ghost use Rattle.bitm.specs.Tables.{bits_in};
+ghost use Rattle.bit_lists.specs.Bits.{digit, item};
+ghost use Rattle.bit_lists.specs.Count.{ones_before};
+ghost use Rattle.bitm_tables.specs.Tables.{bits_in};
 ghost use Rattle.matrix_levels.specs.Levels.{has_digit, partition_place};
 ghost use Rattle.matrix_levels.specs.Matrix.{IsMatrix, OnlyRanks, digit_place, level_in};
 
 use crate::walk::Levels;
-use bitm::{
-    TableSource, bit_and_rank_by_quarters_on, bit_and_rank_on, rank_by_quarters_on, rank_on,
-};
+use bitm_tables::quarters::{bit_and_rank_by_quarters_on, rank_by_quarters_on};
+use bitm_tables::ranking::{bit_and_rank_on, rank_on};
+use bitm_tables::source::TableSource;
 
 impl Levels {
     /// How many 1 bits stand among the bits of all levels before an index of a level.

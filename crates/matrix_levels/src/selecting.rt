@@ -1,16 +1,17 @@
 //! The indices of a number over any source, by any selection: what they read is counted. The counted calls and those of
 //! a matrix run one body.
 ghost use Rattle.std.specs.Prelude.{◌≡◌, ◌+◌, ◌-◌, ◌*◌, ◌<◌, ◌≤◌, false, length};
-ghost use Rattle.bitm.specs.Bits.{digit_count};
-ghost use Rattle.bitm.specs.Reads.{OnlyReads};
+ghost use Rattle.bit_lists.specs.Bits.{digit_count};
+ghost use Rattle.bitm_tables.specs.Reads.{OnlyReads};
 ghost use Rattle.bitm_selection.specs.Selection.{by_halves, OnlySelectsBy};
 ghost use Rattle.matrix_levels.specs.Matrix.{IsMatrix, OnlyRanksAndSelects, level_in, numbers_in};
 ghost use Rattle.matrix_levels.specs.Numbers.{count_before, PicksItem, IsItemSelect};
 
 use crate::digits::fits;
 use crate::walk::Levels;
-use bitm::{BinaryRankSearch, TableSource};
 use bitm_selection::Selection;
+use bitm_strategies::BinaryRankSearch;
+use bitm_tables::source::TableSource;
 
 impl Levels {
     /// From where a number came to an index of the next level, where it stands with `k` such numbers before it.

@@ -5,7 +5,7 @@ ghost use Rattle.matrix_levels.specs.Matrix.{IsMatrix, OnlyRanks, digit_place, l
 ghost use Rattle.matrix_levels.specs.Shared.{AddsShared, AreShared, shared_prefixes};
 
 use crate::walk::Levels;
-use bitm::TableSource;
+use bitm_tables::source::TableSource;
 use std::alloc::{AllocError, Global};
 use std::ops::Range;
 

@@ -2,17 +2,19 @@
 ghost use Rattle.std.specs.Prelude.{◌≡◌, ◌+◌, ◌*◌, ◌-◌, ◌<◌, ◌≤◌, ◌^◌, ℕ, true, length, ◌∷◌, [], take, count_by};
 ghost use Rattle.std.specs.Prelude.{slice_index, IfErr, IfOk};
 ghost use Rattle.std.specs.Box.{boxed_slice_items};
-ghost use Rattle.bitm.specs.Bits.{digit};
-ghost use Rattle.bitm.specs.Count.{ones_before, zeros_before};
-ghost use Rattle.bitm.specs.Size.{saturated_size};
-ghost use Rattle.bitm.specs.Tables.{bits_in};
+ghost use Rattle.bit_lists.specs.Bits.{digit};
+ghost use Rattle.bit_lists.specs.Count.{ones_before, zeros_before};
+ghost use Rattle.bitm_bits.specs.Size.{saturated_size};
+ghost use Rattle.bitm_tables.specs.Tables.{bits_in};
 ghost use Rattle.matrix_levels.specs.Levels.{has_digit, level_place, partition_place};
 ghost use Rattle.matrix_levels.specs.Matrix.{IsBitOf, IsMatrix, IsMatrixOf, OnlyRanks, digit_place, level_in};
 ghost use Rattle.matrix_levels.specs.Matrix.{numbers_in};
 ghost use Rattle.matrix_levels.specs.Numbers.{PicksItem};
 
 use crate::digits::{digit_of, without_lowest};
-use bitm::{Access, GetSize, TableSource};
+use bitm::Access;
+use bitm_bits::GetSize;
+use bitm_tables::source::TableSource;
 use std::alloc::{AllocError, Global};
 use std::boxed::BoxedSlice;
 use std::marker::Model;

@@ -1,7 +1,7 @@
 -- What a look-up over words, tables and sizes that may hold anything answers.
 use Rattle.std.specs.Prelude.{◌≡◌, ⊤, ℕ, ◌<◌, Option, Some, None}
-use Rattle.bitm.specs.Answer.{Answer}
-use Rattle.bitm.specs.Answer.TheVariants.{Found, Absent, Wrong}
+use Rattle.bitm_tables.specs.declared.answer.Answer.{Answer}
+use Rattle.bitm_tables.specs.declared.answer.Answer.TheVariants.{Found, Absent, Wrong}
 
 -- a number is below the count
 abbrev pub IsBelow : ℕ → Answer ℕ → Type 0

@@ -1,8 +1,8 @@
 -- Numbers of keys, with a fingerprint of each key.
 use Rattle.std.specs.Prelude.{◌≡◌, ℕ, ◌*◌, ◌%◌, ◌^◌, ◌<◌, ◌≤◌, ◌==◌, Bool, List, length, if◌then◌else◌, Option, Some, None, slice_get}
-use Rattle.bitm.specs.Bits.{bits_of}
-use Rattle.bitm.specs.Count.{ones_of}
-use Rattle.bitm.specs.Number.{number_at}
+use Rattle.bit_lists.specs.Bits.{bits_of}
+use Rattle.bit_lists.specs.Count.{ones_of}
+use Rattle.bit_lists.specs.Number.{number_at}
 use Rattle.perfect_hash.specs.Parts.{Parts, number_from}
 use Rattle.hash_levels.specs.Perfect.{IsMinimalPerfect}
 use Rattle.hash_levels.specs.Places.{spread}

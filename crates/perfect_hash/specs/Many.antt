@@ -1,6 +1,6 @@
 -- Many look-ups side by side. 2^64 - 1 stands where a hash has no number, or has no place yet.
 use Rattle.std.specs.Prelude.{◌≡◌, ◌≢◌, ℕ, ◌-◌, ◌^◌, ◌<◌, ◌≤◌, Bool, List, length, slice_get, slice_index, Option, Some, None}
-use Rattle.bitm.specs.Count.{ones_before}
+use Rattle.bit_lists.specs.Count.{ones_before}
 use Rattle.hash_levels.specs.Levels.{place_from, GoesOn}
 
 -- the number, or 2^64 - 1

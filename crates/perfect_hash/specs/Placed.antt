@@ -1,7 +1,7 @@
 -- What a search for the one of a hash answers.
 use Rattle.std.specs.Prelude.{◌≡◌, ⊤, ℕ, ◌<◌, ◌≤◌, List, All, sum, Option, Some, None}
-use Rattle.bitm.specs.Answer.{Answer}
-use Rattle.bitm.specs.Answer.TheVariants.{Found, Absent, Wrong}
+use Rattle.bitm_tables.specs.declared.answer.Answer.{Answer}
+use Rattle.bitm_tables.specs.declared.answer.Answer.TheVariants.{Found, Absent, Wrong}
 
 -- the place, and Absent exactly where there is none
 abbrev pub IsPlaced : Option ℕ → Answer ℕ → Type 0

@@ -1,10 +1,10 @@
 //! The number of a hash over any source of words and tables, and over what may hold anything.
 ghost use Rattle.std.specs.Prelude.{◌≡◌, ◌+◌, ◌*◌, ◌<◌, ◌≤◌, length, true, None, IfSome, MatchOption};
-ghost use Rattle.bitm.specs.Answers.{HasBit};
-ghost use Rattle.bitm.specs.Bits.{item, IsShort};
-ghost use Rattle.bitm.specs.Count.{ones_of, IsRank};
-ghost use Rattle.bitm.specs.Reads.{word_read, OnlyReads, ReadsAtMost};
-ghost use Rattle.bitm.specs.Tables.{bits_in, HasSizes, HasTables, IsIndexed};
+ghost use Rattle.bitm_select.specs.Answers.{HasBit};
+ghost use Rattle.bit_lists.specs.Bits.{item, IsShort};
+ghost use Rattle.bit_lists.specs.Count.{ones_of, IsRank};
+ghost use Rattle.bitm_tables.specs.Reads.{word_read, OnlyReads, ReadsAtMost};
+ghost use Rattle.bitm_tables.specs.Tables.{bits_in, HasSizes, HasTables, IsIndexed};
 ghost use Rattle.perfect_hash.specs.Asking.{IfAbsent, IsBelow, IsNumbered};
 ghost use Rattle.hash_levels.specs.Levels.{fall_in, looked, place_from, IsWithin};
 ghost use Rattle.hash_levels.specs.Numbers.{number_by, number_in, AreSizes};
@@ -12,7 +12,11 @@ ghost use Rattle.hash_levels.specs.Places.{place_in};
 ghost use Rattle.perfect_hash.specs.Placed.{FitIn, IsPlaced, WhereAbsent, WhereWrong};
 
 use crate::querying::{BySource, Query};
-use bitm::{Answer, ReadCounts, TableSource, total_rank_on, words};
+use bit_words::words;
+use bitm_tables::answer::Answer;
+use bitm_tables::ranking::total_rank_on;
+use bitm_tables::source::TableSource;
+use bitm_tables::source::counts::ReadCounts;
 use hash_levels::{Placing, Plain, no_reads};
 
 /// Whether the bit at `place` of the source's words is 1.

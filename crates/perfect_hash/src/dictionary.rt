@@ -2,13 +2,15 @@
 ghost use Rattle.std.specs.Prelude.{◌≡◌, ◌*◌, ◌^◌, ◌<◌, ◌≤◌, length, IfOk, IfErr};
 ghost use Rattle.std.specs.Box.{boxed_slice_items};
 ghost use Rattle.std.specs.Int.{div_ceil};
-ghost use Rattle.bitm.specs.Count.{ones_of};
+ghost use Rattle.bit_lists.specs.Count.{ones_of};
 ghost use Rattle.perfect_hash.specs.Dictionary.{found_of, print_of, ArePrints, HasRoom, IsDictionary};
 ghost use Rattle.perfect_hash.specs.Parts.{number_at};
 ghost use Rattle.hash_levels.specs.Perfect.{IsMinimalPerfect};
 
 use crate::table::PerfectHash;
-use bitm::{Access, ArrayWithRank101111, BitVec, n_lowest_bits, words};
+use bit_words::{n_lowest_bits, words};
+use bitm::{Access, ArrayWithRank101111};
+use bitm_bits::BitVec;
 use hash_levels::{KeyHash, Placing, Plain, spread_at};
 use std::alloc::{AllocError, Global};
 use std::boxed::BoxedSlice;

@@ -1,6 +1,6 @@
 //! Many look-ups at once: they go from level to level side by side, so that each waits for memory while the others do.
 ghost use Rattle.std.specs.Prelude.{◌≡◌, ◌≢◌, ◌+◌, ◌^◌, ◌-◌, ◌<◌, ◌≤◌, ℕ, length, slice_index};
-ghost use Rattle.bitm.specs.Count.{ones_before};
+ghost use Rattle.bit_lists.specs.Count.{ones_before};
 ghost use Rattle.hash_levels.specs.Levels.{fall_in, place_from, GoesOn};
 ghost use Rattle.perfect_hash.specs.Many.{told, AreHashes, AreLookedUp, AreNumbersOf};
 ghost use Rattle.perfect_hash.specs.Many.{AreNumbersOfKeys, AreRanks, IsLookedUp};
@@ -8,7 +8,8 @@ ghost use Rattle.perfect_hash.specs.Parts.{number_at, number_from};
 ghost use Rattle.hash_levels.specs.Numbers.{AreSizes};
 
 use crate::table::PerfectHash;
-use bitm::{Access, NO_ANSWER};
+use bitm::Access;
+use bitm_select::search::selected::NO_ANSWER;
 use hash_levels::{KeyHash, Placing, no_reads};
 use tuning::LOOK_UPS_SIDE_BY_SIDE;
 

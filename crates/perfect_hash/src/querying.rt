@@ -1,12 +1,14 @@
 //! How the bits of levels are queried: those of a source, with its reads counted, or those of an index.
 ghost use Rattle.std.specs.Prelude.{◌≡◌, ◌+◌, ◌<◌, ◌≤◌, ℕ, List, Bool, ⊤, length};
-ghost use Rattle.bitm.specs.Bits.{item};
-ghost use Rattle.bitm.specs.Count.{ones_before};
-ghost use Rattle.bitm.specs.Reads.{OnlyReads};
-ghost use Rattle.bitm.specs.Tables.{bits_in, IsIndexed, Lists};
+ghost use Rattle.bit_lists.specs.Bits.{item};
+ghost use Rattle.bit_lists.specs.Count.{ones_before};
+ghost use Rattle.bitm_tables.specs.Reads.{OnlyReads};
+ghost use Rattle.bitm_tables.specs.Tables.{bits_in, IsIndexed, Lists};
 
 use crate::asking::is_one_on;
-use bitm::{Access, Probe, TableSource, rank_on};
+use bitm::Access;
+use bitm_tables::ranking::rank_on;
+use bitm_tables::source::{Probe, TableSource};
 
 /// A way to query bits: a look-up runs one body, over any source and over any index.
 pub(crate) trait Query {

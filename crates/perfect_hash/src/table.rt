@@ -1,9 +1,9 @@
 //! The levels, and the queries of them.
 ghost use Rattle.std.specs.Prelude.{◌≡◌, ◌+◌, ◌*◌, ◌<◌, ◌≤◌, length, IfOk, IfSome};
-ghost use Rattle.bitm.specs.Bits.{bits_of};
-ghost use Rattle.bitm.specs.Count.{ones_of};
-ghost use Rattle.bitm.specs.Size.{saturated_size};
-ghost use Rattle.bitm.specs.Reads.{none_read, ReadsAtMost};
+ghost use Rattle.bit_lists.specs.Bits.{bits_of};
+ghost use Rattle.bit_lists.specs.Count.{ones_of};
+ghost use Rattle.bitm_bits.specs.Size.{saturated_size};
+ghost use Rattle.bitm_tables.specs.Reads.{none_read, ReadsAtMost};
 ghost use Rattle.hash_levels.specs.Levels.{IsWithin};
 ghost use Rattle.hash_levels.specs.Places.{place_in};
 ghost use Rattle.perfect_hash.specs.Parts.{levels_looked, number_at, number_from, number_of};
@@ -11,10 +11,10 @@ ghost use Rattle.hash_levels.specs.Numbers.{AreSizes};
 
 use crate::asking::{number_by, number_by_on};
 use crate::querying::{ByIndex, no_source};
-use bitm::{
-    Access, ArrayWithRank101111, CloneWords, GetSize, RankSelect101111, ReadCounts,
-    Select0ForRank101111, SelectForRank101111,
-};
+use bitm::{Access, ArrayWithRank101111, RankSelect101111};
+use bitm_bits::{CloneWords, GetSize};
+use bitm_strategies::{Select0ForRank101111, SelectForRank101111};
+use bitm_tables::source::counts::ReadCounts;
 use hash_levels::{KeyHash, Placing, Plain, no_reads};
 use std::alloc::{AllocError, Global};
 use std::boxed::BoxedSlice;

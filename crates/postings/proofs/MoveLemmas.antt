@@ -3,10 +3,10 @@ use Rattle.std.proofs.Common.{◌≡◌, ℕ, ◌<◌, ◌≤◌, Bool, List, []
 use Rattle.std.proofs.lemmas.Bool.{cases_lt}
 use Rattle.std.specs.List.{All}
 use Rattle.std.specs.List.Sorted.{IsNonDecreasing}
-use Rattle.bitm.proofs.BitLaws.{counts_grow}
-use Rattle.bitm.specs.Answer.TheVariants.{Found, Absent}
-use Rattle.bitm.specs.Bits.{bits_of}
-use Rattle.bitm.specs.Count.{Picks}
+use Rattle.bit_lists.proofs.BitLaws.{counts_grow}
+use Rattle.bitm_tables.specs.declared.answer.Answer.TheVariants.{Found, Absent}
+use Rattle.bit_lists.specs.Bits.{bits_of}
+use Rattle.bit_lists.specs.Count.{Picks}
 use Rattle.elias_fano.specs.Sequence.{Reaches}
 use Rattle.postings.specs.Next.{IsNextAtLeast}
 use Rattle.postings.specs.Moves.{IsHere, IsMove}

@@ -3,8 +3,8 @@ use Rattle.std.proofs.Common.{ℕ, ◌-◌, ◌*◌, ◌/◌, ◌^◌, ◌<◌, 
 use Rattle.std.proofs.Math.Nat.{div-le_self}
 use Rattle.std.specs.Int.{div_ceil}
 use Rattle.std.specs.List.{All}
-use Rattle.bitm.proofs.BitLaws.{digits_bound_powers}
-use Rattle.bitm.specs.Tables.{Lists}
+use Rattle.bit_lists.proofs.BitLaws.{digits_bound_powers}
+use Rattle.bitm_tables.specs.Tables.{Lists}
 use Rattle.elias_fano.specs.LentParts.{parts_of, HasLengths}
 use Rattle.elias_fano.specs.Parts.{width_of, ArePartsOf}
 use Rattle.elias_fano.specs.Sequence.{largest}

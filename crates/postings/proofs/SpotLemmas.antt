@@ -6,8 +6,8 @@ use Rattle.std.proofs.lemmas.List.{get_or_default}
 use Rattle.std.proofs.lemmas.Nat.{div-add-mod'}
 use Rattle.std.specs.List.{All}
 use Rattle.std.specs.List.Sorted.{IsNonDecreasing}
-use Rattle.bitm.proofs.BitLaws.{equal_items_count_for_one, count_after_item, ones_and_zeros}
-use Rattle.bitm.specs.Count.{ones_before, IsFirstFrom, Picks}
+use Rattle.bit_lists.proofs.BitLaws.{equal_items_count_for_one, count_after_item, ones_and_zeros}
+use Rattle.bit_lists.specs.Count.{ones_before, IsFirstFrom, Picks}
 use Rattle.elias_fano.specs.Low.{Lows, HasFragments}
 use Rattle.elias_fano.specs.Parts.{HasFragment}
 

@@ -4,10 +4,10 @@ use Rattle.std.proofs.lemmas.List.{take-append-le, take-map}
 use Rattle.std.proofs.lemmas.List.Sums.{sum_by-cons}
 use Rattle.std.specs.List.{count_by}
 use Rattle.std.specs.Prelude.{Option, MatchOption, IfSome, Some, None}
-use Rattle.bitm.proofs.BitLaws.{bit_is_digit, bits_are_counted, count_in_stretch, counts_agree, item_of_stretch}
-use Rattle.bitm.specs.Bits.{bits_of, item, digit}
-use Rattle.bitm.specs.Count.{count_before, ones_before, zeros_before}
-use Rattle.bitm.specs.StretchLaws.{stretch}
+use Rattle.bit_lists.proofs.BitLaws.{bit_is_digit, bits_are_counted, count_in_stretch, counts_agree, item_of_stretch}
+use Rattle.bit_lists.specs.Bits.{bits_of, item, digit}
+use Rattle.bit_lists.specs.Count.{count_before, ones_before, zeros_before}
+use Rattle.bit_lists.specs.StretchLaws.{stretch}
 
 pub one_word : (words : List ℕ) (w k j : ℕ) → k < length words → w ≡ get_or words k 0 → j < 64 → item (bits_of (w ∷ [])) j ≡ item (bits_of words) (64 * k + j)
 one_word words w k j inside is small =

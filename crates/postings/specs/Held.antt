@@ -1,6 +1,6 @@
 -- What a cursor over a sequence holds.
 use Rattle.std.specs.Prelude.{ℕ, List}
-use Rattle.bitm.specs.Tables.{HasSizes, Lists}
+use Rattle.bitm_tables.specs.Tables.{HasSizes, Lists}
 use Rattle.bitm.specs.declared.ReadCounts.{ReadCounts}
 use Rattle.elias_fano.specs.LentParts.{parts_of, Holds}
 use Rattle.elias_fano.specs.Parts.{items_of}

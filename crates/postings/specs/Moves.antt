@@ -1,8 +1,8 @@
 -- How a cursor over a sequence moves: over the parts of a sequence, and over any parts.
 use Rattle.std.specs.Prelude.{◌≡◌, ⊤, ℕ, ◌<◌, ◌≤◌, ◌⊎◌, List, drop, Option, Some, None, MatchOption}
 use Rattle.std.specs.List.{All}
-use Rattle.bitm.specs.Answer.{Answer}
-use Rattle.bitm.specs.Answer.TheVariants.{Found, Absent, Wrong}
+use Rattle.bitm_tables.specs.declared.answer.Answer.{Answer}
+use Rattle.bitm_tables.specs.declared.answer.Answer.TheVariants.{Found, Absent, Wrong}
 use Rattle.elias_fano.specs.Sequence.{Reaches}
 use Rattle.postings.specs.Next.{IsNextAtLeast}
 use Rattle.postings.specs.Spot.{IsSpot}

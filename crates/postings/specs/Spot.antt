@@ -1,8 +1,8 @@
 -- Where a cursor over a sequence stands.
 use Rattle.std.specs.Prelude.{◌≡◌, ⊤, ℕ, ◌<◌, ◌≤◌, true, List, length, slice_index}
 use Rattle.std.specs.List.{All}
-use Rattle.bitm.specs.Bits.{bits_of}
-use Rattle.bitm.specs.Count.{ones_before, Picks}
+use Rattle.bit_lists.specs.Bits.{bits_of}
+use Rattle.bit_lists.specs.Count.{ones_before, Picks}
 use Rattle.elias_fano.specs.Sequence.{Reaches}
 use Rattle.postings.specs.declared.spot.Spot.{Spot}
 use Rattle.postings.specs.declared.near.Near.{Near}

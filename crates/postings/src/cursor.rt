@@ -3,7 +3,9 @@ ghost use Rattle.std.specs.Prelude.{◌≡◌, ◌≤◌, ◌+◌, ℕ, List};
 ghost use Rattle.postings.specs.Moves.{IfFound, IsAnswered};
 ghost use Rattle.postings.specs.Next.{IsNextAtLeast};
 
-use bitm::{Answer, Probe, ReadCounts};
+use bitm_tables::answer::Answer;
+use bitm_tables::source::Probe;
+use bitm_tables::source::counts::ReadCounts;
 
 /// A position in a list of numbers that never decrease, which moves forward only.
 pub trait Cursor {

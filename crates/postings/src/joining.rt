@@ -6,7 +6,7 @@ ghost use Rattle.postings.specs.Shared.{AskedAtMost, IsKeptFrom, KeepsFrom};
 
 use crate::cursor::{Cursor, TotalCursor};
 use crate::merged::Merged;
-use bitm::Answer;
+use bitm_tables::answer::Answer;
 
 /// The lesser of two numbers, of which the first may be missing.
 #[inline(always)]

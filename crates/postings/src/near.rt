@@ -2,18 +2,21 @@
 //! it is near, else by selections. The parts may hold anything, and so may the position.
 ghost use Rattle.std.specs.Prelude.{◌≡◌, ◌+◌, ◌-◌, ◌*◌, ◌<◌, ◌≤◌, ◌^◌};
 ghost use Rattle.std.specs.Prelude.{◌/◌, ℕ, List, IfSome, length, slice_index, true, false};
-ghost use Rattle.bitm.specs.Bits.{bits_of, digit_count, IsShort};
-ghost use Rattle.bitm.specs.Count.{IsFirstOneFrom, Picks};
-ghost use Rattle.bitm.specs.Reads.{OnlyReads};
-ghost use Rattle.bitm.specs.Tables.{bits_in, HasSizes};
+ghost use Rattle.bit_lists.specs.Bits.{bits_of, digit_count, IsShort};
+ghost use Rattle.bit_lists.specs.Count.{IsFirstOneFrom, Picks};
+ghost use Rattle.bitm_tables.specs.Reads.{OnlyReads};
+ghost use Rattle.bitm_tables.specs.Tables.{bits_in, HasSizes};
 ghost use Rattle.elias_fano.specs.LentParts.{parts_with, HasLengths, Holds};
 ghost use Rattle.elias_fano.specs.Low.{sharing, HasFragments, ReadsFragments};
 ghost use Rattle.postings.specs.Moves.{IfFound, IsFar, IsForward, IsReaching};
 ghost use Rattle.postings.specs.Spot.{IsBehind, IsNear, IsSpot, IsUpTo};
 
 use crate::spot::Spot;
-use bitm::{Answer, TableSource, total_select_on, words};
+use bit_words::words;
 use bitm_select::search::record::among;
+use bitm_select::search::selecting::total_select_on;
+use bitm_tables::answer::Answer;
+use bitm_tables::source::TableSource;
 use elias_fano::building::{count_at_zero, item_at_one};
 use elias_fano::{LowDigits, laws, total_first_at_least_on};
 

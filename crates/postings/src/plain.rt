@@ -3,7 +3,7 @@ ghost use Rattle.std.specs.Prelude.{◌≡◌, ◌<◌, ◌≤◌, ℕ, length, 
 ghost use Rattle.std.specs.List.Sorted.{IsNonDecreasing};
 
 use crate::cursor::{Cursor, no_calls};
-use bitm::ReadCounts;
+use bitm_tables::source::counts::ReadCounts;
 use elias_fano::building::is_rising;
 use std::marker::Model;
 

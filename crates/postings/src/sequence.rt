@@ -1,8 +1,8 @@
 //! A cursor over a sequence.
 ghost use Rattle.std.specs.Prelude.{◌≡◌, ◌+◌, ◌*◌, ◌≤◌, ℕ, List, length};
-ghost use Rattle.bitm.specs.Bits.{digit_count};
-ghost use Rattle.bitm.specs.Reads.{none_read, ReadsAtMost};
-ghost use Rattle.bitm.specs.Tables.{HasSizes, HasTables};
+ghost use Rattle.bit_lists.specs.Bits.{digit_count};
+ghost use Rattle.bitm_tables.specs.Reads.{none_read, ReadsAtMost};
+ghost use Rattle.bitm_tables.specs.Tables.{HasSizes, HasTables};
 ghost use Rattle.elias_fano.specs.LentParts.{parts_of, parts_with, AreParts, Holds};
 ghost use Rattle.elias_fano.specs.Low.{sharing};
 ghost use Rattle.elias_fano.specs.Parts.{width_of, IsUpper};
@@ -10,7 +10,11 @@ ghost use Rattle.postings.specs.Next.{IsNextAtLeast, IsReached};
 
 use crate::cursor::{Cursor, no_calls};
 use crate::spot::{Spot, total_next_on, total_start_on};
-use bitm::{Answer, Probe, ReadCounts, Select0ForRank101111, SelectForRank101111, index_laws};
+use bitm::index_laws;
+use bitm_strategies::{Select0ForRank101111, SelectForRank101111};
+use bitm_tables::answer::Answer;
+use bitm_tables::source::Probe;
+use bitm_tables::source::counts::ReadCounts;
 use elias_fano::{LowDigits, Sequence, laws};
 use lent_tables::Lent;
 use std::marker::Model;

@@ -5,7 +5,7 @@ ghost use Rattle.postings.specs.Shared.{list_at, AreShared, AskedAtMost, IfNext,
 
 use crate::cursor::{Cursor, TotalCursor};
 use crate::merged::Merged;
-use bitm::Answer;
+use bitm_tables::answer::Answer;
 
 /// What the lists after the first say of a number of the first.
 #[derive(Clone, Copy)]

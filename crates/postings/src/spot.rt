@@ -1,15 +1,16 @@
 //! Where a cursor over a sequence stands, and how it moves. The parts of the sequence may hold anything, and so may the
 //! position.
 ghost use Rattle.std.specs.Prelude.{◌≡◌, ◌+◌, ◌*◌, ◌<◌, ◌≤◌, ℕ, List, length};
-ghost use Rattle.bitm.specs.Bits.{digit_count};
-ghost use Rattle.bitm.specs.Reads.{OnlyReads};
-ghost use Rattle.bitm.specs.Tables.{HasSizes};
+ghost use Rattle.bit_lists.specs.Bits.{digit_count};
+ghost use Rattle.bitm_tables.specs.Reads.{OnlyReads};
+ghost use Rattle.bitm_tables.specs.Tables.{HasSizes};
 ghost use Rattle.elias_fano.specs.LentParts.{parts_with, HasLengths, Holds};
 ghost use Rattle.elias_fano.specs.Low.{sharing, ReadsFragments};
 ghost use Rattle.postings.specs.Moves.{HasMoved, HasStarted, IsMove, IsReaching};
 
 use crate::near::{far_on, seek_on};
-use bitm::{Answer, TableSource};
+use bitm_tables::answer::Answer;
+use bitm_tables::source::TableSource;
 use elias_fano::LowDigits;
 
 /// Where a cursor over a sequence stands: the index of its number, the position of that number's 1 bit among the words

@@ -9,7 +9,7 @@ use Rattle.bitm_block.specs.Layout.{head_of, part_in, AreShort}
 use Rattle.bitm_block.specs.Written.{IsSealed}
 use Rattle.bitm_block.specs.declared.head.Head.{Head}
 use Rattle.bitm_block.specs.declared.layout.Section.{Section}
-use Rattle.bitm_select.specs.Tables.{HasSizes, Lists}
+use Rattle.bitm_tables.specs.Tables.{HasSizes, Lists}
 use Rattle.lent_tables.specs.Sizes.{lists_of}
 use Rattle.block_tables.specs.Sections.{tables_in}
 use Rattle.elias_fano.proofs.lemmas.SequenceLemmas.{is_sequence}

@@ -5,7 +5,7 @@ use Rattle.bitm_block.specs.Header.{count_in, section_in, IsBlock, IsVerified}
 use Rattle.bitm_block.specs.Layout.{end_of, part_in}
 use Rattle.bitm_block.specs.declared.head.Head.{Head}
 use Rattle.bitm_block.specs.declared.layout.Section.{Section}
-use Rattle.bitm_select.specs.Tables.{HasSizes}
+use Rattle.bitm_tables.specs.Tables.{HasSizes}
 use Rattle.lent_tables.specs.Sizes.{lists_of}
 use Rattle.block_tables.specs.Sections.{section_of, tables_in, HasTableSections}
 use Rattle.elias_fano.specs.LentParts.{parts_of, AreParts, HasLengths, Holds, LentParts}

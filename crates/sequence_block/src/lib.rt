@@ -28,8 +28,9 @@ mod error;
 mod opening;
 mod sections;
 
+pub use bitm_tables::answer::Answer;
 pub use building::{build, build_as};
-pub use elias_fano_view::{Answer, LentSequence, ListAnswer};
+pub use elias_fano_view::{LentSequence, ListAnswer};
 pub use error::BuildError;
 pub use opening::{check, check_as, open, open_as};
 pub use sections::{SEQUENCE, size};

@@ -5,7 +5,7 @@ ghost use Rattle.sharded_index.specs.Prefixes.{claimed, claimed_in_all, prefixes
 ghost use Rattle.sharded_index.specs.Prefixes.{ArePrefixes, HasLengths, IsClaimed, IsClaimedBy, IsPlaced};
 ghost use Rattle.bitm_select.specs.Search.{IsLast};
 
-use bitm_view::Answer;
+use bitm_tables::answer::Answer;
 use std::marker::Model;
 
 /// What is numbered over all shards.

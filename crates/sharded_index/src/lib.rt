@@ -27,7 +27,7 @@ mod selections;
 mod shard;
 mod sharded;
 
-pub use bitm_view::Answer;
+pub use bitm_tables::answer::Answer;
 pub use building::{are_prefix_sums, prefix_sums};
 pub use counts::{Kind, Place, PrefixCounts};
 pub use laws::{item_of_joined, picked_in_joined, prefixes_are_sums, rank_in_joined};

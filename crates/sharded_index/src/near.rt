@@ -10,7 +10,7 @@ ghost use Rattle.sharded_index.specs.declared.counts.Kind.TheVariants.{Positions
 use crate::counts::Kind;
 use crate::shard::Shard;
 use crate::sharded::ShardedIndex;
-use bitm_view::Answer;
+use bitm_tables::answer::Answer;
 
 /// A selected position that is not before `from`; one before it shows that prefix counts or tables are wrong.
 #[inline(always)]

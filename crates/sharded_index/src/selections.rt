@@ -12,7 +12,7 @@ use crate::groups::{forget, group, has_room};
 use crate::shard::Shard;
 use crate::sharded::{ShardedIndex, rank_kind};
 use bitm_select::search::selected::{WRONG_TABLES, told};
-use bitm_view::Answer;
+use bitm_tables::answer::Answer;
 
 impl<'a, S: Shard> ShardedIndex<'a, S> {
     ghost use Rattle.sharded_index.specs.Sharded.{AreShards, SelectedIn};

@@ -4,7 +4,8 @@ ghost use Rattle.bitm_select.specs.Answers.{HasBit, IsSelected};
 ghost use Rattle.bitm_view.specs.Queries.{ranked_by, selected_by};
 ghost use Rattle.lent_tables.specs.Ranks.{IsRanked};
 
-use bitm_view::{Answer, IndexView};
+use bitm_tables::answer::Answer;
+use bitm_view::IndexView;
 
 /// Bits that are ranked and selected, over tables that may hold anything.
 pub trait Shard {

@@ -12,7 +12,7 @@ ghost use Rattle.sharded_index.specs.declared.counts.Kind.TheVariants.{Positions
 
 use crate::counts::{Kind, Place, PrefixCounts};
 use crate::shard::Shard;
-use bitm_view::Answer;
+use bitm_tables::answer::Answer;
 
 /// Shards, one after the other, and their prefix counts: the joined bits are ranked and selected as those of one index.
 #[derive(Drop)]

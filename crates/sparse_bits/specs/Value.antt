@@ -1,7 +1,7 @@
 -- What a caller sees of sparse bits. Their positions are those of the 1 bits, so they are no part of it.
 use Rattle.std.specs.Prelude.{ℕ, ◌+◌, ◌*◌, ◌^◌, Bool, List}
 use Rattle.std.specs.Int.{div_ceil}
-use Rattle.bitm.specs.Size.{saturated_size}
+use Rattle.bitm_bits.specs.Size.{saturated_size}
 use Rattle.elias_fano.specs.Parts.{width_of, low_words_of, upper_words_of}
 
 -- the bits, and the two strategies that select in the upper vector of the positions

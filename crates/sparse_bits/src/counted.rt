@@ -7,7 +7,9 @@ ghost use Rattle.elias_fano.specs.Sequence.{IsFirstAtLeast};
 ghost use Rattle.sparse_bits.specs.Looks.{LooksAtMost, no_looks, one_more_get, one_more_search};
 ghost use Rattle.sparse_bits.specs.Positions.{bits_at, ArePlaces, PartsZeros};
 
-use bitm::{Probe, ReadCounts, Select0ForRank101111, SelectForRank101111};
+use bitm_strategies::{Select0ForRank101111, SelectForRank101111};
+use bitm_tables::source::Probe;
+use bitm_tables::source::counts::ReadCounts;
 use elias_fano::Sequence;
 use std::marker::Model;
 

@@ -9,9 +9,12 @@ ghost use Rattle.sparse_bits.specs.Value.{bytes_of};
 use crate::checking::{TOO_MANY, check_positions};
 use crate::counted::Ones;
 use crate::error::SparseError;
-use bitm::{
-    Access, AdaptiveCombinedSamplingDensity, BinaryRankSearch, BitOnesIterator, CombinedSampling,
-    GetSize, HasBits, Rank, Select, Select0, Select0ForRank101111, SelectForRank101111, words,
+use bit_words::{BitOnesIterator, words};
+use bitm::{Access, HasBits, Rank, Select, Select0};
+use bitm_bits::GetSize;
+use bitm_strategies::{
+    AdaptiveCombinedSamplingDensity, BinaryRankSearch, CombinedSampling, Select0ForRank101111,
+    SelectForRank101111,
 };
 use elias_fano::{Numbers, Sequence};
 use std::alloc::{AllocError, Global};

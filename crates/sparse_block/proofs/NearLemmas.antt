@@ -5,7 +5,7 @@ use Rattle.bit_lists.proofs.lemmas.CountLemmas.{count_before-le, count_before-no
 use Rattle.bit_lists.proofs.lemmas.PickLemmas.{rank_below, Picks-rank, IsFirstFrom-Picks, IsLastTo-Picks, none_to}
 use Rattle.bit_lists.specs.Bits.{item}
 use Rattle.bit_lists.specs.Count.{count_before, count_of, IsFirstFrom, IsLastTo, Picks}
-use Rattle.bitm.specs.Answer.TheVariants.{Found, Absent, Wrong}
+use Rattle.bitm_tables.specs.declared.answer.Answer.TheVariants.{Found, Absent, Wrong}
 use Rattle.lent_tables.specs.Nearest.{IsNext, IsPrevious}
 use Rattle.lent_tables.specs.Ranks.{IsRanked}
 use Rattle.lent_tables.proofs.NearestLemmas.{none_after}

@@ -1,8 +1,8 @@
 -- What a query of sparse bits answers over parts that may hold anything.
 use Rattle.std.specs.Prelude.{◌≡◌, ℕ, ◌<◌, ◌≤◌, Bool, List, length}
 use Rattle.bit_lists.specs.Bits.{item}
-use Rattle.bitm.specs.Answer.{Answer}
-use Rattle.bitm.specs.Answer.TheVariants.{Found, Absent, Wrong}
+use Rattle.bitm_tables.specs.declared.answer.Answer.{Answer}
+use Rattle.bitm_tables.specs.declared.answer.Answer.TheVariants.{Found, Absent, Wrong}
 
 -- a bit is one of n, and the answer is Absent exactly where there is no such bit
 abbrev pub IsBitWithin : ℕ → ℕ → Answer Bool → Type 0

@@ -5,7 +5,7 @@ ghost use Rattle.sparse_bits.specs.Positions.{ArePlaces};
 ghost use Rattle.sparse_block.specs.Block.{IsSoundBlock};
 
 use crate::view::{SPARSE_BITS, SparseView};
-use bitm::Answer;
+use bitm_tables::answer::Answer;
 use elias_fano_view::LentSequence;
 use sequence_block::check_as;
 

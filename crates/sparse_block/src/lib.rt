@@ -33,7 +33,7 @@ mod nearest;
 mod queries;
 mod view;
 
-pub use bitm::Answer;
+pub use bitm_tables::answer::Answer;
 pub use building::build;
 pub use checking::check;
 pub use error::BuildError;

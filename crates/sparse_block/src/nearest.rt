@@ -1,6 +1,6 @@
 //! The nearest bit of a kind on either side of a position, whatever the block holds: a rank and a selection.
 ghost use Rattle.std.specs.Prelude.{◌≡◌, ◌+◌, ◌≤◌, List, ℕ, Bool, min, length};
-ghost use Rattle.bitm.specs.Answer.TheVariants.{Found};
+ghost use Rattle.bitm_tables.specs.declared.answer.Answer.TheVariants.{Found};
 ghost use Rattle.bitm_select.specs.Answers.{IsFoundFrom, IsSelected};
 ghost use Rattle.lent_tables.specs.Nearest.{IsNext, IsPrevious};
 ghost use Rattle.lent_tables.specs.Ranks.{IsCountWithin, IsRanked};
@@ -8,7 +8,7 @@ ghost use Rattle.elias_fano.specs.Answers.{IsPlaceOf};
 ghost use Rattle.sparse_block.specs.Block.{bits_of, HoldsOnes};
 
 use crate::view::SparseView;
-use bitm::Answer;
+use bitm_tables::answer::Answer;
 
 /// The selected position, where it is not before `from`: else the block holds no bits.
 #[inline(always)]

@@ -1,6 +1,6 @@
 //! Ranks, selections and bits of a view, whatever its block holds.
 ghost use Rattle.std.specs.Prelude.{◌≡◌, ◌-◌, ◌+◌, ◌≤◌, ◌<◌, List, ℕ, IfSome, IsSomeAnd, true, false};
-ghost use Rattle.bitm.specs.Answer.TheVariants.{Found, Wrong};
+ghost use Rattle.bitm_tables.specs.declared.answer.Answer.TheVariants.{Found, Wrong};
 ghost use Rattle.bitm_select.specs.Answers.{IsSelected};
 ghost use Rattle.lent_tables.specs.Ranks.{IsCountWithin, IsRanked};
 ghost use Rattle.sparse_bits.specs.Positions.{PartsZeros};
@@ -8,7 +8,7 @@ ghost use Rattle.sparse_block.specs.Answers.{IsBitOf, IsBitWithin, IsSelectedWit
 ghost use Rattle.sparse_block.specs.Block.{bits_of, HoldsOnes};
 
 use crate::view::SparseView;
-use bitm::Answer;
+use bitm_tables::answer::Answer;
 
 /// A count among the first `index` of `len` bits, and `Wrong` where it is more than these.
 #[inline(always)]

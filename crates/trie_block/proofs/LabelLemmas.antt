@@ -5,8 +5,8 @@ use Rattle.std.proofs.Math.Seq.{drop-cons}
 use Rattle.std.proofs.lemmas.Bool.{cases_lt}
 use Rattle.std.proofs.lemmas.List.{take_more}
 use Rattle.std.proofs.lemmas.Nat.{row_fits}
-use Rattle.bitm.specs.Bits.{bits_of}
-use Rattle.bitm.specs.Number.{number_at, IsFragmentInRange}
+use Rattle.bit_lists.specs.Bits.{bits_of}
+use Rattle.bit_lists.specs.Number.{number_at, IsFragmentInRange}
 use Rattle.louds.proofs.lemmas.LabelLemmas.{between, child_between, labels_order, leads_more, leads_rest, number_packed}
 use Rattle.louds.specs.Labels.{numbers_of, IsChildWith, Leads, Rise}
 use Rattle.louds.specs.Tree.{AreChildren}

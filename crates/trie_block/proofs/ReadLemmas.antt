@@ -1,8 +1,8 @@
 -- What calls read that follow one another.
 use Rattle.std.proofs.Common.{◌≡◌, ℕ, ◌+◌, ◌*◌, ◌≤◌, List, refl, sym, ap, ◌∙◌, subst, arith}
 use Rattle.std.proofs.Math.Nat.{mul-le-mul_left}
-use Rattle.bitm.specs.ReadCounts.{ReadCounts}
-use Rattle.bitm.specs.Tables.{Lists}
+use Rattle.bitm_tables.specs.declared.source.counts.ReadCounts.{ReadCounts}
+use Rattle.bitm_tables.specs.Tables.{Lists}
 use Rattle.bitm_selection.specs.Selection.{by_halves}
 use Rattle.louds.specs.Counted.{OnlySelects}
 use Rattle.trie_block.specs.Labels.{labels_of, HasLabels, LabelReads, ReadsLabels}

@@ -2,9 +2,9 @@
 use Rattle.std.proofs.Common.{◌≡◌, ℕ, ◌+◌, ◌-◌, ◌*◌, ◌<◌, ◌≤◌, Bool, true, false, if◌then◌else◌, List, length, take, get_or, refl, sym, ap, ◌∙◌, subst, ⊎_elim, arith}
 use Rattle.std.proofs.lemmas.Bool.{cases_lt}
 use Rattle.std.specs.List.{sum}
-use Rattle.bitm.specs.Bits.{item}
-use Rattle.bitm.specs.Count.{ones_before, Picks}
-use Rattle.bitm.proofs.BitLaws.{count_after_item, counts_grow, ones_and_zeros}
+use Rattle.bit_lists.specs.Bits.{item}
+use Rattle.bit_lists.specs.Count.{ones_before, Picks}
+use Rattle.bit_lists.proofs.BitLaws.{count_after_item, counts_grow, ones_and_zeros}
 use Rattle.louds.proofs.lemmas.HeldLemmas.{last_of_one, next_of_one, one_is}
 use Rattle.louds.proofs.lemmas.LabelLemmas.{child_inside, next_number}
 use Rattle.louds.proofs.lemmas.TreeLemmas.{sum_all, sum_more, sum_order}

@@ -1,8 +1,8 @@
 -- What is answered of a trie in memory that may hold anything, and in that of a trie.
 use Rattle.std.specs.Prelude.{◌≡◌, ⊤, ℕ, ◌-◌, ◌^◌, ◌<◌, ◌≤◌, ◌⊎◌, Bool, List, length, take, drop, slice_index}
-use Rattle.bitm.specs.Answer.{Answer}
-use Rattle.bitm.specs.Answer.TheVariants.{Found, Absent, Wrong}
-use Rattle.bitm.specs.Bits.{bits_of, item}
+use Rattle.bitm_tables.specs.declared.answer.Answer.{Answer}
+use Rattle.bitm_tables.specs.declared.answer.Answer.TheVariants.{Found, Absent, Wrong}
+use Rattle.bit_lists.specs.Bits.{bits_of, item}
 use Rattle.louds.specs.Labels.{IsChildWith, Leads}
 use Rattle.trie_block.specs.Block.{labels_of_parts, TrieParts}
 

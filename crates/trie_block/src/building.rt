@@ -10,7 +10,7 @@ ghost use Rattle.trie_block.specs.Labels.{IsShape};
 use crate::error::BuildError;
 use crate::given::are_labels;
 use crate::sections::{block_len, is_shape, label_words, trie_head, trie_sections};
-use bitm::words;
+use bit_words::words;
 use bitm_block::{aligned, seal};
 use lent_tables::clear;
 use louds::is_tree;

@@ -1,14 +1,14 @@
 //! Whether the labels in a block are those of its tree.
 ghost use Rattle.std.specs.Prelude.{◌≡◌, ◌+◌, ◌*◌, ◌^◌, ◌<◌, ◌↔◌, IsTrue, slice_index, true};
-ghost use Rattle.bitm.specs.Bits.{bits_of, item};
-ghost use Rattle.bitm.specs.Count.{ones_before};
+ghost use Rattle.bit_lists.specs.Bits.{bits_of, item};
+ghost use Rattle.bit_lists.specs.Count.{ones_before};
 ghost use Rattle.louds.specs.Held.{degrees_of, IsHeld};
 ghost use Rattle.louds.specs.Labels.{Rise};
 ghost use Rattle.louds.specs.Tree.{IsNextSibling};
 ghost use Rattle.trie_block.specs.Labels.{labels_of, HasLabels};
 
 use crate::labels::LabelProbe;
-use bitm::words;
+use bit_words::words;
 
 /// The label of a node.
 #[inline(always)]

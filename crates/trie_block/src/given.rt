@@ -3,7 +3,7 @@ ghost use Rattle.std.specs.Prelude.{◌≡◌, ◌+◌, ◌^◌, ◌<◌, ◌≤
 ghost use Rattle.louds.specs.Labels.{AreLabels, Rise};
 ghost use Rattle.louds.specs.Tree.{IsTree};
 
-use bitm::n_lowest_bits;
+use bit_words::n_lowest_bits;
 
 /// Whether no label has more than `width` bits.
 fn all_fit(labels: &[u64], width: u8) -> bool

@@ -2,7 +2,9 @@
 ghost use Rattle.std.specs.Prelude.{◌≡◌, ◌+◌, ◌^◌, ◌<◌, slice_index};
 ghost use Rattle.trie_block.specs.Labels.{labels_of, none_read_of, HasLabels};
 
-use bitm::{Probe, ReadCounts, words};
+use bit_words::words;
+use bitm_tables::source::Probe;
+use bitm_tables::source::counts::ReadCounts;
 use std::marker::Model;
 
 /// The labels of the nodes from 1 on, a fragment of `width` bits for each; each label that is read is counted.

@@ -39,7 +39,7 @@ mod sections;
 mod view;
 mod words;
 
-pub use bitm::Answer;
+pub use bitm_tables::answer::Answer;
 pub use building::build;
 pub use error::BuildError;
 pub use labels::LabelProbe;

@@ -1,7 +1,7 @@
 //! Children by their labels, and words, over any source: its words and tables, and the labels, may hold anything.
 ghost use Rattle.std.specs.Prelude.{◌≡◌, ◌+◌, ◌-◌, ◌*◌, ◌<◌, ◌≤◌, IfSome, length, ℕ, List};
-ghost use Rattle.bitm.specs.Bits.{digit_count};
-ghost use Rattle.bitm.specs.Tables.{HasSizes};
+ghost use Rattle.bit_lists.specs.Bits.{digit_count};
+ghost use Rattle.bitm_tables.specs.Tables.{HasSizes};
 ghost use Rattle.louds.specs.Counted.{degrees_in, IsLouds, OnlySelects};
 ghost use Rattle.louds.specs.Labels.{MatchesChildWith, Rise};
 ghost use Rattle.louds.specs.Tree.{AreChildren};
@@ -10,7 +10,8 @@ ghost use Rattle.trie_block.specs.Answers.{IsChildByLabelOf, IsNodeOf, IsNodeWit
 ghost use Rattle.trie_block.specs.Labels.{labels_of, Grow, HasLabels, IsFirstFrom, ReadsLabels};
 
 use crate::labels::LabelProbe;
-use bitm::{Answer, TableSource};
+use bitm_tables::answer::Answer;
+use bitm_tables::source::TableSource;
 use louds_block::total_children_on;
 
 /// Of the nodes from `first` on and before `past`, the first whose label is not less than the given one, by halving;

@@ -12,8 +12,9 @@ use crate::labels::LabelProbe;
 use crate::queries::{total_child_by_label_on, total_find_on};
 use crate::sections::{TRIE, is_shape, label_words};
 use crate::words::total_word_on;
-use bitm::{Answer, words};
+use bit_words::words;
 use bitm_block::Block;
+use bitm_tables::answer::Answer;
 use louds_block::LoudsView;
 use std::marker::Model;
 

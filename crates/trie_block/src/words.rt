@@ -1,12 +1,13 @@
 //! The word that leads to a node, over any source: its words and tables, and the labels, may hold anything.
 ghost use Rattle.std.specs.Prelude.{◌≡◌, ◌+◌, ◌-◌, ◌<◌, ◌∷◌, drop, length, take};
-ghost use Rattle.bitm.specs.Tables.{HasSizes};
+ghost use Rattle.bitm_tables.specs.Tables.{HasSizes};
 ghost use Rattle.louds.specs.Counted.{degrees_in, IsLouds, OnlySelects};
 ghost use Rattle.trie_block.specs.Answers.{IsWordOf, IsWordWithin};
 ghost use Rattle.trie_block.specs.Labels.{labels_of, HasLabels, ReadsLabels};
 
 use crate::labels::LabelProbe;
-use bitm::{Answer, TableSource};
+use bitm_tables::answer::Answer;
+use bitm_tables::source::TableSource;
 use louds_block::total_parent_on;
 
 /// Writes a label before the last `count` ones.

@@ -5,7 +5,7 @@ ghost use Rattle.wavelet_matrix.specs.Distinct.{AreDistinct};
 ghost use Rattle.matrix_levels.specs.Numbers.{count_equal, IsSmallest};
 
 use crate::matrix::WaveletMatrix;
-use bitm::{Select0ForRank101111, SelectForRank101111};
+use bitm_strategies::{Select0ForRank101111, SelectForRank101111};
 use std::iter::{FusedIterator, Iterator};
 use std::marker::Model;
 use std::ops::Range;

@@ -4,7 +4,7 @@ ghost use Rattle.std.specs.List.{AllPairs};
 ghost use Rattle.wavelet_matrix.specs.Frequent.{AreMostFrequent, GoesBefore};
 
 use crate::matrix::WaveletMatrix;
-use bitm::{Select0ForRank101111, SelectForRank101111};
+use bitm_strategies::{Select0ForRank101111, SelectForRank101111};
 use std::alloc::{AllocError, Global};
 use std::ops::Range;
 

@@ -3,16 +3,17 @@ ghost use Rattle.std.specs.Prelude.{◌≡◌, ◌==◌, ◌+◌, ◌*◌, ◌^�
 ghost use Rattle.std.specs.Prelude.{slice_index};
 ghost use Rattle.std.specs.Box.{boxed_slice_items};
 ghost use Rattle.std.specs.Int.{div_ceil};
-ghost use Rattle.bitm.specs.Bits.{bits_of};
-ghost use Rattle.bitm.specs.Reads.{none_read};
-ghost use Rattle.bitm.specs.Size.{saturated_size};
+ghost use Rattle.bit_lists.specs.Bits.{bits_of};
+ghost use Rattle.bitm_tables.specs.Reads.{none_read};
+ghost use Rattle.bitm_bits.specs.Size.{saturated_size};
 ghost use Rattle.matrix_levels.specs.Levels.{known_of};
 ghost use Rattle.matrix_levels.specs.Matrix.{IsMatrix, items_of, numbers_in, quarters_for, words_of};
 ghost use Rattle.matrix_levels.specs.Numbers.{count_before, GetsEach, PicksItem, RanksEach, IsItemRank, IsItemSelect};
 
-use bitm::{
-    BinaryRankSearch, GetSize, Probe, RankSelect101111, Select0ForRank101111, SelectForRank101111,
-};
+use bitm::RankSelect101111;
+use bitm_bits::GetSize;
+use bitm_strategies::{BinaryRankSearch, Select0ForRank101111, SelectForRank101111};
+use bitm_tables::source::Probe;
 use matrix_levels::{Levels, known_for, make_levels, quarters_unless};
 use std::alloc::{AllocError, Global};
 use std::boxed::BoxedSlice;

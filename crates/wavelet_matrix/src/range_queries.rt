@@ -4,7 +4,7 @@ ghost use Rattle.matrix_levels.specs.Numbers.{count_less, count_between, IsSmall
 ghost use Rattle.matrix_levels.specs.Shared.{AreShared};
 
 use crate::matrix::WaveletMatrix;
-use bitm::{Select0ForRank101111, SelectForRank101111};
+use bitm_strategies::{Select0ForRank101111, SelectForRank101111};
 use std::alloc::{AllocError, Global};
 use std::ops::Range;
 

@@ -8,16 +8,16 @@ use Rattle.std.specs.List.{range_with_len}
 use Rattle.std.specs.Int.{div_ceil}
 use Rattle.bit_lists.proofs.lemmas.CountLemmas.{ones_before-add-zeros_before}
 use Rattle.bit_lists.specs.Count.{count_of, ones_before, count_before, as_bit}
-use Rattle.bitm_select.specs.Entry.{before_in_part, lower_entry, greatest_entry, FieldsFit}
+use Rattle.bitm_tables.specs.Entry.{before_in_part, lower_entry, greatest_entry, FieldsFit, entries_from}
 use Rattle.bitm_strategies.specs.Samples.{Summarizes, part_of, entry_of, sample}
-use Rattle.bitm_select.specs.Search.{IsLast, IsLastEntry, entries_from, sought_bits}
-use Rattle.bitm_select.proofs.lemmas.EntryLemmas.{entry-complement, entry-fits}
+use Rattle.bitm_select.specs.Search.{IsLast, IsLastEntry, sought_bits}
+use Rattle.bitm_tables.proofs.lemmas.EntryLemmas.{entry-complement, entry-fits}
 use Rattle.bitm_select.proofs.lemmas.MarkLemmas.{as_bit_other}
 use Rattle.bitm_strategies.proofs.lemmas.PartLemmas.{length-part_of, count_of-part_of, last_same, last_alike, entry_last, count_before-between, count_in_part}
 use Rattle.bitm_strategies.proofs.lemmas.SampleLemmas.{ceil_less}
 use Rattle.bitm_select.proofs.lemmas.SoughtLemmas.{entry_ones, entry_zeros}
-use Rattle.bitm_select.proofs.lemmas.StretchLemmas.{ones_before-between}
-use Rattle.bitm_select.proofs.lemmas.TableLemmas.{HasEntries, entries}
+use Rattle.bitm_tables.proofs.lemmas.StretchLemmas.{ones_before-between}
+use Rattle.bitm_tables.proofs.lemmas.TableLemmas.{HasEntries, entries}
 
 -- ---- zeros and ones
 

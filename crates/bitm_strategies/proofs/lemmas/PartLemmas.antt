@@ -9,12 +9,12 @@ use Rattle.bit_lists.proofs.lemmas.PickLemmas.{Picks-places, length-places}
 use Rattle.bit_lists.proofs.lemmas.WordLemmas.{truth}
 use Rattle.bit_lists.specs.Bits.{item}
 use Rattle.bit_lists.specs.Count.{count_of, ones_before, zeros_before, count_before, Picks}
-use Rattle.bitm_select.specs.Entry.{before_in_part}
+use Rattle.bitm_tables.specs.Entry.{before_in_part, negation}
 use Rattle.bitm_strategies.specs.Samples.{part_of, place, entry_of}
-use Rattle.bitm_select.specs.Search.{IsLast, sought_bits, negation}
-use Rattle.bitm_select.proofs.lemmas.EntryLemmas.{ones_before-negation}
+use Rattle.bitm_select.specs.Search.{IsLast, sought_bits}
+use Rattle.bitm_tables.proofs.lemmas.EntryLemmas.{ones_before-negation}
 use Rattle.bitm_select.proofs.lemmas.MarkLemmas.{count_before-sought_bits}
-use Rattle.bitm_select.proofs.lemmas.StretchLemmas.{ones_before-between}
+use Rattle.bitm_tables.proofs.lemmas.StretchLemmas.{ones_before-between}
 
 -- ---- counting
 

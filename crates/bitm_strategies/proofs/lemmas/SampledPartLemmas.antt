@@ -3,11 +3,12 @@
 use Rattle.std.proofs.Common.{◌≡◌, ℕ, ◌+◌, ◌-◌, ◌*◌, ◌/◌, ◌%◌, ◌^◌, ◌<◌, ◌≤◌, List, Option, None, IfSome, length, get_or, slice_index_or, if◌then◌else◌, refl, sym, ap, ap₂, ◌∙◌, subst, arith}
 use Rattle.bit_lists.specs.Bits.{bits_of, digit, digit_count}
 use Rattle.bit_lists.specs.Count.{as_bit, count_of, ones_before, IsSelect}
-use Rattle.bitm_select.specs.Reads.{ReadsAtMost}
-use Rattle.bitm_select.specs.Search.{IsLastEntry, entries_from, items_to, sought_in}
-use Rattle.bitm_select.specs.Tables.{Lists, HasTables}
-use Rattle.bitm_select.specs.ReadCounts.{ReadCounts}
-use Rattle.bitm_select.proofs.lemmas.TableLemmas.{HasEntries, entries}
+use Rattle.bitm_tables.specs.Reads.{ReadsAtMost}
+use Rattle.bitm_select.specs.Search.{IsLastEntry, items_to, sought_in}
+use Rattle.bitm_tables.specs.Entry.{entries_from}
+use Rattle.bitm_tables.specs.Tables.{Lists, HasTables}
+use Rattle.bitm_tables.specs.declared.source.counts.ReadCounts.{ReadCounts}
+use Rattle.bitm_tables.proofs.lemmas.TableLemmas.{HasEntries, entries}
 use Rattle.bitm_strategies.specs.Samples.{part_of, parts, walk_start, samples_of, sample_count_before, rank_in, IsSampledPart, SampledReads}
 use Rattle.bitm_strategies.specs.declared.sampled.PartBegin.{PartBegin}
 use Rattle.bitm_strategies.proofs.lemmas.WalkLemmas.{count_is, outside_none, outside_reads, start_from, start_in, start_below, sampled_reads, interval_inside, first_inside, place_fits}

@@ -8,17 +8,17 @@ use Rattle.std.proofs.lemmas.Grind.{div_ceil_times}
 use Rattle.std.specs.Int.{div_ceil}
 use Rattle.bit_lists.specs.Bits.{digit_count}
 use Rattle.bit_lists.specs.Count.{count_of, ones_before, count_before, IsSelect}
-use Rattle.bitm_select.specs.Entry.{before_in_part}
-use Rattle.bitm_select.specs.Reads.{ReadsAtMost}
+use Rattle.bitm_tables.specs.Entry.{before_in_part, entries_from}
+use Rattle.bitm_tables.specs.Reads.{ReadsAtMost}
 use Rattle.bitm_strategies.specs.Samples.{part_of, parts, sample, intervals, first_item, walk_start, sample_count_before, samples_of, sample_count_of, rank_in, WalkedTo, WalkedOut, SampledReads, IsSampleCount}
-use Rattle.bitm_select.specs.Search.{IsLastPart, IsLastEntry, entries_from, sought_bits}
-use Rattle.bitm_select.specs.ReadCounts.{ReadCounts}
+use Rattle.bitm_select.specs.Search.{IsLastPart, IsLastEntry, sought_bits}
+use Rattle.bitm_tables.specs.declared.source.counts.ReadCounts.{ReadCounts}
 use Rattle.bitm_select.proofs.lemmas.MarkLemmas.{count_before-sought_bits}
 use Rattle.bit_lists.proofs.lemmas.CountLemmas.{count_before-none}
 use Rattle.bitm_strategies.proofs.lemmas.PartLemmas.{count_before-between, length-part_of, count_of-part_of, count_in_part, entry-small}
 use Rattle.bitm_strategies.proofs.lemmas.SampleLemmas.{sample_at, decoded, start_inside, start_at_most, ceil_more, ceil_less, before_more, before_le, length-samples, first_item_is}
-use Rattle.bitm_select.proofs.lemmas.StretchLemmas.{ones_before-self}
-use Rattle.bitm_select.proofs.lemmas.TableLemmas.{HasEntries}
+use Rattle.bitm_tables.proofs.lemmas.StretchLemmas.{ones_before-self}
+use Rattle.bitm_tables.proofs.lemmas.TableLemmas.{HasEntries}
 
 by_lt : {P : Type 0} (a b : ℕ) → (a < b → P) → (b ≤ a → P) → P
 by_lt a b f g = elim (cases_lt a b) [ inl h ↦ f h | inr h ↦ g h ]

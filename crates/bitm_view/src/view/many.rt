@@ -4,13 +4,13 @@ ghost use Rattle.bit_lists.specs.Bits.{digit_count};
 ghost use Rattle.bit_lists.specs.Count.{as_bit};
 ghost use Rattle.bitm_view.specs.Queries.{ranked_by, selected_by, RanksIn, SelectsIn};
 ghost use Rattle.bitm_select.specs.Answers.{RanksTold, RankTold, SelectTold, ToldEach};
-ghost use Rattle.bitm_select.specs.Reads.{OnlyReads};
+ghost use Rattle.bitm_tables.specs.Reads.{OnlyReads};
 
 use crate::view::IndexView;
 use bitm_many::lists::{FindsEntries, total_rank_many_on};
 use bitm_select::search::selected::{NO_ANSWER, WRONG_TABLES};
 use bitm_select::search::selecting::ByTables;
-use bitm_select::source::{Probe, TableSource};
+use bitm_tables::source::{Probe, TableSource};
 use lent_tables::{LentSamples, select_list_on};
 
 impl<'a> IndexView<'a> {

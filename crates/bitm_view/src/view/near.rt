@@ -3,17 +3,17 @@ ghost use Rattle.std.specs.Prelude.{◌≡◌, ◌+◌, ◌≤◌, ℕ, Bool, le
 ghost use Rattle.bit_lists.specs.Bits.{digit_count};
 ghost use Rattle.bit_lists.specs.Count.{as_bit};
 ghost use Rattle.bitm_select.specs.Answers.{HasBit, IsFoundFrom};
-ghost use Rattle.bitm_select.specs.Reads.{OnlyReads};
-ghost use Rattle.bitm_select.specs.Tables.{HasTables};
+ghost use Rattle.bitm_tables.specs.Reads.{OnlyReads};
+ghost use Rattle.bitm_tables.specs.Tables.{HasTables};
 ghost use Rattle.bitm_view.specs.Cut.{bits_of_cut, Cut, IsWithin};
 ghost use Rattle.bitm_view.specs.Queries.{NextIn, PreviousIn, RanksIn, SelectsIn};
 ghost use Rattle.lent_tables.specs.Nearest.{IsNext, IsPrevious};
-ghost use Rattle.bitm.specs.Answer.TheVariants.{Found, Absent, Wrong};
+ghost use Rattle.bitm_tables.specs.declared.answer.Answer.TheVariants.{Found, Absent, Wrong};
 
 use crate::view::IndexView;
-use bitm_select::answer::Answer;
 use bitm_select::search::selecting::{ByTables, FindsEntry};
-use bitm_select::source::{Probe, TableSource};
+use bitm_tables::answer::Answer;
+use bitm_tables::source::{Probe, TableSource};
 use lent_tables::{ByGuess, is_one};
 
 /// The selected position, where it is not before `from`: else the tables are not those of the words.

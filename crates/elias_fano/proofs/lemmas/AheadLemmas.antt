@@ -1,6 +1,6 @@
 -- Digits ahead: read, and what a step leaves of them.
 use Rattle.std.proofs.Common.{◌≡◌, ℕ, ◌+◌, ◌-◌, ◌*◌, ◌/◌, ◌%◌, ◌^◌, ◌<◌, ◌≤◌, Bool, List, length, get_or, bit_and, min, sym, ap, ◌∙◌, arith, subst}
-use Rattle.bitm.proofs.BitLaws.{no_items_are_zero}
+use Rattle.bit_lists.proofs.BitLaws.{no_items_are_zero}
 use Rattle.std.proofs.Math.Nat.{min-le_left}
 use Rattle.std.proofs.lemmas.Nat.{shr_below}
 use Rattle.std.proofs.lemmas.Nat.Bits.{same_from_bits_below}

@@ -7,9 +7,9 @@ use Rattle.std.proofs.lemmas.Nat.{div-add-mod', pow_pos}
 use Rattle.std.proofs.Math.Nat.{mul-le-mul_right, mod-lt}
 use Rattle.std.specs.List.{All}
 use Rattle.std.specs.List.Sorted.{IsNonDecreasing}
-use Rattle.bitm.proofs.BitLaws.{ones_and_zeros, counts_grow, count_after_item, none_before_the_first}
-use Rattle.bitm.specs.Bits.{bits_of, item}
-use Rattle.bitm.specs.Count.{ones_before, zeros_before, zeros_of, is_same, IsFirstFrom, Picks}
+use Rattle.bit_lists.proofs.BitLaws.{ones_and_zeros, counts_grow, count_after_item, none_before_the_first}
+use Rattle.bit_lists.specs.Bits.{bits_of, item}
+use Rattle.bit_lists.specs.Count.{ones_before, zeros_before, zeros_of, is_same, IsFirstFrom, Picks}
 use Rattle.elias_fano.proofs.lemmas.SplitLemmas.{Splits-same}
 use Rattle.elias_fano.proofs.lemmas.UpperLemmas.{one_is, ones_are}
 use Rattle.elias_fano.specs.Buckets.{BeginsAt, CountsTo, CountsBelow, HasEnds, LowsRise, Splits}

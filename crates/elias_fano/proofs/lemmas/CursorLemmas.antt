@@ -4,9 +4,9 @@ use Rattle.std.proofs.Math.Seq.{drop-cons, take-add}
 use Rattle.std.proofs.lemmas.Bool.{cases_lt, false≢true}
 use Rattle.std.proofs.lemmas.List.{get_or-drop}
 use Rattle.std.proofs.lemmas.List.FromFn.{length-map-range_with_len, get_or-map-range_with_len}
-use Rattle.bitm.proofs.BitLaws.{bits_are_counted, counts_grow, count_after_item}
-use Rattle.bitm.specs.Bits.{bits_of, item}
-use Rattle.bitm.specs.Count.{ones_before, is_same, places, Picks, IsLastOneTo}
+use Rattle.bit_lists.proofs.BitLaws.{bits_are_counted, counts_grow, count_after_item}
+use Rattle.bit_lists.specs.Bits.{bits_of, item}
+use Rattle.bit_lists.specs.Count.{ones_before, is_same, places, Picks, IsLastOneTo}
 use Rattle.elias_fano.proofs.lemmas.ItemLemmas.{items_of-is}
 use Rattle.elias_fano.proofs.lemmas.UpperLemmas.{one_is, place_is, ones_are, upper_place-le, upper_place-rises}
 use Rattle.elias_fano.specs.Numbers.{items_left, IsCursor}

@@ -3,9 +3,9 @@ use Rattle.std.proofs.Common.{◌≡◌, ℕ, zero, suc, ◌+◌, ◌-◌, ◌*�
 use Rattle.std.proofs.lemmas.Bool.{eq-eqb}
 use Rattle.std.proofs.lemmas.List.Sums.{sum_by-cons}
 use Rattle.std.specs.List.{count_by}
-use Rattle.bitm.specs.Bits.{bits_of}
-use Rattle.bitm.specs.Number.{number_at}
-use Rattle.bitm.specs.Tables.{Lists}
+use Rattle.bit_lists.specs.Bits.{bits_of}
+use Rattle.bit_lists.specs.Number.{number_at}
+use Rattle.bitm_tables.specs.Tables.{Lists}
 use Rattle.elias_fano.specs.Buckets.{CountsTo, CountsBelow}
 use Rattle.elias_fano.specs.LentParts.{parts_of, parts_with, Holds}
 use Rattle.elias_fano.specs.Low.{fragment, joined_item, sharing, Lows, ReadsFragments}

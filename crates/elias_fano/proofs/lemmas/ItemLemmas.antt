@@ -4,11 +4,11 @@ use Rattle.std.proofs.lemmas.Grind.{same_number_lists}
 use Rattle.std.proofs.lemmas.List.FromFn.{length-map-range_with_len, get_or-map-range_with_len}
 use Rattle.std.proofs.lemmas.Nat.{div-add-mod'}
 use Rattle.std.specs.Int.{div_ceil}
-use Rattle.bitm.proofs.BitLaws.{no_items_are_zero}
-use Rattle.bitm.specs.Bits.{bits_of, IsShort}
-use Rattle.bitm.specs.Count.{places, Picks}
-use Rattle.bitm.specs.Number.{number_at}
-use Rattle.bitm.specs.Tables.{Lists}
+use Rattle.bit_lists.proofs.BitLaws.{no_items_are_zero}
+use Rattle.bit_lists.specs.Bits.{bits_of, IsShort}
+use Rattle.bit_lists.specs.Count.{places, Picks}
+use Rattle.bit_lists.specs.Number.{number_at}
+use Rattle.bitm_tables.specs.Tables.{Lists}
 use Rattle.elias_fano.specs.LentParts.{parts_of, HasLengths}
 use Rattle.elias_fano.specs.Low.{unread, HasFragments, Lows}
 use Rattle.elias_fano.specs.Parts.{upper_place, IsLow, ArePartsOf, HasFragment, HasOneAt, items_of}

@@ -3,9 +3,9 @@ use Rattle.std.proofs.Common.{◌≡◌, ℕ, ◌+◌, ◌*◌, ◌%◌, ◌^◌
 use Rattle.std.proofs.lemmas.List.{length-replicate}
 use Rattle.std.proofs.lemmas.Bool.{cases_lt}
 use Rattle.std.proofs.lemmas.Nat.{pow_pos}
-use Rattle.bitm.proofs.BitLaws.{bits_are_counted, zeros_have_no_ones, zeros_are_zero, read_after_write, item_beside_is_kept, number_beside_is_kept}
-use Rattle.bitm.specs.Bits.{bits_of, item}
-use Rattle.bitm.specs.Number.{number_at, with_number}
+use Rattle.bit_lists.proofs.BitLaws.{bits_are_counted, zeros_have_no_ones, zeros_are_zero, read_after_write, item_beside_is_kept, number_beside_is_kept}
+use Rattle.bit_lists.specs.Bits.{bits_of, item}
+use Rattle.bit_lists.specs.Number.{number_at, with_number}
 use Rattle.elias_fano.specs.Parts.{low_words_of, IsLow}
 
 -- the first k fragments hold the l low digits of the first k items, and zeros come after them

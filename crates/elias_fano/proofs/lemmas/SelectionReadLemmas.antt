@@ -1,9 +1,9 @@
 -- Reads of one selection or of two, and how many selections a number of digits allows.
 use Rattle.std.proofs.Common.{ℕ, ◌*◌, ◌/◌, ◌<◌, ◌≤◌, arith}
 use Rattle.std.proofs.Math.Nat.{mul-le-mul_right}
-use Rattle.bitm.specs.Reads.{ReadsAtMost}
-use Rattle.bitm.specs.ReadCounts.{ReadCounts}
-use Rattle.bitm.specs.Bits.{digit_count}
+use Rattle.bitm_tables.specs.Reads.{ReadsAtMost}
+use Rattle.bitm_tables.specs.declared.source.counts.ReadCounts.{ReadCounts}
+use Rattle.bit_lists.specs.Bits.{digit_count}
 use Rattle.elias_fano.proofs.lemmas.SizeLemmas.{digit_count-half}
 
 pub digits-some : (n : ℕ) → 0 < n → 1 ≤ digit_count n

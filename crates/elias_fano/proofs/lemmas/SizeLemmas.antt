@@ -3,8 +3,8 @@ use Rattle.std.proofs.Common.{◌≡◌, ℕ, zero, suc, ◌+◌, ◌-◌, ◌*�
 use Rattle.std.proofs.Math.Nat.{lt-mul-div-succ, mul-le-mul_left, div-le_self}
 use Rattle.std.proofs.lemmas.Nat.{pow_pos, div_below}
 use Rattle.std.specs.List.{All}
-use Rattle.bitm.proofs.BitLaws.{digits_bound_powers}
-use Rattle.bitm.specs.Bits.{digit_count}
+use Rattle.bit_lists.proofs.BitLaws.{digits_bound_powers}
+use Rattle.bit_lists.specs.Bits.{digit_count}
 use Rattle.elias_fano.specs.Parts.{width_of, low_words_of, upper_words_of}
 use Rattle.elias_fano.specs.Sequence.{largest}
 

@@ -2,7 +2,7 @@
 use Rattle.std.proofs.Common.{◌≡◌, ℕ, ◌+◌, ◌-◌, ◌*◌, ◌^◌, ◌<◌, ◌≤◌, List, length, ⊎_elim, arith}
 use Rattle.std.proofs.Math.Nat.{mul-le-mul_right, mul-le-mul_left}
 use Rattle.std.proofs.lemmas.Bool.{cases_eq}
-use Rattle.bitm.specs.Number.{IsFragmentInRange}
+use Rattle.bit_lists.specs.Number.{IsFragmentInRange}
 use Rattle.elias_fano.specs.Buckets.{Splits}
 
 -- what is before from is less than rest, and what is from from + left on is not

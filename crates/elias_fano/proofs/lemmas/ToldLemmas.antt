@@ -1,11 +1,11 @@
 -- What is told of a place among the low digits is told of the parts; and of all but the answer that they are wrong.
 use Rattle.std.proofs.Common.{ℕ, ◌/◌, ◌%◌, ◌^◌, ◌<◌, ◌≤◌}
-use Rattle.bitm.specs.Tables.{Lists}
+use Rattle.bitm_tables.specs.Tables.{Lists}
 use Rattle.elias_fano.specs.LentParts.{parts_with}
 use Rattle.elias_fano.specs.Low.{fragment, Lows}
 use Rattle.elias_fano.specs.Told.{IfPlace, PartsAt, TellsBelow, TellsLess, TellsTo}
-use Rattle.bitm.specs.Answer.{Answer}
-use Rattle.bitm.specs.Answer.TheVariants.{Found, Absent, Wrong}
+use Rattle.bitm_tables.specs.declared.answer.Answer.{Answer}
+use Rattle.bitm_tables.specs.declared.answer.Answer.TheVariants.{Found, Absent, Wrong}
 
 module _ (n : ℕ) (low : Lows) (lists : Lists) (v first end : ℕ) (begins : TellsBelow lists n (v / 2 ^ low.width) first)
     (ends : 0 < low.width → TellsTo lists n (v / 2 ^ low.width) end) (within : end ≤ n) where

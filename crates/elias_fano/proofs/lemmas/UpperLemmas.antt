@@ -5,10 +5,10 @@ use Rattle.std.proofs.lemmas.List.FromFn.{map-range_with_len_more, length-map-ra
 use Rattle.std.proofs.lemmas.List.{length-replicate}
 use Rattle.std.proofs.lemmas.Nat.{pow_pos, le-div}
 use Rattle.std.specs.List.Sorted.{IsNonDecreasing}
-use Rattle.bitm.proofs.BitLaws.{bits_are_counted, zeros_have_no_ones, zeros_are_counted, item_beside_is_kept, last_one_is_set, at_most_one_picked, places_are_picked, places_are_counted}
-use Rattle.bitm.specs.Bits.{bits_of, item}
-use Rattle.bitm.specs.Count.{ones_before, Picks, places}
-use Rattle.bitm.specs.Number.{with_number}
+use Rattle.bit_lists.proofs.BitLaws.{bits_are_counted, zeros_have_no_ones, zeros_are_counted, item_beside_is_kept, last_one_is_set, at_most_one_picked, places_are_picked, places_are_counted}
+use Rattle.bit_lists.specs.Bits.{bits_of, item}
+use Rattle.bit_lists.specs.Count.{ones_before, Picks, places}
+use Rattle.bit_lists.specs.Number.{with_number}
 use Rattle.elias_fano.specs.Parts.{upper_place, upper_places, upper_words_of, IsUpper}
 
 -- ---- where the one of an item stands

@@ -1,12 +1,13 @@
 //! The predecessor of a value, and whether a value is one of the numbers.
 ghost use Rattle.std.specs.Prelude.{◌≡◌, ◌↔◌, ℕ, false, IfSome, IsTrue, List, IsSomeAnd};
 ghost use Rattle.std.specs.List.{Contains};
-ghost use Rattle.elias_fano_view.specs.Answers.{IsLast, IsPlaceOf};
-ghost use Rattle.elias_fano_view.specs.LentParts.{Holds};
-ghost use Rattle.elias_fano_view.specs.Told.{IfLast, TellsAtMost, TellsLess};
+ghost use Rattle.elias_fano.specs.Answers.{IsLast, IsPlaceOf};
+ghost use Rattle.elias_fano.specs.LentParts.{Holds};
+ghost use Rattle.elias_fano.specs.Told.{IfLast, TellsAtMost, TellsLess};
 
 use crate::sequence::LentSequence;
-use elias_fano::{Answer, total_contains_on, total_last_at_most_on};
+use bitm_tables::answer::Answer;
+use elias_fano::{total_contains_on, total_last_at_most_on};
 
 impl<'a> LentSequence<'a> {
     /// The predecessor of `v`: the greatest index whose number is at most `v`, and `Absent` exactly where each number

@@ -1,17 +1,19 @@
 //! The numbers from an index on, by one walk over the words of the high bits.
 ghost use Rattle.std.specs.Prelude.{◌≡◌, ◌+◌, ◌-◌, ◌*◌, ◌/◌, ◌^◌, ◌<◌, ◌≤◌, ℕ, List, true, false, length, min};
 ghost use Rattle.std.specs.Prelude.{slice_index, IfSome, MatchOption};
-ghost use Rattle.bitm.specs.Bits.{item, IsShort};
-ghost use Rattle.bitm.specs.Count.{ones_before, ones_of, IsFirstFrom, Picks};
-ghost use Rattle.bitm.specs.Reads.{OnlyReads, ReadsAtMost};
-ghost use Rattle.bitm.specs.Tables.{bits_in};
+ghost use Rattle.bit_lists.specs.Bits.{item, IsShort};
+ghost use Rattle.bit_lists.specs.Count.{ones_before, ones_of, IsFirstFrom, Picks};
+ghost use Rattle.bitm_tables.specs.Reads.{OnlyReads, ReadsAtMost};
+ghost use Rattle.bitm_tables.specs.Tables.{bits_in};
 ghost use Rattle.elias_fano.specs.Parts.{ArePartsOf, HasFragment};
-ghost use Rattle.elias_fano_view.specs.LentParts.{Holds};
+ghost use Rattle.elias_fano.specs.LentParts.{Holds};
 ghost use Rattle.elias_fano_view.specs.Lists.{AreItemsFrom, IsKeptFrom};
-ghost use Rattle.elias_fano_view.specs.Low.{ReadsFragments};
+ghost use Rattle.elias_fano.specs.Low.{ReadsFragments};
 
 use crate::sequence::LentSequence;
-use bitm::{Answer, TableSource, words};
+use bit_words::words;
+use bitm_tables::answer::Answer;
+use bitm_tables::source::TableSource;
 use elias_fano::LowDigits;
 use elias_fano::building::item_at_one;
 

@@ -2,7 +2,7 @@
 use Rattle.std.proofs.Common.{◌≡◌, ℕ, ◌+◌, ◌-◌, ◌*◌, ◌/◌, ◌%◌, ◌<◌, ◌≤◌, Bool, false, List, [], ◌∷◌, ◌++◌, length, slice_index, take, drop, sym, ap, ◌∙◌, rules, arith}
 use Rattle.std.proofs.lemmas.List.{get_or_append_left, get_or-append_right, places}
 use Rattle.bit_lists.specs.Bits.{bits_of, digit, item}
-use Rattle.bit_lists.proofs.Callers.{item-bits_of}
+use Rattle.bit_lists.proofs.lemmas.BitsLemmas.{item-bits_of}
 use Rattle.bit_lists.proofs.BitLaws.{bits_are_counted, bits_are_joined}
 
 -- the bits before those that are added

@@ -1,8 +1,8 @@
 //! Samples of borrowed words, and selection from them.
 ghost use Rattle.std.specs.Prelude.{◌≡◌, ◌<◌, ◌≤◌, ℕ, length, slice_index, take, IfSome, IsNone, MatchOption};
 ghost use Rattle.bit_lists.specs.Count.{as_bit};
-ghost use Rattle.bitm.specs.Density.{clamped_log};
-ghost use Rattle.bitm_select.specs.Tables.{HasTables, bits_in};
+ghost use Rattle.bitm_strategies.specs.Density.{clamped_log};
+ghost use Rattle.bitm_tables.specs.Tables.{HasTables, bits_in};
 ghost use Rattle.bitm_select.specs.Answers.{HasBit, IsSelected};
 ghost use Rattle.bitm_select.specs.Told.{IfAbsent, TellsNone};
 ghost use Rattle.lent_tables.specs.Samples.{AreSamples, HasRoom};
@@ -11,9 +11,9 @@ use crate::lent::Lent;
 use crate::sampled::sampled_select_on;
 use crate::samples::{LentSamples, clamped_log, samples_len};
 use crate::sampling::fill_all;
-use bitm::samples::Summary;
-use bitm_select::answer::Answer;
-use bitm_select::source::Probe;
+use bitm_strategies::Summary;
+use bitm_tables::answer::Answer;
+use bitm_tables::source::Probe;
 
 impl<'a> Lent<'a> {
     /// Writes the samples of 1 bits, one for each 2^`log2` of them in an upper block, and the number of samples before

@@ -1,13 +1,13 @@
 //! Whether borrowed samples are those of the words.
 ghost use Rattle.std.specs.Prelude.{IsTrue, ◌↔◌};
 ghost use Rattle.bit_lists.specs.Count.{as_bit};
-ghost use Rattle.bitm_select.specs.Tables.{HasTables, bits_in};
+ghost use Rattle.bitm_tables.specs.Tables.{HasTables, bits_in};
 ghost use Rattle.lent_tables.specs.Samples.{AreSamplesOf};
 
 use crate::lent::Lent;
 use crate::sample_checks::are_samples;
 use crate::samples::{LentSamples, clamped_log};
-use bitm::samples::Summary;
+use bitm_strategies::Summary;
 
 impl<'a> Lent<'a> {
     /// Whether the samples of 1 bits and their starts are those that `build_samples` writes; of 0 bits where `BIT` is

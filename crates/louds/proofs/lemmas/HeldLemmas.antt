@@ -5,10 +5,10 @@ use Rattle.std.proofs.lemmas.Grind.{same_number_lists}
 use Rattle.std.proofs.lemmas.List.FromFn.{length-map-range_with_len, get_or-map-range_with_len}
 use Rattle.std.proofs.lemmas.List.{get_or-take}
 use Rattle.std.specs.List.{sum}
-use Rattle.bitm.specs.Bits.{bits_of, digit, item}
-use Rattle.bitm.specs.Count.{zeros_before, ones_of, zeros_of, is_same, places, IsFirstFrom, IsLastTo, Picks}
-use Rattle.bitm.proofs.BitLaws.{at_most_one_picked, bit_is_digit, bits_are_counted, count_after_item, counts_grow, equal_items_count_for_one, none_before_the_first, ones_and_zeros, places_are_counted, places_are_picked}
-use Rattle.bitm.proofs.Callers.{one_below, zero_below}
+use Rattle.bit_lists.specs.Bits.{bits_of, digit, item}
+use Rattle.bit_lists.specs.Count.{zeros_before, ones_of, zeros_of, is_same, places, IsFirstFrom, IsLastTo, Picks}
+use Rattle.bit_lists.proofs.BitLaws.{at_most_one_picked, bit_is_digit, bits_are_counted, count_after_item, counts_grow, equal_items_count_for_one, none_before_the_first, ones_and_zeros, places_are_counted, places_are_picked}
+use Rattle.bit_lists.proofs.Callers.{one_below, zero_below}
 use Rattle.louds.proofs.lemmas.TreeLemmas.{sum_all, sum_part, sum_order, zero_place_more, parent_of, one_parent}
 use Rattle.louds.specs.Held.{zero_place, IsWritten, IsHeld, degrees_of, IsOneOf, words_of}
 use Rattle.louds.specs.Tree.{IsChild, IsTree, IsFirst, IsLast, IsNextSibling}

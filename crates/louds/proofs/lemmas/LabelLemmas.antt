@@ -5,9 +5,9 @@ use Rattle.std.proofs.lemmas.Grind.{same_number_lists}
 use Rattle.std.proofs.lemmas.List.FromFn.{length-map-range_with_len, get_or-map-range_with_len}
 use Rattle.std.proofs.lemmas.Nat.{row_fits}
 use Rattle.std.specs.List.{sum}
-use Rattle.bitm.specs.Bits.{bits_of}
-use Rattle.bitm.specs.Number.{number_at, with_number}
-use Rattle.bitm.proofs.BitLaws.{bits_are_counted, number_beside_is_kept, read_after_write}
+use Rattle.bit_lists.specs.Bits.{bits_of}
+use Rattle.bit_lists.specs.Number.{number_at, with_number}
+use Rattle.bit_lists.proofs.BitLaws.{bits_are_counted, number_beside_is_kept, read_after_write}
 use Rattle.louds.proofs.lemmas.TreeLemmas.{sum_all, sum_order, sum_more}
 use Rattle.louds.specs.Labels.{IsChildWith, Leads, Rise, numbers_of}
 use Rattle.louds.specs.Tree.{AreChildren, IsChild, IsNextSibling, IsTree}

@@ -1,9 +1,9 @@
 -- Zeros of one word up to a place, as they stand among all.
 use Rattle.std.proofs.Common.{◌≡◌, ℕ, ◌+◌, ◌*◌, ◌/◌, ◌%◌, ◌<◌, ◌≤◌, true, false, List, [], ◌∷◌, length, get_or, refl, sym, ◌∙◌, ⊎_elim, arith}
 use Rattle.std.proofs.lemmas.Bool.{cases_lt}
-use Rattle.bitm.proofs.BitLaws.{bit_is_digit, bits_are_counted}
-use Rattle.bitm.specs.Bits.{bits_of, item}
-use Rattle.bitm.specs.Count.{IsLastTo}
+use Rattle.bit_lists.proofs.BitLaws.{bit_is_digit, bits_are_counted}
+use Rattle.bit_lists.specs.Bits.{bits_of, item}
+use Rattle.bit_lists.specs.Count.{IsLastTo}
 
 module _ (words : List ℕ) (end w : ℕ) (inside : end < length (bits_of words)) (is : w ≡ get_or words (end / 64) 0) where
   -- a bit of the word alone is that of the content

@@ -1,7 +1,7 @@
 -- How the bits of a tree are written, one by one, node by node.
 use Rattle.std.proofs.Common.{◌≡◌, ℕ, ◌+◌, ◌<◌, ◌≤◌, ◌⊎◌, Bool, true, false, List, length, get_or, ap, ◌∙◌, ⊎_elim, arith, inl, inr}
 use Rattle.std.proofs.lemmas.Bool.{cases_lt}
-use Rattle.bitm.specs.Bits.{item}
+use Rattle.bit_lists.specs.Bits.{item}
 use Rattle.louds.proofs.lemmas.TreeLemmas.{zero_place_more}
 use Rattle.louds.proofs.lemmas.HeldLemmas.{zero_place_order}
 use Rattle.louds.specs.Held.{zero_place, IsWritten}

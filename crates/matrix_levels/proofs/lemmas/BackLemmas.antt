@@ -1,9 +1,9 @@
 -- From a place of the next level back to the place that an item came from.
 use Rattle.std.proofs.Common.{◌≡◌, ℕ, ◌+◌, ◌-◌, ◌*◌, ◌^◌, ◌<◌, ◌≤◌, Bool, true, false, List, length, take, get_or, count_by, refl, sym, ap, ◌∙◌, subst, arith, add-one}
 use Rattle.std.proofs.lemmas.Bool.{not_from_false}
-use Rattle.bitm.specs.Bits.{digit, item}
-use Rattle.bitm.specs.Count.{count_before, ones_before, zeros_before, Picks}
-use Rattle.bitm.proofs.BitLaws.{counts_grow, ones_and_zeros, picked_between}
+use Rattle.bit_lists.specs.Bits.{digit, item}
+use Rattle.bit_lists.specs.Count.{count_before, ones_before, zeros_before, Picks}
+use Rattle.bit_lists.proofs.BitLaws.{counts_grow, ones_and_zeros, picked_between}
 use Rattle.matrix_levels.specs.Levels.{has_digit, partition, partition_place, level}
 use Rattle.matrix_levels.specs.Matrix.{LevelTables, IsMatrixOf, IsBitOf, digit_place}
 use Rattle.matrix_levels.specs.Numbers.{PicksItem}

@@ -2,9 +2,9 @@
 use Rattle.std.proofs.Common.{◌≡◌, ℕ, zero, suc, ◌+◌, ◌-◌, ◌*◌, ◌<◌, Bool, false, cond, List, [], ◌∷◌, length, take, drop, map, get_or, count_by, refl, sym, ap, ◌∙◌, arith}
 use Rattle.std.proofs.lemmas.List.{take-map, take-take, take_at, drop_at, drop-take, length-map, length-append, get_or-map}
 use Rattle.std.proofs.lemmas.List.Sums.{sum_by-cons}
-use Rattle.bitm.specs.Bits.{digit, item}
-use Rattle.bitm.specs.Count.{count_before, is_same}
-use Rattle.bitm.proofs.BitLaws.{count_is_of_same}
+use Rattle.bit_lists.specs.Bits.{digit, item}
+use Rattle.bit_lists.specs.Count.{count_before, is_same}
+use Rattle.bit_lists.proofs.BitLaws.{count_is_of_same}
 use Rattle.matrix_levels.specs.Levels.{has_digit, column, level, columns}
 use Rattle.matrix_levels.proofs.lemmas.PartLemmas.{length-partition}
 

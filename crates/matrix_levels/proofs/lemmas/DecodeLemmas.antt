@@ -8,9 +8,9 @@ use Rattle.std.proofs.lemmas.List.FromFn.{length-map-range_with_len, get_or-map-
 use Rattle.std.proofs.lemmas.Nat.{mod-pow-add, pow_pos}
 use Rattle.std.proofs.Math.Nat.{mod-eq_of_lt, mod-lt, mul-le-mul_right, pow-succ'}
 use Rattle.std.proofs.Math.Seq.{take-add}
-use Rattle.bitm.specs.Bits.{digit, item}
-use Rattle.bitm.specs.Count.{count_before, count_of, ones_before, zeros_before, zeros_of, Picks}
-use Rattle.bitm.proofs.BitLaws.{one_picked_for_each_rank}
+use Rattle.bit_lists.specs.Bits.{digit, item}
+use Rattle.bit_lists.specs.Count.{count_before, count_of, ones_before, zeros_before, zeros_of, Picks}
+use Rattle.bit_lists.proofs.BitLaws.{one_picked_for_each_rank}
 use Rattle.matrix_levels.specs.Levels.{has_digit, partition, column, columns, level, partition_place}
 use Rattle.matrix_levels.specs.Matrix.{items_of, low_part, next_place}
 use Rattle.matrix_levels.proofs.lemmas.ColumnLemmas.{count-column, item-column, length-column, length-level}

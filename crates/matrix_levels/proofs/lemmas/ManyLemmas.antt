@@ -2,7 +2,7 @@
 use Rattle.std.proofs.Common.{◌≡◌, ℕ, ◌+◌, ◌-◌, ◌*◌, ◌/◌, ◌^◌, ◌<◌, ◌≤◌, List, Bool, true, false, length, get_or, set, All, refl, sym, ap, ◌∙◌, subst, arith, ⊎_elim, ◌⊎◌, ◌≢◌, inl, inr}
 use Rattle.std.proofs.lemmas.Bool.{cases_lt}
 use Rattle.std.proofs.lemmas.List.{get_or-set_same, get_or-set_other}
-use Rattle.bitm.specs.Bits.{digit}
+use Rattle.bit_lists.specs.Bits.{digit}
 use Rattle.matrix_levels.specs.Levels.{level, level_place, partition_place}
 use Rattle.matrix_levels.proofs.lemmas.PrefixLemmas.{with_digit, prefix-all, prefix-more}
 use Rattle.matrix_levels.proofs.lemmas.WalkLemmas.{digits-first, level_place-first, level_place-item, prefix-fits, step-place}

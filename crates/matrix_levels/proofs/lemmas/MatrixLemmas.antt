@@ -7,11 +7,11 @@ use Rattle.std.proofs.lemmas.List.{take_all}
 use Rattle.std.proofs.lemmas.List.FromFn.{length-map-range_with_len, get_or-map-range_with_len}
 use Rattle.std.proofs.lemmas.Nat.{mod-pow-add}
 use Rattle.std.specs.Int.{div_ceil}
-use Rattle.bitm.specs.Bits.{bits_of, digit, item}
-use Rattle.bitm.specs.Quarters.{AreQuartersOf}
-use Rattle.bitm.specs.Tables.{IsIndexed, Lists, bits_in}
-use Rattle.bitm.specs.Count.{count_before, ones_before, zeros_before}
-use Rattle.bitm.proofs.BitLaws.{bits_are_counted, count_in_stretch, item_of_stretch, ones_and_zeros}
+use Rattle.bit_lists.specs.Bits.{bits_of, digit, item}
+use Rattle.bitm_tables.specs.Quarters.{AreQuartersOf}
+use Rattle.bitm_tables.specs.Tables.{IsIndexed, Lists, bits_in}
+use Rattle.bit_lists.specs.Count.{count_before, ones_before, zeros_before}
+use Rattle.bit_lists.proofs.BitLaws.{bits_are_counted, count_in_stretch, item_of_stretch, ones_and_zeros}
 use Rattle.matrix_levels.specs.Levels.{has_digit, partition, column, columns, level, known_of, level_place, partition_place}
 use Rattle.matrix_levels.specs.Matrix.{LevelTables, IsMatrix, IsMatrixOf, IsTight, quarters_for, words_of, digit_place, items_of, low_part, next_place, numbers_in}
 use Rattle.matrix_levels.proofs.lemmas.DecodeLemmas.{any-levels, items-fit, items-len}

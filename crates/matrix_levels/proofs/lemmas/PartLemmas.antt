@@ -5,7 +5,7 @@ use Rattle.std.proofs.lemmas.List.{take-append-le, drop-append-le, take_at, drop
 use Rattle.std.proofs.lemmas.List.Elements.{filter_passes}
 use Rattle.std.proofs.lemmas.List.Filters.{length-filter_both}
 use Rattle.std.proofs.lemmas.List.Sums.{length-filter}
-use Rattle.bitm.specs.Bits.{digit}
+use Rattle.bit_lists.specs.Bits.{digit}
 use Rattle.matrix_levels.specs.Levels.{has_digit, partition, partition_place}
 use Rattle.matrix_levels.specs.Numbers.{PicksItem}
 use Rattle.matrix_levels.proofs.lemmas.FilterLemmas.{range-filter, take-filter, filter-at, count-at, count-take-le, count-grows, count-range, count-filter, count-filter-none}

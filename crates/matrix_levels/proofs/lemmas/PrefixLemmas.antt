@@ -6,7 +6,7 @@ use Rattle.std.proofs.lemmas.List.{length-take, get_or-take, get_or-drop}
 use Rattle.std.proofs.lemmas.List.Elements.{filter_agree}
 use Rattle.std.proofs.lemmas.Nat.{shr-shr, pow_pos}
 use Rattle.std.proofs.Math.Nat.{div-eq_of_lt, div-one, div-lt_iff_lt-mul}
-use Rattle.bitm.specs.Bits.{digit}
+use Rattle.bit_lists.specs.Bits.{digit}
 use Rattle.matrix_levels.specs.Levels.{has_digit, level, partition_place, has_prefix}
 use Rattle.matrix_levels.proofs.lemmas.ColumnLemmas.{length-level}
 use Rattle.matrix_levels.proofs.lemmas.FilterLemmas.{filter-filter, filter-all}

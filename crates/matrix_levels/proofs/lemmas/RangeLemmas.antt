@@ -3,7 +3,7 @@ use Rattle.std.proofs.Common.{◌≡◌, ℕ, suc, ◌+◌, ◌-◌, ◌*◌, �
 use Rattle.std.proofs.lemmas.Bool.{eqb-true, eq-eqb, ne_eqb, lt-ltb, le-ltb, le-leb, lt-leb, cases_lt, cases_order, cases_Bool, true≢false, false≢true}
 use Rattle.std.proofs.lemmas.List.Sums.{length-filter, sum_by-cons}
 use Rattle.std.proofs.Math.Nat.{div-one, pow-succ'}
-use Rattle.bitm.specs.Bits.{digit}
+use Rattle.bit_lists.specs.Bits.{digit}
 use Rattle.matrix_levels.specs.Levels.{level, partition_place, has_prefix, has_lesser_prefix}
 use Rattle.matrix_levels.specs.Numbers.{count_less, IsSmallest}
 use Rattle.matrix_levels.proofs.lemmas.ColumnLemmas.{length-level}

@@ -1,8 +1,8 @@
 -- Ranks that were read one after another.
 use Rattle.std.proofs.Common.{ℕ, ◌+◌, ◌*◌, ◌≤◌, refl, ◌∙◌, subst, arith}
-use Rattle.bitm.specs.ReadCounts.{ReadCounts}
-use Rattle.bitm.specs.Reads.{ReadsAtMost}
-use Rattle.bitm.specs.Tables.{Lists}
+use Rattle.bitm_tables.specs.declared.source.counts.ReadCounts.{ReadCounts}
+use Rattle.bitm_tables.specs.Reads.{ReadsAtMost}
+use Rattle.bitm_tables.specs.Tables.{Lists}
 use Rattle.bitm_selection.specs.Selection.{OnlySelectsBy}
 use Rattle.matrix_levels.specs.Matrix.{LevelTables, OnlyRanks, OnlyRanksAndSelects}
 

@@ -7,7 +7,7 @@ use Rattle.std.proofs.lemmas.List.Elements.{All-nil, All-cons, All-same, All-tak
 use Rattle.std.proofs.Math.Nat.{pow-succ'}
 use Rattle.std.proofs.Math.Pow.{shr_mono}
 use Rattle.std.proofs.Math.Seq.{get_or-append_right}
-use Rattle.bitm.specs.Bits.{digit}
+use Rattle.bit_lists.specs.Bits.{digit}
 use Rattle.matrix_levels.specs.Levels.{has_digit, level, partition_place, ArePlacesAfter, BeginAlike}
 use Rattle.matrix_levels.specs.Shared.{AreShared, AddsShared, shared_prefixes}
 use Rattle.matrix_levels.proofs.lemmas.ColumnLemmas.{length-level}

@@ -5,7 +5,7 @@ use Rattle.std.proofs.lemmas.List.Elements.{filter_passes}
 use Rattle.std.proofs.lemmas.List.Sums.{length-filter}
 use Rattle.std.proofs.lemmas.Nat.{shr_le}
 use Rattle.std.proofs.Math.Nat.{pow-le-pow_right}
-use Rattle.bitm.specs.Bits.{digit}
+use Rattle.bit_lists.specs.Bits.{digit}
 use Rattle.matrix_levels.specs.Levels.{level, level_place, partition_place}
 use Rattle.matrix_levels.specs.Numbers.{count_before, PicksItem}
 use Rattle.matrix_levels.proofs.lemmas.BackLemmas.{has-own}

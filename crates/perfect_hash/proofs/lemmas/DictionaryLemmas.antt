@@ -5,9 +5,9 @@ use Rattle.std.proofs.lemmas.Nat.{row_fits}
 use Rattle.std.proofs.lemmas.Option.{slice_get-get_or, slice_get_within, get_or_from_slice_get}
 use Rattle.std.specs.List.{slice_get}
 use Rattle.std.specs.Option.{IfSome, IsSome, is_some}
-use Rattle.bitm.specs.Bits.{bits_of}
-use Rattle.bitm.specs.Number.{number_at, with_number}
-use Rattle.bitm.proofs.BitLaws.{bits_are_counted, number_beside_is_kept, read_after_write}
+use Rattle.bit_lists.specs.Bits.{bits_of}
+use Rattle.bit_lists.specs.Number.{number_at, with_number}
+use Rattle.bit_lists.proofs.BitLaws.{bits_are_counted, number_beside_is_kept, read_after_write}
 use Rattle.perfect_hash.specs.Dictionary.{ArePrints, IsDictionary, kept_if, print_at}
 use Rattle.hash_levels.specs.Perfect.{IsMinimalPerfect}
 

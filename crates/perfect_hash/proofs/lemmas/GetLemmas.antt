@@ -4,9 +4,9 @@ use Rattle.std.proofs.lemmas.Bool.{cases_lt}
 use Rattle.std.proofs.lemmas.List.{get_or_default, get_or_past, take_all}
 use Rattle.std.proofs.lemmas.List.Sums.{sum_by_more_le}
 use Rattle.std.specs.List.{sum}
-use Rattle.bitm.specs.Bits.{item}
-use Rattle.bitm.specs.Count.{ones_before, ones_of}
-use Rattle.bitm.proofs.BitLaws.{counts_grow}
+use Rattle.bit_lists.specs.Bits.{item}
+use Rattle.bit_lists.specs.Count.{ones_before, ones_of}
+use Rattle.bit_lists.proofs.BitLaws.{counts_grow}
 use Rattle.hash_levels.specs.Numbers.{AreSizes}
 use Rattle.perfect_hash.specs.Placed.{FitIn}
 use Rattle.hash_levels.proofs.lemmas.LevelLemmas.{one_more_after}

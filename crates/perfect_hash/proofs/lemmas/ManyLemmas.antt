@@ -4,7 +4,7 @@ use Rattle.std.proofs.lemmas.Bool.{cases_eq, cases_lt}
 use Rattle.std.proofs.lemmas.List.{drop_all, get_or-set_other, get_or-set_same, length-set}
 use Rattle.std.specs.List.{sum}
 use Rattle.std.specs.Option.{option_map, IfSome}
-use Rattle.bitm.specs.Count.{ones_before}
+use Rattle.bit_lists.specs.Count.{ones_before}
 use Rattle.hash_levels.specs.Levels.{place_from, GoesOn}
 use Rattle.perfect_hash.specs.Many.{told, AreLookedUp, IsLookedUp, IsRanked}
 use Rattle.hash_levels.specs.Numbers.{number_in, AreSizes}

@@ -1,6 +1,6 @@
 -- What is said of levels, said of the parts that have them.
 use Rattle.std.proofs.Common.{◌≡◌, ℕ, Bool, List, sym, subst}
-use Rattle.bitm.specs.Bits.{bits_of}
+use Rattle.bit_lists.specs.Bits.{bits_of}
 use Rattle.hash_levels.specs.Levels.{fall_in}
 use Rattle.hash_levels.specs.Numbers.{AreLevels, number_in}
 use Rattle.hash_levels.specs.Perfect.{IsMinimalPerfect}

@@ -1,9 +1,9 @@
 -- The positions of the 1 bits of words are never refused as positions.
 use Rattle.std.proofs.Common.{◌≡◌, ℕ, ◌+◌, ◌*◌, ◌^◌, ◌<◌, ◌⊎◌, inl, inr, Bool, true, List, length, refl, sym, ◌∙◌, subst, arith}
 use Rattle.std.specs.Prelude.{Result, Ok, Err, IfErr, IfOk, IsErrOf}
-use Rattle.bitm.specs.Bits.{bits_of}
-use Rattle.bitm.specs.Count.{places}
-use Rattle.bitm.proofs.BitLaws.{bits_are_counted}
+use Rattle.bit_lists.specs.Bits.{bits_of}
+use Rattle.bit_lists.specs.Count.{places}
+use Rattle.bit_lists.proofs.BitLaws.{bits_are_counted}
 use Rattle.sparse_bits.specs.Positions.{ArePlaces, HasNoRise, HasPast, Rises}
 use Rattle.sparse_bits.specs.Value.{SparseValue}
 use Rattle.sparse_bits.specs.declared.error.SparseError.{SparseError}

@@ -4,10 +4,10 @@ use Rattle.std.proofs.lemmas.Bool.{cases_lt, cases_eq, eqb-true, ne_eqb, false_f
 use Rattle.std.proofs.lemmas.List.{get_or_default}
 use Rattle.std.specs.List.{All, Contains}
 use Rattle.std.specs.Prelude.{if◌then◌else◌, ◌==◌}
-use Rattle.bitm.proofs.BitLaws.{places_are_picked, places_are_counted, places_rise, counts_grow, count_after_item, ones_and_zeros, picked_by_rank, at_most_one_picked}
-use Rattle.bitm.specs.Bits.{item}
+use Rattle.bit_lists.proofs.BitLaws.{places_are_picked, places_are_counted, places_rise, counts_grow, count_after_item, ones_and_zeros, picked_by_rank, at_most_one_picked}
+use Rattle.bit_lists.specs.Bits.{item}
 use Rattle.elias_fano.specs.Sequence.{Reaches}
-use Rattle.bitm.specs.Count.{ones_before, ones_of, zeros_of, places, Picks}
+use Rattle.bit_lists.specs.Count.{ones_before, ones_of, zeros_of, places, Picks}
 use Rattle.sparse_bits.specs.Positions.{bits_at, ArePlaces, PartsZeros}
 
 pub bits_at-length : (n k : ℕ) (xs : List ℕ) → length (bits_at n k xs) ≡ n

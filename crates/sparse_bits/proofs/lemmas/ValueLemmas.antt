@@ -1,6 +1,6 @@
 -- What callers see of sparse bits, from the positions that they hold.
 use Rattle.std.proofs.Common.{◌≡◌, ℕ, ◌+◌, Bool, true, List, length, sym, ap, ◌∙◌, subst}
-use Rattle.bitm.specs.Count.{ones_of, zeros_of, places}
+use Rattle.bit_lists.specs.Count.{ones_of, zeros_of, places}
 use Rattle.sparse_bits.specs.Positions.{bits_at, ArePlaces}
 use Rattle.sparse_bits.specs.Value.{SparseValue, bytes_of}
 use Rattle.sparse_bits.proofs.lemmas.PositionLemmas.{bits_at-places, bits_at-length, ones_count, zeros_count}

@@ -5,8 +5,7 @@ use Rattle.bit_lists.proofs.lemmas.BitsLemmas.{length-bits_of}
 use Rattle.bit_lists.specs.Bits.{bits_of}
 use Rattle.bit_lists.specs.Count.{count_before, Picks}
 use Rattle.bit_slices.specs.First.{first_bits}
-use Rattle.bit_slices.proofs.lemmas.PositionLemmas.{placed_more}
-use Rattle.bit_slices.proofs.lemmas.PositionLemmas.{few_before, first_picked, next_counts, none_follows}
+use Rattle.bit_slices.proofs.lemmas.PositionLemmas.{placed_more, few_before, first_picked, next_counts, none_follows}
 use Rattle.bit_slices.proofs.positions.positions_in.Goals as goal
 
 pub returns-in_default-clause-number : goal.returns-in_default-clause-number

@@ -1,4 +1,4 @@
-use Rattle.bitm_select.proofs.lemmas.EntryLemmas.{entry-fits}
+use Rattle.bitm_tables.proofs.lemmas.EntryLemmas.{entry-fits}
 use Rattle.bitm.proofs.index_laws.entries_fit.Goals as goal
 
 pub returns : goal.returns

@@ -1,6 +1,6 @@
 -- The word that is read holds bits of the content, so its first zero is the first of all, behind the ones before it.
 use Rattle.std.proofs.Common.{◌≡◌, ◌/◌, ◌<◌, [], ◌∷◌, length, get_or, ap, ◌∙◌, arith}
-use Rattle.bitm_select.specs.Tables.{Lists}
+use Rattle.bitm_tables.specs.Tables.{Lists}
 use Rattle.bit_lists.proofs.lemmas.BitsLemmas.{length-bits_of}
 use Rattle.bitm.proofs.lemmas.NearLemmas.{near-found, near-none}
 use Rattle.bitm.proofs.near.near_zero_on.Goals as goal

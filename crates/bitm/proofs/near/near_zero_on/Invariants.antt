@@ -1,7 +1,7 @@
 use Rattle.std.proofs.Common.{◌≡◌, ℕ, ◌<◌, ◌≤◌, true}
 use Rattle.bit_lists.specs.Bits.{item}
-use Rattle.bitm_select.specs.Reads.{ReadsAtMost}
-use Rattle.bitm_select.specs.Tables.{bits_in}
+use Rattle.bitm_tables.specs.Reads.{ReadsAtMost}
+use Rattle.bitm_tables.specs.Tables.{bits_in}
 use Rattle.bitm.proofs.near.near_zero_on.Given as goal
 
 -- ones alone stand from the first place on up to the start of the word that comes, and a word was read in each round

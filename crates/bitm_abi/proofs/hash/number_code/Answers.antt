@@ -1,6 +1,6 @@
 -- A number of a hash is no code.
 use Rattle.std.proofs.Common.{subst, sym, arith}
-use Rattle.bitm.specs.Answer.TheVariants.{Found, Absent, Wrong}
+use Rattle.bitm_tables.specs.declared.answer.Answer.TheVariants.{Found, Absent, Wrong}
 use Rattle.bitm_abi.specs.Hash.{IsHashNumber}
 use Rattle.bitm_abi.proofs.HashLemmas.{number_below}
 use Rattle.bitm_view.proofs.CodeLemmas.{selected_place}

@@ -1,6 +1,5 @@
 use Rattle.std.proofs.Common.{ℕ, ◌<◌, slice_index}
-use Rattle.bitm_abi.specs.Sequence.{IsPredecessor}
-use Rattle.bitm_abi.specs.Sequence.{sought_by}
+use Rattle.bitm_abi.specs.Sequence.{IsPredecessor, sought_by}
 use Rattle.bitm_abi.proofs.sequence_lists.last_each.Given as goal
 
 -- the answers so far

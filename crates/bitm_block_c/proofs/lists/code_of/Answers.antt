@@ -1,6 +1,6 @@
 -- A number below the codes stands for itself.
 use Rattle.std.proofs.Common.{◌≡◌, ℕ, ◌-◌, ◌^◌, sym, subst}
-use Rattle.bitm.specs.Answer.{Answer}
+use Rattle.bitm_tables.specs.declared.answer.Answer.{Answer}
 use Rattle.bitm_view.proofs.CodeLemmas.{selected_place}
 use Rattle.bitm_view.specs.Queries.{selected_by}
 use Rattle.bitm_block_c.specs.Tree.{IsFoundBelow}

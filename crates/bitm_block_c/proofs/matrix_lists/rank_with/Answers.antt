@@ -1,9 +1,8 @@
 -- One more answer.
-use Rattle.std.proofs.Common.{◌≡◌, ℕ, length, slice_index, subst, sym, arith}
+use Rattle.std.proofs.Common.{◌≡◌, ℕ, length, slice_index, subst, sym, arith, ◌∙◌}
 use Rattle.std.proofs.lemmas.List.{length-set}
-use Rattle.std.proofs.Common.{◌∙◌}
 use Rattle.bit_slices.proofs.lemmas.PositionLemmas.{placed_more}
-use Rattle.bitm.specs.Tables.{Lists}
+use Rattle.bitm_tables.specs.Tables.{Lists}
 use Rattle.bitm_view.specs.Queries.{selected_by}
 use Rattle.lent_levels.specs.Walk.{IsRankAt}
 use Rattle.matrix_levels.specs.Matrix.{LevelTables}

@@ -1,8 +1,8 @@
 -- What was found is what is told.
 use Rattle.std.proofs.Common.{rules, ◌≡◌, ◌↔◌, ℕ, false, IsTrue, List, subst}
 use Rattle.std.specs.List.{Contains}
-use Rattle.elias_fano_view.specs.LentParts.{LentParts, Holds}
-use Rattle.elias_fano_view.specs.Told.{TellsLess}
+use Rattle.elias_fano.specs.LentParts.{LentParts, Holds}
+use Rattle.elias_fano.specs.Told.{TellsLess}
 use Rattle.bitm_c.proofs.NumbersToldLemmas.{contained_of}
 use Rattle.bitm_c.proofs.numbers.bitm_sequence_contains.Goals as goal
 

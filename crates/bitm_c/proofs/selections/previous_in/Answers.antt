@@ -1,5 +1,5 @@
 -- What is answered is told.
-use Rattle.bitm.specs.Count.{as_bit}
+use Rattle.bit_lists.specs.Count.{as_bit}
 use Rattle.bitm_view.specs.Queries.{PreviousIn}
 use Rattle.bitm_abi.proofs.ToldLemmas.{told}
 use Rattle.bitm_c.proofs.selections.previous_in.Goals as goal

@@ -1,5 +1,5 @@
 -- What is answered is told.
-use Rattle.bitm.specs.Count.{as_bit}
+use Rattle.bit_lists.specs.Count.{as_bit}
 use Rattle.bitm_view.specs.Queries.{SelectsIn}
 use Rattle.bitm_abi.proofs.ToldLemmas.{told}
 use Rattle.bitm_c.proofs.selections.select_in_few.Goals as goal

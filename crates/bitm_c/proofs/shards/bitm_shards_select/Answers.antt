@@ -1,9 +1,8 @@
 -- What is answered over the numbers and indexes is told of the shards.
 use Rattle.std.proofs.Common.{ℕ, List, All, map, refl, sym, subst}
-use Rattle.bitm.specs.Answer.{Answer}
-use Rattle.bitm_view.specs.Answers.{IsSelected}
-use Rattle.sharded_index.specs.Prefixes.{Prefixes as Counts}
-use Rattle.sharded_index.specs.Prefixes.{claimed_in_all, ArePrefixes}
+use Rattle.bitm_tables.specs.declared.answer.Answer.{Answer}
+use Rattle.bitm_select.specs.Answers.{IsSelected}
+use Rattle.sharded_index.specs.Prefixes.{Prefixes as Counts, claimed_in_all, ArePrefixes}
 use Rattle.sharded_index.specs.Shards.{IfFoundHasBit, IsOfRank}
 use Rattle.sharded_index.specs.Joined.{joined, kind_of}
 use Rattle.bitm_c.specs.Shards.{SelectsJoined}

@@ -3,8 +3,8 @@ use Rattle.std.proofs.Common.{◌≡◌, ◌+◌, ◌-◌, ◌*◌, ◌^◌, ref
 use Rattle.bit_lists.proofs.lemmas.BitsLemmas.{length-bits_of}
 use Rattle.bit_lists.specs.Count.{ones_before}
 use Rattle.bitm_select.specs.Search.{sought_in}
-use Rattle.bitm_select.specs.Tables.{HasSizes, HasTables}
-use Rattle.bitm_select.proofs.lemmas.LengthLemmas.{sizes_of}
+use Rattle.bitm_tables.specs.Tables.{HasSizes, HasTables}
+use Rattle.bitm_tables.proofs.lemmas.LengthLemmas.{sizes_of}
 use Rattle.bitm_select.proofs.lemmas.SelectedLemmas.{in_entry, is_select}
 use Rattle.bitm_strategies.proofs.lemmas.SampledPartLemmas.{begins_below, begins_inside, no_item, no_item_reads, place_small, selected_there, walk_reads}
 use Rattle.bitm_strategies.proofs.sampled.sampled_in_part.Goals as goal

@@ -5,10 +5,10 @@ use Rattle.bit_lists.specs.Bits.{bits_of, digit_count}
 use Rattle.bit_lists.specs.Count.{as_bit, ones_before}
 use Rattle.bitm_strategies.specs.Samples.{parts, IsSampledPart, SampledReads}
 use Rattle.bitm_select.specs.Search.{sought_in}
-use Rattle.bitm_select.specs.Tables.{Lists, HasTables, IsIndexed}
-use Rattle.bitm_select.specs.ReadCounts.{ReadCounts}
+use Rattle.bitm_tables.specs.Tables.{Lists, HasTables, IsIndexed}
+use Rattle.bitm_tables.specs.declared.source.counts.ReadCounts.{ReadCounts}
 use Rattle.bitm_strategies.proofs.lemmas.SampleLemmas.{length-starts, start_at}
-use Rattle.bitm_select.proofs.lemmas.TableLemmas.{HasEntries, entries}
+use Rattle.bitm_tables.proofs.lemmas.TableLemmas.{HasEntries, entries}
 use Rattle.bitm_strategies.proofs.sampled.sampled_in_parts.Goals as goal
 
 at : (l : Lists) → HasTables l → HasEntries (bits_of l.words) l.upper l.lower

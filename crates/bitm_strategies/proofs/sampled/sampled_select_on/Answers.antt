@@ -4,9 +4,9 @@ use Rattle.bit_lists.proofs.lemmas.CountLemmas.{ones_before_none}
 use Rattle.bit_lists.specs.Bits.{bits_of}
 use Rattle.bit_lists.specs.Count.{as_bit}
 use Rattle.bitm_select.specs.Search.{sought_in}
-use Rattle.bitm_select.specs.Tables.{Lists, HasTables}
+use Rattle.bitm_tables.specs.Tables.{Lists, HasTables}
 use Rattle.bitm_select.proofs.lemmas.MarkLemmas.{none_in_nothing}
-use Rattle.bitm_select.proofs.lemmas.TableLemmas.{HasEntries, entries}
+use Rattle.bitm_tables.proofs.lemmas.TableLemmas.{HasEntries, entries}
 use Rattle.bitm_strategies.proofs.lemmas.WalkLemmas.{empty_reads}
 use Rattle.bitm_strategies.proofs.sampled.sampled_select_on.Goals as goal
 

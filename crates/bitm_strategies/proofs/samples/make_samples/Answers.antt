@@ -3,7 +3,7 @@ use Rattle.std.proofs.Common.{◌≡◌, ℕ, ◌++◌, List, sym, ap, ◌∙◌
 use Rattle.bit_lists.specs.Count.{as_bit}
 use Rattle.bitm_strategies.specs.Samples.{parts, samples_of_parts, part_of, part_samples}
 use Rattle.bitm_strategies.proofs.lemmas.SampleLemmas.{samples_more}
-use Rattle.bitm_select.proofs.lemmas.TableLemmas.{entries}
+use Rattle.bitm_tables.proofs.lemmas.TableLemmas.{entries}
 use Rattle.bitm_strategies.proofs.samples.make_samples.Goals as goal
 
 pub loop-part-preserved : goal.loop-part-preserved

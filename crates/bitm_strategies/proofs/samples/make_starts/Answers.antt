@@ -5,7 +5,7 @@ use Rattle.bit_lists.specs.Count.{as_bit}
 use Rattle.bitm_strategies.specs.Samples.{parts, sample_count_before}
 use Rattle.bitm_strategies.proofs.lemmas.MadeLemmas.{one_more}
 use Rattle.bitm_strategies.proofs.lemmas.SampleLemmas.{before_more}
-use Rattle.bitm_select.proofs.lemmas.TableLemmas.{entries}
+use Rattle.bitm_tables.proofs.lemmas.TableLemmas.{entries}
 use Rattle.bitm_strategies.proofs.samples.make_starts.Goals as goal
 
 pub overflow_add-count : goal.overflow_add-count

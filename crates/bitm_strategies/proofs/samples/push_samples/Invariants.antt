@@ -2,7 +2,8 @@ use Rattle.std.proofs.Common.{◌≡◌, ◌*◌, ◌^◌, ◌<◌, ◌≤◌, �
 use Rattle.std.specs.List.{range_with_len}
 use Rattle.bit_lists.specs.Count.{as_bit}
 use Rattle.bitm_strategies.specs.Samples.{IsSummaryOf, part_of, sample}
-use Rattle.bitm_select.specs.Search.{entries_from, items_to}
+use Rattle.bitm_tables.specs.Entry.{entries_from}
+use Rattle.bitm_select.specs.Search.{items_to}
 use Rattle.bitm_strategies.proofs.samples.push_samples.Given as goal
 
 -- the samples so far, and an entry no later than the next one's

@@ -1,11 +1,11 @@
 -- The first entry with more before it ends the walk; its predecessor is the last with no more.
 use Rattle.std.proofs.Common.{◌≡◌, ℕ, ◌+◌, ◌*◌, ◌-◌, ◌^◌, ◌<◌, ◌≤◌, length, ap, sym, ◌∙◌, subst, arith}
 use Rattle.bit_lists.specs.Bits.{bits_of}
-use Rattle.bitm_select.specs.Entry.{lower_entry}
-use Rattle.bitm_select.specs.Search.{entries_from, items_to, sought_in}
-use Rattle.bitm_select.specs.Tables.{HasTables, Lists}
-use Rattle.bitm_select.specs.ReadCounts.{ReadCounts}
-use Rattle.bitm_select.proofs.lemmas.LengthLemmas.{few_entries, first_of_part, sizes_of}
+use Rattle.bitm_tables.specs.Entry.{lower_entry, entries_from}
+use Rattle.bitm_select.specs.Search.{items_to, sought_in}
+use Rattle.bitm_tables.specs.Tables.{HasTables, Lists}
+use Rattle.bitm_tables.specs.declared.source.counts.ReadCounts.{ReadCounts}
+use Rattle.bitm_tables.proofs.lemmas.LengthLemmas.{few_entries, first_of_part, sizes_of}
 use Rattle.bitm_select.proofs.lemmas.SoughtLemmas.{low_is}
 use Rattle.bitm_strategies.proofs.walking.walk.Goals as goal
 use Rattle.bitm_strategies.proofs.walking.walk.Goals.{After-ones_to_entry-above}

@@ -1,6 +1,6 @@
 use Rattle.std.proofs.Common.{◌≡◌, ◌+◌, ◌-◌, ◌*◌, ◌^◌, ◌<◌, ◌≤◌}
 use Rattle.bit_lists.specs.Bits.{bits_of}
-use Rattle.bitm_select.specs.Entry.{lower_entry}
+use Rattle.bitm_tables.specs.Entry.{lower_entry}
 use Rattle.bitm_select.specs.Search.{items_to, sought_in}
 use Rattle.bitm_strategies.proofs.walking.walk.Given as goal
 

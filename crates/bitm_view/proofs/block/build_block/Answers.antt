@@ -4,8 +4,8 @@ use Rattle.std.proofs.lemmas.List.{length-take, length-take-le, take-append-le}
 use Rattle.std.proofs.lemmas.Slice.{take-put_mid_below}
 use borrow.Rule.Slice.PartMut.{put_mid}
 use Rattle.bit_lists.specs.Bits.{bits_of}
-use Rattle.bitm.specs.Density.{clamped_log}
-use Rattle.bitm_select.specs.Tables.{bits_in, HasSizes, HasTables, Lists}
+use Rattle.bitm_strategies.specs.Density.{clamped_log}
+use Rattle.bitm_tables.specs.Tables.{bits_in, HasSizes, HasTables, Lists}
 use Rattle.bitm_view.specs.Block.{sample_room}
 use Rattle.lent_tables.specs.Samples.{AreSamples}
 use Rattle.lent_tables.specs.Sizes.{lists_of}

@@ -1,5 +1,5 @@
 -- The first zero from where the bucket begins is the one with as many before it.
-use Rattle.bitm.specs.Tables.{bits_in}
+use Rattle.bitm_tables.specs.Tables.{bits_in}
 use Rattle.elias_fano.proofs.lemmas.BucketLemmas.{zero-from}
 use Rattle.elias_fano.proofs.bucket.end_on.Goals as goal
 

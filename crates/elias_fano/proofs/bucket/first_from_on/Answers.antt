@@ -1,7 +1,7 @@
 -- The bucket has the ends that were found, whatever sequence has these parts.
 use Rattle.std.proofs.Common.{◌≡◌, ℕ, ◌/◌, ◌^◌, ◌<◌, List, Option, None, MatchOption, sym, subst, arith}
-use Rattle.bitm.specs.Count.{zeros_of}
-use Rattle.bitm.specs.Tables.{bits_in}
+use Rattle.bit_lists.specs.Count.{zeros_of}
+use Rattle.bitm_tables.specs.Tables.{bits_in}
 use Rattle.elias_fano.proofs.lemmas.BucketLemmas.{all-less}
 use Rattle.elias_fano.proofs.lemmas.ItemLemmas.{parts-fragments, parts-width, upper-short}
 use Rattle.elias_fano.specs.Buckets.{BeginsAt, HasEnds}

@@ -2,8 +2,8 @@
 use Rattle.std.proofs.Common.{◌≡◌, ℕ, ◌/◌, ◌^◌, ◌<◌, List, length, get_or, ap, subst, true, ⊎_elim, arith}
 use Rattle.std.proofs.lemmas.Bool.{leb-true, le-leb, ltb-true, lt-ltb, cases_lt}
 use Rattle.std.proofs.lemmas.Nat.{pow_pos}
-use Rattle.bitm.specs.Answers.{IsSelected}
-use Rattle.bitm.specs.Tables.{bits_in}
+use Rattle.bitm_select.specs.Answers.{IsSelected}
+use Rattle.bitm_tables.specs.Tables.{bits_in}
 use Rattle.elias_fano.proofs.lemmas.BucketLemmas.{less_above}
 use Rattle.elias_fano.proofs.lemmas.FragmentLemmas.{fragments-more, one-shared}
 use Rattle.elias_fano.proofs.lemmas.ItemLemmas.{fragment-of, parts-width, upper-short}

@@ -1,8 +1,8 @@
 -- No item has no low digits, and a quotient below 2^64 has at most 64 digits.
 use Rattle.std.proofs.Common.{◌≡◌, zero, ◌/◌, ◌^◌, ◌<◌, ◌≤◌, ap, ◌∙◌, arith}
 use Rattle.std.proofs.Math.Nat.{div-zero, div-le_self}
-use Rattle.bitm.proofs.BitLaws.{digits_bound_powers}
-use Rattle.bitm.specs.Bits.{digit_count}
+use Rattle.bit_lists.proofs.BitLaws.{digits_bound_powers}
+use Rattle.bit_lists.specs.Bits.{digit_count}
 use Rattle.elias_fano.proofs.making.low_width.Goals as goal
 
 pub returns-then-len-eq0-clause-width : goal.returns-then-len-eq0-clause-width

@@ -2,9 +2,9 @@
 use Rattle.std.proofs.Common.{◌*◌, ap, inl, ◌∙◌, bit_and, get_or, length, ℕ}
 use Rattle.std.proofs.lemmas.List.{length-replicate}
 use Rattle.std.proofs.lemmas.Nat.{and_mask}
-use Rattle.bitm.proofs.BitLaws.{zeros_are_zero}
-use Rattle.bitm.specs.Bits.{bits_of}
-use Rattle.bitm.specs.Number.{with_number}
+use Rattle.bit_lists.proofs.BitLaws.{zeros_are_zero}
+use Rattle.bit_lists.specs.Bits.{bits_of}
+use Rattle.bit_lists.specs.Number.{with_number}
 use Rattle.elias_fano.proofs.lemmas.LowLemmas.{HasFragments-none, HasFragments-more, IsLow-empty, fragment-inside}
 use Rattle.elias_fano.proofs.making.write_low.Goals as goal
 

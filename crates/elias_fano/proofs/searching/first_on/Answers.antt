@@ -1,6 +1,6 @@
 -- The two selections find the ends of the bucket.
 use Rattle.std.proofs.Common.{◌≢◌, ℕ, ◌/◌, ◌^◌, List, sym, subst, arith}
-use Rattle.bitm.specs.Tables.{HasTables, Lists}
+use Rattle.bitm_tables.specs.Tables.{HasTables, Lists}
 use Rattle.elias_fano.proofs.lemmas.BucketLemmas.{bucket-order}
 use Rattle.elias_fano.proofs.lemmas.ToldLemmas.{told_less}
 use Rattle.elias_fano.specs.Buckets.{CountsTo, CountsBelow, HasEnds}

@@ -6,7 +6,7 @@ use Rattle.std.proofs.lemmas.Nat.{and_mask}
 use Rattle.elias_fano.proofs.lemmas.BucketLemmas.{IsBucket, bucket-reaches, bucket-none, fragments-rise, whole-reaches, whole-none}
 use Rattle.elias_fano.proofs.lemmas.FragmentLemmas.{bucket-shared, fragments-more, fragments-none}
 use Rattle.elias_fano.proofs.lemmas.SizeLemmas.{digits-grow}
-use Rattle.bitm.specs.Bits.{digit_count}
+use Rattle.bit_lists.specs.Bits.{digit_count}
 use Rattle.elias_fano.specs.Buckets.{HasEnds, Splits}
 use Rattle.elias_fano.specs.Low.{fragment, sharing, ReadsFragments}
 use Rattle.elias_fano.specs.Parts.{ArePartsOf}

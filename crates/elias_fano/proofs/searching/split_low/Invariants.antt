@@ -1,5 +1,5 @@
 use Rattle.std.proofs.Common.{◌≡◌, ◌+◌, ◌-◌, ◌<◌, ◌≤◌}
-use Rattle.bitm.specs.Bits.{digit_count}
+use Rattle.bit_lists.specs.Bits.{digit_count}
 use Rattle.elias_fano.proofs.lemmas.SplitLemmas.{Parting}
 use Rattle.elias_fano.specs.Buckets.{LowsRise}
 use Rattle.elias_fano.specs.Low.{fragment}

@@ -1,9 +1,9 @@
 -- Where there is no such zero, no item has more above its low digits; right tables tell the place of one that there is.
 use Rattle.std.proofs.Common.{ℕ, false, sym, subst, ⊎_elim, arith}
 use Rattle.std.proofs.lemmas.Bool.{cases_lt}
-use Rattle.bitm.proofs.Callers.{length-bits_of}
-use Rattle.bitm.specs.Bits.{bits_of}
-use Rattle.bitm.specs.Count.{count_of}
+use Rattle.bit_lists.proofs.lemmas.BitsLemmas.{length-bits_of}
+use Rattle.bit_lists.specs.Bits.{bits_of}
+use Rattle.bit_lists.specs.Count.{count_of}
 use Rattle.elias_fano.proofs.lemmas.BucketLemmas.{CountsTo-all}
 use Rattle.elias_fano.specs.Buckets.{CountsTo}
 use Rattle.elias_fano_view.proofs.bucket.count_to.Goals as goal

@@ -1,14 +1,14 @@
 -- What is told are the ends of the bucket.
 use Rattle.std.proofs.Common.{◌≡◌, ℕ, ◌-◌, ◌/◌, ◌^◌, ◌<◌, List, false, sym, ap, subst, arith}
-use Rattle.bitm.specs.Answers.{SelectTold}
-use Rattle.bitm.specs.Tables.{Lists}
+use Rattle.bitm_select.specs.Answers.{SelectTold}
+use Rattle.bitm_tables.specs.Tables.{Lists}
 use Rattle.elias_fano.proofs.lemmas.BucketLemmas.{bucket-order}
 use Rattle.elias_fano.proofs.lemmas.ItemLemmas.{upper-short}
 use Rattle.elias_fano.proofs.lemmas.ToldLemmas.{told_less}
 use Rattle.elias_fano.specs.Buckets.{CountsTo, CountsBelow, HasEnds}
-use Rattle.elias_fano_view.specs.LentParts.{parts_with, Holds}
+use Rattle.elias_fano.specs.LentParts.{parts_with, Holds}
 use Rattle.elias_fano_view.specs.Lists.{EndsTold}
-use Rattle.elias_fano_view.specs.Told.{TellsBelow, TellsTo}
+use Rattle.elias_fano.specs.Told.{TellsBelow, TellsTo}
 use Rattle.elias_fano_view.proofs.bucket.place_of.Goals as goal
 use Rattle.elias_fano_view.proofs.bucket.place_of.Goals.{In-Some, After-place_in_bucket, After-place_in_bucket-2}
 

@@ -2,14 +2,14 @@
 use Rattle.std.proofs.Common.{◌≡◌, length, refl, sym, ap, subst, ◌∙◌, ⊎_elim, arith}
 use Rattle.std.proofs.lemmas.Bool.{false≢true}
 use Rattle.std.proofs.Math.Nat.{mul-le-mul_left}
-use Rattle.bitm.specs.Bits.{bits_of}
-use Rattle.bitm.specs.Count.{ones_of}
+use Rattle.bit_lists.specs.Bits.{bits_of}
+use Rattle.bit_lists.specs.Count.{ones_of}
 use Rattle.elias_fano.specs.Parts.{items_of, width_at}
 use Rattle.elias_fano_view.specs.Sizes.{upper_words_at}
 use Rattle.elias_fano_view.specs.declared.sizes.Sizes.{Sizes}
 use Rattle.elias_fano_view.proofs.CheckLemmas.{sizes-agree, parts}
 use Rattle.elias_fano_view.specs.Checks.{AreNumbers}
-use Rattle.elias_fano_view.specs.Low.{Lows}
+use Rattle.elias_fano.specs.Low.{Lows}
 use Rattle.elias_fano_view.proofs.checking.are_parts.Goals as goal
 use Rattle.elias_fano_view.proofs.checking.are_parts.Goals.{In-Some}
 

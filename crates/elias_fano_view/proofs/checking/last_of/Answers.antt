@@ -1,8 +1,8 @@
 -- Each one is that of the next number; where a test fails, no sequence has these parts.
 use Rattle.std.proofs.Common.{◌≡◌, ℕ, ◌-◌, ◌<◌, true, sym, subst, ◌∙◌, arith}
-use Rattle.bitm.specs.Bits.{bits_of}
-use Rattle.bitm.specs.Count.{Picks}
-use Rattle.bitm.proofs.BitLaws.{places_are_counted}
+use Rattle.bit_lists.specs.Bits.{bits_of}
+use Rattle.bit_lists.specs.Count.{Picks}
+use Rattle.bit_lists.proofs.BitLaws.{places_are_counted}
 use Rattle.elias_fano.proofs.lemmas.FragmentLemmas.{joined-same}
 use Rattle.elias_fano_view.proofs.CheckLemmas.{AreNumbers-more, comes_late, first_comes, held_of_pick, held_is, last-at_most, more_come, none_come, ones-all, others_come}
 use Rattle.elias_fano_view.specs.Checks.{AreNumbers}

@@ -1,8 +1,8 @@
 use Rattle.std.proofs.Common.{◌≡◌, ◌≤◌, true, length, drop}
-use Rattle.bitm.specs.Bits.{bits_of}
-use Rattle.bitm.specs.Count.{places}
+use Rattle.bit_lists.specs.Bits.{bits_of}
+use Rattle.bit_lists.specs.Count.{places}
 use Rattle.elias_fano_view.specs.Checks.{AreNumbers}
-use Rattle.elias_fano_view.specs.Low.{ReadsFragments}
+use Rattle.elias_fano.specs.Low.{ReadsFragments}
 use Rattle.elias_fano_view.proofs.checking.last_of.Given as goal
 
 -- the numbers so far, the ones of those to come, and the fragments that were read

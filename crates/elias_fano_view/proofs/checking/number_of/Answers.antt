@@ -2,8 +2,9 @@
 use Rattle.std.proofs.Common.{◌≡◌, ◌-◌, ◌*◌, ◌/◌, ◌^◌, ◌<◌, ◌≤◌, ℕ, ap, ◌∙◌, arith}
 use Rattle.std.proofs.lemmas.Nat.{pow_pos}
 use Rattle.std.proofs.lemmas.Nat.Bits.{ones_shr}
-use Rattle.bitm.proofs.Callers.{length-bits_of, number_at-lt}
-use Rattle.bitm.specs.Bits.{bits_of}
+use Rattle.bit_lists.proofs.lemmas.BitsLemmas.{length-bits_of}
+use Rattle.bit_lists.proofs.lemmas.NumberLemmas.{number_at-lt}
+use Rattle.bit_lists.specs.Bits.{bits_of}
 use Rattle.elias_fano_view.proofs.CheckLemmas.{joined-fits, joined-small}
 use Rattle.elias_fano_view.proofs.checking.number_of.Goals as goal
 

@@ -1,8 +1,8 @@
 -- Where the parts are those of a sequence each of its places has a one.
 use Rattle.std.proofs.Common.{◌<◌, length, true, arith}
-use Rattle.bitm.proofs.Callers.{length-bits_of}
-use Rattle.bitm.specs.Bits.{bits_of}
-use Rattle.bitm.specs.Count.{count_of}
+use Rattle.bit_lists.proofs.lemmas.BitsLemmas.{length-bits_of}
+use Rattle.bit_lists.specs.Bits.{bits_of}
+use Rattle.bit_lists.specs.Count.{count_of}
 use Rattle.elias_fano.proofs.lemmas.ItemLemmas.{upper-short}
 use Rattle.elias_fano.proofs.lemmas.UpperLemmas.{ones_are}
 use Rattle.elias_fano_view.proofs.sequence.item_of.Goals as goal

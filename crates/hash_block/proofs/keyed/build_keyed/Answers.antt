@@ -1,6 +1,6 @@
 -- The parts are those of a dictionary, so each key has a number of its own.
 use Rattle.std.proofs.Common.{List, ℕ, length, sym, ap, ◌∙◌}
-use Rattle.bitm.specs.Tables.{Lists}
+use Rattle.bitm_tables.specs.Tables.{Lists}
 use Rattle.hash_block.specs.Dictionary.{IsDictionaryOf}
 use Rattle.hash_block.specs.Numbered.{key_number, NumberKeys}
 use Rattle.hash_block.specs.Parts.{HashParts}

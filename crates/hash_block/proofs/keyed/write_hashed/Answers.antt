@@ -1,8 +1,8 @@
 -- The words have the bits of the hash, so its numbers are those of the levels.
 use Rattle.std.proofs.Common.{ℕ, Option, sym, ap, ◌∙◌}
-use Rattle.bitm.specs.Bits.{bits_of}
-use Rattle.bitm.specs.Count.{ones_of}
-use Rattle.perfect_hash.specs.Perfect.{IsMinimalPerfect}
+use Rattle.bit_lists.specs.Bits.{bits_of}
+use Rattle.bit_lists.specs.Count.{ones_of}
+use Rattle.hash_levels.specs.Perfect.{IsMinimalPerfect}
 use Rattle.hash_block.specs.Dictionary.{IsDictionaryOf}
 use Rattle.hash_block.specs.declared.hashing.Added.{Added}
 use Rattle.hash_block.proofs.NumberedLemmas.{renumbered}

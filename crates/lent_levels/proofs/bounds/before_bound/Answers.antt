@@ -1,6 +1,6 @@
 -- The last of those that are less is the greatest of them.
 use Rattle.std.proofs.Common.{ℕ, ⊎_elim, inl, inr, slice_range, subst, arith}
-use Rattle.bitm.specs.Answer.{Answer}
+use Rattle.bitm_tables.specs.declared.answer.Answer.{Answer}
 use Rattle.matrix_levels.proofs.lemmas.OrderLemmas.{previous-smallest}
 use Rattle.lent_levels.specs.Ranges.{IsSmallestOf, IsSmallestWithin}
 use Rattle.lent_levels.proofs.NextLemmas.{previous-none}

@@ -1,6 +1,6 @@
 -- The number after all that are less is the least that is not.
 use Rattle.std.proofs.Common.{ℕ, slice_range, refl, subst, arith}
-use Rattle.bitm.specs.Answer.{Answer}
+use Rattle.bitm_tables.specs.declared.answer.Answer.{Answer}
 use Rattle.matrix_levels.specs.Numbers.{count_less}
 use Rattle.matrix_levels.proofs.lemmas.OrderLemmas.{next-smallest}
 use Rattle.lent_levels.specs.Ranges.{IsSmallestOf, IsSmallestWithin}

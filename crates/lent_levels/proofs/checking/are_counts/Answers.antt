@@ -2,7 +2,7 @@
 use Rattle.std.proofs.Common.{◌≡◌, ◌+◌, ◌≤◌, length, refl, ap, subst, sym, ◌∙◌, ⊎_elim, arith, rules}
 use Rattle.std.proofs.lemmas.Bool.{cases_lt}
 use Rattle.std.proofs.Math.Nat.{mul-le-mul_right}
-use Rattle.bitm.specs.Tables.{bits_in, IsIndexed, Lists}
+use Rattle.bitm_tables.specs.Tables.{bits_in, IsIndexed, Lists}
 use Rattle.lent_levels.specs.Check.{AreCountsAt}
 use Rattle.lent_levels.proofs.checking.are_counts.Goals as goal
 

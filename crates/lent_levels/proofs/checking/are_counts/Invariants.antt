@@ -1,5 +1,5 @@
 use Rattle.std.proofs.Common.{◌≡◌, ℕ, ◌<◌}
-use Rattle.bitm.specs.Tables.{bits_in}
+use Rattle.bitm_tables.specs.Tables.{bits_in}
 use Rattle.lent_levels.specs.Check.{AreCountsAt}
 use Rattle.lent_levels.proofs.checking.are_counts.Given as goal
 

@@ -1,8 +1,8 @@
 -- The 0 bits of the level are what its 1 bits leave.
 use Rattle.std.proofs.Common.{◌≡◌, ◌+◌, ◌-◌, ◌*◌, ◌≤◌, ap, true, false, ◌∙◌, arith}
-use Rattle.bitm.specs.Count.{ones_before, zeros_before}
-use Rattle.bitm.specs.Tables.{bits_in, Lists}
-use Rattle.bitm.proofs.BitLaws.{bits_are_counted, counts_grow, ones_and_zeros}
+use Rattle.bit_lists.specs.Count.{ones_before, zeros_before}
+use Rattle.bitm_tables.specs.Tables.{bits_in, Lists}
+use Rattle.bit_lists.proofs.BitLaws.{bits_are_counted, counts_grow, ones_and_zeros}
 use Rattle.lent_levels.proofs.checking.counts_of.Goals as goal
 use Rattle.lent_levels.proofs.checking.counts_of.Goals.{After-ones_to-through}
 

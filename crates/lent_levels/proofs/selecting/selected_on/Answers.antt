@@ -1,10 +1,10 @@
 -- The kind of bit that is selected is the one that is asked for.
 use Rattle.std.proofs.Common.{ℕ, ◌<◌, Bool, true, false, List, IsSomeAnd, sym, subst, arith}
-use Rattle.bitm.specs.Answer.{Answer}
-use Rattle.bitm.specs.Answer.TheVariants.{Found, Absent, Wrong}
-use Rattle.bitm.specs.Answers.{place_in, IsSelected}
-use Rattle.bitm.specs.Count.{count_of, Picks}
-use Rattle.bitm.specs.Tables.{bits_in}
+use Rattle.bitm_tables.specs.declared.answer.Answer.{Answer}
+use Rattle.bitm_tables.specs.declared.answer.Answer.TheVariants.{Found, Absent, Wrong}
+use Rattle.bitm_select.specs.Answers.{place_in, IsSelected}
+use Rattle.bit_lists.specs.Count.{count_of, Picks}
+use Rattle.bitm_tables.specs.Tables.{bits_in}
 use Rattle.lent_levels.proofs.selecting.selected_on.Goals as goal
 
 picked_in : (b : List Bool) (v : Bool) (r : ℕ) (a : Answer ℕ) → IsSelected b v r a → r < count_of b v → IsSomeAnd (place_in a) (Picks b v r)

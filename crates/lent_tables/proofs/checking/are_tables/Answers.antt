@@ -3,8 +3,8 @@ use Rattle.std.proofs.Common.{◌≡◌, ◌+◌, ◌*◌, ◌^◌, length, min,
 use Rattle.std.specs.Int.{div_ceil}
 use Rattle.bit_lists.proofs.lemmas.CountLemmas.{ones_before_none, few_ones, ones_before-at_most_all}
 use Rattle.bit_lists.specs.Bits.{bits_of}
-use Rattle.bitm_select.proofs.lemmas.TableLemmas.{entries}
-use Rattle.bitm_select.proofs.lemmas.TableMakingLemmas.{all_entries_made}
+use Rattle.bitm_tables.proofs.lemmas.TableLemmas.{entries}
+use Rattle.bitm_tables.proofs.lemmas.TableMakingLemmas.{all_entries_made}
 use Rattle.lent_tables.proofs.FilledLemmas.{tables_filled}
 use Rattle.lent_tables.proofs.checking.are_tables.Goals as goal
 

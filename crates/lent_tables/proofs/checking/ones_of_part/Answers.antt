@@ -3,8 +3,8 @@ use Rattle.std.proofs.Common.{◌≡◌, ◌+◌, ◌*◌, ◌^◌, length, min,
 use Rattle.std.specs.Int.{div_ceil}
 use Rattle.bit_lists.specs.Bits.{bits_of}
 use Rattle.bit_lists.proofs.lemmas.CountLemmas.{few_ones, ones_before-at_most_all}
-use Rattle.bitm_select.proofs.lemmas.TableLemmas.{entries}
-use Rattle.bitm_select.proofs.lemmas.TableMakingLemmas.{part_ended, part_begun}
+use Rattle.bitm_tables.proofs.lemmas.TableLemmas.{entries}
+use Rattle.bitm_tables.proofs.lemmas.TableMakingLemmas.{part_ended, part_begun}
 use Rattle.lent_tables.proofs.checking.ones_of_part.Goals as goal
 
 pub returns-then-lower-at-clause-wrong : goal.returns-then-lower-at-clause-wrong

@@ -1,7 +1,7 @@
 use Rattle.std.proofs.Common.{◌≡◌, ◌+◌, ◌*◌, ◌^◌}
 use Rattle.bit_lists.specs.Bits.{bits_of}
 use Rattle.bit_lists.specs.Count.{ones_before}
-use Rattle.bitm_select.specs.Entry.{lower_entry}
+use Rattle.bitm_tables.specs.Entry.{lower_entry}
 use Rattle.lent_tables.specs.Sizes.{IsFilled}
 use Rattle.lent_tables.proofs.checking.ones_of_part.Given as goal
 

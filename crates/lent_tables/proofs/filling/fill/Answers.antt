@@ -4,7 +4,7 @@ use Rattle.std.specs.Int.{div_ceil}
 use Rattle.bit_lists.proofs.lemmas.BitsLemmas.{length-bits_of}
 use Rattle.bit_lists.proofs.lemmas.CountLemmas.{ones_before_none, ones_before_past, few_ones, ones_before-at_most_all}
 use Rattle.bit_lists.specs.Bits.{bits_of}
-use Rattle.bitm_select.proofs.lemmas.TableMakingLemmas.{all_parts, all_entries_made}
+use Rattle.bitm_tables.proofs.lemmas.TableMakingLemmas.{all_parts, all_entries_made}
 use Rattle.lent_tables.proofs.FilledLemmas.{tables_filled}
 use Rattle.lent_tables.proofs.filling.fill.Goals as goal
 

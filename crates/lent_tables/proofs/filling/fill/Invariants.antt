@@ -2,7 +2,7 @@ use Rattle.std.proofs.Common.{◌≡◌, ◌*◌, ◌^◌, length, min}
 use Rattle.std.specs.Int.{div_ceil}
 use Rattle.bit_lists.specs.Bits.{bits_of}
 use Rattle.bit_lists.specs.Count.{ones_before}
-use Rattle.bitm_select.specs.Entry.{lower_entry}
+use Rattle.bitm_tables.specs.Entry.{lower_entry}
 use Rattle.lent_tables.specs.Sizes.{IsFilled}
 use Rattle.lent_tables.proofs.filling.fill.Given as goal
 

@@ -1,8 +1,8 @@
 -- The entry at the guess tells on which side of it the sought one is.
 use Rattle.std.proofs.Common.{ℕ, ◌+◌, ◌*◌, ◌^◌, ◌≤◌, sym, ◌∙◌, subst}
-use Rattle.bitm_select.specs.Entry.{before_in_part}
+use Rattle.bitm_tables.specs.Entry.{before_in_part}
 use Rattle.bitm_select.specs.Search.{sought_in}
-use Rattle.bitm_select.specs.Tables.{HasTables, Lists}
+use Rattle.bitm_tables.specs.Tables.{HasTables, Lists}
 use Rattle.bitm_select.proofs.lemmas.SoughtLemmas.{low_is}
 use Rattle.lent_tables.proofs.guessed.entry_by_steps.Goals as goal
 

@@ -1,8 +1,8 @@
 -- The first entry back that has no more before it is the last one: the one after it has more.
 use Rattle.std.proofs.Common.{◌≡◌, ℕ, ◌+◌, ◌*◌, ◌-◌, ◌^◌, ◌<◌, ◌≤◌, ap, sym, ◌∙◌, subst, arith}
-use Rattle.bitm_select.specs.Entry.{before_in_part, lower_entry}
+use Rattle.bitm_tables.specs.Entry.{before_in_part, lower_entry}
 use Rattle.bitm_select.specs.Search.{sought_in}
-use Rattle.bitm_select.specs.Tables.{HasTables, Lists}
+use Rattle.bitm_tables.specs.Tables.{HasTables, Lists}
 use Rattle.bitm_select.specs.Told.{told_entry}
 use Rattle.bit_lists.specs.Count.{as_bit}
 use Rattle.bitm_select.proofs.lemmas.SoughtLemmas.{low_is}

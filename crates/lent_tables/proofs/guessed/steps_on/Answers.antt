@@ -1,10 +1,10 @@
 -- Each step goes to an entry that has no more before it.
 use Rattle.std.proofs.Common.{◌≡◌, ℕ, ◌+◌, ◌*◌, ◌^◌, ◌<◌, ◌≤◌, ap, sym, ◌∙◌, subst, arith}
 use Rattle.bit_lists.specs.Count.{as_bit}
-use Rattle.bitm_select.specs.Entry.{before_in_part, lower_entry}
-use Rattle.bitm_select.specs.ReadCounts.{ReadCounts}
+use Rattle.bitm_tables.specs.Entry.{before_in_part, lower_entry}
+use Rattle.bitm_tables.specs.declared.source.counts.ReadCounts.{ReadCounts}
 use Rattle.bitm_select.specs.Search.{sought_in}
-use Rattle.bitm_select.specs.Tables.{HasTables, Lists}
+use Rattle.bitm_tables.specs.Tables.{HasTables, Lists}
 use Rattle.bitm_select.specs.Told.{told_entry}
 use Rattle.bitm_select.proofs.lemmas.SoughtLemmas.{low_is}
 use Rattle.bitm_select.proofs.lemmas.ToldLemmas.{last_found}

@@ -1,8 +1,8 @@
 use Rattle.std.proofs.Common.{◌≡◌, ◌+◌, ◌*◌, ◌^◌, ◌<◌, ◌≤◌, length}
 use Rattle.bit_lists.specs.Count.{as_bit}
-use Rattle.bitm_select.specs.Entry.{before_in_part}
-use Rattle.bitm_select.specs.Search.{entries_from, sought_in}
-use Rattle.bitm_select.specs.Tables.{HasTables}
+use Rattle.bitm_tables.specs.Entry.{before_in_part, entries_from}
+use Rattle.bitm_select.specs.Search.{sought_in}
+use Rattle.bitm_tables.specs.Tables.{HasTables}
 use Rattle.bitm_select.specs.Told.{told_entry}
 use Rattle.lent_tables.proofs.guessed.steps_on.Given as goal
 

@@ -2,7 +2,7 @@
 use Rattle.std.proofs.Common.{◌∙◌, slice_index, subst, sym, arith}
 use Rattle.bit_lists.specs.Count.{as_bit}
 use Rattle.bitm_select.specs.Answers.{SelectTold}
-use Rattle.bitm_select.specs.Tables.{HasSizes, Lists}
+use Rattle.bitm_tables.specs.Tables.{HasSizes, Lists}
 use Rattle.bit_slices.proofs.lemmas.PositionLemmas.{placed_more}
 use Rattle.lent_tables.proofs.lists.select_list_on.Goals as goal
 

@@ -1,7 +1,7 @@
 -- The bits before a position are 1 bits and 0 bits, so no more than the position says are 1 bits.
 use Rattle.std.proofs.Common.{arith}
 use Rattle.bit_lists.proofs.lemmas.CountLemmas.{ones_before-add-zeros_before}
-use Rattle.bitm_select.specs.Tables.{bits_in}
+use Rattle.bitm_tables.specs.Tables.{bits_in}
 use Rattle.lent_tables.proofs.ranked.ranked_on.Goals as goal
 
 pub returns-in-None-clause-ranks : goal.returns-in-None-clause-ranks

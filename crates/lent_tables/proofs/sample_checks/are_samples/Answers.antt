@@ -2,8 +2,8 @@
 use Rattle.std.proofs.Common.{◌≡◌, ◌∙◌, ℕ, ◌<◌, List, length, slice_index, take, sym, ap, subst, rules, arith}
 use Rattle.std.proofs.Math.Seq.{take-length}
 use Rattle.bit_lists.specs.Count.{as_bit}
-use Rattle.bitm.specs.Samples.{IsSummaryOf, parts, sample_count_before}
-use Rattle.bitm_select.proofs.lemmas.TableLemmas.{entries}
+use Rattle.bitm_strategies.specs.Samples.{IsSummaryOf, parts, sample_count_before}
+use Rattle.bitm_tables.proofs.lemmas.TableLemmas.{entries}
 use Rattle.bitm_strategies.proofs.lemmas.SampleLemmas.{length-samples, start_at}
 use Rattle.lent_tables.specs.Samples.{AreSamples}
 use Rattle.lent_tables.proofs.SamplingLemmas.{all_made}

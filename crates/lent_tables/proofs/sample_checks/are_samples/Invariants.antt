@@ -1,6 +1,6 @@
 use Rattle.std.proofs.Common.{◌≡◌, ◌≤◌, List, Bool, length}
 use Rattle.bit_lists.specs.Count.{as_bit}
-use Rattle.bitm.specs.Samples.{IsSummaryOf, sample_count_before}
+use Rattle.bitm_strategies.specs.Samples.{IsSummaryOf, sample_count_before}
 use Rattle.lent_tables.specs.Samples.{sample_number}
 use Rattle.lent_tables.specs.Sizes.{IsFilled}
 use Rattle.lent_tables.proofs.sample_checks.are_samples.Given as goal

@@ -3,11 +3,11 @@ use Rattle.std.proofs.Common.{◌≡◌, ℕ, ◌+◌, ◌*◌, ◌%◌, ◌^◌
 use Rattle.std.proofs.lemmas.Nat.{one_shl}
 use Rattle.std.specs.Int.{div_ceil}
 use Rattle.bit_lists.specs.Count.{as_bit}
-use Rattle.bitm.specs.Samples.{IsSummaryOf, intervals, part_of, parts, sample}
+use Rattle.bitm_strategies.specs.Samples.{IsSummaryOf, intervals, part_of, parts, sample}
 use Rattle.bitm_select.specs.Search.{items_to}
 use Rattle.bitm_strategies.proofs.lemmas.MadeLemmas.{half_within, interval_item}
 use Rattle.bitm_strategies.proofs.lemmas.SampleLemmas.{before_le, before_more, length-samples, sample_at}
-use Rattle.bitm_select.proofs.lemmas.TableLemmas.{entries}
+use Rattle.bitm_tables.proofs.lemmas.TableLemmas.{entries}
 use Rattle.lent_tables.specs.Samples.{sample_number}
 use Rattle.lent_tables.proofs.SampleCheckLemmas.{filled_next}
 use Rattle.lent_tables.proofs.sample_checks.samples_of_part.Goals as goal

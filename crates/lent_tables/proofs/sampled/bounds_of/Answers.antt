@@ -2,8 +2,8 @@
 use Rattle.std.proofs.Common.{◌≡◌, ℕ, ◌+◌, ◌-◌, ◌/◌, ◌%◌, ◌^◌, ◌<◌, Bool, List, if◌then◌else◌, length, ap, subst, sym, ◌∙◌, arith}
 use Rattle.std.specs.Int.{div_ceil}
 use Rattle.bit_lists.specs.Bits.{digit}
-use Rattle.bitm.specs.Density.{clamped_log}
-use Rattle.bitm.specs.Samples.{part_of, parts}
+use Rattle.bitm_strategies.specs.Density.{clamped_log}
+use Rattle.bitm_strategies.specs.Samples.{part_of, parts}
 use Rattle.lent_tables.specs.Samples.{AreSamplesOf, IsBounded}
 use Rattle.lent_tables.proofs.BoundsLemmas.{HasBounds, bounded_last, bounded_next, past}
 use Rattle.lent_tables.proofs.sampled.bounds_of.Goals as goal

@@ -2,7 +2,7 @@
 use Rattle.std.proofs.Common.{◌-◌, ap, inl, inr, arith}
 use Rattle.std.proofs.lemmas.Bool.{cases_lt}
 use Rattle.bit_lists.proofs.lemmas.DigitLemmas.{digit_count_most}
-use Rattle.bitm_select.specs.ReadCounts.{ReadCounts}
+use Rattle.bitm_tables.specs.declared.source.counts.ReadCounts.{ReadCounts}
 use Rattle.lent_tables.proofs.sampled.entry_between.Goals as goal
 
 pub returns-clause-reads : goal.returns-clause-reads

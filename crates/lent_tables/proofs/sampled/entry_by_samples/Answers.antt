@@ -1,7 +1,7 @@
 -- Samples that do not lead to the entry leave the tables as they were.
 use Rattle.std.proofs.Common.{subst}
 use Rattle.bitm_select.specs.Search.{IsLastFound}
-use Rattle.bitm_select.specs.Tables.{Lists}
+use Rattle.bitm_tables.specs.Tables.{Lists}
 use Rattle.lent_tables.proofs.sampled.entry_by_samples.Goals as goal
 
 pub returns-in-None-clause-last : goal.returns-in-None-clause-last

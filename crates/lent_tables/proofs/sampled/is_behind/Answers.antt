@@ -1,7 +1,7 @@
 -- What the entry packs counts what stands before it.
 use Rattle.std.proofs.Common.{◌≡◌, ◌+◌, ◌*◌, ◌^◌, ◌<◌, ◌∙◌, length, arith, lt-ltb}
-use Rattle.bitm_select.specs.Entry.{before_in_part}
-use Rattle.bitm_select.specs.Search.{entries_from, sought_in}
+use Rattle.bitm_tables.specs.Entry.{before_in_part, entries_from}
+use Rattle.bitm_select.specs.Search.{sought_in}
 use Rattle.bitm_select.proofs.lemmas.SoughtLemmas.{low_is}
 use borrow.Author.Tests.{ltb-true}
 use Rattle.lent_tables.proofs.sampled.is_behind.Goals as goal

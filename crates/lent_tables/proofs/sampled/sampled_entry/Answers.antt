@@ -2,10 +2,10 @@
 use Rattle.std.proofs.Common.{◌≡◌, ◌+◌, ◌*◌, ◌^◌, ◌≤◌, length, arith}
 use Rattle.bit_lists.specs.Bits.{bits_of}
 use Rattle.bit_lists.specs.Count.{as_bit}
-use Rattle.bitm_select.specs.Entry.{before_in_part}
-use Rattle.bitm_select.specs.Search.{entries_from, sought_in}
+use Rattle.bitm_tables.specs.Entry.{before_in_part, entries_from}
+use Rattle.bitm_select.specs.Search.{sought_in}
 use Rattle.bitm_strategies.proofs.lemmas.PartLemmas.{count_in_part}
-use Rattle.bitm_select.proofs.lemmas.TableLemmas.{entries}
+use Rattle.bitm_tables.proofs.lemmas.TableLemmas.{entries}
 use Rattle.lent_tables.proofs.BoundsLemmas.{part_size}
 use Rattle.lent_tables.proofs.sampled.sampled_entry.Goals as goal
 

@@ -1,7 +1,7 @@
 -- The start of a part counts the samples before it, and behind the last part are all.
 use Rattle.std.proofs.Common.{◌≡◌, ℕ, ◌<◌, List, get_or, length, ap, sym, ◌∙◌, arith}
-use Rattle.bitm.specs.Density.{clamped_log}
-use Rattle.bitm.specs.Samples.{parts, sample_count_before}
+use Rattle.bitm_strategies.specs.Density.{clamped_log}
+use Rattle.bitm_strategies.specs.Samples.{parts, sample_count_before}
 use Rattle.bitm_strategies.proofs.lemmas.SampleLemmas.{before_le, length-samples, length-starts, start_at}
 use Rattle.lent_tables.proofs.sampled.samples_to.Goals as goal
 

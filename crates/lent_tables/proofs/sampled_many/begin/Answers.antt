@@ -1,9 +1,10 @@
 -- The entry is the last one of the part with no more before it, whoever found it.
 use Rattle.std.proofs.Common.{◌<◌, length, sym, subst, arith}
-use Rattle.bitm_select.proofs.lemmas.LengthLemmas.{few_entries, first_of_part}
+use Rattle.bitm_tables.proofs.lemmas.LengthLemmas.{few_entries, first_of_part}
 use Rattle.bitm_many.proofs.lemmas.ManyLemmas.{near_found}
-use Rattle.bitm_select.specs.Search.{entries_from, sought_in, IsLastEntry}
-use Rattle.bitm_select.specs.Tables.{HasTables, Lists}
+use Rattle.bitm_tables.specs.Entry.{entries_from}
+use Rattle.bitm_select.specs.Search.{sought_in, IsLastEntry}
+use Rattle.bitm_tables.specs.Tables.{HasTables, Lists}
 use Rattle.lent_tables.proofs.sampled_many.begin.Goals as goal
 use Rattle.lent_tables.proofs.sampled_many.begin.Goals.{After-entry_by_guess-in_part}
 

@@ -1,8 +1,8 @@
 -- The parts follow one another: each has its start and its samples.
 use Rattle.std.proofs.Common.{◌≡◌, ◌∙◌, length, ap, arith}
 use Rattle.bit_lists.specs.Count.{as_bit}
-use Rattle.bitm.specs.Samples.{parts, sample_count_before}
-use Rattle.bitm_select.proofs.lemmas.TableLemmas.{entries}
+use Rattle.bitm_strategies.specs.Samples.{parts, sample_count_before}
+use Rattle.bitm_tables.proofs.lemmas.TableLemmas.{entries}
 use Rattle.lent_tables.proofs.SamplingLemmas.{all_made}
 use Rattle.lent_tables.proofs.sampling.fill_all.Goals as goal
 

@@ -4,11 +4,11 @@ use Rattle.std.proofs.lemmas.List.{get_or-set_other}
 use Rattle.std.proofs.lemmas.Nat.{one_shl}
 use Rattle.std.specs.Int.{div_ceil}
 use Rattle.bit_lists.specs.Count.{as_bit}
-use Rattle.bitm.specs.Samples.{IsSummaryOf, intervals, part_of, parts, sample}
+use Rattle.bitm_strategies.specs.Samples.{IsSummaryOf, intervals, part_of, parts, sample}
 use Rattle.bitm_select.specs.Search.{items_to}
 use Rattle.bitm_strategies.proofs.lemmas.MadeLemmas.{half_within, interval_item}
 use Rattle.bitm_strategies.proofs.lemmas.SampleLemmas.{before_more, sample_at}
-use Rattle.bitm_select.proofs.lemmas.TableLemmas.{entries}
+use Rattle.bitm_tables.proofs.lemmas.TableLemmas.{entries}
 use Rattle.lent_tables.specs.Samples.{sample_number}
 use Rattle.lent_tables.proofs.FilledLemmas.{filled_more}
 use Rattle.lent_tables.proofs.SamplingLemmas.{samples_after, samples_fit}

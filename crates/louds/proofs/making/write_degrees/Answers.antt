@@ -1,6 +1,6 @@
 -- One node more.
 use Rattle.std.proofs.Common.{◌<◌, length, get_or, refl, arith}
-use Rattle.bitm.specs.Bits.{bits_of}
+use Rattle.bit_lists.specs.Bits.{bits_of}
 use Rattle.louds.proofs.lemmas.TreeLemmas.{zero_place_more}
 use Rattle.louds.proofs.lemmas.WriteLemmas.{begun_more, fill_run}
 use Rattle.louds.proofs.making.write_degrees.Goals as goal

@@ -1,5 +1,5 @@
 use Rattle.std.proofs.Common.{◌≡◌, ◌+◌}
-use Rattle.bitm.specs.Bits.{bits_of}
+use Rattle.bit_lists.specs.Bits.{bits_of}
 use Rattle.louds.proofs.lemmas.WriteLemmas.{IsBegun}
 use Rattle.louds.specs.Held.{zero_place}
 use Rattle.louds.proofs.making.write_degrees.Given as goal

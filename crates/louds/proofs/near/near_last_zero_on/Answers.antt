@@ -1,7 +1,7 @@
 -- The word that is read holds bits of the content, so its last zero is the last of all, before the ones behind it.
 use Rattle.std.proofs.Common.{◌≡◌, ◌/◌, length, get_or, ap, ◌∙◌, arith}
-use Rattle.bitm.proofs.BitLaws.{bits_are_counted}
-use Rattle.bitm.specs.Tables.{Lists}
+use Rattle.bit_lists.proofs.BitLaws.{bits_are_counted}
+use Rattle.bitm_tables.specs.Tables.{Lists}
 use Rattle.louds.proofs.lemmas.NearLemmas.{last-found, last-none}
 use Rattle.louds.proofs.near.near_last_zero_on.Goals as goal
 use Rattle.louds.proofs.near.near_last_zero_on.Goals.{After-word-word}

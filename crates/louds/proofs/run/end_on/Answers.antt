@@ -1,7 +1,7 @@
 -- The first zero behind that before a node's ones is that after them.
 use Rattle.std.proofs.Common.{◌≡◌, ◌+◌, ◌≤◌, ℕ, false, List, length, take, take_all, sym, arith, subst}
-use Rattle.bitm.specs.Bits.{bits_of}
-use Rattle.bitm.specs.Count.{IsFirstFrom}
+use Rattle.bit_lists.specs.Bits.{bits_of}
+use Rattle.bit_lists.specs.Count.{IsFirstFrom}
 use Rattle.louds.specs.Counted.{degrees_in}
 use Rattle.louds.specs.Held.{zero_place}
 use Rattle.louds.proofs.lemmas.HeldLemmas.{run_end, zero_small}

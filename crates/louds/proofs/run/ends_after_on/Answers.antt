@@ -1,7 +1,7 @@
 -- The bit after the zero before a node's ones is a zero where it has none.
 use Rattle.std.proofs.Common.{◌+◌, not, ap, ◌∙◌, arith}
-use Rattle.bitm.specs.Bits.{item}
-use Rattle.bitm.specs.Tables.{bits_in}
+use Rattle.bit_lists.specs.Bits.{item}
+use Rattle.bitm_tables.specs.Tables.{bits_in}
 use Rattle.louds.proofs.lemmas.HeldLemmas.{after_zero_inside, bit_after_zero}
 use Rattle.louds.proofs.run.ends_after_on.Goals as goal
 

@@ -1,7 +1,7 @@
 -- The bit after the one of a node is a one where the parent has a further child.
 use Rattle.std.proofs.Common.{◌+◌, sym, ap, ◌∙◌}
-use Rattle.bitm.specs.Bits.{item}
-use Rattle.bitm.specs.Tables.{bits_in}
+use Rattle.bit_lists.specs.Bits.{item}
+use Rattle.bitm_tables.specs.Tables.{bits_in}
 use Rattle.louds.proofs.lemmas.HeldLemmas.{last_of_one, next_of_one}
 use Rattle.louds.proofs.selecting.next_sibling_by.Goals as goal
 

@@ -1,6 +1,6 @@
 -- The parent of which the node is a child, and where its ones begin.
 use Rattle.std.proofs.Common.{◌≡◌, ◌-◌, ◌<◌, ℕ, sym, ap, ◌∙◌, arith, rules, subst}
-use Rattle.bitm.specs.Tables.{Lists}
+use Rattle.bitm_tables.specs.Tables.{Lists}
 use Rattle.louds.specs.Counted.{degrees_in}
 use Rattle.louds.specs.Held.{zero_place}
 use Rattle.louds.specs.Node.{IsNode}

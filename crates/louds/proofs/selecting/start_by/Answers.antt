@@ -1,7 +1,7 @@
 -- The last zero up to the one of a node is that before its parent's ones, and it is near where few children are between.
 use Rattle.std.proofs.Common.{◌≡◌, ◌-◌, ℕ, false, ap, ◌∙◌, arith, subst}
-use Rattle.bitm.specs.Count.{IsLastTo}
-use Rattle.bitm.specs.Tables.{bits_in}
+use Rattle.bit_lists.specs.Count.{IsLastTo}
+use Rattle.bitm_tables.specs.Tables.{bits_in}
 use Rattle.louds.specs.Counted.{degrees_in}
 use Rattle.louds.specs.Held.{zero_place}
 use Rattle.louds.proofs.lemmas.HeldLemmas.{before_one_inside, no_one_at_start, one_of_child, run_start}

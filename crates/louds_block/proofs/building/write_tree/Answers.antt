@@ -1,8 +1,8 @@
 -- What was written holds the tree.
 use Rattle.std.proofs.Common.{◌≡◌, ℕ, length, ap, sym, arith, subst, List, false, refl}
 use Rattle.std.proofs.lemmas.List.{length-replicate}
-use Rattle.bitm.specs.Bits.{bits_of, item}
-use Rattle.bitm.proofs.BitLaws.{bits_are_counted, zeros_have_no_ones}
+use Rattle.bit_lists.specs.Bits.{bits_of, item}
+use Rattle.bit_lists.proofs.BitLaws.{bits_are_counted, zeros_have_no_ones}
 use Rattle.louds.proofs.lemmas.HeldLemmas.{degrees_of-is, held, held_degrees}
 use Rattle.louds.specs.Held.{words_of, IsHeld}
 use Rattle.louds_block.proofs.building.write_tree.Goals as goal

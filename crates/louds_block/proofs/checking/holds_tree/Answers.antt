@@ -1,9 +1,9 @@
 -- The words before the last and the part of the last before the last zero are those of a tree.
 use Rattle.std.proofs.Common.{rules, ◌≡◌, ◌+◌, ◌-◌, ◌*◌, ◌/◌, ◌%◌, ◌^◌, ◌<◌, ◌≤◌, ℕ, List, length, count_ones, get_or, ap, ◌∙◌, subst, sym, arith}
 use Rattle.std.specs.Int.{bit_at}
-use Rattle.bitm.specs.Bits.{bits_of, item}
-use Rattle.bitm.specs.Count.{ones_before}
-use Rattle.bitm.proofs.BitLaws.{bits_are_counted}
+use Rattle.bit_lists.specs.Bits.{bits_of, item}
+use Rattle.bit_lists.specs.Count.{ones_before}
+use Rattle.bit_lists.proofs.BitLaws.{bits_are_counted}
 use Rattle.bit_lists.proofs.lemmas.CountLemmas.{ones_before-bits_of_in_word}
 use Rattle.louds.specs.Held.{degrees_of, words_of, IsHeld}
 use Rattle.louds_block.specs.Check.{KeepsLead, Leads}

@@ -1,8 +1,8 @@
 -- The lead before a word is what its zeros have to keep.
 use Rattle.std.proofs.Common.{rules, ◌≡◌, ◌+◌, ◌-◌, ◌*◌, ◌^◌, ◌<◌, ℕ, count_ones, List, get_or, length, ap, subst, sym, true, false, arith, mod-eq_of_lt}
-use Rattle.bitm.specs.Bits.{bits_of}
-use Rattle.bitm.specs.Count.{ones_before}
-use Rattle.bitm.proofs.BitLaws.{none_before_the_first}
+use Rattle.bit_lists.specs.Bits.{bits_of}
+use Rattle.bit_lists.specs.Count.{ones_before}
+use Rattle.bit_lists.proofs.BitLaws.{none_before_the_first}
 use Rattle.bit_lists.proofs.lemmas.CountLemmas.{ones_before-bits_of_in_word}
 use Rattle.louds_block.specs.Check.{Leads}
 use Rattle.louds_block.proofs.CheckLemmas.{keeps_where_leads, leads_fewer, leads_on, ones_few, ones_left}

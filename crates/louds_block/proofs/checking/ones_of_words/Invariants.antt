@@ -1,6 +1,6 @@
 use Rattle.std.proofs.Common.{◌≡◌, ◌*◌}
-use Rattle.bitm.specs.Bits.{bits_of}
-use Rattle.bitm.specs.Count.{ones_before}
+use Rattle.bit_lists.specs.Bits.{bits_of}
+use Rattle.bit_lists.specs.Count.{ones_before}
 use Rattle.louds_block.specs.Check.{Leads}
 use Rattle.louds_block.proofs.checking.ones_of_words.Given as goal
 

@@ -1,6 +1,6 @@
 -- The one is that of the node, and it stands in the words.
 use Rattle.std.proofs.Common.{arith}
-use Rattle.bitm.proofs.BitLaws.{bits_are_counted}
+use Rattle.bit_lists.proofs.BitLaws.{bits_are_counted}
 use Rattle.louds.proofs.lemmas.HeldLemmas.{has_one, one_is}
 use Rattle.louds_block.proofs.queries.total_one_on.Goals as goal
 

@@ -1,6 +1,6 @@
 -- The zero is where it stands.
 use Rattle.std.proofs.Common.{Some, ap, arith}
-use Rattle.bitm.proofs.BitLaws.{bits_are_counted}
+use Rattle.bit_lists.proofs.BitLaws.{bits_are_counted}
 use Rattle.louds.proofs.lemmas.HeldLemmas.{has_zero, zero_is}
 use Rattle.louds_block.proofs.queries.total_zero_on.Goals as goal
 

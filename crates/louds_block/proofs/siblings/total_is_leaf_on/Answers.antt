@@ -1,8 +1,8 @@
 -- The bit after the zero before a node's ones is a zero where it has none.
 use Rattle.std.proofs.Common.{◌+◌, not, ap, ◌∙◌}
 use Rattle.std.proofs.lemmas.Option.{same_Some}
-use Rattle.bitm.specs.Bits.{item}
-use Rattle.bitm.specs.Tables.{bits_in}
+use Rattle.bit_lists.specs.Bits.{item}
+use Rattle.bitm_tables.specs.Tables.{bits_in}
 use Rattle.louds.proofs.lemmas.HeldLemmas.{bit_after_zero}
 use Rattle.louds_block.proofs.siblings.total_is_leaf_on.Goals as goal
 

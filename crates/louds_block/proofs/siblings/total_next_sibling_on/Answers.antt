@@ -1,7 +1,7 @@
 -- The bit after the one of a node is a one where the parent has a further child.
 use Rattle.std.proofs.Common.{◌+◌, inr, sym, ap, ◌∙◌, arith}
-use Rattle.bitm.specs.Bits.{item}
-use Rattle.bitm.specs.Tables.{bits_in}
+use Rattle.bit_lists.specs.Bits.{item}
+use Rattle.bitm_tables.specs.Tables.{bits_in}
 use Rattle.louds.proofs.lemmas.HeldLemmas.{last_of_one, next_of_one}
 use Rattle.louds.proofs.lemmas.LabelLemmas.{child_inside}
 use Rattle.louds_block.proofs.siblings.total_next_sibling_on.Goals as goal

@@ -1,7 +1,7 @@
 -- The bit before the one of a node is a one where the parent has a child before it.
 use Rattle.std.proofs.Common.{◌-◌, inr, sym, ap, ◌∙◌, arith}
-use Rattle.bitm.specs.Bits.{item}
-use Rattle.bitm.specs.Tables.{bits_in}
+use Rattle.bit_lists.specs.Bits.{item}
+use Rattle.bitm_tables.specs.Tables.{bits_in}
 use Rattle.louds.proofs.lemmas.HeldLemmas.{first_of_one, previous_of_one}
 use Rattle.louds_block.proofs.siblings.total_previous_sibling_on.Goals as goal
 

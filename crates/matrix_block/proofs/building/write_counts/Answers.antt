@@ -1,7 +1,7 @@
 -- All levels were counted.
 use Rattle.std.proofs.Common.{◌+◌, ◌*◌, ◌<◌, false, arith}
-use Rattle.bitm.specs.Tables.{bits_in}
-use Rattle.bitm.proofs.BitLaws.{counts_grow}
+use Rattle.bitm_tables.specs.Tables.{bits_in}
+use Rattle.bit_lists.proofs.BitLaws.{counts_grow}
 use Rattle.matrix_block.proofs.building.write_counts.Goals as goal
 
 pub returns : goal.returns

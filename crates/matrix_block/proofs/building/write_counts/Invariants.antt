@@ -1,6 +1,6 @@
 use Rattle.std.proofs.Common.{◌≡◌, ◌+◌, ◌-◌, ◌*◌}
-use Rattle.bitm.specs.Count.{ones_before, zeros_before}
-use Rattle.bitm.specs.Tables.{bits_in}
+use Rattle.bit_lists.specs.Count.{ones_before, zeros_before}
+use Rattle.bitm_tables.specs.Tables.{bits_in}
 use Rattle.lent_tables.specs.Sizes.{IsFilled}
 use Rattle.matrix_block.proofs.building.write_counts.Given as goal
 

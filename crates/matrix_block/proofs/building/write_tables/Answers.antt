@@ -1,7 +1,7 @@
 -- There are enough words for all levels.
 use Rattle.std.proofs.Common.{length, ap, arith}
-use Rattle.bitm.specs.Tables.{bits_in, Lists}
-use Rattle.bitm.proofs.BitLaws.{bits_are_counted}
+use Rattle.bitm_tables.specs.Tables.{bits_in, Lists}
+use Rattle.bit_lists.proofs.BitLaws.{bits_are_counted}
 use Rattle.matrix_block.proofs.building.write_tables.Goals as goal
 
 pub write_counts-requires-clause-room : goal.write_counts-requires-clause-room

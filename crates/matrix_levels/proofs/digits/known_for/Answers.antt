@@ -1,6 +1,6 @@
 -- All digits are fewer than 2 ^ 63.
 use Rattle.std.proofs.Common.{◌*◌, ◌/◌, arith}
-use Rattle.bitm.proofs.BitLaws.{digits_bound_powers}
+use Rattle.bit_lists.proofs.BitLaws.{digits_bound_powers}
 use Rattle.matrix_levels.proofs.digits.known_for.Goals as goal
 
 pub returns-clause-few : goal.returns-clause-few

@@ -1,7 +1,7 @@
 -- A number is the rank of a one.
 use Rattle.std.proofs.Common.{◌≡◌, ◌+◌, ◌*◌, true, sym, ap, ◌∙◌, arith}
-use Rattle.bitm.specs.Bits.{item}
-use Rattle.bitm.specs.Count.{ones_before}
+use Rattle.bit_lists.specs.Bits.{item}
+use Rattle.bit_lists.specs.Count.{ones_before}
 use Rattle.perfect_hash.proofs.lemmas.GetLemmas.{one_counted}
 use Rattle.perfect_hash.proofs.asking.number_by.Goals as goal
 

@@ -1,5 +1,5 @@
 use Rattle.std.proofs.Common.{◌≡◌, ◌+◌, ◌*◌, drop}
-use Rattle.bitm.specs.Reads.{ReadsAtMost}
+use Rattle.bitm_tables.specs.Reads.{ReadsAtMost}
 use Rattle.hash_levels.specs.Levels.{fall_in, looked, GoesOn}
 use Rattle.perfect_hash.proofs.asking.number_by.Given as goal
 

@@ -1,7 +1,7 @@
 -- A level of right sizes lies within the words.
 use Rattle.std.proofs.Common.{length, ap, arith}
-use Rattle.bitm.proofs.BitLaws.{bits_are_counted}
-use Rattle.bitm.specs.Tables.{bits_in, Lists}
+use Rattle.bit_lists.proofs.BitLaws.{bits_are_counted}
+use Rattle.bitm_tables.specs.Tables.{bits_in, Lists}
 use Rattle.perfect_hash.proofs.lemmas.GetLemmas.{all_fit, level_fits, sizes_fit}
 use Rattle.perfect_hash.proofs.asking.place_on.Goals as goal
 use Rattle.perfect_hash.proofs.asking.place_on.Goals.{then-size-eq0-via-then-size-eq0, then-size-eq0-via-else-size-eq0+then-size-words_len}

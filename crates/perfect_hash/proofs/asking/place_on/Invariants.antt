@@ -1,6 +1,6 @@
 use Rattle.std.proofs.Common.{◌≡◌, ℕ, ◌+◌, ◌*◌, ◌<◌, ◌≤◌, drop, length, slice_index}
-use Rattle.bitm.specs.Reads.{ReadsAtMost}
-use Rattle.bitm.specs.Tables.{bits_in}
+use Rattle.bitm_tables.specs.Reads.{ReadsAtMost}
+use Rattle.bitm_tables.specs.Tables.{bits_in}
 use Rattle.hash_levels.specs.Levels.{fall_in, looked, GoesOn}
 use Rattle.perfect_hash.proofs.asking.place_on.Given as goal
 

@@ -1,7 +1,7 @@
 -- A place that was found has a one, so there is a rank, below the count of ones.
 use Rattle.std.proofs.Common.{◌≡◌, ◌≤◌, length, subst, arith}
-use Rattle.bitm.specs.Count.{ones_before}
-use Rattle.bitm.specs.Tables.{bits_in, HasTables, Lists}
+use Rattle.bit_lists.specs.Count.{ones_before}
+use Rattle.bitm_tables.specs.Tables.{bits_in, HasTables, Lists}
 use Rattle.perfect_hash.proofs.lemmas.GetLemmas.{one_counted}
 use Rattle.perfect_hash.proofs.asking.total_number_on.Goals as goal
 

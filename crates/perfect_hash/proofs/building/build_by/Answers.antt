@@ -1,7 +1,7 @@
 -- The levels that were made are the parts.
 use Rattle.std.proofs.Common.{[], map, ap, ◌∙◌}
 use Rattle.std.specs.Box.{boxed_slice_items}
-use Rattle.bitm.specs.Bits.{bits_of}
+use Rattle.bit_lists.specs.Bits.{bits_of}
 use Rattle.hash_levels.specs.Levels.{fall_in, AreChosen, AreSized, LeadTo}
 use Rattle.hash_levels.specs.Places.{words_for}
 use Rattle.perfect_hash.proofs.lemmas.PartsLemmas.{of_parts, perfect_parts}

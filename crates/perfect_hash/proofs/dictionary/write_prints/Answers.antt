@@ -2,9 +2,9 @@
 use Rattle.std.proofs.Common.{◌≡◌, ◌<◌, ◌*◌, ◌^◌, subst, ℕ, Some, None, length, ap, sym, ◌∙◌, arith, refl}
 use Rattle.std.proofs.lemmas.Nat.{row_fits}
 use Rattle.std.proofs.lemmas.Option.{slice_get_read}
-use Rattle.bitm.specs.Bits.{bits_of}
-use Rattle.bitm.specs.Count.{ones_of}
-use Rattle.bitm.specs.Number.{with_number}
+use Rattle.bit_lists.specs.Bits.{bits_of}
+use Rattle.bit_lists.specs.Count.{ones_of}
+use Rattle.bit_lists.specs.Number.{with_number}
 use Rattle.perfect_hash.specs.Dictionary.{print_of}
 use Rattle.perfect_hash.specs.Parts.{number_at, number_from}
 use Rattle.perfect_hash.proofs.lemmas.DictionaryLemmas.{PrintsTo-next, all_prints, numbered}

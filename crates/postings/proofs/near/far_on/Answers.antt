@@ -1,7 +1,7 @@
 -- The number is at the place that was found.
 use Rattle.std.proofs.Common.{◌≡◌, ℕ, ◌≤◌, List, true, get_or, sym, ap, subst, arith}
-use Rattle.bitm.specs.Count.{count_of, Picks}
-use Rattle.bitm.specs.Tables.{bits_in, HasTables, Lists}
+use Rattle.bit_lists.specs.Count.{count_of, Picks}
+use Rattle.bitm_tables.specs.Tables.{bits_in, HasTables, Lists}
 use Rattle.elias_fano.specs.LentParts.{parts_with, Holds}
 use Rattle.elias_fano.specs.Parts.{HasOneAt}
 use Rattle.postings.proofs.near.far_on.Goals as goal

@@ -1,8 +1,8 @@
 -- The numbers passed have fewer zeros before their ones than the value wants.
 use Rattle.std.proofs.Common.{◌≡◌, ℕ, ◌+◌, ◌-◌, ◌/◌, ◌^◌, ◌<◌, get_or, ap, subst, arith}
 use Rattle.std.proofs.lemmas.Nat.{pow_pos}
-use Rattle.bitm.proofs.BitLaws.{bits_are_counted}
-use Rattle.bitm.specs.Tables.{bits_in, Lists}
+use Rattle.bit_lists.proofs.BitLaws.{bits_are_counted}
+use Rattle.bitm_tables.specs.Tables.{bits_in, Lists}
 use Rattle.elias_fano.specs.Buckets.{CountsTo}
 use Rattle.elias_fano.specs.LentParts.{parts_with, Holds}
 use Rattle.postings.specs.Spot.{IsBehind, IsNear}

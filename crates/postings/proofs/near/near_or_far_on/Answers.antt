@@ -1,7 +1,7 @@
 -- What the words near the spot tell is of the same parts.
 use Rattle.std.proofs.Common.{ℕ, ap, subst, ◌∙◌, arith}
-use Rattle.bitm.specs.Bits.{digit_count}
-use Rattle.bitm.specs.Tables.{Lists}
+use Rattle.bit_lists.specs.Bits.{digit_count}
+use Rattle.bitm_tables.specs.Tables.{Lists}
 use Rattle.elias_fano.specs.LentParts.{parts_of, parts_with, Holds}
 use Rattle.elias_fano.specs.Low.{sharing}
 use Rattle.postings.proofs.HeldLemmas.{same_parts}

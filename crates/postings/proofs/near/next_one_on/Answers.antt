@@ -1,9 +1,9 @@
 -- A word tells where its bits are ones.
 use Rattle.std.proofs.Common.{◌≡◌, ◌+◌, ◌*◌, ◌-◌, ◌/◌, ◌<◌, ◌≤◌, ℕ, get_or, [], ◌∷◌, ap, sym, ◌∙◌, false, arith, ⊎_elim, length}
 use Rattle.std.proofs.lemmas.Bool.{cases_lt}
-use Rattle.bitm.specs.Bits.{bits_of, item}
-use Rattle.bitm.specs.Tables.{bits_in, Lists}
-use Rattle.bitm.proofs.BitLaws.{bits_are_counted}
+use Rattle.bit_lists.specs.Bits.{bits_of, item}
+use Rattle.bitm_tables.specs.Tables.{bits_in, Lists}
+use Rattle.bit_lists.proofs.BitLaws.{bits_are_counted}
 use Rattle.postings.proofs.WordLemmas.{one_word}
 use Rattle.postings.proofs.near.next_one_on.Goals as goal
 use Rattle.postings.proofs.near.next_one_on.Goals.{After-find_bit_one}

@@ -1,7 +1,7 @@
 use Rattle.std.proofs.Common.{◌≡◌, ◌+◌, ◌*◌, ◌/◌, ◌<◌, ◌≤◌, ℕ, false}
-use Rattle.bitm.specs.Bits.{item}
-use Rattle.bitm.specs.Reads.{OnlyReads}
-use Rattle.bitm.specs.Tables.{bits_in}
+use Rattle.bit_lists.specs.Bits.{item}
+use Rattle.bitm_tables.specs.Reads.{OnlyReads}
+use Rattle.bitm_tables.specs.Tables.{bits_in}
 use Rattle.postings.proofs.near.next_one_on.Given as goal
 
 -- zeros stand from the place on up to the bit where the search goes on

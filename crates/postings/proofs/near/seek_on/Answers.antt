@@ -1,6 +1,6 @@
 -- A spot has its one among the words, and a later number has its one later.
 use Rattle.std.proofs.Common.{arith}
-use Rattle.bitm.proofs.BitLaws.{bits_are_counted}
+use Rattle.bit_lists.proofs.BitLaws.{bits_are_counted}
 use Rattle.postings.proofs.MoveLemmas.{spot_later}
 use Rattle.postings.proofs.near.seek_on.Goals as goal
 

@@ -1,11 +1,11 @@
 -- The ones before a word are those before the place without those of the word.
 use Rattle.std.proofs.Common.{◌≡◌, ◌+◌, ◌*◌, ◌-◌, ◌/◌, ◌%◌, ◌<◌, ◌≤◌, ℕ, [], ◌∷◌, ap, subst, ◌∙◌, false, true, arith, length}
-use Rattle.bitm.specs.Bits.{bits_of}
-use Rattle.bitm.specs.Count.{ones_before, zeros_before, Picks}
-use Rattle.bitm.specs.Tables.{bits_in, Lists}
-use Rattle.bitm.proofs.BitLaws.{bits_are_counted, ones_and_zeros, counts_grow, none_before_the_first}
+use Rattle.bit_lists.specs.Bits.{bits_of}
+use Rattle.bit_lists.specs.Count.{ones_before, zeros_before, Picks}
+use Rattle.bitm_tables.specs.Tables.{bits_in, Lists}
+use Rattle.bit_lists.proofs.BitLaws.{bits_are_counted, ones_and_zeros, counts_grow, none_before_the_first}
 use Rattle.postings.proofs.WordLemmas.{in_word, zeros_sought, if_some}
-use Rattle.bitm.specs.Entry.{padded_bits, negation}
+use Rattle.bitm_tables.specs.Entry.{padded_bits, negation}
 use Rattle.postings.proofs.near.skip_on.Goals as goal
 use Rattle.postings.proofs.near.skip_on.Goals.{After-count_range-ones}
 

@@ -1,10 +1,10 @@
 -- Each number is that of the next one, and less, up to the first that is not.
 use Rattle.std.proofs.Common.{◌≡◌, ℕ, ◌+◌, ◌<◌, ◌≤◌, List, length, get_or, true, sym, ap, subst, ◌∙◌, arith, ⊎_elim}
 use Rattle.std.proofs.lemmas.Bool.{cases_lt}
-use Rattle.bitm.proofs.BitLaws.{bits_are_counted}
-use Rattle.bitm.specs.Bits.{IsShort}
-use Rattle.bitm.specs.Count.{IsFirstFrom, Picks}
-use Rattle.bitm.specs.Tables.{bits_in, Lists}
+use Rattle.bit_lists.proofs.BitLaws.{bits_are_counted}
+use Rattle.bit_lists.specs.Bits.{IsShort}
+use Rattle.bit_lists.specs.Count.{IsFirstFrom, Picks}
+use Rattle.bitm_tables.specs.Tables.{bits_in, Lists}
 use Rattle.elias_fano.specs.LentParts.{parts_with, Holds}
 use Rattle.elias_fano.specs.Parts.{HasFragment, HasOneAt}
 use Rattle.postings.specs.Spot.{IsBehind}

@@ -1,5 +1,5 @@
 use Rattle.std.proofs.Common.{◌+◌, ◌*◌, ℕ, List}
-use Rattle.bitm.specs.Reads.{OnlyReads}
+use Rattle.bitm_tables.specs.Reads.{OnlyReads}
 use Rattle.elias_fano.specs.LentParts.{parts_with, Holds}
 use Rattle.elias_fano.specs.Low.{ReadsFragments}
 use Rattle.postings.specs.Spot.{IsBehind}

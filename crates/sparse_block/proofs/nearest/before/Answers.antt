@@ -1,6 +1,6 @@
 -- The selected position is the previous one.
 use Rattle.std.proofs.Common.{ℕ, subst, arith}
-use Rattle.bitm.specs.Answer.{Answer}
+use Rattle.bitm_tables.specs.declared.answer.Answer.{Answer}
 use Rattle.bitm_select.specs.Answers.{IsSelected}
 use Rattle.sparse_block.proofs.NearLemmas.{previous_after, previous_found, previous_some}
 use Rattle.sparse_block.proofs.nearest.before.Goals as goal

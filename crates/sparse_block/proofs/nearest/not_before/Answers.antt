@@ -1,6 +1,6 @@
 -- The selected position is the next one.
 use Rattle.std.proofs.Common.{ℕ, subst, arith}
-use Rattle.bitm.specs.Answer.{Answer}
+use Rattle.bitm_tables.specs.declared.answer.Answer.{Answer}
 use Rattle.bitm_select.specs.Answers.{IsSelected}
 use Rattle.sparse_block.proofs.NearLemmas.{next_before, next_found, next_none}
 use Rattle.sparse_block.proofs.nearest.not_before.Goals as goal

@@ -1,7 +1,7 @@
 -- A 1 bit next to that of a node is that of its next sibling.
 use Rattle.std.proofs.Common.{◌≡◌, ℕ, List, true, false, sym, refl, arith}
-use Rattle.bitm.proofs.BitLaws.{bits_are_counted}
-use Rattle.bitm.specs.Bits.{bits_of}
+use Rattle.bit_lists.proofs.BitLaws.{bits_are_counted}
+use Rattle.bit_lists.specs.Bits.{bits_of}
 use Rattle.louds.specs.Held.{degrees_of}
 use Rattle.trie_block.proofs.RiseLemmas.{is_next, next_inside, no_next, node_inside, room}
 use Rattle.trie_block.proofs.checking.is_less_than_next.Goals as goal

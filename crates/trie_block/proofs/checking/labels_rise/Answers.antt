@@ -1,8 +1,8 @@
 -- One bit more: a 1 bit is that of one node more.
 use Rattle.std.proofs.Common.{◌≡◌, ℕ, ◌*◌, ◌<◌, List, true, length, sym, ap, refl, rules, subst, arith}
-use Rattle.bitm.proofs.BitLaws.{bits_are_counted, none_before_the_first}
-use Rattle.bitm.specs.Bits.{bits_of}
-use Rattle.bitm.specs.Count.{ones_before}
+use Rattle.bit_lists.proofs.BitLaws.{bits_are_counted, none_before_the_first}
+use Rattle.bit_lists.specs.Bits.{bits_of}
+use Rattle.bit_lists.specs.Count.{ones_before}
 use Rattle.louds.specs.Held.{degrees_of}
 use Rattle.trie_block.specs.Labels.{labels_of}
 use Rattle.trie_block.proofs.RiseLemmas.{node_inside, none_more, one_more, ones_all, rise_all, rise_more, rise_none, room, RiseTo}

@@ -1,5 +1,5 @@
 use Rattle.std.proofs.Common.{◌≡◌, ◌+◌, ◌-◌, ℕ, ◌<◌, ◌≤◌, get_or}
-use Rattle.bitm.specs.Bits.{digit_count}
+use Rattle.bit_lists.specs.Bits.{digit_count}
 use Rattle.trie_block.specs.Labels.{labels_of, Grow}
 use Rattle.trie_block.proofs.queries.first_from.Given as goal
 

@@ -1,7 +1,7 @@
 -- One label more leads to the one child that has it.
 use Rattle.std.proofs.Common.{ℕ, ◌+◌, List, length, get_or, sym, arith, subst}
-use Rattle.bitm.specs.Bits.{digit_count}
-use Rattle.bitm.specs.Tables.{HasSizes, Lists}
+use Rattle.bit_lists.specs.Bits.{digit_count}
+use Rattle.bitm_tables.specs.Tables.{HasSizes, Lists}
 use Rattle.louds.specs.Counted.{degrees_in, IsLouds}
 use Rattle.louds.specs.Labels.{IsChildWith, Rise}
 use Rattle.trie_block.specs.Labels.{labels_of}

@@ -1,5 +1,5 @@
 use Rattle.std.proofs.Common.{ℕ, ◌+◌, ◌*◌, ◌<◌, take, drop}
-use Rattle.bitm.specs.Bits.{digit_count}
+use Rattle.bit_lists.specs.Bits.{digit_count}
 use Rattle.louds.specs.Counted.{degrees_in, IsLouds, OnlySelects}
 use Rattle.louds.specs.Labels.{Leads, Rise}
 use Rattle.trie_block.specs.Labels.{labels_of, ReadsLabels}

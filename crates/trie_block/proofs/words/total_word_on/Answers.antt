@@ -1,7 +1,7 @@
 -- The label of the node at hand stands before the word so far, and leads there from the parent.
 use Rattle.std.proofs.Common.{◌≡◌, ℕ, ◌+◌, ◌-◌, ◌<◌, ◌≤◌, [], ◌∷◌, length, take, drop, get_or, refl, sym, ap, ◌∙◌, subst, arith}
 use Rattle.std.proofs.lemmas.List.{drop_all, take-take}
-use Rattle.bitm.specs.Tables.{HasSizes, Lists}
+use Rattle.bitm_tables.specs.Tables.{HasSizes, Lists}
 use Rattle.louds.specs.Counted.{degrees_in, IsLouds}
 use Rattle.louds.specs.Labels.{Leads}
 use Rattle.louds.specs.Tree.{IsChild}

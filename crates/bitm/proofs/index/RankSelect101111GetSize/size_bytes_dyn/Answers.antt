@@ -4,8 +4,8 @@ use Rattle.std.specs.Box.{boxed_slice_len}
 use Rattle.std.specs.Int.{div_ceil}
 use Rattle.bit_lists.proofs.lemmas.BitsLemmas.{length-bits_of}
 use Rattle.bit_lists.specs.Bits.{bits_of}
-use Rattle.bitm_select.proofs.lemmas.TableLemmas.{entries}
-use Rattle.bitm_select.proofs.lemmas.TableMakingLemmas.{parts_of_words, entries_of_words}
+use Rattle.bitm_tables.proofs.lemmas.TableLemmas.{entries}
+use Rattle.bitm_tables.proofs.lemmas.TableMakingLemmas.{parts_of_words, entries_of_words}
 use Rattle.bitm.proofs.index.RankSelect101111GetSize.size_bytes_dyn.Goals as goal
 
 pub returns : goal.returns

@@ -3,7 +3,7 @@ use Rattle.std.proofs.Common.{length, ap, ◌∙◌, arith}
 use Rattle.bit_lists.proofs.lemmas.BitsLemmas.{length-bits_of}
 use Rattle.bit_lists.specs.Bits.{bits_of}
 use Rattle.bit_lists.specs.Count.{ones_before}
-use Rattle.bitm_select.proofs.lemmas.RankLemmas.{rank_inside, rank_outside, rank_of_none}
+use Rattle.bitm_tables.proofs.lemmas.RankLemmas.{rank_inside, rank_outside, rank_of_none}
 use Rattle.bitm.proofs.simple.RankSimple.try_rank.Goals as goal
 
 pub ones_through-requires : goal.ones_through-requires

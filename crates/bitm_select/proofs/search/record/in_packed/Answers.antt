@@ -11,8 +11,7 @@ use Rattle.bitm_select.proofs.lemmas.SelectedLemmas.{found_within, selected}
 use Rattle.bitm_select.proofs.search.record.in_packed.Goals as goal
 use Rattle.bitm_select.proofs.lemmas.ToldLemmas.{entry_none, few_in_records, left_of}
 use Rattle.bitm_select.specs.Told.{told_to}
-use Rattle.bitm_select.proofs.search.record.in_packed.Goals.{After-record_of-place}
-use Rattle.bitm_select.proofs.search.record.in_packed.Goals.{else-this-ne0-via-then-this-ne0+else-left-rank, else-this-ne0-via-else-this-ne0}
+use Rattle.bitm_select.proofs.search.record.in_packed.Goals.{After-record_of-place, else-this-ne0-via-then-this-ne0+else-left-rank, else-this-ne0-via-else-this-ne0}
 
 -- where the tables are right no difference wraps
 unwrapped : (g : _) (c : After-record_of-place g) → HasTables (g.T.TableSource.lists c.args.source.now)

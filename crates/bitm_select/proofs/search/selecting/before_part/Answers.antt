@@ -1,8 +1,7 @@
 -- The ones before a part are its upper entry, and the zeros what is left of its bits.
-use Rattle.std.proofs.Common.{◌≡◌, ◌+◌, ◌-◌, ◌*◌, ◌%◌, ◌^◌, ◌∙◌, ap, sym}
+use Rattle.std.proofs.Common.{◌≡◌, ◌+◌, ◌-◌, ◌*◌, ◌%◌, ◌^◌, ◌∙◌, ap, sym, arith}
 use Rattle.bitm_tables.specs.Entry.{less}
 use Rattle.bitm_select.proofs.lemmas.ToldLemmas.{part_ones_told, part_zeros_told}
-use Rattle.std.proofs.Common.{arith}
 use Rattle.bitm_select.proofs.lemmas.SoughtLemmas.{part_below, part_zeros, part_ones}
 use Rattle.bitm_select.proofs.search.selecting.before_part.Goals as goal
 

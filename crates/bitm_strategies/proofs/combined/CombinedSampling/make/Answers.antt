@@ -4,8 +4,8 @@ use Rattle.bit_lists.proofs.lemmas.BitsLemmas.{length-bits_of}
 use Rattle.bit_lists.specs.Bits.{bits_of}
 use Rattle.bit_lists.specs.Count.{count_of, as_bit}
 use Rattle.bitm_strategies.specs.Samples.{samples_of, sample_starts_of, Summarizes}
-use Rattle.bitm_select.proofs.lemmas.StretchLemmas.{ones_before-self}
-use Rattle.bitm_select.proofs.lemmas.TableLemmas.{entries}
+use Rattle.bitm_tables.proofs.lemmas.StretchLemmas.{ones_before-self}
+use Rattle.bitm_tables.proofs.lemmas.TableLemmas.{entries}
 use Rattle.bitm_strategies.proofs.combined.CombinedSampling.make.Goals as goal
 use Rattle.bitm_strategies.proofs.combined.CombinedSampling.make.Goals.{Start}
 

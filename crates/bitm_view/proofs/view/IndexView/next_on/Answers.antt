@@ -1,7 +1,7 @@
 -- The rank of the position selects the next one.
 use Rattle.std.proofs.Common.{Bool, ap, subst, arith}
 use Rattle.bit_lists.specs.Count.{as_bit}
-use Rattle.bitm.specs.Answer.TheVariants.{Found}
+use Rattle.bitm_tables.specs.declared.answer.Answer.TheVariants.{Found}
 use Rattle.bitm_view.specs.Cut.{Cut, IsWithin}
 use Rattle.bitm_view.specs.Queries.{RanksIn}
 use Rattle.bitm_view.proofs.NearLemmas.{next_past}

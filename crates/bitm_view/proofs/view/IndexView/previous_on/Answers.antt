@@ -3,7 +3,7 @@ use Rattle.std.proofs.Common.{◌≡◌, ℕ, ◌+◌, ◌-◌, Bool, min, ap, s
 use Rattle.bit_lists.specs.Count.{as_bit}
 use Rattle.bitm_view.specs.Cut.{Cut, IsWithin}
 use Rattle.bitm_view.specs.Queries.{RanksIn}
-use Rattle.bitm.specs.Answer.TheVariants.{Found}
+use Rattle.bitm_tables.specs.declared.answer.Answer.TheVariants.{Found}
 use Rattle.bitm_view.proofs.NearLemmas.{previous_none}
 use Rattle.bitm_view.proofs.view.IndexView.previous_on.Goals as goal
 use Rattle.bitm_view.proofs.view.IndexView.previous_on.Goals.{then-from-self, else-from-self, After-rank_on}

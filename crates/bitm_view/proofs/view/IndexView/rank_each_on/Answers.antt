@@ -1,6 +1,6 @@
 -- The source's tables have the lengths of the view's.
 use Rattle.std.proofs.Common.{subst, sym}
-use Rattle.bitm_select.specs.Tables.{HasSizes, Lists}
+use Rattle.bitm_tables.specs.Tables.{HasSizes, Lists}
 use Rattle.bitm_view.specs.Cut.{Cut, IsSizedCut}
 use Rattle.bitm_view.proofs.view.IndexView.rank_each_on.Goals as goal
 

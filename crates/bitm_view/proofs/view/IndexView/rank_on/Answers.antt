@@ -1,6 +1,6 @@
 -- What was counted among all bits, of no more than the bit vector has.
 use Rattle.std.proofs.Common.{ap, subst, sym, arith}
-use Rattle.bitm_select.specs.Tables.{HasSizes, Lists}
+use Rattle.bitm_tables.specs.Tables.{HasSizes, Lists}
 use Rattle.bitm_view.specs.Cut.{Cut, IsSizedCut}
 use Rattle.lent_tables.specs.Counting.{Ranks}
 use Rattle.bitm_view.proofs.CodeLemmas.{rank_past}

@@ -1,7 +1,7 @@
 -- What was found among all bits, cut.
 use Rattle.std.proofs.Common.{ap, subst, sym, arith}
 use Rattle.bit_lists.specs.Count.{as_bit}
-use Rattle.bitm_select.specs.Tables.{HasSizes, Lists}
+use Rattle.bitm_tables.specs.Tables.{HasSizes, Lists}
 use Rattle.bitm_view.specs.Cut.{Cut, IsSizedCut}
 use Rattle.lent_tables.specs.Counting.{Selects}
 use Rattle.bitm_view.proofs.view.IndexView.select_on.Goals as goal

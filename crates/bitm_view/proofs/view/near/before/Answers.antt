@@ -1,7 +1,7 @@
 -- A position after the last one, and none, show wrong tables.
 use Rattle.std.proofs.Common.{ℕ, subst, arith}
 use Rattle.bitm_view.specs.Queries.{SelectsIn}
-use Rattle.bitm.specs.Answer.{Answer}
+use Rattle.bitm_tables.specs.declared.answer.Answer.{Answer}
 use Rattle.bitm_view.proofs.NearLemmas.{previous_absent, previous_after, previous_found, previous_wrong}
 use Rattle.bitm_view.proofs.view.near.before.Goals as goal
 

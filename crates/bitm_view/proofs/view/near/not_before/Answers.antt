@@ -1,7 +1,7 @@
 -- A position before the first one shows wrong tables.
 use Rattle.std.proofs.Common.{ℕ, subst, arith}
 use Rattle.bitm_view.specs.Queries.{SelectsIn}
-use Rattle.bitm.specs.Answer.{Answer}
+use Rattle.bitm_tables.specs.declared.answer.Answer.{Answer}
 use Rattle.bitm_view.proofs.NearLemmas.{next_before, next_found, next_none, next_wrong}
 use Rattle.bitm_view.proofs.view.near.not_before.Goals as goal
 

@@ -1,11 +1,11 @@
 -- The selection finds the one of the first number, and the parts that are walked are those of the sequence.
 use Rattle.std.proofs.Common.{◌≡◌, ℕ, ◌+◌, ◌≤◌, List, length, true, sym, ap, subst, ◌∙◌, arith}
-use Rattle.bitm.specs.Count.{count_of, ones_before}
-use Rattle.bitm.specs.Tables.{HasTables, Lists, bits_in}
+use Rattle.bit_lists.specs.Count.{count_of, ones_before}
+use Rattle.bitm_tables.specs.Tables.{HasTables, Lists, bits_in}
 use Rattle.elias_fano.proofs.lemmas.UpperLemmas.{ones_are}
 use Rattle.elias_fano.specs.Low.{Lows}
 use Rattle.elias_fano.specs.Parts.{ArePartsOf}
-use Rattle.elias_fano_view.specs.LentParts.{LentParts, Holds}
+use Rattle.elias_fano.specs.LentParts.{LentParts, Holds}
 use Rattle.elias_fano_view.specs.Lists.{AreItemsFrom}
 use Rattle.elias_fano_view.proofs.sequence.LentSequence.items_from.Goals as goal
 use Rattle.elias_fano_view.proofs.sequence.LentSequence.items_from.Goals.{After-write_items_on}

@@ -1,8 +1,8 @@
 -- The first one of a word is the first of all, behind the zeros before it.
 use Rattle.std.proofs.Common.{◌≡◌, ◌+◌, ◌-◌, ◌*◌, ◌/◌, [], ◌∷◌, get_or, slice_index, refl, ap, ◌∙◌, arith}
-use Rattle.bitm.proofs.BitLaws.{bits_are_counted}
-use Rattle.bitm.proofs.Callers.{length-bits_of}
-use Rattle.bitm.specs.Tables.{Lists}
+use Rattle.bit_lists.proofs.BitLaws.{bits_are_counted}
+use Rattle.bit_lists.proofs.lemmas.BitsLemmas.{length-bits_of}
+use Rattle.bitm_tables.specs.Tables.{Lists}
 use Rattle.elias_fano_view.proofs.OnesLemmas.{one-found, one-none}
 use Rattle.elias_fano_view.proofs.sequence.items.next_one_on.Goals as goal
 

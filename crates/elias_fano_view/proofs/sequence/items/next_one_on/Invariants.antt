@@ -1,7 +1,7 @@
 use Rattle.std.proofs.Common.{◌≡◌, ℕ, ◌+◌, ◌-◌, ◌*◌, ◌<◌, ◌≤◌, false}
-use Rattle.bitm.specs.Bits.{item}
-use Rattle.bitm.specs.Reads.{ReadsAtMost}
-use Rattle.bitm.specs.Tables.{bits_in}
+use Rattle.bit_lists.specs.Bits.{item}
+use Rattle.bitm_tables.specs.Reads.{ReadsAtMost}
+use Rattle.bitm_tables.specs.Tables.{bits_in}
 use Rattle.elias_fano_view.proofs.sequence.items.next_one_on.Given as goal
 
 -- zeros alone stand from the first place on up to the word that comes, and each word before that was read once

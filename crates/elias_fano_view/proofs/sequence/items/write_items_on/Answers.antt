@@ -1,12 +1,13 @@
 -- Each step gives the next of the ones, that of the next number.
 use Rattle.std.proofs.Common.{◌≡◌, ◌≢◌, ℕ, ◌+◌, ◌-◌, ◌/◌, ◌<◌, ◌≤◌, true, false, List, length, get_or, slice_index, refl, sym, subst, ap, ◌∙◌, arith}
 use Rattle.std.proofs.lemmas.List.{get_or-set_other}
-use Rattle.bitm.proofs.BitLaws.{at_most_one_picked, bits_are_counted}
-use Rattle.bitm.proofs.Callers.{ones_grow, rank_below}
-use Rattle.bitm.specs.Bits.{item}
-use Rattle.bitm.specs.Count.{ones_before, IsFirstFrom, Picks}
-use Rattle.bitm.specs.Reads.{ReadsAtMost}
-use Rattle.bitm.specs.Tables.{bits_in, Lists}
+use Rattle.bit_lists.proofs.BitLaws.{at_most_one_picked, bits_are_counted}
+use Rattle.bit_lists.proofs.Callers.{ones_grow}
+use Rattle.bit_lists.proofs.lemmas.PickLemmas.{rank_below}
+use Rattle.bit_lists.specs.Bits.{item}
+use Rattle.bit_lists.specs.Count.{ones_before, IsFirstFrom, Picks}
+use Rattle.bitm_tables.specs.Reads.{ReadsAtMost}
+use Rattle.bitm_tables.specs.Tables.{bits_in, Lists}
 use Rattle.bit_slices.proofs.lemmas.PositionLemmas.{placed_more}
 use Rattle.elias_fano.proofs.lemmas.UpperLemmas.{ones_are}
 use Rattle.elias_fano.specs.Parts.{HasOneAt}

@@ -1,10 +1,10 @@
 use Rattle.std.proofs.Common.{◌≡◌, ◌+◌, ◌-◌, ◌*◌, ◌/◌, ◌<◌, ◌≤◌, ℕ, true, List, length, slice_index}
-use Rattle.bitm.specs.Count.{ones_before, Picks}
-use Rattle.bitm.specs.Reads.{ReadsAtMost}
-use Rattle.bitm.specs.Tables.{bits_in}
+use Rattle.bit_lists.specs.Count.{ones_before, Picks}
+use Rattle.bitm_tables.specs.Reads.{ReadsAtMost}
+use Rattle.bitm_tables.specs.Tables.{bits_in}
 use Rattle.elias_fano.specs.Parts.{ArePartsOf}
 use Rattle.elias_fano_view.specs.Lists.{AreItemsFrom}
-use Rattle.elias_fano_view.specs.Low.{ReadsFragments}
+use Rattle.elias_fano.specs.Low.{ReadsFragments}
 use Rattle.elias_fano_view.proofs.sequence.items.write_items_on.Given as goal
 
 -- the numbers so far are written; the next one is sought from a place of the word that was read last, or from the one after it

@@ -1,6 +1,6 @@
 -- The rank of a number's bit, from its place on the next level.
 use Rattle.std.proofs.Common.{◌≡◌, ℕ, ◌-◌, ◌*◌, true, false, sym, ap, ◌∙◌, arith}
-use Rattle.bitm.specs.Bits.{digit}
+use Rattle.bit_lists.specs.Bits.{digit}
 use Rattle.matrix_levels.specs.Matrix.{digit_place}
 use Rattle.matrix_levels.proofs.lemmas.BackLemmas.{from-one, from-zero, ranks-fit, zeros-le-place, ones-le-start}
 use Rattle.lent_levels.proofs.levels.LevelsView.bit_before.Goals as goal

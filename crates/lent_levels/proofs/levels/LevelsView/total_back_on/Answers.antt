@@ -1,6 +1,6 @@
 -- The selected bit is that of the number's item on this level.
 use Rattle.std.proofs.Common.{◌≡◌, ℕ, ◌-◌, ◌*◌, ◌≤◌, IsSomeAnd, Option, sym, ap, subst, arith}
-use Rattle.bitm.specs.Tables.{bits_in}
+use Rattle.bitm_tables.specs.Tables.{bits_in}
 use Rattle.matrix_levels.specs.Matrix.{level_in, numbers_in}
 use Rattle.matrix_levels.specs.Numbers.{PicksItem}
 use Rattle.lent_levels.proofs.StepLemmas.{level-len}

@@ -1,9 +1,9 @@
 -- The 1 bits up to the bit and with it, less the bit and those before the level, are those of the level before it.
 use Rattle.std.proofs.Common.{◌≡◌, ◌+◌, ◌*◌, ◌<◌, length, Some, take, count_by, true, subst, sym, ap, ◌∙◌, arith}
 use Rattle.std.proofs.lemmas.Option.{none-some, same_Some}
-use Rattle.bitm.specs.Bits.{item}
-use Rattle.bitm.specs.Count.{ones_before}
-use Rattle.bitm.specs.Tables.{bits_in, HasTables, Lists}
+use Rattle.bit_lists.specs.Bits.{item}
+use Rattle.bit_lists.specs.Count.{ones_before}
+use Rattle.bitm_tables.specs.Tables.{bits_in, HasTables, Lists}
 use Rattle.matrix_levels.specs.Levels.{has_digit, level}
 use Rattle.matrix_levels.specs.Matrix.{digit_place, level_in, numbers_in, IsMatrix}
 use Rattle.matrix_levels.proofs.lemmas.MatrixLemmas.{ones-are}

@@ -1,8 +1,8 @@
 -- Both places move one level on by the number's bit.
 use Rattle.std.proofs.Common.{ℕ, ◌-◌, ap, subst, sym, refl, ◌∙◌}
 use Rattle.std.proofs.lemmas.Option.{same_Some}
-use Rattle.bitm.specs.Bits.{digit}
-use Rattle.bitm.specs.Tables.{Lists}
+use Rattle.bit_lists.specs.Bits.{digit}
+use Rattle.bitm_tables.specs.Tables.{Lists}
 use Rattle.matrix_levels.specs.Matrix.{level_in, numbers_in, IsMatrix}
 use Rattle.matrix_levels.proofs.lemmas.WalkLemmas.{step-place}
 use Rattle.lent_levels.proofs.levels.LevelsView.total_both_moved_on.Goals as goal

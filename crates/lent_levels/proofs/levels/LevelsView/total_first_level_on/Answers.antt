@@ -1,8 +1,8 @@
 -- Each item moves one level on, while the others stay.
 use Rattle.std.proofs.Common.{◌≡◌, ℕ, ◌+◌, ◌*◌, ◌<◌, ◌≤◌, get_or, length, subst, sym, ◌∙◌, arith}
 use Rattle.std.proofs.lemmas.List.{length-set}
-use Rattle.bitm.specs.Tables.{bits_in, HasSizes, Lists}
-use Rattle.bitm.specs.Reads.{OnlyReads}
+use Rattle.bitm_tables.specs.Tables.{bits_in, HasSizes, Lists}
+use Rattle.bitm_tables.specs.Reads.{OnlyReads}
 use Rattle.lent_levels.specs.Walk.{IsOnTheWay}
 use Rattle.matrix_levels.proofs.lemmas.ManyLemmas.{done-more}
 use Rattle.lent_levels.proofs.StepLemmas.{reads-more, reads-none}

@@ -1,6 +1,6 @@
 -- Each step goes one level up, and the last place is on the first level.
 use Rattle.std.proofs.Common.{◌≡◌, ◌+◌, ◌-◌, ◌*◌, ◌<◌, subst, sym, arith}
-use Rattle.bitm.specs.Tables.{Lists}
+use Rattle.bitm_tables.specs.Tables.{Lists}
 use Rattle.bitm_selection.specs.Selection.{by_halves, OnlySelectsBy}
 use Rattle.matrix_levels.specs.Matrix.{level_in, numbers_in, IsMatrix}
 use Rattle.matrix_levels.specs.Numbers.{PicksItem}

@@ -1,5 +1,5 @@
 use Rattle.std.proofs.Common.{◌≡◌, ℕ, ◌*◌, ◌<◌, ◌≤◌, length, get_or}
-use Rattle.bitm.specs.Reads.{OnlyReads}
+use Rattle.bitm_tables.specs.Reads.{OnlyReads}
 use Rattle.lent_levels.specs.Walk.{IsOnTheWay}
 use Rattle.lent_levels.proofs.levels.LevelsView.total_get_many_on.Given as goal
 

@@ -1,6 +1,6 @@
 -- The item moves from level to level, and its bits come one by one.
 use Rattle.std.proofs.Common.{◌+◌, ◌*◌, ap, subst, sym, arith}
-use Rattle.bitm.specs.Tables.{Lists}
+use Rattle.bitm_tables.specs.Tables.{Lists}
 use Rattle.matrix_levels.specs.Matrix.{IsMatrix, level_in, numbers_in}
 use Rattle.matrix_levels.proofs.lemmas.ManyLemmas.{level-first, level-next-item}
 use Rattle.lent_levels.proofs.StepLemmas.{digits_more, reads-more, reads-none}

@@ -1,7 +1,7 @@
 -- From level to level those with a 0 where the bound has a 1 are less.
 use Rattle.std.proofs.Common.{◌≡◌, ℕ, ◌+◌, ◌-◌, ◌*◌, ◌<◌, Some, slice_range, ap, sym, subst, ◌∙◌, arith}
-use Rattle.bitm.specs.Bits.{digit}
-use Rattle.bitm.specs.Tables.{bits_in, Lists}
+use Rattle.bit_lists.specs.Bits.{digit}
+use Rattle.bitm_tables.specs.Tables.{bits_in, Lists}
 use Rattle.matrix_levels.specs.Levels.{partition_place}
 use Rattle.matrix_levels.specs.Matrix.{digit_place, level_in, numbers_in, IsMatrix}
 use Rattle.matrix_levels.specs.Numbers.{count_less}

@@ -1,5 +1,5 @@
 use Rattle.std.proofs.Common.{◌≡◌, ◌+◌, ◌*◌, ◌-◌, ◌/◌, ◌^◌, ◌≤◌, count_by, slice_range}
-use Rattle.bitm.specs.Reads.{OnlyReads}
+use Rattle.bitm_tables.specs.Reads.{OnlyReads}
 use Rattle.matrix_levels.specs.Levels.{has_lesser_prefix, level_place}
 use Rattle.matrix_levels.specs.Matrix.{IsMatrix, numbers_in}
 use Rattle.lent_levels.proofs.levels.LevelsView.total_less_on.Given as goal

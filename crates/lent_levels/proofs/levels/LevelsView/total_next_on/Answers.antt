@@ -1,5 +1,5 @@
 -- The level's 1 bits before the place say where it moves.
-use Rattle.bitm.specs.Tables.{bits_in}
+use Rattle.bitm_tables.specs.Tables.{bits_in}
 use Rattle.std.proofs.lemmas.Option.{same_Some}
 use Rattle.matrix_levels.specs.Matrix.{numbers_in}
 use Rattle.lent_levels.proofs.levels.LevelsView.total_next_on.Goals as goal

@@ -1,6 +1,6 @@
 -- The number after all that are less.
 use Rattle.std.proofs.Common.{subst, sym, inl, inr, ⊎_elim}
-use Rattle.bitm.specs.Tables.{Lists}
+use Rattle.bitm_tables.specs.Tables.{Lists}
 use Rattle.matrix_levels.specs.Matrix.{numbers_in, IsMatrix}
 use Rattle.lent_levels.specs.Ranges.{IsSmallestOf}
 use Rattle.lent_levels.proofs.levels.LevelsView.total_next_value_on.Goals as goal

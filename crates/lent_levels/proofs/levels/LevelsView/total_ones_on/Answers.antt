@@ -1,7 +1,7 @@
 -- The 1 bits before the place, less those before the level, are those of the level.
 use Rattle.std.proofs.Common.{◌≡◌, ◌+◌, ◌*◌, take, count_by, true, ap, ◌∙◌, arith}
-use Rattle.bitm.specs.Count.{ones_before}
-use Rattle.bitm.specs.Tables.{bits_in}
+use Rattle.bit_lists.specs.Count.{ones_before}
+use Rattle.bitm_tables.specs.Tables.{bits_in}
 use Rattle.matrix_levels.specs.Levels.{has_digit, level}
 use Rattle.matrix_levels.specs.Matrix.{digit_place, numbers_in}
 use Rattle.matrix_levels.proofs.lemmas.MatrixLemmas.{ones-are}

@@ -1,7 +1,7 @@
 -- The range's 1 bits are those between the 1 bits before its ends.
 use Rattle.std.proofs.Common.{◌-◌, true, take, count_by, sym, ap, subst, ◌∙◌, arith}
 use Rattle.std.proofs.lemmas.Option.{same_Some}
-use Rattle.bitm.specs.Tables.{bits_in, Lists}
+use Rattle.bitm_tables.specs.Tables.{bits_in, Lists}
 use Rattle.matrix_levels.specs.Levels.{has_digit, level, partition_place}
 use Rattle.matrix_levels.specs.Matrix.{digit_place, level_in, numbers_in, IsMatrix}
 use Rattle.lent_levels.proofs.RangeLemmas.{ones-more, parts-are}

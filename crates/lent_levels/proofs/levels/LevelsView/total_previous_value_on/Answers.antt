@@ -1,6 +1,6 @@
 -- The last of those that are less.
 use Rattle.std.proofs.Common.{◌≡◌, ◌+◌, ◌-◌, slice_range, subst, sym, inl, inr, ⊎_elim, arith}
-use Rattle.bitm.specs.Tables.{Lists}
+use Rattle.bitm_tables.specs.Tables.{Lists}
 use Rattle.matrix_levels.specs.Matrix.{numbers_in, IsMatrix}
 use Rattle.matrix_levels.specs.Numbers.{count_less}
 use Rattle.matrix_levels.proofs.lemmas.OrderLemmas.{none-less}

@@ -1,7 +1,7 @@
 -- What is less than the higher bound, but not than the lower one.
 use Rattle.std.proofs.Common.{◌≡◌, ◌+◌, ◌-◌, ◌≤◌, slice_range, subst, sym, ap, ◌∙◌, arith}
 use Rattle.std.proofs.lemmas.Option.{same_Some}
-use Rattle.bitm.specs.Tables.{Lists}
+use Rattle.bitm_tables.specs.Tables.{Lists}
 use Rattle.matrix_levels.specs.Matrix.{numbers_in, IsMatrix}
 use Rattle.matrix_levels.specs.Numbers.{count_between, count_less}
 use Rattle.lent_levels.proofs.NextLemmas.{between-more}

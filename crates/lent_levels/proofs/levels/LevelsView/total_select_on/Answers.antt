@@ -1,7 +1,7 @@
 -- A number of more bits than all others is none of them, and one of no more bits goes back from the last level.
 use Rattle.std.proofs.Common.{ℕ, ◌^◌, ◌<◌, length, sym, subst, ◌∙◌, arith}
 use Rattle.std.proofs.lemmas.Bool.{true≢false}
-use Rattle.bitm.specs.Tables.{Lists}
+use Rattle.bitm_tables.specs.Tables.{Lists}
 use Rattle.matrix_levels.specs.Matrix.{level_in, numbers_in, IsMatrix}
 use Rattle.matrix_levels.specs.Numbers.{PicksItem}
 use Rattle.matrix_levels.proofs.lemmas.WalkLemmas.{count_before-wide}

@@ -1,6 +1,6 @@
 -- From level to level the bit is 1 where as many have a 0 as are still to be passed.
 use Rattle.std.proofs.Common.{◌≡◌, ◌+◌, ◌-◌, ◌*◌, ◌<◌, ◌≤◌, slice_range, nat_le, refl, ap, sym, subst, arith}
-use Rattle.bitm.specs.Tables.{bits_in, Lists}
+use Rattle.bitm_tables.specs.Tables.{bits_in, Lists}
 use Rattle.matrix_levels.specs.Levels.{partition_place}
 use Rattle.matrix_levels.specs.Matrix.{digit_place, level_in, numbers_in, IsMatrix}
 use Rattle.matrix_levels.proofs.lemmas.PrefixLemmas.{IsPrefixRange-first}

@@ -1,5 +1,5 @@
 use Rattle.std.proofs.Common.{◌*◌, ◌-◌, ◌^◌, ◌<◌, ◌≤◌, slice_range}
-use Rattle.bitm.specs.Reads.{OnlyReads}
+use Rattle.bitm_tables.specs.Reads.{OnlyReads}
 use Rattle.matrix_levels.specs.Matrix.{IsMatrix, numbers_in}
 use Rattle.matrix_levels.proofs.lemmas.RangeLemmas.{IsQuantilePrefix}
 use Rattle.lent_levels.proofs.levels.LevelsView.total_smallest_on.Given as goal

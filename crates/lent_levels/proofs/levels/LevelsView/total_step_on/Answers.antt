@@ -1,7 +1,7 @@
 -- The bit is the item's digit, and the item moves to where it stands at the next level.
 use Rattle.std.proofs.Common.{◌≡◌, Some, sym, ◌∙◌, arith}
 use Rattle.std.proofs.lemmas.Option.{none-some, same_Some}
-use Rattle.bitm.specs.Tables.{bits_in}
+use Rattle.bitm_tables.specs.Tables.{bits_in}
 use Rattle.matrix_levels.specs.Levels.{partition_place}
 use Rattle.matrix_levels.specs.Matrix.{digit_place, level_in, numbers_in, IsMatrix}
 use Rattle.lent_levels.proofs.StepLemmas.{step-is}

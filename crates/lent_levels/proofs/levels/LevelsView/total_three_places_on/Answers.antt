@@ -1,8 +1,8 @@
 -- The three places move from level to level by the number's bits.
 use Rattle.std.proofs.Common.{◌≡◌, ℕ, ◌+◌, ◌-◌, ◌*◌, ap, sym, subst, ◌∙◌, arith}
 use Rattle.std.proofs.lemmas.Option.{same_Some}
-use Rattle.bitm.specs.Bits.{digit}
-use Rattle.bitm.specs.Tables.{Lists}
+use Rattle.bit_lists.specs.Bits.{digit}
+use Rattle.bitm_tables.specs.Tables.{Lists}
 use Rattle.matrix_levels.specs.Levels.{level_place}
 use Rattle.matrix_levels.specs.Matrix.{level_in, numbers_in, IsMatrix}
 use Rattle.matrix_levels.proofs.lemmas.WalkLemmas.{level_place-first, step-place}

@@ -2,8 +2,8 @@
 use Rattle.std.proofs.Common.{◌≡◌, ℕ, ◌*◌, ◌^◌, ◌≤◌, length, take, ap, subst, sym, ◌∙◌, arith}
 use Rattle.bit_lists.proofs.lemmas.BitsLemmas.{length-bits_of}
 use Rattle.bit_lists.specs.Count.{as_bit, ones_before}
-use Rattle.bitm.specs.Density.{clamped_log}
-use Rattle.bitm_select.specs.Tables.{AreTablesOf, Lists, bits_in}
+use Rattle.bitm_strategies.specs.Density.{clamped_log}
+use Rattle.bitm_tables.specs.Tables.{AreTablesOf, Lists, bits_in}
 use Rattle.lent_tables.specs.Samples.{AreSamples}
 use Rattle.lent_tables.proofs.SamplingLemmas.{room_for}
 use Rattle.lent_tables.proofs.lent.Lent.build_samples.Goals as goal

@@ -2,9 +2,9 @@
 use Rattle.std.proofs.Common.{rules, ◌≡◌, ℕ, ◌*◌, List, ◌↔◌, IsTrue, length, ap, subst, sym, ◌∙◌, arith}
 use Rattle.bit_lists.proofs.lemmas.BitsLemmas.{length-bits_of}
 use Rattle.bit_lists.specs.Count.{as_bit, ones_before}
-use Rattle.bitm.specs.Density.{clamped_log}
-use Rattle.bitm_select.proofs.lemmas.TableLemmas.{entries}
-use Rattle.bitm_select.specs.Tables.{AreTablesOf, Lists, bits_in}
+use Rattle.bitm_strategies.specs.Density.{clamped_log}
+use Rattle.bitm_tables.proofs.lemmas.TableLemmas.{entries}
+use Rattle.bitm_tables.specs.Tables.{AreTablesOf, Lists, bits_in}
 use Rattle.bitm_strategies.proofs.lemmas.SampleLemmas.{length-starts}
 use Rattle.lent_tables.specs.Samples.{AreSamples}
 use Rattle.lent_tables.proofs.lent.Lent.check_samples.Goals as goal

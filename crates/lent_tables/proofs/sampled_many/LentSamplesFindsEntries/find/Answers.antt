@@ -3,7 +3,7 @@ use Rattle.std.proofs.Common.{ℕ, ◌<◌, length, slice_index, ap, ◌∙◌, 
 use Rattle.std.proofs.lemmas.List.{length-set}
 use Rattle.bit_lists.specs.Bits.{digit_count}
 use Rattle.bitm_many.specs.Many.{IsSearch}
-use Rattle.bitm_select.specs.Tables.{Lists}
+use Rattle.bitm_tables.specs.Tables.{Lists}
 use Rattle.bitm_many.specs.declared.query.Query.{Query}
 use Rattle.bitm_many.proofs.lemmas.ManyLemmas.{written}
 use Rattle.lent_tables.proofs.sampled_many.LentSamplesFindsEntries.find.Goals as goal

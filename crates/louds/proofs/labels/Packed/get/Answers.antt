@@ -2,8 +2,8 @@
 use Rattle.std.proofs.Common.{◌≡◌, ◌*◌, ◌≤◌, length, get_or, sym, ap, ◌∙◌, arith}
 use Rattle.std.proofs.lemmas.Nat.{row_fits}
 use Rattle.std.specs.Box.{boxed_slice_items}
-use Rattle.bitm.specs.Bits.{bits_of}
-use Rattle.bitm.specs.Number.{number_at}
+use Rattle.bit_lists.specs.Bits.{bits_of}
+use Rattle.bit_lists.specs.Number.{number_at}
 use Rattle.louds.proofs.lemmas.LabelLemmas.{number_packed, numbers_counted}
 use Rattle.louds.proofs.labels.Packed.get.Goals as goal
 

@@ -1,8 +1,8 @@
 -- The bits that were written hold the tree.
 use Rattle.std.proofs.Common.{ℕ, List, length, refl, sym, ap, arith, subst}
 use Rattle.std.specs.Box.{boxed_slice_items}
-use Rattle.bitm.proofs.BitLaws.{bits_are_counted}
-use Rattle.bitm.specs.Bits.{bits_of}
+use Rattle.bit_lists.proofs.BitLaws.{bits_are_counted}
+use Rattle.bit_lists.specs.Bits.{bits_of}
 use Rattle.louds.proofs.lemmas.HeldLemmas.{held, degrees_of-is, held_degrees}
 use Rattle.louds.specs.Held.{IsHeld}
 use Rattle.louds.proofs.tree.Louds.build.Goals as goal

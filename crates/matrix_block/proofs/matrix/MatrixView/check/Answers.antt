@@ -1,6 +1,6 @@
 -- The tables are those of the words, and those of the levels are counted in them.
 use Rattle.std.proofs.Common.{subst, sym, rules}
-use Rattle.bitm.specs.Tables.{HasTables, IsIndexed}
+use Rattle.bitm_tables.specs.Tables.{HasTables, IsIndexed}
 use Rattle.matrix_block.specs.Block.{MatrixParts}
 use Rattle.lent_levels.proofs.CheckLemmas.{tells}
 use Rattle.matrix_block.proofs.matrix.MatrixView.check.Goals as goal

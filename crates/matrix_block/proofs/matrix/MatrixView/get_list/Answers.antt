@@ -1,6 +1,6 @@
 -- The numbers of a group follow those of the groups before.
 use Rattle.std.proofs.Common.{◌≡◌, ℕ, ◌+◌, ◌-◌, ◌<◌, ◌≤◌, ◌∙◌, length, slice_index, arith}
-use Rattle.bitm.specs.Answer.TheVariants.{Found}
+use Rattle.bitm_tables.specs.declared.answer.Answer.TheVariants.{Found}
 use Rattle.lent_levels.specs.Walk.{IsNumberAt}
 use Rattle.bitm_many.proofs.lemmas.ManyLemmas.{part_long, put_long}
 use Rattle.matrix_block.proofs.ListLemmas.{answers_follow_to, kept_from}

@@ -1,5 +1,5 @@
 use Rattle.std.proofs.Common.{◌≡◌, ℕ, ◌-◌, ◌<◌, ◌≤◌, length, slice_index}
-use Rattle.bitm.specs.Answer.TheVariants.{Found}
+use Rattle.bitm_tables.specs.declared.answer.Answer.TheVariants.{Found}
 use Rattle.lent_levels.specs.Walk.{IsNumberAt}
 use Rattle.matrix_block.proofs.matrix.MatrixView.get_list.Given as goal
 

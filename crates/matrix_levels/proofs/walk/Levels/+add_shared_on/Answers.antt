@@ -1,7 +1,7 @@
 -- Both halves are walked, and what they share is what both ranges share.
 use Rattle.std.proofs.Common.{◌≡◌, ℕ, ◌+◌, ◌-◌, ◌*◌, ◌<◌, true, false, [], ◌∷◌, slice_range, sym, ap, ◌∙◌, subst, arith}
 use Rattle.std.proofs.lemmas.Result.{IfOk-weaker}
-use Rattle.bitm.specs.Tables.{Lists}
+use Rattle.bitm_tables.specs.Tables.{Lists}
 use Rattle.matrix_levels.specs.Levels.{ArePlacesAfter, level}
 use Rattle.matrix_levels.specs.Matrix.{IsMatrix, digit_place, level_in, numbers_in}
 use Rattle.matrix_levels.specs.Shared.{AddsShared, shared_prefixes}

@@ -1,7 +1,7 @@
 -- The item's bit is found by its rank among the bits of its kind.
 use Rattle.std.proofs.Common.{◌≡◌, ◌-◌, ◌*◌, ℕ, true, false, sym, ap, ◌∙◌, arith}
-use Rattle.bitm.specs.Bits.{digit}
-use Rattle.bitm.specs.Tables.{bits_in}
+use Rattle.bit_lists.specs.Bits.{digit}
+use Rattle.bitm_tables.specs.Tables.{bits_in}
 use Rattle.matrix_levels.specs.Matrix.{digit_place, numbers_in}
 use Rattle.matrix_levels.proofs.lemmas.BackLemmas.{from-one, from-zero, ones-le-start, ranks-fit, zeros-le-place}
 use Rattle.matrix_levels.proofs.walk.Levels.bit_before.Goals as goal

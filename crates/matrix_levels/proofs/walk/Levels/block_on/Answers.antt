@@ -1,6 +1,6 @@
 -- One walk through the known levels, and two from there on.
 use Rattle.std.proofs.Common.{◌≡◌, ℕ, subst}
-use Rattle.bitm.specs.Tables.{Lists}
+use Rattle.bitm_tables.specs.Tables.{Lists}
 use Rattle.matrix_levels.specs.Levels.{level_place}
 use Rattle.matrix_levels.specs.Matrix.{numbers_in}
 use Rattle.matrix_levels.proofs.lemmas.WalkLemmas.{level_place-first}

@@ -2,8 +2,8 @@
 use Rattle.std.proofs.Common.{◌≡◌, ℕ, ◌+◌, ◌-◌, ◌*◌, ◌/◌, ◌^◌, ◌<◌, slice_range, ap, sym, ◌∙◌, subst, arith}
 use Rattle.std.proofs.lemmas.Bool.{true≢false}
 use Rattle.std.proofs.lemmas.List.Sums.{count_by-le-length}
-use Rattle.bitm.specs.Bits.{digit}
-use Rattle.bitm.specs.Tables.{Lists}
+use Rattle.bit_lists.specs.Bits.{digit}
+use Rattle.bitm_tables.specs.Tables.{Lists}
 use Rattle.matrix_levels.specs.Levels.{level_place, has_lesser_prefix}
 use Rattle.matrix_levels.specs.Matrix.{level_in, numbers_in}
 use Rattle.matrix_levels.specs.Numbers.{count_less}

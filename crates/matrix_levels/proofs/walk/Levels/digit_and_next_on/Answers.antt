@@ -1,6 +1,6 @@
 -- The bit at the place is the item's digit.
 use Rattle.std.proofs.Common.{◌∙◌}
-use Rattle.bitm.specs.Tables.{bits_in}
+use Rattle.bitm_tables.specs.Tables.{bits_in}
 use Rattle.matrix_levels.specs.Matrix.{numbers_in}
 use Rattle.matrix_levels.proofs.lemmas.MatrixLemmas.{digit-is}
 use Rattle.matrix_levels.proofs.walk.Levels.digit_and_next_on.Goals as goal

@@ -3,7 +3,7 @@ use Rattle.std.proofs.Common.{◌≡◌, ℕ, ◌+◌, ◌-◌, ◌*◌, ◌%◌
 use Rattle.std.proofs.lemmas.List.{length_push}
 use Rattle.std.proofs.Math.Nat.{pow-le-pow_right}
 use Rattle.std.specs.Box.{boxed_slice_items}
-use Rattle.bitm.specs.Tables.{Lists, bits_in}
+use Rattle.bitm_tables.specs.Tables.{Lists, bits_in}
 use Rattle.matrix_levels.specs.Levels.{level_place}
 use Rattle.matrix_levels.specs.Matrix.{IsMatrixOf, LevelTables, numbers_in}
 use Rattle.matrix_levels.proofs.lemmas.MakeLemmas.{each-push}

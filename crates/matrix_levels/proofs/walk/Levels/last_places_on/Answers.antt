@@ -1,7 +1,7 @@
 -- Both places move from level to level by the number's digits.
 use Rattle.std.proofs.Common.{ℕ, ◌+◌, ◌-◌, ◌*◌, List, length, ap, ◌∙◌, arith}
-use Rattle.bitm.specs.Bits.{digit}
-use Rattle.bitm.specs.Tables.{Lists}
+use Rattle.bit_lists.specs.Bits.{digit}
+use Rattle.bitm_tables.specs.Tables.{Lists}
 use Rattle.matrix_levels.specs.Matrix.{level_in, numbers_in}
 use Rattle.matrix_levels.proofs.lemmas.ColumnLemmas.{length-level}
 use Rattle.matrix_levels.proofs.lemmas.PartLemmas.{moved-le}

@@ -2,8 +2,8 @@
 use Rattle.std.proofs.Common.{◌≡◌, ℕ, ◌+◌, ◌-◌, ◌*◌, ◌≤◌, List, length, true, false, ap, ◌∙◌, arith}
 use Rattle.std.proofs.lemmas.List.{length_push}
 use Rattle.std.proofs.Math.Nat.{mul-le-mul_right}
-use Rattle.bitm.specs.Count.{ones_before, zeros_before}
-use Rattle.bitm.proofs.BitLaws.{counts_grow, ones_and_zeros}
+use Rattle.bit_lists.specs.Count.{ones_before, zeros_before}
+use Rattle.bit_lists.proofs.BitLaws.{counts_grow, ones_and_zeros}
 use Rattle.matrix_levels.proofs.lemmas.MakeLemmas.{each-push}
 use Rattle.matrix_levels.proofs.walk.Levels.new.Goals as goal
 use Rattle.matrix_levels.proofs.walk.Levels.new.Goals.{After-rank_pair-before}

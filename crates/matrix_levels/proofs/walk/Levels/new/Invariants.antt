@@ -1,5 +1,5 @@
 use Rattle.std.proofs.Common.{◌≡◌, ℕ, ◌+◌, ◌*◌, ◌<◌, length, get_or}
-use Rattle.bitm.specs.Count.{ones_before, zeros_before}
+use Rattle.bit_lists.specs.Count.{ones_before, zeros_before}
 use Rattle.matrix_levels.proofs.walk.Levels.new.Given as goal
 
 -- the levels so far are in both tables

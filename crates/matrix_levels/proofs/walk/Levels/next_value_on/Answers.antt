@@ -1,6 +1,6 @@
 -- The number after all that are less.
 use Rattle.std.proofs.Common.{ℕ, ◌-◌, List, slice_range, subst, sym, arith}
-use Rattle.bitm.specs.Tables.{Lists}
+use Rattle.bitm_tables.specs.Tables.{Lists}
 use Rattle.matrix_levels.specs.Matrix.{numbers_in}
 use Rattle.matrix_levels.specs.Numbers.{IsSmallest}
 use Rattle.matrix_levels.proofs.lemmas.CountLemmas.{length-range}

@@ -1,6 +1,6 @@
 -- The item moves from level to level, and its digits come one by one.
 use Rattle.std.proofs.Common.{◌+◌, ◌*◌, ◌^◌, ◌<◌, ap, arith}
-use Rattle.bitm.specs.Tables.{Lists}
+use Rattle.bitm_tables.specs.Tables.{Lists}
 use Rattle.matrix_levels.specs.Matrix.{level_in, numbers_in}
 use Rattle.matrix_levels.proofs.lemmas.ManyLemmas.{level-first, level-fits, level-inside, level-last, level-last-place, level-next-item}
 use Rattle.matrix_levels.proofs.lemmas.ReadsLemmas.{ranks-more, ranks-none}

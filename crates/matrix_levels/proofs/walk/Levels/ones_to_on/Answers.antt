@@ -1,6 +1,6 @@
 -- The ones up to the place, less those before the level.
 use Rattle.std.proofs.Common.{◌≡◌, ◌+◌, count_by, take, true, arith}
-use Rattle.bitm.specs.Tables.{bits_in}
+use Rattle.bitm_tables.specs.Tables.{bits_in}
 use Rattle.matrix_levels.specs.Levels.{has_digit}
 use Rattle.matrix_levels.specs.Matrix.{digit_place, level_in, numbers_in}
 use Rattle.matrix_levels.proofs.lemmas.MatrixLemmas.{ones-are}

@@ -1,6 +1,6 @@
 -- Those with a 0 are what those with a 1 leave.
 use Rattle.std.proofs.Common.{◌≡◌, ◌-◌, true, false, count_by, take, refl, ap, arith}
-use Rattle.bitm.specs.Tables.{Lists}
+use Rattle.bitm_tables.specs.Tables.{Lists}
 use Rattle.matrix_levels.specs.Levels.{has_digit, partition_place}
 use Rattle.matrix_levels.specs.Matrix.{digit_place, level_in, numbers_in}
 use Rattle.matrix_levels.proofs.lemmas.ColumnLemmas.{length-level}

@@ -1,7 +1,7 @@
 -- The ones before the level and those in its front stand before the place.
 use Rattle.std.proofs.Common.{take, arith}
 use Rattle.std.proofs.lemmas.List.{length-take}
-use Rattle.bitm.specs.Tables.{bits_in}
+use Rattle.bitm_tables.specs.Tables.{bits_in}
 use Rattle.matrix_levels.specs.Matrix.{digit_place, level_in, numbers_in}
 use Rattle.matrix_levels.proofs.lemmas.MatrixLemmas.{ones-are, ones-to-start, start-fits}
 use Rattle.matrix_levels.proofs.lemmas.PartLemmas.{both-digits}

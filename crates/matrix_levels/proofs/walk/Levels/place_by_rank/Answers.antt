@@ -1,7 +1,7 @@
 -- Those with a 1 stand after all zeros, those with a 0 where the ones before them leave.
 use Rattle.std.proofs.Common.{◌≡◌, ◌+◌, count_by, take, true, ◌∙◌, refl, arith}
 use Rattle.std.proofs.lemmas.List.{length-take}
-use Rattle.bitm.specs.Tables.{bits_in}
+use Rattle.bitm_tables.specs.Tables.{bits_in}
 use Rattle.matrix_levels.specs.Levels.{has_digit}
 use Rattle.matrix_levels.specs.Matrix.{digit_place, level_in, numbers_in}
 use Rattle.matrix_levels.proofs.lemmas.ColumnLemmas.{length-level}

@@ -1,6 +1,6 @@
 -- The last of those that are less.
 use Rattle.std.proofs.Common.{ℕ, ◌-◌, List, slice_range, subst, arith}
-use Rattle.bitm.specs.Tables.{Lists}
+use Rattle.bitm_tables.specs.Tables.{Lists}
 use Rattle.matrix_levels.specs.Matrix.{numbers_in}
 use Rattle.matrix_levels.specs.Numbers.{IsSmallest}
 use Rattle.matrix_levels.proofs.lemmas.OrderLemmas.{previous-smallest}

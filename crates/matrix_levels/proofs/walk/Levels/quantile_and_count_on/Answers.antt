@@ -1,7 +1,7 @@
 -- From level to level the digit is 1 where as many have a 0 as are still to be passed.
 use Rattle.std.proofs.Common.{◌≡◌, ℕ, ◌+◌, ◌*◌, Bool, true, false, if◌then◌else◌, slice_range, refl, ap, ◌∙◌, arith, inl, inr}
 use Rattle.std.proofs.lemmas.Bool.{le-leb, lt-leb}
-use Rattle.bitm.specs.Tables.{Lists}
+use Rattle.bitm_tables.specs.Tables.{Lists}
 use Rattle.matrix_levels.specs.Matrix.{level_in, numbers_in}
 use Rattle.matrix_levels.proofs.lemmas.PrefixLemmas.{IsPrefixRange-first}
 use Rattle.matrix_levels.proofs.lemmas.RangeLemmas.{IsQuantilePrefix-next, equal-last, less-first, part-zeros, smallest}

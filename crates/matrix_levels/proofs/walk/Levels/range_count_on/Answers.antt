@@ -1,6 +1,6 @@
 -- What is less than the higher bound, but not than the lower one.
 use Rattle.std.proofs.Common.{ℕ, slice_range, ap, arith}
-use Rattle.bitm.specs.Tables.{Lists}
+use Rattle.bitm_tables.specs.Tables.{Lists}
 use Rattle.matrix_levels.specs.Matrix.{numbers_in}
 use Rattle.matrix_levels.specs.Numbers.{count_less}
 use Rattle.matrix_levels.proofs.lemmas.OrderLemmas.{between-is, between-none, count_less-grows}

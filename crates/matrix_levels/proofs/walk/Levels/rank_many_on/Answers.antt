@@ -2,8 +2,8 @@
 use Rattle.std.proofs.Common.{◌≡◌, ℕ, ◌+◌, ◌-◌, ◌*◌, ◌<◌, ◌≤◌, get_or, length, subst, ap, ◌∙◌, arith}
 use Rattle.std.proofs.lemmas.List.{length-set}
 use Rattle.std.proofs.Math.Nat.{mul-le-mul_left}
-use Rattle.bitm.specs.Bits.{digit}
-use Rattle.bitm.specs.Tables.{Lists}
+use Rattle.bit_lists.specs.Bits.{digit}
+use Rattle.bitm_tables.specs.Tables.{Lists}
 use Rattle.matrix_levels.specs.Matrix.{OnlyRanks, level_in, numbers_in}
 use Rattle.matrix_levels.specs.Numbers.{count_before}
 use Rattle.matrix_levels.proofs.lemmas.ManyLemmas.{StandsAt, done-more, open-less}

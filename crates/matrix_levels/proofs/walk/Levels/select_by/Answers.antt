@@ -1,6 +1,6 @@
 -- The numbers that are equal stand side by side after the last level, and each comes back from there.
 use Rattle.std.proofs.Common.{ℕ, ◌+◌, ◌-◌, subst, sym, arith}
-use Rattle.bitm.specs.Tables.{bits_in, Lists}
+use Rattle.bitm_tables.specs.Tables.{bits_in, Lists}
 use Rattle.matrix_levels.specs.Matrix.{level_in, numbers_in}
 use Rattle.matrix_levels.specs.Numbers.{PicksItem}
 use Rattle.matrix_levels.proofs.lemmas.ColumnLemmas.{length-level}

@@ -1,7 +1,7 @@
 -- The numbers that are equal stand side by side after the last level.
 use Rattle.std.proofs.Common.{◌≡◌, ℕ, ◌+◌, ◌-◌, ◌*◌, ◌^◌, ◌<◌, ◌≤◌, length, subst, sym, ap, ◌∙◌, arith}
 use Rattle.std.proofs.lemmas.Bool.{true≢false}
-use Rattle.bitm.specs.Tables.{Lists}
+use Rattle.bitm_tables.specs.Tables.{Lists}
 use Rattle.matrix_levels.specs.Levels.{level_place}
 use Rattle.matrix_levels.specs.Matrix.{level_in, numbers_in}
 use Rattle.matrix_levels.specs.Numbers.{PicksItem, count_before}

@@ -1,6 +1,6 @@
 -- The spot that was found is of the same sequence.
 use Rattle.std.proofs.Common.{◌≡◌, ℕ, List, drop, sym, ap, subst, ◌∙◌, arith}
-use Rattle.bitm.specs.Bits.{digit_count}
+use Rattle.bit_lists.specs.Bits.{digit_count}
 use Rattle.elias_fano.specs.Low.{sharing, Lows}
 use Rattle.elias_fano.specs.Parts.{items_of}
 use Rattle.postings.specs.Held.{SeekerValue}

@@ -1,5 +1,5 @@
 use Rattle.std.proofs.Common.{ℕ, true, sym, subst, arith}
-use Rattle.bitm.specs.Count.{Picks}
+use Rattle.bit_lists.specs.Count.{Picks}
 use Rattle.sparse_bits.specs.Positions.{bits_at}
 use Rattle.sparse_bits.proofs.lemmas.PositionLemmas.{ones_count, select_some}
 use Rattle.sparse_bits.proofs.counted.Ones.select_in.Goals as goal

@@ -1,6 +1,6 @@
 -- The sequence that was made has the positions that were given.
 use Rattle.std.proofs.Common.{◌≡◌, ℕ, ◌+◌, ◌*◌, ◌≤◌, true, List, length, sym, ◌∙◌, subst}
-use Rattle.bitm.specs.Count.{places}
+use Rattle.bit_lists.specs.Count.{places}
 use Rattle.elias_fano.specs.Parts.{width_of, low_words_of, upper_words_of}
 use Rattle.sparse_bits.specs.Positions.{bits_at, ArePlaces}
 use Rattle.sparse_bits.proofs.lemmas.PositionLemmas.{bits_at-places, bits_at-length}

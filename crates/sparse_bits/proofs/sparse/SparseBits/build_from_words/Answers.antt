@@ -1,8 +1,8 @@
 -- The positions of the 1 bits rise and are below the number of bits.
 use Rattle.std.proofs.Common.{◌≡◌, ℕ, ◌*◌, true, List, length, sym, ap, ◌∙◌, subst, arith}
-use Rattle.bitm.specs.Count.{places}
-use Rattle.bitm.specs.Bits.{bits_of}
-use Rattle.bitm.proofs.BitLaws.{places_are_counted}
+use Rattle.bit_lists.specs.Count.{places}
+use Rattle.bit_lists.specs.Bits.{bits_of}
+use Rattle.bit_lists.proofs.BitLaws.{places_are_counted}
 use Rattle.sparse_bits.specs.Positions.{ArePlaces}
 use Rattle.sparse_bits.proofs.lemmas.BuildLemmas.{refused, are_places_of_words, built_of_words}
 use Rattle.sparse_bits.proofs.sparse.SparseBits.build_from_words.Goals as goal

@@ -1,7 +1,7 @@
 -- A rank is the number of positions that are less.
 use Rattle.std.proofs.Common.{◌≡◌, ◌≤◌, ◌<◌, ℕ, true, length, sym, ◌∙◌, subst, arith}
-use Rattle.bitm.specs.Answer.{Answer}
-use Rattle.bitm.specs.Answer.TheVariants.{Found}
+use Rattle.bitm_tables.specs.declared.answer.Answer.{Answer}
+use Rattle.bitm_tables.specs.declared.answer.Answer.TheVariants.{Found}
 use Rattle.lent_tables.specs.Ranks.{IsRanked}
 use Rattle.sparse_bits.proofs.lemmas.PositionLemmas.{bits_count}
 use Rattle.sparse_block.specs.Block.{bits_of}

@@ -1,6 +1,6 @@
 -- The words are those of the tree, whose nodes have these labels.
 use Rattle.std.proofs.Common.{List, ℕ, sym, subst}
-use Rattle.bitm.specs.Bits.{bits_of}
+use Rattle.bit_lists.specs.Bits.{bits_of}
 use Rattle.louds.specs.Held.{degrees_of}
 use Rattle.louds.specs.Labels.{Rise}
 use Rattle.trie_block.specs.Block.{HoldsTrie, TrieParts}

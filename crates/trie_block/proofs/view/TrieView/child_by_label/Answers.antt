@@ -1,7 +1,7 @@
 -- The source and the labels are those of the view.
 use Rattle.std.proofs.Common.{ℕ, List, sym, ap, subst}
-use Rattle.bitm.specs.Answer.{Answer}
-use Rattle.bitm.specs.Tables.{Lists}
+use Rattle.bitm_tables.specs.declared.answer.Answer.{Answer}
+use Rattle.bitm_tables.specs.Tables.{Lists}
 use Rattle.louds.specs.Counted.{degrees_in, IsLouds}
 use Rattle.louds.specs.Labels.{Rise}
 use Rattle.trie_block.specs.Answers.{IsChildByLabelOf}

@@ -1,9 +1,9 @@
 -- Any bits are the levels of the numbers that they hold.
 use Rattle.std.proofs.Common.{◌≡◌, ◌*◌, ◌≤◌, true, false, List, ℕ, length, ap, ◌∙◌, arith, subst, sym}
 use Rattle.std.specs.Box.{boxed_slice_items}
-use Rattle.bitm.specs.Bits.{bits_of}
-use Rattle.bitm.specs.Quarters.{AreQuartersOf}
-use Rattle.bitm.proofs.BitLaws.{bits_are_counted}
+use Rattle.bit_lists.specs.Bits.{bits_of}
+use Rattle.bitm_tables.specs.Quarters.{AreQuartersOf}
+use Rattle.bit_lists.proofs.BitLaws.{bits_are_counted}
 use Rattle.matrix_levels.specs.Matrix.{items_of, IsMatrixOf}
 use Rattle.matrix_levels.proofs.lemmas.MakeLemmas.{words-enough}
 use Rattle.matrix_levels.proofs.lemmas.MatrixLemmas.{is-matrix, made-of-bits, matrix-from, matrix-of-items, tight}
