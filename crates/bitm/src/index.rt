@@ -64,7 +64,7 @@ impl<S: SelectForRank101111, S0: Select0ForRank101111, BV: AsSlice<u64>> Model
     ghost use Rattle.std.specs.Box.{boxed_slice_items};
     ghost use Rattle.bit_lists.specs.Bits.{bits_of, IsShort};
     ghost use Rattle.bitm.specs.IndexValue.{IndexValue};
-    ghost use Rattle.bitm_select.specs.Tables.{AreTablesOf};
+    ghost use Rattle.bitm_tables.specs.Tables.{AreTablesOf};
 
     ghost Value = { IndexValue BV S S0 };
 

@@ -55,7 +55,7 @@ pub struct LentSequence<'a> {
 }
 
 impl<'a> Model for LentSequence<'a> {
-    ghost use Rattle.elias_fano_view.specs.LentParts.{parts_of, HasLengths, LentParts};
+    ghost use Rattle.elias_fano.specs.LentParts.{parts_of, HasLengths, LentParts};
 
     ghost Value = { LentParts };
 

@@ -70,7 +70,7 @@ pub struct Lent<'a> {
 }
 
 impl<'a> Model for Lent<'a> {
-    ghost use Rattle.bitm_select.specs.Tables.{HasSizes, Lists};
+    ghost use Rattle.bitm_tables.specs.Tables.{HasSizes, Lists};
     ghost use Rattle.lent_tables.specs.Sizes.{lists_of};
 
     ghost Value = { Lists };

@@ -46,7 +46,7 @@ pub struct Louds<S: SelectForRank101111, S0: Select0ForRank101111> {
 
 impl<S: SelectForRank101111, S0: Select0ForRank101111> Model for Louds<S, S0> {
     ghost use Rattle.std.specs.Box.{boxed_slice_items};
-    ghost use Rattle.bitm.specs.Bits.{bits_of};
+    ghost use Rattle.bit_lists.specs.Bits.{bits_of};
     ghost use Rattle.louds.specs.Held.{degrees_of, IsHeld};
     ghost use Rattle.louds.specs.Value.{TreeValue};
 

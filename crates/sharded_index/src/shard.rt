@@ -42,7 +42,7 @@ pub trait Shard {
 
 impl<'a> Shard for IndexView<'a> {
     ghost use Rattle.bitm_view.specs.Cut.{bits_of_cut};
-    ghost use Rattle.bitm_view.specs.Tables.{HasTables};
+    ghost use Rattle.bitm_tables.specs.Tables.{HasTables};
 
     ghost bits = { bits_of_cut };
 

@@ -52,7 +52,7 @@ pub struct WaveletMatrix<S: SelectForRank101111, S0: Select0ForRank101111> {
 
 impl<S: SelectForRank101111, S0: Select0ForRank101111> Model for WaveletMatrix<S, S0> {
     ghost use Rattle.std.specs.Box.{boxed_slice_items};
-    ghost use Rattle.bitm.specs.Bits.{bits_of};
+    ghost use Rattle.bit_lists.specs.Bits.{bits_of};
     ghost use Rattle.matrix_levels.specs.Matrix.{items_of, IsMatrixOf, IsTight};
     ghost use Rattle.wavelet_matrix.specs.MatrixValue.{Numbers};
 
