@@ -854,6 +854,43 @@ BITM_MUST_USE uint32_t bitm_hash_get_list(const struct bitm_hash *hash, const ui
                                           size_t key_hashes_len, uint64_t *out, size_t out_len,
                                           struct bitm_list_counts *counts);
 
+/* Writes the fingerprint of each key at its number: number k of the fingerprints, of width bits each, is the lowest bits
+ * of the fingerprint of the key with number k. By it bitm_hash_find answers BITM_NONE for almost all that are no keys.
+ * A fingerprint is any number that you compute from the key beside its hash. Over the hash of these keys each has its
+ * own place; of keys with one number the last is written, and other fingerprints stay. BITM_WRONG if a key has no
+ * number, or its number no place among the words (the other keys are written); BITM_BAD_SIZE as bitm_hash_get, if
+ * prints_len is 2^58 or more, width is above 64, or key_prints_len is not key_hashes_len. The fingerprints may overlap
+ * nothing else.
+ *
+ *     const uint64_t three[3] = {0x243f6a8885a308d3, 0x13198a2e03707344, 0xa4093822299f31d0}, marks3[3] = {7, 11, 13};
+ *     uint64_t prints[1] = {0};
+ *     if (bitm_hash_set_prints(&hash, three, 3, marks3, 3, prints, 1, 8) != BITM_OK) return 1; // 8 bits for each key */
+BITM_MUST_USE uint32_t bitm_hash_set_prints(const struct bitm_hash *hash, const uint64_t *key_hashes,
+                                            size_t key_hashes_len, const uint64_t *key_prints, size_t key_prints_len,
+                                            uint64_t *prints, size_t prints_len, uint32_t width);
+
+/* The number of a key, by its hash and its fingerprint: what bitm_hash_get answers, but BITM_NONE where the fingerprint
+ * at that number is not the lowest width bits of key_print, and BITM_WRONG where there is none: so of a value that is
+ * no key, with a good hash, a number is found once in 2^width. BITM_BAD_SIZE as bitm_hash_get, if prints_len is 2^58 or
+ * more, or width is above 64. Reads what bitm_hash_get reads, and at most two words of the fingerprints.
+ *
+ *     if (bitm_hash_find(&hash, prints, 1, 8, three[1], 11, &number) != BITM_OK || number > 2 ||
+ *         bitm_hash_find(&hash, prints, 1, 8, three[1], 12, &number) != BITM_NONE) return 1; */
+BITM_MUST_USE uint32_t bitm_hash_find(const struct bitm_hash *hash, const uint64_t *prints, size_t prints_len,
+                                      uint32_t width, uint64_t key_hash, uint64_t key_print, uint64_t *out);
+
+/* out[i] is the number of the key with hash key_hashes[i] and fingerprint key_prints[i], or BITM_NO_ANSWER for BITM_NONE
+ * and BITM_WRONG_TABLES for BITM_WRONG; counts says how many of each there are. BITM_BAD_SIZE also if key_prints_len or
+ * out_len is not key_hashes_len. out and counts may overlap nothing else.
+ *
+ *     const uint64_t asked[3] = {7, 12, 13};
+ *     if (bitm_hash_find_list(&hash, prints, 1, 8, three, 3, asked, 3, answers, 3, &counts) != BITM_OK ||
+ *         counts.missing != 1 || counts.wrong != 0 || answers[1] != BITM_NO_ANSWER) return 1; */
+BITM_MUST_USE uint32_t bitm_hash_find_list(const struct bitm_hash *hash, const uint64_t *prints, size_t prints_len,
+                                           uint32_t width, const uint64_t *key_hashes, size_t key_hashes_len,
+                                           const uint64_t *key_prints, size_t key_prints_len, uint64_t *out,
+                                           size_t out_len, struct bitm_list_counts *counts);
+
 /* ---- stored
  *
  * A file is a header of 192 bytes and the parts that it names, in this order, each from a multiple of 64 bytes on:

@@ -34,13 +34,13 @@ EXPORTS = {
     "N": "bits_copy_range bits_equal_range bits_select_in_word",
     "B words other": "bits_intersects bits_is_subset",
     "N bytes": "bytes_get57 bytes_init57 bytes_set57 bytes_get25 bytes_init25 bytes_set25",
-    "BW": "index_check sequence_check tree_build matrix_build text_build cursor_start cursors_intersect"
+    "BW": "hash_set_prints index_check sequence_check tree_build matrix_build text_build cursor_start cursors_intersect"
         " dictionary_build",
     "BW words": "index_check_samples",
-    "NBW words lower": "index_rank hash_get tree_parent tree_child tree_degree tree_is_leaf tree_next_sibling"
+    "NBW words lower": "index_rank hash_get hash_find tree_parent tree_child tree_degree tree_is_leaf tree_next_sibling"
         " tree_previous_sibling tree_child_rank",
     "NBW words lower samples": "index_select index_next index_previous",
-    "B words lower": "index_rank_list index_positions hash_get_list tree_parent_list tree_degree_list tree_child_list",
+    "B words lower": "index_rank_list index_positions hash_get_list hash_find_list tree_parent_list tree_degree_list tree_child_list",
     "B words samples": "index_select_list",
     "B lower": "index_count",
     "BU": "sequence_build sequence_block_build",
@@ -98,12 +98,12 @@ OUTSIDE = {
     "matrix->len": "matrix_select matrix_select_list",
     "sparse->bits_len": "sparse_select sparse_next sparse_previous sparse_select_list",
     "text->letters.len + 2": "text_count text_locate",
-    "hash->keys": "hash_get hash_get_list",
+    "hash->keys": "hash_get hash_get_list hash_find hash_find_list",
     "dictionary->keys_len": "dictionary_find dictionary_find_list",
     "shards->counts.bits[shards->shards_len]": "shards_select shards_next shards_previous shards_select_list",
 }
 # The programs that have to see such an answer by themselves, before any other is run.
-HOSTILE = ["hostile", "cursors", "guarded", "hashes", "shards", "trees", "matrices", "matrix_ranges", "sparse", "texts", "dictionaries"]
+HOSTILE = ["hostile", "cursors", "guarded", "hashes", "fingerprints", "shards", "trees", "matrices", "matrix_ranges", "sparse", "texts", "dictionaries"]
 PROGRAMS = list(dict.fromkeys(["statuses", "pages", *IN_C]))
 for one in ("walks", "lengths", "careless"):
     PROGRAMS.remove(one)

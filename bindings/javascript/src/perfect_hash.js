@@ -71,14 +71,26 @@ export class PerfectHash {
     }
 
     #fingerprint(all, block) {
-        for (let k = 0; k < all.length; k++) {
-            hashKey(all[k], this.#seed, out);
-            const print = out[2] >>> (32 - this.#width), number = orThrow(calls.bitm_hash_get(block, out[0], out[1]), "key", k);
-            must(calls.bitm_bits_set_fragment(...this.#printsIn(block), number, this.#width, print), "fingerprint");
-        }
+        withRoom(16 * all.length, list => {
+            const n = all.length;
+            this.#put(all, list, list + 8 * n);
+            must(calls.bitm_hash_set_prints(block, list, n, list + 8 * n, n, ...this.#printsIn(block)), "fingerprints");
+        });
     }
 
-    #printsIn(at) { return [at + this.#prints, this.#printsLen, 64 * this.#printsLen]; }
+    #printsIn(at) { return [at + this.#prints, this.#printsLen, this.#width]; }
+
+    /** What the fingerprint of the key that was hashed last is. */
+    #print() { return this.#width ? out[2] >>> (32 - this.#width) : 0; }
+
+    /** Writes the hashes of all keys to memory, and their fingerprints. */
+    #put(all, hashes, prints) {
+        const halves = halvesAt(prints, 2 * all.length);
+        putHashes(all, this.#seed, hashes, k => {
+            halves[2 * k] = this.#print();
+            halves[2 * k + 1] = 0;
+        });
+    }
 
     get length() { return this.#length; }
 
@@ -90,25 +102,22 @@ export class PerfectHash {
         const at = this.#block.at;
         if (at === 0) throw freed("PerfectHash");
         hashKey(key, this.#seed, out);
-        return this.#checked(at, calls.bitm_hash_get(at, out[0], out[1]), out[2]);
-    }
-
-    #checked(at, number, print) {
+        const number = calls.bitm_hash_find(at, at + this.#prints, this.#printsLen, this.#width, out[0], out[1], this.#print());
+        if (number >= 0) return number;
         if (number === -1) return undefined;
-        if (number < 0) throw refused(number, "key", "");
-        if (this.#width === 0) return number;
-        const kept = calls.bitm_bits_get_fragment(...this.#printsIn(at), number, this.#width);
-        return kept === print >>> (32 - this.#width) ? number : undefined;
+        throw refused(number, "key", "");
     }
 
     /** The numbers of several keys, as get() answers them. */
     getList(keys) {
         const all = Array.from(keys), n = all.length;
-        return withRoom(16 * n, list => {
-            const prints = putHashes(all, this.#seed, list), to = list + 8 * n, at = this.#block.at;
+        return withRoom(24 * n, list => {
+            const prints = list + 8 * n, to = prints + 8 * n;
+            this.#put(all, list, prints);
+            const at = this.#block.at;
             if (at === 0) throw freed("PerfectHash");
-            must(calls.bitm_hash_get_list(at, list, n, to, n, BESIDE), "keys");
-            return copyOut(to, n, "plain", true).map((it, k) => (it === undefined ? it : this.#checked(at, it, prints[k])));
+            must(calls.bitm_hash_find_list(at, ...this.#printsIn(at), list, n, prints, n, to, n, BESIDE), "keys");
+            return copyOut(to, n, "plain", true);
         });
     }
 
@@ -117,16 +126,15 @@ export class PerfectHash {
     [dispose]() { this.free(); }
 }
 
-/** Writes the hashes of all keys to memory; returns what their fingerprints are of. */
-function putHashes(all, seed, at) {
-    const prints = new Int32Array(all.length), halves = halvesAt(at, 2 * all.length);
+/** Writes the hashes of all keys to memory, and does `after` with the number of each key that was hashed. */
+function putHashes(all, seed, at, after) {
+    const halves = halvesAt(at, 2 * all.length);
     for (let k = 0; k < all.length; k++) {
         hashKey(all[k], seed, out);
         halves[2 * k] = out[0];
         halves[2 * k + 1] = out[1];
-        prints[k] = out[2];
+        after?.(k);
     }
-    return prints;
 }
 
 function within(it, least, most, name) {

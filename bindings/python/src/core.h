@@ -173,7 +173,7 @@ typedef struct {
     size_t block_len;
     const uint64_t *prints; /* the fingerprints of a hash: hash.keys numbers of print_width bits */
     size_t prints_len;
-    uint64_t prints_bits, print_width, print_mask, seed, mark;
+    uint64_t print_width, seed, mark;
     uint64_t log2s[2]; /* of the samples of 1 bits and 0 bits, as numbers of 64 bits */
 } Memory;
 
@@ -354,12 +354,17 @@ PyObject *sequence_merged(PyObject *module, PyObject *args);
 /* Whether it is an EliasFano; TypeError else. */
 int is_sequence(PyObject *it);
 
-/* Whether it can be a key; the hash and the fingerprint of a key, or of each key of a list, one after another. */
+/* Whether it can be a key; the hash and the fingerprint of a key, and those of each key of a list. */
 #define MARK_BLAKE 0x687361686d746962u /* "bitmhash": files of version 0.2.0, whose keys are hashed by BLAKE2b */
 #define MARK_SIP 0x327361686d746962u   /* "bitmhas2": by SipHash-1-3 */
 int is_key(PyObject *key);
 int key_hash(PyObject *key, uint64_t mark, uint64_t seed, uint64_t out[2]);
-uint64_t *keys_hash(PyObject *keys, uint64_t mark, uint64_t seed, size_t *count);
+typedef struct {
+    uint64_t *hashes, *prints;
+    size_t count;
+} Keys;
+int keys_hash(Keys *it, PyObject *keys, uint64_t mark, uint64_t seed);
+void keys_drop(Keys *it);
 
 PyObject *stored_load(PyObject *module, PyObject *file);
 PyObject *stored_index_header(PyObject *module, PyObject *args);

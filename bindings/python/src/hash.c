@@ -6,13 +6,6 @@ enum { LEVELS = 256 };
 
 /* ---- made */
 
-/* How many bits the fingerprints have, and which bits of what a fingerprint is of are its own. */
-static void prints_sized(Memory *it)
-{
-    it->prints_bits = it->hash.keys * it->print_width;
-    it->print_mask = it->print_width == 64 ? UINT64_MAX : ((uint64_t)1 << it->print_width) - 1;
-}
-
 int hash_opened(Memory *it)
 {
     uint64_t out;
@@ -21,8 +14,7 @@ int hash_opened(Memory *it)
     /* No more keys than bits: so the bits of the fingerprints are far below 2^64. */
     if (is_marked && it->print_width <= 64 && it->hash.index.words_len <= (size_t)1 << 50 &&
         it->hash.keys <= it->hash.index.bits_len) {
-        prints_sized(it);
-        if (it->prints_len == bitm_bits_words_len(it->prints_bits) &&
+        if (it->prints_len == bitm_bits_words_len(it->hash.keys * it->print_width) &&
             bitm_hash_get(&it->hash, 0, &out) != BITM_BAD_SIZE)
             return 0;
     }
@@ -30,9 +22,8 @@ int hash_opened(Memory *it)
     return -1;
 }
 
-/* The words of all levels. `both` has the hash and the fingerprint of each key. -1 and an error; 1 where two hashes are
- * equal. */
-static int build_levels(Memory *it, const uint64_t *both, uint32_t percent)
+/* The words of all levels. -1 and an error; 1 where two hashes are equal. */
+static int build_levels(Memory *it, const Keys *keys, uint32_t percent)
 {
     size_t count = it->hash.keys, first = bitm_hash_level_len(count, percent);
     if (first > (size_t)PY_SSIZE_T_MAX / 128) {
@@ -46,8 +37,7 @@ static int build_levels(Memory *it, const uint64_t *both, uint32_t percent)
     uint32_t status = BITM_BAD_SIZE;
     if (hashes != NULL && again != NULL && sizes != NULL) {
         Py_BEGIN_ALLOW_THREADS
-        for (size_t i = 0; i < count; i++)
-            hashes[i] = both[2 * i];
+        memcpy(hashes, keys->hashes, 8 * count);
         status =
             bitm_hash_build(hashes, count, percent, words, most, again, first, sizes, LEVELS, &levels, &used, &left);
         Py_END_ALLOW_THREADS
@@ -63,23 +53,21 @@ static int build_levels(Memory *it, const uint64_t *both, uint32_t percent)
 }
 
 /* Gives back the room that no level took, and builds the tables and the fingerprints. -1 and an error. */
-static int build_tables(Memory *it, const uint64_t *both)
+static int build_tables(Memory *it, const Keys *keys)
 {
     struct bitm_index *index = &it->hash.index;
-    uint64_t *words = aligned_resize(it->own[0], 8 * index->words_len, 8 * index->words_len + 8), ones,
-             number_there = 0;
+    uint64_t *words = aligned_resize(it->own[0], 8 * index->words_len, 8 * index->words_len + 8), ones;
     if (words != NULL)
         it->own[0] = words;
     it->own_bytes = 8 * (index->words_len + LEVELS);
     index->words = it->own[0];
     index->upper_len = bitm_index_upper_len(index->words_len);
     index->lower_len = bitm_index_lower_len(index->words_len);
-    prints_sized(it);
-    it->prints_len = bitm_bits_words_len(it->prints_bits);
+    it->prints_len = bitm_bits_words_len(it->hash.keys * it->print_width);
     uint64_t *upper = memory_own(it, index->upper_len, 8),
              *lower = upper == NULL ? NULL : memory_own(it, index->lower_len, 8);
     uint64_t *prints = lower == NULL ? NULL : memory_own(it, it->prints_len, 8);
-    uint32_t status, width = (uint32_t)it->print_width;
+    uint32_t status;
     if (prints == NULL)
         return -1;
     memset(prints, 0, 8 * it->prints_len);
@@ -88,12 +76,9 @@ static int build_tables(Memory *it, const uint64_t *both)
     it->prints = prints;
     Py_BEGIN_ALLOW_THREADS
     status = bitm_index_build(index->words, index->words_len, upper, index->upper_len, lower, index->lower_len, &ones);
-    for (size_t i = 0; i < it->hash.keys && status == BITM_OK && width; i++) {
-        status = bitm_hash_get(&it->hash, both[2 * i], &number_there);
-        if (status == BITM_OK)
-            status =
-                bitm_bits_set_fragment(prints, it->prints_len, it->prints_bits, number_there, width, both[2 * i + 1]);
-    }
+    if (status == BITM_OK)
+        status = bitm_hash_set_prints(&it->hash, keys->hashes, keys->count, keys->prints, keys->count, prints,
+                                      it->prints_len, (uint32_t)it->print_width);
     Py_END_ALLOW_THREADS
     if (status == BITM_OK)
         return 0;
@@ -119,22 +104,23 @@ typedef struct {
 } Settings;
 
 /* The hash of keys by a seed: NULL and an error; NULL alone where two hashes are equal. */
-static Memory *built(PyObject *keys, const Settings *how, uint64_t seed)
+static Memory *built(PyObject *given, const Settings *how, uint64_t seed)
 {
-    size_t count;
-    uint64_t *both = keys_hash(keys, how->mark, seed, &count);
-    Memory *it = both == NULL ? NULL : memory_new();
+    Keys keys;
+    if (keys_hash(&keys, given, how->mark, seed))
+        return NULL;
+    Memory *it = memory_new();
     int status = -1;
     if (it != NULL) {
-        it->hash.keys = count;
+        it->hash.keys = keys.count;
         it->print_width = how->width;
         it->seed = seed;
         it->mark = how->mark;
-        status = build_levels(it, both, how->percent > UINT32_MAX ? UINT32_MAX : (uint32_t)how->percent);
+        status = build_levels(it, &keys, how->percent > UINT32_MAX ? UINT32_MAX : (uint32_t)how->percent);
         if (status == 0)
-            status = build_tables(it, both);
+            status = build_tables(it, &keys);
     }
-    free(both);
+    keys_drop(&keys);
     if (status == 0)
         return it;
     DROP(it);
@@ -179,16 +165,6 @@ static int hash_init(PyObject *self, PyObject *args, PyObject *keywords)
 
 /* ---- queries */
 
-/* Whether a number's fingerprint is that of a key: BITM_OK, BITM_NONE where it is another, BITM_WRONG. */
-static uint32_t print_of(const Memory *it, uint64_t number_there, uint64_t sought)
-{
-    uint64_t found = 0;
-    if (bitm_bits_get_fragment(it->prints, it->prints_len, it->prints_bits, number_there, (uint32_t)it->print_width,
-                               &found) != BITM_OK)
-        return BITM_WRONG;
-    return found == (sought & it->print_mask) ? BITM_OK : BITM_NONE;
-}
-
 /* The hash and the fingerprint of a key, and the memory, borrowed: NULL and an error. To hash a str runs no Python
  * code; to hash another key may, which may close the value. */
 static Memory *hashed(PyObject *self, PyObject *key, uint64_t both[2])
@@ -215,9 +191,8 @@ static int found(PyObject *self, PyObject *key, uint64_t *out)
     const Memory *it = hashed(self, key, both);
     if (it == NULL)
         return -1;
-    uint32_t status = bitm_hash_get(&it->hash, both[0], out);
-    if (status == BITM_OK)
-        status = print_of(it, *out, both[1]);
+    uint32_t status =
+        bitm_hash_find(&it->hash, it->prints, it->prints_len, (uint32_t)it->print_width, both[0], both[1], out);
     if (status == BITM_OK || status == BITM_NONE)
         return status == BITM_OK;
     (void)wrong();
@@ -243,47 +218,30 @@ static int hash_contains(PyObject *self, PyObject *key)
     return found(self, key, &out);
 }
 
-/* The numbers of many keys from their hashes and fingerprints, which stand one after another. Needs no GIL. */
-static uint32_t numbers(const Memory *it, uint64_t *both, size_t count, uint64_t *out, struct bitm_list_counts *counts)
-{
-    uint64_t *prints = out; /* until the answers are there */
-    for (size_t i = 0; i < count; i++)
-        prints[i] = both[2 * i + 1];
-    for (size_t i = 0; i < count; i++)
-        both[i] = both[2 * i];
-    memcpy(both + count, prints, 8 * count);
-    uint32_t status = bitm_hash_get_list(&it->hash, both, count, out, count, counts);
-    for (size_t i = 0; i < count && status == BITM_OK; i++) {
-        uint32_t is_key = out[i] < BITM_WRONG_TABLES ? print_of(it, out[i], both[count + i]) : BITM_OK;
-        counts->missing += is_key == BITM_NONE;
-        counts->wrong += is_key == BITM_WRONG;
-        out[i] = is_key == BITM_NONE ? BITM_NO_ANSWER : out[i];
-    }
-    return status;
-}
-
 static PyObject *hash_get_list(PyObject *self, PyObject *const *args, Py_ssize_t count, PyObject *keywords)
 {
     static const char *const names[] = {"keys", "*missing"};
     PyObject *given[2], *made = NULL;
     Answers answers;
-    size_t many = 0;
+    Keys keys = {NULL, NULL, 0};
     if (pick("get_list", names, 1, 2, args, count, keywords, given) ||
         answers_begin(&answers, given[0], given[1], SOME))
         return NULL;
     Memory *it = memory_of(self);
-    uint64_t *both = it == NULL ? NULL : keys_hash(given[0], it->mark, it->seed, &many);
-    it = both == NULL ? NULL : memory_kept(self); /* hashing may have run code that closed it */
-    if (it != NULL && answers_room(&answers, many) == 0) {
+    int is_hashed = it != NULL && keys_hash(&keys, given[0], it->mark, it->seed) == 0;
+    it = is_hashed ? memory_kept(self) : NULL; /* hashing may have run code that closed it */
+    if (it != NULL && answers_room(&answers, keys.count) == 0) {
         struct bitm_list_counts counts = {0, 0};
         uint32_t status;
         Py_BEGIN_ALLOW_THREADS
-        status = numbers(it, both, many, answers.out, &counts);
+        status = bitm_hash_find_list(&it->hash, it->prints, it->prints_len, (uint32_t)it->print_width, keys.hashes,
+                                     keys.count, keys.prints, keys.count, answers.out, keys.count, &counts);
         Py_END_ALLOW_THREADS
         made = status != BITM_OK || counts.wrong ? wrong() : answers_end(&answers, counts.missing);
     }
     answers_drop(&answers);
-    free(both);
+    if (is_hashed)
+        keys_drop(&keys);
     DROP(it);
     return made;
 }

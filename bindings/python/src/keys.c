@@ -101,63 +101,83 @@ int key_hash(PyObject *key, uint64_t mark, uint64_t seed, uint64_t out[2])
 
 int is_key(PyObject *key) { return PyUnicode_Check(key) || PyBytes_Check(key) || PyIndex_Check(key); }
 
+void keys_drop(Keys *it)
+{
+    free(it->hashes);
+    free(it->prints);
+}
+
+/* Room for that many keys. */
+static int keys_room(Keys *it, size_t room)
+{
+    uint64_t *hashes = room > (size_t)PY_SSIZE_T_MAX / 16 ? NULL : realloc(it->hashes, 8 * room + 8);
+    it->hashes = hashes == NULL ? it->hashes : hashes;
+    uint64_t *prints = hashes == NULL ? NULL : realloc(it->prints, 8 * room + 8);
+    it->prints = prints == NULL ? it->prints : prints;
+    if (prints != NULL)
+        return 0;
+    PyErr_NoMemory();
+    return -1;
+}
+
+static void keys_put(Keys *it, size_t at, const uint64_t both[2])
+{
+    it->hashes[at] = both[0];
+    it->prints[at] = both[1];
+}
+
 /* Of an array of whole numbers, without the GIL. */
-static uint64_t *array_hash(PyObject *keys, uint64_t seed, size_t *count)
+static int array_hash(Keys *it, PyObject *keys, uint64_t seed)
 {
     Integers from;
     if (integers_take(&from, keys, "a key"))
-        return NULL;
-    uint64_t *made = from.len > (size_t)PY_SSIZE_T_MAX / 16 ? NULL : room_for(2 * from.len);
-    *count = from.len;
-    if (made != NULL) {
+        return -1;
+    int status = keys_room(it, from.len);
+    if (status == 0) {
+        it->count = from.len;
         Py_BEGIN_ALLOW_THREADS(void)
-        integers_load(&from, 0, from.len, made + from.len); /* also those below 0 */
+        integers_load(&from, 0, from.len, it->prints); /* also those below 0 */
         for (size_t i = 0; i < from.len; i++) {
             uint64_t both[2];
-            number_hash(made[from.len + i], from.is_signed, seed, both);
-            memcpy(made + 2 * i, both, sizeof both);
+            number_hash(it->prints[i], from.is_signed, seed, both);
+            keys_put(it, i, both);
         }
         Py_END_ALLOW_THREADS
     }
     integers_drop(&from);
-    return made;
+    return status;
 }
 
-/* Room for twice as many keys. */
-static uint64_t *wider(uint64_t *made, size_t *room)
+static int each_hash(Keys *it, PyObject *keys, uint64_t mark, uint64_t seed)
 {
-    *room = *room == 0 ? 64 : 2 * *room;
-    uint64_t *found = *room > (size_t)PY_SSIZE_T_MAX / 16 ? NULL : realloc(made, 16 * *room);
-    if (found == NULL) {
-        PyErr_NoMemory();
-        free(made);
-    }
-    return found;
-}
-
-uint64_t *keys_hash(PyObject *keys, uint64_t mark, uint64_t seed, size_t *count)
-{
-    size_t room = 0;
-    *count = 0;
-    if (mark == MARK_SIP && is_instance(keys, "numpy", "ndarray") && PyObject_CheckBuffer(keys)) {
-        PyObject *is_whole = more("is_whole", PyTuple_Pack(1, keys));
-        Py_XDECREF(is_whole);
-        if (is_whole == Py_True || is_whole == NULL)
-            return is_whole == NULL ? NULL : array_hash(keys, seed, count);
-    }
     PyObject *iterator = PyObject_GetIter(keys), *key;
-    uint64_t *made = iterator == NULL ? NULL : wider(NULL, &room);
-    while (made != NULL && (key = PyIter_Next(iterator)) != NULL) {
-        int status =
-            *count < room || (made = wider(made, &room)) != NULL ? key_hash(key, mark, seed, made + 2 * *count) : -1;
+    size_t room = 0;
+    while (iterator != NULL && (key = PyIter_Next(iterator)) != NULL) {
+        uint64_t both[2];
+        int status = key_hash(key, mark, seed, both);
         Py_DECREF(key);
+        if (status == 0 && it->count == room)
+            status = keys_room(it, room = room == 0 ? 64 : 2 * room);
         if (status)
             break;
-        ++*count;
+        keys_put(it, it->count++, both);
     }
     Py_XDECREF(iterator);
-    if (made == NULL || !PyErr_Occurred())
-        return made;
-    free(made);
-    return NULL;
+    return PyErr_Occurred() ? -1 : 0;
+}
+
+int keys_hash(Keys *it, PyObject *keys, uint64_t mark, uint64_t seed)
+{
+    PyObject *is_whole = Py_False;
+    *it = (Keys){NULL, NULL, 0};
+    if (mark == MARK_SIP && is_instance(keys, "numpy", "ndarray") && PyObject_CheckBuffer(keys)) {
+        is_whole = more("is_whole", PyTuple_Pack(1, keys));
+        Py_XDECREF(is_whole);
+    }
+    int status = is_whole == NULL     ? -1
+                 : is_whole == Py_True ? array_hash(it, keys, seed)
+                                       : each_hash(it, keys, mark, seed);
+    if (status)
+        keys_drop(it);
+    return status;
 }

@@ -1,4 +1,4 @@
-//! Rank, select, Elias-Fano sequences and perfect hashes for C: the caller owns the memory of words and tables, and no
+//! Rank, select and Elias-Fano sequences for C: the caller owns the memory of words and tables, and no
 //! call allocates, keeps a pointer or has state. Each call is defined for all numbers: it tests what it needs, and
 //! answers by a status.
 //!
@@ -11,7 +11,6 @@
 // - `bytes`: a few bits anywhere in bytes
 // - `copying`: copies and comparisons of ranges of bits
 // - `fragments`: arrays of numbers in words, and the size of a bit vector
-// - `hash`: perfect hashes
 // - `index`: building and checking tables
 // - `listed`: writes at a list of positions
 // - `numbers`: predecessors, membership and runs of numbers of a sequence
@@ -32,7 +31,6 @@ mod block;
 mod bytes;
 mod copying;
 mod fragments;
-mod hash;
 mod index;
 mod listed;
 mod numbers;

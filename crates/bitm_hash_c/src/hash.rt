@@ -9,7 +9,7 @@ ghost use Rattle.hash_levels.specs.InPlace.{IsMade};
 ghost use Rattle.hash_levels.specs.Levels.{left_of, AreSized, IsLevel, Leave};
 ghost use Rattle.hash_levels.specs.Numbers.{AreLevels};
 ghost use Rattle.hash_levels.specs.Places.{place_in, words_for};
-ghost use Rattle.bitm_c.specs.Hash.{made_of, CanBeLevel, HashAnswered};
+ghost use Rattle.bitm_hash_c.specs.Hash.{made_of, CanBeLevel, HashAnswered};
 ghost use Rattle.bitm_abi.specs.Hash.{hash_lists, IsHashNumber};
 ghost use Rattle.bitm_abi.specs.Lists.{AreCounted};
 
@@ -28,7 +28,7 @@ pub extern "C" fn bitm_hash_level_len(left: usize, percent: u32) -> usize
 }
 
 /// Builds a level of the hashes, and moves the hashes that it leaves to the start of their list.
-#[tactic(auto, using(bitm::proofs::BitLaws::zeros_have_no_ones))]
+#[tactic(auto, using(bit_lists::proofs::BitLaws::zeros_have_no_ones))]
 #[unsafe(no_mangle)]
 pub extern "C" fn bitm_hash_level(
     hashes: &mut [u64],

@@ -2,7 +2,7 @@
 use Rattle.std.proofs.Common.{◌∙◌}
 use Rattle.bitm_abi.proofs.ToldLemmas.{told}
 use Rattle.bitm_abi.specs.Hash.{IsHashNumber}
-use Rattle.bitm_c.proofs.hash.bitm_hash_get.Goals as goal
+use Rattle.bitm_hash_c.proofs.hash.bitm_hash_get.Goals as goal
 
 pub returns-in-Some : goal.returns-in-Some
 returns-in-Some c =
