@@ -21,6 +21,7 @@
 // - `selections`: the selection of an index, and nearest bits
 // - `sequence`: Elias-Fano sequences
 // - `sequence_lists`: lists of queries of a sequence
+// - `shard_lists`: lists of queries of shards
 // - `shards`: indexes over shards, queried as one
 // - `stored`: the header of a file
 // - `version`: the version

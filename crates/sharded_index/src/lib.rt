@@ -17,6 +17,16 @@
 //! ```
 #![tactic(auto)]
 
+// What is in each file:
+// - `building`: prefix counts, made of the numbers of each shard
+// - `counts`: how many bits and 1 bits there are before each shard, and which shard holds a position or a rank
+// - `groups`: numbers in the order of the shards that hold them
+// - `laws`: laws of joined bits
+// - `near`: the nearest bit of a kind on either side of a position
+// - `ranks`: ranks of a list of positions of the joined bits
+// - `selections`: selections of a list of ranks of the joined bits
+// - `shard`: one of the indexes, with its length in bits
+// - `sharded`: several indexes queried as one
 mod building;
 mod counts;
 mod groups;

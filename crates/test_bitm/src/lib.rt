@@ -14,6 +14,22 @@
 //! The language bindings compare the compiled library with plain lists, by hundreds of thousands of calls.
 #![tactic(auto)]
 
+// What is in each file:
+// - `computed`: a source whose words and tables are computed
+// - `contents`: rank and selection over small bit vectors, borrowed and owned, by each strategy
+// - `every_place`: every position and every rank, to past the end
+// - `in_word`: selection in one word, against rows worked out by hand and a walk over the bits
+// - `large`: a bit vector of 2^20 words
+// - `logarithms`: the logarithm of how many items one sample stands for
+// - `many`: many queries of an index at once, of few words and of enough words for the searches to start from a guess
+// - `readme`: the answers that the README states beside its program
+// - `samples`: selection by samples
+// - `simple`: the simple rank
+// - `sizes`: which types keep bytes on the heap, and how many
+// - `strategies`: the index with strategies and a density that a user wrote
+// - `tables`: the tables that an index keeps, its size, and ranks of a few contents, worked out by hand
+// - `two_parts`: answers round the end of the first part of 2^32 bits, and in the second, over words that are all 1
+// - `walk`: what the tests share
 #[cfg(test)]
 mod computed;
 #[cfg(test)]

@@ -7,6 +7,16 @@
 //! They stand in a crate of their own, since a crate with tests is proved twice.
 #![tactic(auto)]
 
+// What is in each file:
+// - `appending`: bits and numbers that are appended
+// - `bytes`: reads and writes of bytes
+// - `finds`: the nearest bits
+// - `fragments`: ranges and fragments
+// - `iterators`: iterators
+// - `lending`: what a caller knows of the owner of a slice after writes
+// - `making`: vectors that are made, their sizes and copies
+// - `single_bits`: single bits, their counts, and the numbers of `masks`
+// - `successive`: calls that leave the next place, begin or index
 #[cfg(test)]
 mod appending;
 #[cfg(test)]

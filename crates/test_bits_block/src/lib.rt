@@ -4,5 +4,7 @@
 //! They stand in a crate of their own, since a crate with tests is proved twice.
 #![tactic(auto)]
 
+// What is in each file:
+// - `bits`: the block of a hundred bits
 #[cfg(test)]
 mod bits;

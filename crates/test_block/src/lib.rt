@@ -4,6 +4,9 @@
 //! They stand in a crate of their own, since a crate with tests is proved twice.
 #![tactic(auto)]
 
+// What is in each file:
+// - `blocks`: a small block, as bytes
+// - `trees`: the block of a small tree
 #[cfg(test)]
 mod blocks;
 #[cfg(test)]

@@ -4,6 +4,9 @@
 //! They stand in a crate of their own, since a crate with tests is proved twice.
 #![tactic(auto)]
 
+// What is in each file:
+// - `dictionaries`: the block of a dictionary of twelve numbers
+// - `hashes`: the block of a hash of twelve keys
 #[cfg(test)]
 mod dictionaries;
 #[cfg(test)]

@@ -4,6 +4,9 @@
 //! They stand in a crate of their own, since a crate with tests is proved twice.
 #![tactic(auto)]
 
+// What is in each file:
+// - `matrices`: the block of a small matrix
+// - `ranges`: the ranges of a matrix in a block, beside plain loops
 #[cfg(test)]
 mod matrices;
 #[cfg(test)]

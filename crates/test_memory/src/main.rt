@@ -6,6 +6,17 @@
 //! one line has to say so: else a call has overlooked it.
 #![tactic(auto)]
 
+// What is in each file:
+// - `numbers`: the calls of a matrix, of a perfect hash and of a dictionary that take memory
+// - `outcome`: what is handed to the calls, and how they end
+// - `packed`: the calls of the packed index and of its strategies that take memory
+// - `sequences`: the calls of a sequence that take memory, and those of its users
+// - `simple`: the calls of a simple rank that take memory
+// - `texts`: the calls of a text index that take memory
+// - `trees`: the calls of a tree that take memory
+// - `tries`: the calls of trees by their parents and of trees with labels that take memory
+// - `uncopied`: a bit vector as a user writes it, which cannot be copied
+// - `words`: the constructors of words, and copies of words
 mod numbers;
 mod outcome;
 mod packed;

@@ -3,6 +3,9 @@
 //! They stand in a crate of their own, since a crate with tests is proved twice.
 #![tactic(auto)]
 
+// What is in each file:
+// - `by_hand`: answers of cursors that are worked out by hand
+// - `walks`: cursors beside a walk over all numbers
 #[cfg(test)]
 mod by_hand;
 #[cfg(test)]

@@ -4,6 +4,11 @@
 //! They stand in a crate of their own, since a crate with tests is proved twice.
 #![tactic(auto)]
 
+// What is in each file:
+// - `lines`: in which lines patterns stand, worked out by hand as `grep -n` numbers them
+// - `patterns`: how often patterns stand in texts, and where
+// - `runs`: runs with arguments, and what they write
+// - `sources`: a source in memory
 #[cfg(test)]
 mod lines;
 #[cfg(test)]

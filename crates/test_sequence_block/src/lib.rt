@@ -4,5 +4,7 @@
 //! They stand in a crate of their own, since a crate with tests is proved twice.
 #![tactic(auto)]
 
+// What is in each file:
+// - `sequences`: the block of seven numbers
 #[cfg(test)]
 mod sequences;

@@ -4,6 +4,10 @@
 //! They stand in a crate of their own, since a crate with tests is proved twice.
 #![tactic(auto)]
 
+// What is in each file:
+// - `failures`: what a run ends with and says
+// - `runs`: whole runs
+// - `sequences`: sequences, by rows that are worked out by hand
 #[cfg(test)]
 mod failures;
 #[cfg(test)]

@@ -4,6 +4,10 @@
 //! They stand in a crate of their own, since a crate with tests is proved twice.
 #![tactic(auto)]
 
+// What is in each file:
+// - `counted`: how many times each shard is queried
+// - `joined`: each query of a few shards, empty ones too, beside a walk over the joined bits
+// - `made`: shards of some bits, with their tables and prefix counts
 #[cfg(test)]
 mod counted;
 #[cfg(test)]

@@ -3,6 +3,9 @@
 //! They stand in a crate of their own, since a crate with tests is proved twice.
 #![tactic(auto)]
 
+// What is in each file:
+// - `by_hand`: answers, sizes and errors that are worked out by hand
+// - `walks`: all queries beside a walk over the bits of words
 #[cfg(test)]
 mod by_hand;
 #[cfg(test)]

@@ -4,5 +4,7 @@
 //! They stand in a crate of their own, since a crate with tests is proved twice.
 #![tactic(auto)]
 
+// What is in each file:
+// - `sparse`: the block of four 1 bits among 5000
 #[cfg(test)]
 mod sparse;

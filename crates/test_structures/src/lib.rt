@@ -4,6 +4,12 @@
 //! They stand in a crate of their own, since a crate with tests is proved twice.
 #![tactic(auto)]
 
+// What is in each file:
+// - `hashes`: perfect hashes
+// - `matrices`: wavelet matrices, worked by hand and compared with plain loops
+// - `trees`: trees compared with a search for parents by the definition
+// - `tries`: trees with labels, by answers worked by hand
+// - `ways`: ways up and down trees, compared with lists of parents, and answers worked by hand
 #[cfg(test)]
 mod hashes;
 #[cfg(test)]

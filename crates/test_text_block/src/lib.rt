@@ -5,6 +5,15 @@
 //! They stand in a crate of their own, since a crate with tests is proved twice.
 #![tactic(auto)]
 
+// What is in each file:
+// - `banana`: the block of the index of banana, as bytes
+// - `bytes`: texts of bytes
+// - `checking`: blocks that are checked
+// - `empty`: the block of the index of the empty text over one letter, with a sample for each position
+// - `making`: blocks that are written from the text itself
+// - `mississippi`: the block of the index of the text mississippi, with a sample each three letters
+// - `texts`: the block of the index of a small text
+// - `writing`: blocks that are written from an index
 #[cfg(test)]
 mod banana;
 #[cfg(test)]

@@ -4,6 +4,9 @@
 //! They stand in a crate of their own, since a crate with tests is proved twice.
 #![tactic(auto)]
 
+// What is in each file:
+// - `collections`: documents of each kind, all their short patterns, and what is refused
+// - `found`: in which documents patterns stand, each document once
 #[cfg(test)]
 mod collections;
 #[cfg(test)]

@@ -4,6 +4,10 @@
 //! They stand in a crate of their own, since a crate with tests is proved twice.
 #![tactic(auto)]
 
+// What is in each file:
+// - `orders`: the order of suffixes, by induction and by comparing
+// - `positions`: where patterns stand and what the text is, beside a walk over the text
+// - `texts`: texts of each kind, all their short patterns, and what no index is made of
 #[cfg(test)]
 mod orders;
 #[cfg(test)]

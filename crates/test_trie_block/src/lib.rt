@@ -4,5 +4,7 @@
 //! They stand in a crate of their own, since a crate with tests is proved twice.
 #![tactic(auto)]
 
+// What is in each file:
+// - `tries`: the block of a small trie
 #[cfg(test)]
 mod tries;

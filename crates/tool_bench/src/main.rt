@@ -17,6 +17,17 @@
 
 ghost use Rattle.std.specs.Prelude.{◌<◌};
 
+// What is in each file:
+// - `answers`: answers of matrices and trees, compared with plain counts over the same numbers and degrees
+// - `bench`: rows, which are printed as they come, and the clock that times them
+// - `content`: contents, numbers and queries that are drawn
+// - `hashes`: rows of perfect hashes
+// - `index`: rows of indexes
+// - `many`: rows of calls of many queries at once
+// - `numbers`: rows of wavelet matrices
+// - `sequences`: rows of sequences
+// - `trees`: rows of trees
+// - `words`: rows of calls over words alone
 mod answers;
 mod bench;
 mod content;
