@@ -1,5 +1,6 @@
 /* Fingerprints of keys: each key is found, and another value only by a fingerprint that stands there, alone and in a
  * list, for each width; over words, tables and sizes that may hold anything a number is below the count of keys. */
+#define _DEFAULT_SOURCE
 #include "places.h"
 
 enum { KEYS = 300, LEVELS = 256, ROOM = 1000 };
@@ -42,7 +43,7 @@ static uint32_t sought(const struct bitm_hash *hash, const uint64_t *prints, siz
     uint64_t number;
     const uint32_t status = bitm_hash_get(hash, key, &number);
     if (status != BITM_OK) return status;
-    if (width && number > (64 * len - width) / width) return BITM_WRONG;
+    if (width && number >= 64 * len / width) return BITM_WRONG;
     if (print_at(prints, width, number) != (mark & largest(width))) return BITM_NONE;
     *out = number;
     return BITM_OK;
