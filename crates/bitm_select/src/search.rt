@@ -5,5 +5,6 @@ pub mod entry_range;
 pub mod record;
 pub mod selected;
 pub mod selecting;
+pub mod steps;
 
 pub use bitm_tables::ranking;

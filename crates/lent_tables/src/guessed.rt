@@ -11,15 +11,12 @@ ghost use Rattle.bitm_select.specs.Told.{told_entry};
 
 use crate::sampled::{Bounds, entry_between, entry_by_samples, samples_to};
 use crate::samples::{LentSamples, clamped_log};
-use bitm_select::search::entries::{last_entry, sought_entry};
+use bitm_select::search::entries::last_entry;
 use bitm_select::search::selecting::FindsEntry;
-use bitm_tables::entry::{entries_of_part, ones_to_entry};
-use bitm_tables::levels::L2_ENTRIES_PER_L1_ENTRY;
+use bitm_select::search::steps::entry_by_steps;
+use bitm_tables::entry::entries_of_part;
 use bitm_tables::source::TableSource;
 use tuning::{ENTRIES_TO_STEP, ENTRIES_TOO_FAR};
-
-/// The number of entries on either side of a guess that are read one after another.
-const STEPS: usize = 4;
 
 /// Entries in a window around a guess.
 const WINDOW: usize = 8;
@@ -69,103 +66,6 @@ fn guess_of(lent: &LentSamples<'_>, part: usize, rank: usize) -> Guess
     Guess {
         at: low.wrapping_add(passed),
         between,
-    }
-}
-
-/// The last entry of an upper block with at most `rank` bits of the kind before it there, and what it packs: the right
-/// one where the tables are those of the words. The search starts at entry `at`, which packs `packed` and has at most
-/// `rank` before it. `None` where the right entry is neither `at` nor one of the three after it.
-#[inline(always)]
-fn steps_on<const BIT: u8, T: TableSource>(
-    source: &mut T,
-    part: usize,
-    at: usize,
-    packed: u64,
-    rank: usize,
-) -> Option<(usize, u64)>
-    requires sized { HasSizes (T.lists source.old) }
-    requires inside { part < length (T.lists source.old).upper }
-    requires at { at < entries_from (length (T.lists source.old).lower) part }
-    requires at_most { HasTables (T.lists source.old)
-        → before_in_part (sought_in BIT (T.lists source.old).words) (entry_in part at) ≤ rank }
-    requires packed { packed ≡ told_entry (as_bit BIT) (T.lists source.old) (entry_in part at) }
-    ensures last { IfSome result (IsLastFound BIT (T.lists source.old) part rank) }
-    ensures reads { ReadsAtMost (T.reads source.old) (T.reads source.new) 0 4 0 }
-    ensures same { T.lists source.new ≡ T.lists source.old }
-{
-    let first = part * L2_ENTRIES_PER_L1_ENTRY;
-    let end = entries_of_part(source.lower_len(), part);
-    let mut packed = packed;
-    for k in 0..STEPS {
-        let next = at + k + 1;
-        if next >= end {
-            return Some((at + k, packed));
-        }
-        let entry = sought_entry::<BIT, T>(source, first + next);
-        if rank < ones_to_entry(entry) {
-            return Some((at + k, packed));
-        }
-        packed = entry;
-    }
-    None
-}
-
-/// The last entry of an upper block with at most `rank` bits of the kind before it there, and what it packs: the right
-/// one where the tables are those of the words. The search starts at entry `at`, which has more than `rank` before it.
-/// `None` where the right entry is not one of the four before it.
-#[inline(always)]
-fn steps_back<const BIT: u8, T: TableSource>(
-    source: &mut T,
-    part: usize,
-    at: usize,
-    rank: usize,
-) -> Option<(usize, u64)>
-    requires sized { HasSizes (T.lists source.old) }
-    requires inside { part < length (T.lists source.old).upper }
-    requires at { at < entries_from (length (T.lists source.old).lower) part }
-    requires above { HasTables (T.lists source.old)
-        → rank < before_in_part (sought_in BIT (T.lists source.old).words) (entry_in part at) }
-    ensures last { IfSome result (IsLastFound BIT (T.lists source.old) part rank) }
-    ensures reads { ReadsAtMost (T.reads source.old) (T.reads source.new) 0 4 0 }
-    ensures same { T.lists source.new ≡ T.lists source.old }
-{
-    let first = part * L2_ENTRIES_PER_L1_ENTRY;
-    for k in 0..STEPS {
-        if at <= k {
-            return None;
-        }
-        let next = at - k - 1;
-        let entry = sought_entry::<BIT, T>(source, first + next);
-        if ones_to_entry(entry) <= rank {
-            return Some((next, entry));
-        }
-    }
-    None
-}
-
-/// The last entry of an upper block with at most `rank` bits of the kind before it there, and what it packs: the right
-/// one where the tables are those of the words. The search looks at entry `about` and at most four entries before or
-/// after it, and returns `None` where this does not find it.
-#[inline(always)]
-fn entry_by_steps<const BIT: u8, T: TableSource>(
-    source: &mut T,
-    part: usize,
-    about: usize,
-    rank: usize,
-) -> Option<(usize, u64)>
-    requires sized { HasSizes (T.lists source.old) }
-    requires inside { part < length (T.lists source.old).upper }
-    ensures last { IfSome result (IsLastFound BIT (T.lists source.old) part rank) }
-    ensures reads { ReadsAtMost (T.reads source.old) (T.reads source.new) 0 5 0 }
-    ensures same { T.lists source.new ≡ T.lists source.old }
-{
-    let entries = entries_of_part(source.lower_len(), part);
-    let at = about.min(entries - 1);
-    let packed = sought_entry::<BIT, T>(source, part * L2_ENTRIES_PER_L1_ENTRY + at);
-    if ones_to_entry(packed) <= rank {
-        steps_on::<BIT, T>(source, part, at, packed, rank)
-    } else {
-        steps_back::<BIT, T>(source, part, at, rank)
     }
 }
 

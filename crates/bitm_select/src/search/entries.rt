@@ -1,5 +1,6 @@
 //! The search for an entry of an upper block, in tables that may hold anything: binary search, and a guess first where
-//! there are many entries. It ends with some entry of the upper block where the tables are not those of the words.
+//! the bits lie evenly or there are many entries. It ends with some entry of the upper block where the tables are not
+//! those of the words.
 ghost use Rattle.std.specs.Prelude.{◌≡◌, ◌+◌, ◌-◌, ◌*◌, ◌/◌, ◌^◌, ◌<◌, ◌≤◌, ◌⊎◌, length};
 ghost use Rattle.bit_lists.specs.Bits.{digit_count};
 ghost use Rattle.bit_lists.specs.Count.{as_bit};
@@ -11,6 +12,7 @@ ghost use Rattle.bitm_select.specs.Told.{told_entry};
 
 use crate::search::entry_range::{EntryRange, last_in_range, narrow_by_guess};
 use crate::search::record::is_at_most;
+use crate::search::steps::entry_if_even;
 use bitm_tables::entry::{complement_entry, entries_of_part, ones_to_entry};
 use bitm_tables::levels::L2_ENTRIES_PER_L1_ENTRY;
 use bitm_tables::source::TableSource;
@@ -18,6 +20,14 @@ use tuning::FEW_ENTRIES;
 
 /// The number of halvings that are unrolled at the end of a search.
 const LAST: u32 = 8;
+
+/// The least number of halvings in place of which a search takes a guess where the bits lie evenly: with fewer, halving
+/// is as fast.
+const LEAST_TO_GUESS: u32 = 5;
+
+/// The greatest such number: after a wrong guess, which reads seven entries, this many halvings are within the 23
+/// entries that a search reads at most.
+const MOST_TO_GUESS: u32 = 14;
 
 /// Lower entry `at` of the kind of bit that is sought, where the tables are those of the words: complemented where
 /// `BIT` is 0.
@@ -41,8 +51,8 @@ pub fn sought_entry<const BIT: u8, T: TableSource>(source: &mut T, at: usize) ->
     }
 }
 
-/// `last_entry` for many entries: binary search in what a guess leaves. Not inlined, so that the search over few
-/// entries is.
+/// `last_entry` for many entries: as for few up to the number for which that takes a guess, and above it binary search
+/// in what a guess leaves. Not inlined, so that the search over few entries is.
 #[inline(never)]
 fn last_of_many<const BIT: u8, T: TableSource>(
     source: &mut T,
@@ -56,9 +66,13 @@ fn last_of_many<const BIT: u8, T: TableSource>(
     ensures reads { ReadsAtMost (T.reads source.old) (T.reads source.new) 0 23 0 }
     ensures same { T.lists source.new ≡ T.lists source.old }
 {
+    let entries = entries_of_part(source.lower_len(), part);
+    if entries < 2 << MOST_TO_GUESS {
+        return last_of_few::<BIT, T>(source, part, entries, rank);
+    }
     let all = EntryRange {
         low: 0,
-        left: entries_of_part(source.lower_len(), part),
+        left: entries,
         packed: 0,
         above: 0,
     };
@@ -190,7 +204,34 @@ fn first_half<const BIT: u8, T: TableSource>(
     }
 }
 
-/// `last_entry` by binary search alone.
+/// `last_entry` by binary search alone, in 2^`size` entries or more, but fewer than twice as many.
+#[inline(always)]
+fn last_by_halves<const BIT: u8, T: TableSource>(
+    source: &mut T,
+    part: usize,
+    entries: usize,
+    size: u32,
+    rank: usize,
+) -> (usize, u64)
+    requires sized { HasSizes (T.lists source.old) }
+    requires all { entries ≡ entries_from (length (T.lists source.old).lower) part }
+    requires least { 2 ^ size ≤ entries }
+    requires most { entries < 2 * 2 ^ size }
+    requires few { size ≤ 21 }
+    ensures last { IsLastFound BIT (T.lists source.old) part rank result }
+    ensures reads { ReadsAtMost (T.reads source.old) (T.reads source.new) 0 (size + 2) 0 }
+    ensures same { T.lists source.new ≡ T.lists source.old }
+{
+    let begin = first_half::<BIT, T>(source, part, entries, size, rank);
+    let low = halve_all::<BIT, T>(source, part, begin, size, rank);
+    (
+        low,
+        sought_entry::<BIT, T>(source, part * L2_ENTRIES_PER_L1_ENTRY + low),
+    )
+}
+
+/// `last_entry` by a guess where the bits lie evenly, and else by binary search. Without its 21 halvings, which few
+/// entries do not need, the guess reads no more than binary search may.
 #[inline(always)]
 fn last_of_few<const BIT: u8, T: TableSource>(
     source: &mut T,
@@ -199,6 +240,7 @@ fn last_of_few<const BIT: u8, T: TableSource>(
     rank: usize,
 ) -> (usize, u64)
     requires sized { HasSizes (T.lists source.old) }
+    requires inside { part < length (T.lists source.old).upper }
     requires all { entries ≡ entries_from (length (T.lists source.old).lower) part }
     requires some { 0 < entries }
     ensures last { IsLastFound BIT (T.lists source.old) part rank result }
@@ -206,12 +248,12 @@ fn last_of_few<const BIT: u8, T: TableSource>(
     ensures same { T.lists source.new ≡ T.lists source.old }
 {
     let size = whole_halvings(entries);
-    let begin = first_half::<BIT, T>(source, part, entries, size, rank);
-    let low = halve_all::<BIT, T>(source, part, begin, size, rank);
-    (
-        low,
-        sought_entry::<BIT, T>(source, part * L2_ENTRIES_PER_L1_ENTRY + low),
-    )
+    if size >= LEAST_TO_GUESS && size <= MOST_TO_GUESS {
+        if let Some(found) = entry_if_even::<BIT, T>(source, part, entries, size, rank) {
+            return found;
+        }
+    }
+    last_by_halves::<BIT, T>(source, part, entries, size, rank)
 }
 
 /// The last entry of an upper block with at most `rank` bits of the kind before it there, where the tables are those of

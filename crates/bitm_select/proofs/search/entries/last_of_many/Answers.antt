@@ -7,8 +7,8 @@ use Rattle.bitm_tables.proofs.lemmas.LengthLemmas.{first_of_part}
 use Rattle.bitm_select.proofs.lemmas.SoughtLemmas.{first_none}
 use Rattle.bitm_select.proofs.search.entries.last_of_many.Goals as goal
 
-pub entries_of_part-requires : goal.entries_of_part-requires
-entries_of_part-requires g c =
+pub entries_of_part-entries-requires : goal.entries_of_part-entries-requires
+entries_of_part-entries-requires g c =
     omega (arith, first_of_part _ c.requires.sized c.args.part c.requires.inside, c.lower_len.ensures)
 
 pub narrow_by_guess-range-requires-clause-range : goal.narrow_by_guess-range-requires-clause-range
@@ -16,7 +16,7 @@ narrow_by_guess-range-requires-clause-range g c =
     let lists = g.T.TableSource.lists c.args.source.now in
     let m = sought_in g.row.BIT lists.words in
     let n = entries_from (length lists.lower) c.args.part in
-    let size : c.entries_of_part.result ≡ n = omega (arith, c.entries_of_part.ensures, c.lower_len.ensures) in
+    let size : c.entries_of_part-entries.result ≡ n = omega (arith, c.entries_of_part-entries.ensures, c.lower_len.ensures) in
     let count : ℕ → ℕ = λ j. before_in_part m (c.args.part * 2 ^ 21 + j) in
     let some : 0 < n = omega (arith, first_of_part lists c.requires.sized c.args.part c.requires.inside) in
     record {

@@ -2,7 +2,7 @@ use Rattle.std.proofs.Common.{◌≡◌, ◌+◌, ◌-◌, ◌*◌, ◌^◌, ◌
 use Rattle.bitm_tables.specs.Entry.{before_in_part}
 use Rattle.bitm_select.specs.Search.{sought_in}
 use Rattle.bitm_tables.specs.Tables.{HasTables}
-use Rattle.lent_tables.proofs.guessed.steps_back.Given as goal
+use Rattle.bitm_select.proofs.search.steps.steps_back.Given as goal
 
 -- the entry that is reached has more than the rank before it if the tables are right; one read for each
 abbrev pub invariant-loop-k : goal.invariant-loop-k

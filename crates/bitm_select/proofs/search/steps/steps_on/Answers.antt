@@ -8,7 +8,7 @@ use Rattle.bitm_tables.specs.Tables.{HasTables, Lists}
 use Rattle.bitm_select.specs.Told.{told_entry}
 use Rattle.bitm_select.proofs.lemmas.SoughtLemmas.{low_is}
 use Rattle.bitm_select.proofs.lemmas.ToldLemmas.{last_found}
-use Rattle.lent_tables.proofs.guessed.steps_on.Goals as goal
+use Rattle.bitm_select.proofs.search.steps.steps_on.Goals as goal
 
 pub loop-k-preserved : goal.loop-k-preserved
 loop-k-preserved g c =

@@ -4,7 +4,7 @@ use Rattle.bitm_tables.specs.Entry.{before_in_part}
 use Rattle.bitm_select.specs.Search.{sought_in}
 use Rattle.bitm_tables.specs.Tables.{HasTables, Lists}
 use Rattle.bitm_select.proofs.lemmas.SoughtLemmas.{low_is}
-use Rattle.lent_tables.proofs.guessed.entry_by_steps.Goals as goal
+use Rattle.bitm_select.proofs.search.steps.entry_by_steps.Goals as goal
 
 pub steps_on-requires-clause-at_most : goal.steps_on-requires-clause-at_most
 steps_on-requires-clause-at_most g c = λ t.

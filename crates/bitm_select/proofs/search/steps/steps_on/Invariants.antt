@@ -4,7 +4,7 @@ use Rattle.bitm_tables.specs.Entry.{before_in_part, entries_from}
 use Rattle.bitm_select.specs.Search.{sought_in}
 use Rattle.bitm_tables.specs.Tables.{HasTables}
 use Rattle.bitm_select.specs.Told.{told_entry}
-use Rattle.lent_tables.proofs.guessed.steps_on.Given as goal
+use Rattle.bitm_select.proofs.search.steps.steps_on.Given as goal
 
 -- the entry that is reached is kept, and has no more than the rank before it if the tables are right; one read for each
 abbrev pub invariant-loop-k : goal.invariant-loop-k

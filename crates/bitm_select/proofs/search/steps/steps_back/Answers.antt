@@ -7,7 +7,7 @@ use Rattle.bitm_select.specs.Told.{told_entry}
 use Rattle.bit_lists.specs.Count.{as_bit}
 use Rattle.bitm_select.proofs.lemmas.SoughtLemmas.{low_is}
 use Rattle.bitm_select.proofs.lemmas.ToldLemmas.{last_found}
-use Rattle.lent_tables.proofs.guessed.steps_back.Goals as goal
+use Rattle.bitm_select.proofs.search.steps.steps_back.Goals as goal
 
 pub returns-then-ones_to_entry-rank-clause-last : goal.returns-then-ones_to_entry-rank-clause-last
 returns-then-ones_to_entry-rank-clause-last g c =
