@@ -61,7 +61,15 @@ pub const FEWEST_RANKS: usize = 16;
 /// Measured by the 25th: at 2^28 bits, each search of a list by itself took 1.2 of the time of 16 together.
 pub const SELECTIONS_SIDE_BY_SIDE: usize = 16;
 
-/// Up to this number of entries, 64 KiB, a search of an upper block is binary alone; above, it takes a guess.
+/// The fewest halvings of the entries of an upper block, 2^5 entries, in place of which a selection takes a guess where
+/// the bits lie evenly.
+///
+/// Measured on the 28th: at 2^20 bits (2^9 entries) 39.4 ns for 58.5 by halvings alone; where bits do not lie evenly,
+/// the guess costs 4 ns. With fewer entries halving is as fast.
+pub const FEWEST_HALVINGS_TO_GUESS: u32 = 5;
+
+/// Up to this number of entries, 64 KiB, a search of an upper block where the bits do not lie evenly is binary alone;
+/// above, it narrows the entries by a guess.
 ///
 /// Measured on the 22nd, with a limit of 2^12: even at 2^20 bits (2^9 entries); at 2^24, 153 ns for 144 before (ones),
 /// 108 for 131 (zeros); at 2^28, 262 for 363 and 252 for 376. Moved to 2^13 on the 26th; the figures were not kept.

@@ -16,17 +16,13 @@ use crate::search::steps::entry_if_even;
 use bitm_tables::entry::{complement_entry, entries_of_part, ones_to_entry};
 use bitm_tables::levels::L2_ENTRIES_PER_L1_ENTRY;
 use bitm_tables::source::TableSource;
-use tuning::FEW_ENTRIES;
+use tuning::{FEW_ENTRIES, FEWEST_HALVINGS_TO_GUESS};
 
 /// The number of halvings that are unrolled at the end of a search.
 const LAST: u32 = 8;
 
-/// The least number of halvings in place of which a search takes a guess where the bits lie evenly: with fewer, halving
-/// is as fast.
-const LEAST_TO_GUESS: u32 = 5;
-
-/// The greatest such number: after a wrong guess, which reads seven entries, this many halvings are within the 23
-/// entries that a search reads at most.
+/// The most halvings in place of which a search takes a guess where the bits lie evenly: after a wrong guess, which
+/// reads seven entries, these halvings are within the 23 entries that a search reads at most.
 const MOST_TO_GUESS: u32 = 14;
 
 /// Lower entry `at` of the kind of bit that is sought, where the tables are those of the words: complemented where
@@ -248,7 +244,7 @@ fn last_of_few<const BIT: u8, T: TableSource>(
     ensures same { T.lists source.new ≡ T.lists source.old }
 {
     let size = whole_halvings(entries);
-    if size >= LEAST_TO_GUESS && size <= MOST_TO_GUESS {
+    if size >= FEWEST_HALVINGS_TO_GUESS && size <= MOST_TO_GUESS {
         if let Some(found) = entry_if_even::<BIT, T>(source, part, entries, size, rank) {
             return found;
         }

@@ -114,7 +114,7 @@ pub fn entry_by_steps<const BIT: u8, T: TableSource>(
 }
 
 /// The entry that a rank would have if the bits of the kind lay evenly in an upper block, which need not be one of its
-/// entries. `None` where the entry in the middle tells that they do not: it is more than eight entries from where an
+/// entries. `None` where the entry in the middle says that they do not: it is more than eight entries from where an
 /// even half would be.
 ///
 /// All searches in an upper block read the same two entries and go the same way, so neither costs much.
