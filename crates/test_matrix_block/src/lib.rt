@@ -5,6 +5,8 @@
 #![tactic(auto)]
 
 #[cfg(test)]
+mod lists;
+#[cfg(test)]
 mod matrices;
 #[cfg(test)]
 mod ranges;
