@@ -25,7 +25,8 @@
  * Promised, and proved of each call, for all arguments that keep the duties below:
  *   - it returns, and reads and writes only the memory that it is passed, WHATEVER the tables hold;
  *   - a status other than BITM_OK leaves all that the call could have written unchanged, but for cursors, which may have
- *     moved, and for the list of positions or letters of a text and that of cursors where it is BITM_WRONG;
+ *     moved, and for the lists of positions or letters of a text, of ranges of a matrix and of cursors where it is
+ *     BITM_WRONG;
  *   - over any tables, stale and hostile ones too, a rank is at most its position and a selection finds a position that
  *     is inside and holds the requested bit; BITM_WRONG says that the tables are not those of the words, but BITM_OK
  *     does not say that they are;
@@ -1478,12 +1479,50 @@ BITM_MUST_USE uint32_t bitm_matrix_quantile(const struct bitm_matrix *matrix, si
  * Each reads at most twice what bitm_matrix_count_less does.
  *
  *     if (bitm_matrix_next_value(&matrix, 1, 5, 2, &value) != BITM_OK || value != 4 ||
- *         bitm_matrix_previous_value(&matrix, 1, 5, 4, &value) != BITM_OK || value != 1) return 1;
- *     free(of_numbers); */
+ *         bitm_matrix_previous_value(&matrix, 1, 5, 4, &value) != BITM_OK || value != 1) return 1; */
 BITM_MUST_USE uint32_t bitm_matrix_next_value(const struct bitm_matrix *matrix, size_t start, size_t end,
                                               uint64_t bound, uint64_t *out);
 BITM_MUST_USE uint32_t bitm_matrix_previous_value(const struct bitm_matrix *matrix, size_t start, size_t end,
                                                   uint64_t bound, uint64_t *out);
+
+/* The distinct numbers of a range that are at least `from`, rising, each in numbers and how often the range has it in
+ * counts: as many as there is room for; *written is how many these are. So go on at the last number and 1. BITM_NONE
+ * exactly if there is no such range; BITM_BAD_SIZE also if counts_len is not numbers_len. Whatever the block holds, the
+ * numbers rise from `from` on, a count is at least 1 and at most end - start, and the items after them stay as they
+ * were; only where BITM_WRONG is returned, items may have been written. numbers, counts and written may not overlap one
+ * another or what the call reads. Reads what bitm_matrix_count_less reads, and as much for each number that is written
+ * (evident from the code).
+ *
+ *     uint64_t kinds[4], of_kinds[4];
+ *     if (bitm_matrix_distinct(&matrix, 1, 5, 2, kinds, 4, of_kinds, 4, &written) != BITM_OK || written != 2 ||
+ *         kinds[0] != 4 || of_kinds[0] != 1 || kinds[1] != 5) return 1; // of 1, 4, 1, 5 those from 2 on */
+BITM_MUST_USE uint32_t bitm_matrix_distinct(const struct bitm_matrix *matrix, size_t start, size_t end, uint64_t from,
+                                            uint64_t *numbers, size_t numbers_len, uint64_t *counts, size_t counts_len,
+                                            uint64_t *written);
+
+/* The most frequent numbers of a range: the most frequent first, and of equally frequent ones the least; as many as
+ * there is room for, or all; *written is how many these are. Statuses, overlaps and what is promised of any block as
+ * bitm_matrix_distinct, but for the order. For each distinct number of the range reads what bitm_matrix_count_less
+ * reads, and goes a step for each number less frequent among those that are kept (evident from the code).
+ *
+ *     if (bitm_matrix_top(&matrix, 0, 6, kinds, 2, of_kinds, 2, &written) != BITM_OK || written != 2 ||
+ *         kinds[0] != 1 || of_kinds[0] != 3 || kinds[1] != 3) return 1; // 1 three times; 3, 4 and 5 once */
+BITM_MUST_USE uint32_t bitm_matrix_top(const struct bitm_matrix *matrix, size_t start, size_t end, uint64_t *numbers,
+                                       size_t numbers_len, uint64_t *counts, size_t counts_len, uint64_t *written);
+
+/* The numbers that are in both ranges and at least `from`, each once, rising: as many as there is room for; *written is
+ * how many these are. So go on at the last number and 1. BITM_NONE exactly if there is no such range. Whatever the block
+ * holds, the numbers rise from `from` on, and the items after them stay as they were; only where BITM_WRONG is returned,
+ * items may have been written. numbers and written may not overlap each other or what the call reads. Makes at most
+ * first_end - first_start queries as bitm_matrix_next_value of either range, whatever the block holds (evident from the
+ * code): so give the shorter range first.
+ *
+ *     if (bitm_matrix_intersect(&matrix, 0, 3, 3, 6, 0, kinds, 4, &written) != BITM_OK || written != 1 ||
+ *         kinds[0] != 1) return 1; // 3, 1, 4 and 1, 5, 1 share 1
+ *     free(of_numbers); */
+BITM_MUST_USE uint32_t bitm_matrix_intersect(const struct bitm_matrix *matrix, size_t first_start, size_t first_end,
+                                             size_t second_start, size_t second_end, uint64_t from, uint64_t *numbers,
+                                             size_t numbers_len, uint64_t *written);
 
 /* ---- an index, and a sequence, in one block of memory
  *

@@ -3,6 +3,7 @@
 #include "blocks.hpp"
 
 #include <list>
+#include <map>
 
 using Matrix = bitm::wavelet_matrix;
 using View = bitm::wavelet_matrix_view;
@@ -32,6 +33,31 @@ template <class M> static void range(const M &m, const Words &plain, u64 from, u
     MUST(m.try_quantile(from, to, 0).value() == m.quantile(from, to, 0));
 }
 
+// The lists of a range and of another, beside a map of how often each number is there.
+template <class M> static void lists_of_ranges(const M &m, const Words &plain, u64 from, u64 to)
+{
+    std::map<u64, u64> counts, others;
+    const u64 n = plain.size(), other = draw() % (n + 1), room = draw() % 5 ? draw() % 9 : n;
+    for (u64 i = from; i < to; i++) counts[plain[i]]++;
+    for (u64 i = other; i < n; i++) others[plain[i]]++;
+    const u64 least = n && draw() % 2 ? plain[draw() % n] : 0;
+    Words numbers(room), of_each(room), wanted, often, shared;
+    std::vector<std::pair<u64, u64>> all(counts.begin(), counts.end());
+    for (const auto &it : all)
+        if (it.first >= least && wanted.size() < room) wanted.push_back(it.first), often.push_back(it.second);
+    for (const auto &it : all)
+        if (it.first >= least && others.count(it.first) && shared.size() < room) shared.push_back(it.first);
+    const auto are = [&](std::size_t written, const Words &these) {
+        return written == these.size() && std::equal(these.begin(), these.end(), numbers.begin());
+    };
+    MUST(are(m.distinct(from, to, least, numbers, of_each), wanted) && std::equal(often.begin(), often.end(), of_each.begin()));
+    MUST(are(m.intersect(from, to, other, n, least, numbers), shared));
+    std::stable_sort(all.begin(), all.end(), [](const auto &a, const auto &b) { return a.second > b.second; });
+    wanted.clear(), often.clear();
+    for (u64 i = 0; i < all.size() && i < room; i++) wanted.push_back(all[i].first), often.push_back(all[i].second);
+    MUST(are(m.top(from, to, numbers, of_each), wanted) && std::equal(often.begin(), often.end(), of_each.begin()));
+}
+
 template <class M> static void outside(const M &m)
 {
     const u64 n = m.size();
@@ -39,6 +65,13 @@ template <class M> static void outside(const M &m)
     for (const auto &it : ranges) {
         MUST(throws<std::out_of_range>([&] { (void)m.count_less(it.first, it.second, 1); }));
         MUST(throws<std::out_of_range>([&] { (void)m.quantile(it.first, it.second, 0); }));
+        Words room(4), less(3);
+        MUST(throws<std::out_of_range>([&] { (void)m.distinct(it.first, it.second, 0, room, room); }));
+        MUST(throws<std::out_of_range>([&] { (void)m.top(it.first, it.second, room, less); }));
+        MUST(throws<std::out_of_range>([&] { (void)m.intersect(0, 0, it.first, it.second, 0, room); }));
+        MUST(throws<std::out_of_range>([&] { (void)m.intersect(it.first, it.second, 0, 0, 0, room); }));
+        MUST(throws<std::invalid_argument>([&] { (void)m.top(0, 0, room, less); }));
+        MUST(throws<std::invalid_argument>([&] { (void)m.distinct(0, 0, 0, room, room); }));
         MUST(m.try_next_value(it.first, it.second, 1).error().code == bitm::errc::outside);
         MUST(m.try_previous_value(it.first, it.second, 1).error().code == bitm::errc::outside);
     }
@@ -95,6 +128,7 @@ template <class M> static void same(const M &m, const Words &plain)
         const u64 a = draw() % (n + 1), b = a + draw() % (n - a + 1);
         MUST(m.rank(number, a) == static_cast<u64>(std::lower_bound(places.begin(), places.end(), a) - places.begin()));
         range(m, plain, a, b, number), range(m, plain, 0, n, number), range(m, plain, a, a, number);
+        lists_of_ranges(m, plain, a, b), lists_of_ranges(m, plain, 0, n);
     }
     for (u64 i = 0; i < n; i += 1 + n / 50)
         MUST(m[i] == plain[i] && m.at(i) == plain[i] && m.try_at(i).value() == plain[i]);

@@ -60,6 +60,7 @@ EXPORTS = {
     "W block": "tree_open matrix_open index_block_open sequence_block_open sparse_open"
         " hash_block_open dictionary_open",
     "NBW words": "matrix_get matrix_rank matrix_select matrix_count_less matrix_quantile"
+        " matrix_distinct matrix_top matrix_intersect"
         " dictionary_find",
     "NBW": "matrix_next_value matrix_previous_value cursor_next",
     "BW words starts": "text_count text_count_bytes",
@@ -77,7 +78,8 @@ BESIDE = {
 # Arrays of which nothing is said after a call: all of them, or what is after those that are left.
 SCRATCH, LEFT = ("again", "room", "scratch", "cursors"), ("hashes",)
 # The statuses with which a list may hold anything.
-SPOILS = {"W": "text_locate text_locate_bytes text_extract text_extract_bytes cursors_union", "BW": "cursors_intersect"}
+SPOILS = {"W": "text_locate text_locate_bytes text_extract text_extract_bytes cursors_union"
+          " matrix_distinct matrix_top matrix_intersect", "BW": "cursors_intersect"}
 # What no answer of these may be, whatever the tables hold, where they would say that the tables are wrong; a list's i-th answer.
 OUTSIDE = {
     "position + 1": "index_rank shards_rank sparse_rank",
@@ -103,7 +105,7 @@ OUTSIDE = {
     "shards->counts.bits[shards->shards_len]": "shards_select shards_next shards_previous shards_select_list",
 }
 # The programs that have to see such an answer by themselves, before any other is run.
-HOSTILE = ["hostile", "cursors", "guarded", "hashes", "fingerprints", "shards", "trees", "matrices", "matrix_ranges", "sparse", "texts", "dictionaries"]
+HOSTILE = ["hostile", "cursors", "guarded", "hashes", "fingerprints", "shards", "trees", "matrices", "matrix_ranges", "matrix_tallies", "sparse", "texts", "dictionaries"]
 PROGRAMS = list(dict.fromkeys(["statuses", "pages", *IN_C]))
 for one in ("walks", "lengths", "careless"):
     PROGRAMS.remove(one)

@@ -150,6 +150,39 @@ public:
         pairs(bitm_matrix_select_list, numbers, ranks, out);
     }
 
+    // Lists of ranges, into memory of the caller's, apart from the block: each writes as many numbers as there is room
+    // for, returns how many these are, and fails where a range is not inside. The distinct numbers that are at least
+    // `least`, rising, each with how often it is there: so go on at the last one and 1.
+    std::size_t distinct(std::uint64_t from, std::uint64_t to, std::uint64_t least, words_out numbers,
+                         words_out counts) const
+    {
+        need_range(from, to), need_apart(block(), numbers), need_apart(block(), counts), need_apart(numbers, counts);
+        std::uint64_t written = 0;
+        need(bitm_matrix_distinct(&raw(), from, to, least, numbers.data(), numbers.size(), counts.data(), counts.size(),
+                                  &written),
+             "there is not room for one count a number");
+        return written;
+    }
+    // The most frequent numbers, the most frequent first, and of equally frequent ones the least.
+    std::size_t top(std::uint64_t from, std::uint64_t to, words_out numbers, words_out counts) const
+    {
+        need_range(from, to), need_apart(block(), numbers), need_apart(block(), counts), need_apart(numbers, counts);
+        std::uint64_t written = 0;
+        need(bitm_matrix_top(&raw(), from, to, numbers.data(), numbers.size(), counts.data(), counts.size(), &written),
+             "there is not room for one count a number");
+        return written;
+    }
+    // The numbers of both ranges that are at least `least`, each once, rising. In no more turns than the first range has
+    // numbers: so give the shorter one first.
+    std::size_t intersect(std::uint64_t from, std::uint64_t to, std::uint64_t other_from, std::uint64_t other_to,
+                          std::uint64_t least, words_out numbers) const
+    {
+        need_range(from, to), need_range(other_from, other_to), need_apart(block(), numbers);
+        std::uint64_t written = 0;
+        need(bitm_matrix_intersect(&raw(), from, to, other_from, other_to, least, numbers.data(), numbers.size(), &written));
+        return written;
+    }
+
     // Whether the block is as it was written and holds a matrix: looks at all of it, twice.
     bool check() const noexcept { return checked(bitm_matrix_check, block()); }
 
@@ -165,6 +198,11 @@ private:
         std::uint64_t out = 0;
         const std::uint32_t status = call(&raw(), from, to, asked, &out);
         return tried(status, out);
+    }
+    void need_range(std::uint64_t from, std::uint64_t to) const
+    {
+        if (BITM_RARELY(from > to)) fail({errc::outside, from, to, "the start of a range"});
+        if (BITM_RARELY(to > size())) fail({errc::outside, to, size(), "the end of a range"});
     }
     void pairs(pairs_call call, words_in numbers, words_in others, words_out out) const
     {

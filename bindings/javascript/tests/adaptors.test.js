@@ -97,6 +97,9 @@ const LEFT_OUT = {
     bitm_cursor_next: "as bitm_cursor_start",
     bitm_cursors_intersect: "as bitm_cursor_start",
     bitm_cursors_union: "as bitm_cursor_start",
+    bitm_matrix_distinct: "lists of ranges are not made here yet",
+    bitm_matrix_top: "as bitm_matrix_distinct",
+    bitm_matrix_intersect: "as bitm_matrix_distinct",
     bitm_text_len: "the struct of an open block has the length",
     bitm_text_size: "a block of other widths than those of letters below a bound is not made here",
 };

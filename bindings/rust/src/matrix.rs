@@ -1,6 +1,6 @@
 //! The numbers of a list in any order: queries that panic where its block is wrong.
 use crate::answers::{answers, by_view};
-use crate::errors::ListError;
+use crate::errors::{ListError, WrongTables};
 use crate::sys::matrix::owned::WaveletMatrix;
 use crate::sys::matrix::WaveletMatrixView;
 use core::ops::Range;
@@ -139,6 +139,52 @@ by_view! { WaveletMatrix;
     /// # Ok::<(), bitm_proved::BuildError>(())
     /// ```
     pub fn check(&self) -> bool;
+
+    /// Writes the distinct numbers of a range that are at least `least`, rising, and how often each is there: as many as
+    /// there is room for; and says how many these are. So go on at the last one and 1. `None` exactly where there is no
+    /// such range. Where the tables are wrong, items may have been written.
+    ///
+    /// ```
+    /// let made = bitm_proved::WaveletMatrix::build(&[3, 1, 4, 1, 5, 1])?;
+    /// let (mut numbers, mut counts) = ([0; 2], [0; 2]);
+    /// assert_eq!(made.distinct(0..6, 0, &mut numbers, &mut counts), Ok(Some(2)));
+    /// assert_eq!((numbers, counts), ([1, 3], [3, 1]));
+    /// # Ok::<(), bitm_proved::BuildError>(())
+    /// ```
+    pub fn distinct(
+        &self, range: Range<usize>, least: u64, numbers: &mut [u64], counts: &mut [usize]
+    ) -> Result<Option<usize>, ListError>;
+
+    /// Writes the most frequent numbers of a range, the most frequent first and of equally frequent ones the least, and
+    /// how often each is there: as many as there is room for, or all; and says how many these are. `None` exactly where
+    /// there is no such range. Where the tables are wrong, items may have been written.
+    ///
+    /// ```
+    /// let made = bitm_proved::WaveletMatrix::build(&[3, 1, 4, 1, 5, 1])?;
+    /// let (mut numbers, mut counts) = ([0; 2], [0; 2]);
+    /// assert_eq!(made.top(0..6, &mut numbers, &mut counts), Ok(Some(2)));
+    /// assert_eq!((numbers, counts), ([1, 3], [3, 1]));
+    /// # Ok::<(), bitm_proved::BuildError>(())
+    /// ```
+    pub fn top(
+        &self, range: Range<usize>, numbers: &mut [u64], counts: &mut [usize]
+    ) -> Result<Option<usize>, ListError>;
+
+    /// Writes the numbers that are in both ranges and at least `least`, each once, rising: as many as there is room for;
+    /// and says how many these are. So go on at the last one and 1. `None` exactly where there is no such range. In no
+    /// more turns than the first range has numbers: so give the shorter one first. Where the tables are wrong, numbers
+    /// may have been written.
+    ///
+    /// ```
+    /// let made = bitm_proved::WaveletMatrix::build(&[3, 1, 4, 1, 5, 1])?;
+    /// let mut numbers = [0; 2];
+    /// assert_eq!(made.intersect(0..3, 3..6, 0, &mut numbers), Ok(Some(1)));
+    /// assert_eq!(numbers[0], 1);
+    /// # Ok::<(), Box<dyn std::error::Error>>(())
+    /// ```
+    pub fn intersect(
+        &self, first: Range<usize>, second: Range<usize>, least: u64, numbers: &mut [u64]
+    ) -> Result<Option<usize>, WrongTables>;
 
     /// The numbers at a list of indices, up to the first that has none.
     ///

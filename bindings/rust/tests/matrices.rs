@@ -6,6 +6,7 @@ use bitm_proved::{
     NO_ANSWER,
 };
 use common::{any_owner, with_any_words, with_one_bit_changed, Random};
+use std::collections::BTreeMap;
 use std::panic::{RefUnwindSafe, UnwindSafe};
 use std::sync::Arc;
 
@@ -29,12 +30,42 @@ fn range(numbers: &WaveletMatrixView<'_>, plain: &[u64], (from, to): (usize, usi
     }
 }
 
+/// The lists of a range and of another, beside a map of how often each number is there.
+fn lists_of_ranges(numbers: &WaveletMatrixView<'_>, plain: &[u64], (from, to): (usize, usize), random: &mut Random) {
+    let (len, mut counts) = (plain.len(), BTreeMap::<u64, usize>::new());
+    for number in &plain[from..to] {
+        *counts.entry(*number).or_default() += 1;
+    }
+    let (other, room) = (random.below(len + 1), if random.below(5) == 0 { len } else { random.below(9) });
+    let least = if len > 0 && random.below(2) == 0 { plain[random.below(len)] } else { 0 };
+    let (mut list, mut of_each) = (vec![9; room], vec![9; room]);
+    let later: Vec<(u64, usize)> = counts.range(least..).map(|(number, count)| (*number, *count)).collect();
+    let written = numbers.distinct(from..to, least, &mut list, &mut of_each).unwrap().unwrap();
+    let found: Vec<(u64, usize)> = list.iter().copied().zip(of_each.iter().copied()).take(written).collect();
+    assert_eq!(found, later[..later.len().min(room)]);
+    let shared: Vec<u64> = later.iter().map(|it| it.0).filter(|it| plain[other..].contains(it)).take(room).collect();
+    let written = numbers.intersect(from..to, other..len, least, &mut list).unwrap().unwrap();
+    assert_eq!(list[..written], shared);
+    let mut often: Vec<(u64, usize)> = counts.into_iter().collect();
+    often.sort_by_key(|it| (core::cmp::Reverse(it.1), it.0));
+    let written = numbers.top(from..to, &mut list, &mut of_each).unwrap().unwrap();
+    let found: Vec<(u64, usize)> = list.iter().copied().zip(of_each.iter().copied()).take(written).collect();
+    assert_eq!(found, often[..often.len().min(room)]);
+}
+
 #[allow(clippy::reversed_empty_ranges)]
 fn outside(numbers: &WaveletMatrixView<'_>) {
     let len = numbers.len();
     for wrong in [0..len + 1, len + 1..len + 1, 1..0, 0..usize::MAX, usize::MAX..0] {
         assert_eq!((numbers.count_less(wrong.clone(), 1), numbers.quantile(wrong.clone(), 0)), (None, None));
-        assert_eq!((numbers.next_value(wrong.clone(), 1), numbers.previous_value(wrong, 1)), (None, None));
+        assert_eq!((numbers.next_value(wrong.clone(), 1), numbers.previous_value(wrong.clone(), 1)), (None, None));
+        let (mut list, mut counts) = ([9; 3], [9; 3]);
+        assert_eq!(numbers.distinct(wrong.clone(), 0, &mut list, &mut counts), Ok(None));
+        assert_eq!(numbers.top(wrong.clone(), &mut list, &mut counts), Ok(None));
+        assert_eq!(numbers.intersect(0..0, wrong.clone(), 0, &mut list), Ok(None));
+        assert_eq!(numbers.intersect(wrong, 0..0, 0, &mut list), Ok(None));
+        assert_eq!(numbers.top(0..0, &mut list, &mut []), Err(ListError::Pairs { first: 3, second: 0 }));
+        assert_eq!((list, counts), ([9; 3], [9; 3]));
     }
     for index in [len, len + 1, usize::MAX] {
         assert_eq!((numbers.get(index), numbers.rank(1, index).is_some()), (None, index == len));
@@ -58,6 +89,7 @@ fn as_a_plain_list(numbers: &WaveletMatrixView<'_>, plain: &[u64], random: &mut 
         assert_eq!(numbers.rank(number, to), Some(places.partition_point(|it| *it < to)));
         for part in [(from, to), (0, len), (from, from)] {
             range(numbers, plain, part, number);
+            lists_of_ranges(numbers, plain, part, random);
         }
     }
     outside(numbers);

@@ -2,6 +2,7 @@ pub mod Hash
 pub mod Index
 pub mod Lengths
 pub mod Lists
+pub mod Matrix
 pub mod Samples
 pub mod Sequence
 pub mod Shards

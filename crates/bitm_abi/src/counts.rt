@@ -1,9 +1,11 @@
 //! How a list of answers is reported: by a status, and by the number of its codes.
-ghost use Rattle.std.specs.Prelude.{◌≡◌, ◌≢◌, ◌↔◌, IsTrue};
-ghost use Rattle.bitm_abi.specs.Lists.{AreCounted};
+ghost use Rattle.std.specs.Prelude.{◌≡◌, ◌≢◌, ◌-◌, ◌^◌, ◌↔◌, IsTrue};
+ghost use Rattle.bitm_abi.specs.Lists.{AreCounted, IsFoundBelow};
+ghost use Rattle.bitm_view.specs.Queries.{selected_by};
 
 use crate::answer::{BAD_SIZE, OK};
 use bitm_select::search::selected::{NO_ANSWER, WRONG_TABLES};
+use bitm_tables::answer::Answer;
 
 /// The number of codes in a list of answers.
 #[repr(C)]
@@ -40,4 +42,16 @@ pub fn report_list(is_answered: bool, answers: &[usize], counts: &mut ListCounts
     }
     *counts = codes_in(answers);
     OK
+}
+
+/// An answer by the codes of lists.
+#[inline(always)]
+pub fn code_of(answer: Answer<usize>) -> usize
+    ensures { IsFoundBelow (2 ^ 64 - 2) answer → selected_by result ≡ answer }
+{
+    match answer {
+        Answer::Found(number) => number,
+        Answer::Absent => NO_ANSWER,
+        Answer::Wrong => WRONG_TABLES,
+    }
 }

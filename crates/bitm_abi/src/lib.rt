@@ -6,12 +6,13 @@
 
 // What is in each file:
 // - `answer`: statuses, and how an answer is reported by one
-// - `counts`: how a list of answers is reported, and the number of its codes
+// - `counts`: how a list of answers is reported, the number of its codes, and an answer as a code
 // - `hash`: a perfect hash, and the numbers of a list of hashes
 // - `header`: the header of a stored file: which lengths it can have, and how it is read
 // - `index`: an index
 // - `layout`: where each part of a file is
 // - `lengths`: whether words and bytes have the bits that a call needs
+// - `matrix`: a matrix in a block
 // - `rooms`: the room for the samples of a stored index
 // - `samples`: samples of one kind of bit
 // - `sequence`: an Elias-Fano sequence, and the lengths of its parts
@@ -24,6 +25,7 @@ mod header;
 mod index;
 mod layout;
 mod lengths;
+mod matrix;
 mod rooms;
 mod samples;
 mod sequence;
@@ -31,12 +33,13 @@ mod sequence_lists;
 mod shards;
 
 pub use answer::{BAD_SIZE, NONE, OK, UNSORTED, WRONG, done, report, tell};
-pub use counts::{ListCounts, report_list};
+pub use counts::{ListCounts, code_of, report_list};
 pub use hash::{Hash, number_list};
 pub use header::{HEADER_WORDS, header_at, index_of, sequence_of};
 pub use index::Index;
 pub use layout::{Span, Stored};
 pub use lengths::{has_bits, has_bytes, has_counted_bits, has_range};
+pub use matrix::Matrix;
 pub use rooms::{is_log, most_samples};
 pub use samples::{Samples, narrow_log2, samples_room};
 pub use sequence::{Sequence, SequenceLens, tell_list};

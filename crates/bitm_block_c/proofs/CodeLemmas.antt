@@ -1,13 +1,11 @@
--- A node that is found, a degree, a rank, an index and a position is no code.
-use Rattle.std.proofs.Common.{ℕ, ◌-◌, ◌^◌, ◌<◌, arith, mul-le-mul_right}
+-- A node that is found, a degree, a count and a position is no code.
+use Rattle.std.proofs.Common.{ℕ, ◌-◌, ◌^◌, ◌<◌, arith}
 use Rattle.bitm_tables.specs.declared.answer.Answer.{Answer}
 use Rattle.bitm_tables.specs.declared.answer.Answer.TheVariants.{Found, Absent, Wrong}
 use Rattle.louds_block.specs.Answers.{IsChildWithin, IsDegreeWithin, IsParentWithin}
 use Rattle.elias_fano.specs.Answers.{IsPlaceOf}
-use Rattle.lent_levels.specs.Answers.{IsIndexWithin, IsRankWithin}
 use Rattle.lent_tables.specs.Ranks.{IsCountWithin}
-use Rattle.matrix_block.specs.Block.{HasLengths, MatrixParts}
-use Rattle.bitm_block_c.specs.Tree.{IsFoundBelow}
+use Rattle.bitm_abi.specs.Lists.{IsFoundBelow}
 
 module _ (n : ℕ) (short : n < 2 ^ 60) (i : ℕ) where
   pub parent_code : (answer : Answer ℕ) → IsParentWithin n i answer → IsFoundBelow (2 ^ 64 - 2) answer
@@ -24,21 +22,6 @@ module _ (n : ℕ) (short : n < 2 ^ 60) (i : ℕ) where
   degree_code (Found k) h = omega (arith, h.1, short)
   degree_code Absent h = tt
   degree_code Wrong h = tt
-
--- a block holds fewer than 2^63 numbers
-pub is_short : (parts : MatrixParts) → HasLengths parts → parts.levels.len < 2 ^ 63
-is_short parts has = omega (arith, mul-le-mul_right parts.levels.len has.levels.numbers.some, has.levels.numbers.short)
-
-module _ (n : ℕ) (short : n < 2 ^ 63) where
-  pub rank_code : (i : ℕ) → (answer : Answer ℕ) → IsRankWithin n i answer → IsFoundBelow (2 ^ 64 - 2) answer
-  rank_code i (Found c) h = omega (arith, h.0, h.1, short)
-  rank_code i Absent h = tt
-  rank_code i Wrong h = tt
-
-  pub index_code : (answer : Answer ℕ) → IsIndexWithin n answer → IsFoundBelow (2 ^ 64 - 2) answer
-  index_code (Found p) h = omega (arith, h, short)
-  index_code Absent h = tt
-  index_code Wrong h = tt
 
 -- of sparse bits: there may be more than of any other structure
 pub bit_code : (answer : Answer ℕ) → IsFoundBelow 2 answer → IsFoundBelow (2 ^ 64 - 2) answer

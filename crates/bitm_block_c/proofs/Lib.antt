@@ -1,5 +1,4 @@
 mod CodeLemmas
 mod IndexLemmas
-mod RankListLemmas
 mod SparseLemmas
 mod TextLemmas

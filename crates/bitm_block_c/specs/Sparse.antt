@@ -9,7 +9,8 @@ use Rattle.lent_tables.specs.Nearest.{IsNext, IsPrevious}
 use Rattle.lent_tables.specs.Ranks.{IsCountWithin, IsRanked}
 use Rattle.sparse_block.specs.Answers.{IsBitOf, IsBitWithin}
 use Rattle.sparse_block.specs.Block.{bits_of, parts_of, HoldsOnes, SparseParts}
-use Rattle.bitm_block_c.specs.Tree.{truth_of, IsFoundBelow}
+use Rattle.bitm_abi.specs.Lists.{IsFoundBelow}
+use Rattle.bitm_block_c.specs.Tree.{truth_of}
 use Rattle.bitm_block_c.specs.declared.sparse.Sparse.{Sparse}
 use Rattle.bitm_block_c.specs.declared.sparse_lists.Query.{Query}
 use Rattle.bitm_block_c.specs.declared.sparse_lists.Query.TheVariants.{Bit, Rank, Select}

@@ -5,7 +5,7 @@ use Rattle.bitm_abi.specs.Status.{Exported}
 use Rattle.text_block.specs.Answers.{ArePositionsOf, ArePositionsWithin, IsCountOf, IsCountWithin, IsPartOf, IsPartWithin}
 use Rattle.text_block.specs.Block.{parts_of, text_of_parts, HasTextLengths, HoldsIndex, TextParts}
 use Rattle.text_block.specs.Bytes.{byte_width, bytes_of_parts}
-use Rattle.bitm_block_c.specs.Matrix.{matrix_parts}
+use Rattle.bitm_abi.specs.Matrix.{matrix_parts}
 use Rattle.bitm_block_c.specs.declared.text.Text.{Text}
 
 -- A status is 0 where the answer was written, 1 where the text has fewer letters, 2 where a length is wrong, and 3 where the

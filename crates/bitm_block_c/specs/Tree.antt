@@ -1,7 +1,8 @@
 -- A tree in a block as C passes it, and what the exported calls answer.
-use Rattle.std.specs.Prelude.{⊤, ℕ, ◌<◌, ◌==◌, Bool}
+use Rattle.std.specs.Prelude.{ℕ, ◌==◌, Bool}
 use Rattle.bitm_tables.specs.declared.answer.Answer.{Answer}
 use Rattle.bitm_tables.specs.declared.answer.Answer.TheVariants.{Found, Absent, Wrong}
+use Rattle.bitm_abi.specs.Lists.{IsFoundBelow}
 use Rattle.bitm_abi.specs.Status.{Exported}
 use Rattle.louds.specs.Counted.{degrees_in, IsLouds}
 use Rattle.louds_block.specs.Answers.{IsChildOf, IsChildWithin, IsChildRankOf, IsChildRankWithin, IsDegreeOf, IsDegreeWithin, IsLeafOf, IsLeafWithin, IsNextSiblingOf, IsNextSiblingWithin, IsParentOf, IsParentWithin, IsPreviousSiblingOf, IsPreviousSiblingWithin}
@@ -37,12 +38,6 @@ abbrev pub truth_of : Answer ℕ → Answer Bool
 truth_of (Found n) = Found (n == 1)
 truth_of Absent = Absent
 truth_of Wrong = Wrong
-
--- a number that is found is less than the limit
-abbrev pub IsFoundBelow : ℕ → Answer ℕ → Type 0
-IsFoundBelow limit (Found n) = n < limit
-IsFoundBelow limit Absent = ⊤
-IsFoundBelow limit Wrong = ⊤
 
 -- whether a node has no children, as 0 or 1
 pub record IsLeaf (node : ℕ) (parts : TreeParts) (answer : Answer ℕ) : Type 0 where

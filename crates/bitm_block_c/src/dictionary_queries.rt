@@ -6,8 +6,7 @@ ghost use Rattle.hash_block.specs.Dictionary.{HasKeys};
 ghost use Rattle.bitm_block_c.specs.Dictionary.{dictionary_parts, FindAnswered, IsKeyNumber};
 
 use crate::dictionary::Dictionary;
-use crate::lists::code_of;
-use bitm_abi::{BAD_SIZE, ListCounts, report, report_list};
+use bitm_abi::{BAD_SIZE, ListCounts, code_of, report, report_list};
 use bitm_select::search::selected::WRONG_TABLES;
 use hash_block::DictionaryView;
 

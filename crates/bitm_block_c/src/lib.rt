@@ -14,11 +14,6 @@
 // - `index_blocks`: the block of bits with their index, written, opened as an index and checked
 // - `lists`: lists of queries of a tree
 // - `making`: the block of a tree, written, opened and checked
-// - `matrix`: a matrix as C passes it
-// - `matrix_lists`: lists of queries of a matrix
-// - `matrix_making`: the block of a matrix, written, opened and checked
-// - `matrix_queries`: a number by its index, and ranks and indices of a number
-// - `matrix_ranges`: queries of a range of the numbers of a matrix
 // - `queries`: parents, children, degrees and siblings
 // - `sequence_blocks`: the block of a sequence, written, opened as a sequence and checked
 // - `sparse`: sparse bits as C passes them
@@ -36,11 +31,6 @@ mod hash_blocks;
 mod index_blocks;
 mod lists;
 mod making;
-mod matrix;
-mod matrix_lists;
-mod matrix_making;
-mod matrix_queries;
-mod matrix_ranges;
 mod queries;
 mod sequence_blocks;
 mod sparse;

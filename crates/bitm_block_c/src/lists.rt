@@ -1,14 +1,12 @@
 //! Lists of queries of a tree in a block.
 ghost use Rattle.std.specs.Prelude.{◌≡◌, ◌≢◌, ◌-◌, ◌^◌, ◌<◌, ◌↔◌, ℕ, length, slice_index};
-ghost use Rattle.bitm_abi.specs.Lists.{AreCounted};
 ghost use Rattle.bitm_view.specs.Queries.{selected_by};
 ghost use Rattle.louds_block.specs.Block.{HasLengths};
-ghost use Rattle.bitm_block_c.specs.Tree.{tree_parts, Answers, IsChild, IsFoundBelow, IsParent, IsDegree};
+ghost use Rattle.bitm_abi.specs.Lists.{AreCounted};
+ghost use Rattle.bitm_block_c.specs.Tree.{tree_parts, Answers, IsChild, IsParent, IsDegree};
 
 use crate::tree::Tree;
-use bitm_abi::{BAD_SIZE, ListCounts, report_list};
-use bitm_select::search::selected::{NO_ANSWER, WRONG_TABLES};
-use bitm_tables::answer::Answer;
+use bitm_abi::{BAD_SIZE, ListCounts, code_of, report_list};
 use louds_block::LoudsView;
 
 /// A query of each node of a list.
@@ -18,18 +16,6 @@ pub enum Asked {
     Parent,
     /// How many children it has.
     Degree,
-}
-
-/// An answer by the codes of lists.
-#[inline(always)]
-pub(crate) fn code_of(answer: Answer<usize>) -> usize
-    ensures { IsFoundBelow (2 ^ 64 - 2) answer → selected_by result ≡ answer }
-{
-    match answer {
-        Answer::Found(number) => number,
-        Answer::Absent => NO_ANSWER,
-        Answer::Wrong => WRONG_TABLES,
-    }
 }
 
 /// The answer to a query of a node, by the codes of lists.

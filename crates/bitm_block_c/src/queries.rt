@@ -1,6 +1,7 @@
 //! Queries of a tree in a block.
 ghost use Rattle.std.specs.Prelude.{◌≡◌};
-ghost use Rattle.bitm_block_c.specs.Tree.{truth_of, ChildAnswered, ChildRankAnswered, DegreeAnswered, IsFoundBelow};
+ghost use Rattle.bitm_abi.specs.Lists.{IsFoundBelow};
+ghost use Rattle.bitm_block_c.specs.Tree.{truth_of, ChildAnswered, ChildRankAnswered, DegreeAnswered};
 ghost use Rattle.bitm_block_c.specs.Tree.{LeafAnswered, NextSiblingAnswered, ParentAnswered, PreviousSiblingAnswered};
 
 use crate::tree::Tree;

@@ -3,7 +3,7 @@ ghost use Rattle.std.specs.Prelude.{◌≡◌, SomeIff};
 ghost use Rattle.text_block.specs.Block.{HasTextLengths};
 ghost use Rattle.bitm_block_c.specs.Text.{text_parts};
 
-use crate::matrix::Matrix;
+use bitm_abi::Matrix;
 use text_block::TextView;
 
 /// The index of a text in the caller's memory: the matrices of its letters and of its marks, and what else its block

@@ -28,16 +28,22 @@
 // What is in each file, over the levels of `lent_levels`:
 // - `building`: the block of a matrix, written into the caller's memory
 // - `error`: why no block was written
+// - `kept`: the most frequent numbers so far
 // - `lists`: lists of numbers of a view
 // - `matrix`: the view of a block, and its queries
 // - `range_queries`: the queries of ranges of a view
 // - `sections`: the sections of the block of a matrix
+// - `shared`: the numbers that two ranges of a view share
+// - `tallies`: the distinct and the most frequent numbers of a range of a view
 mod building;
 mod error;
+mod kept;
 mod lists;
 mod matrix;
 mod range_queries;
 mod sections;
+mod shared;
+mod tallies;
 
 pub use bitm_tables::answer::Answer;
 pub use building::{build, write_tables};

@@ -8,6 +8,8 @@
 // - `matrices`: the block of a small matrix
 // - `ranges`: the ranges of a matrix in a block, beside plain loops
 #[cfg(test)]
+mod lists;
+#[cfg(test)]
 mod matrices;
 #[cfg(test)]
 mod ranges;

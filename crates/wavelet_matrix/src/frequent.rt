@@ -1,7 +1,7 @@
 //! The most frequent numbers of a range.
 ghost use Rattle.std.specs.Prelude.{◌<◌, ◌≤◌, ℕ, length, slice_index_or, slice_range, IfOk};
 ghost use Rattle.std.specs.List.{AllPairs};
-ghost use Rattle.wavelet_matrix.specs.Frequent.{AreMostFrequent, GoesBefore};
+ghost use Rattle.number_lists.specs.Frequent.{AreMostFrequent, GoesBefore};
 
 use crate::matrix::WaveletMatrix;
 use bitm_strategies::{Select0ForRank101111, SelectForRank101111};

@@ -176,6 +176,18 @@ extern "C" {
     pub fn bitm_matrix_previous_value(
         matrix: *const bitm_matrix, start: usize, end: usize, bound: u64, out: *mut u64,
     ) -> u32;
+    pub fn bitm_matrix_distinct(
+        matrix: *const bitm_matrix, start: usize, end: usize, from: u64, numbers: *mut u64, numbers_len: usize,
+        counts: *mut u64, counts_len: usize, written: *mut u64,
+    ) -> u32;
+    pub fn bitm_matrix_top(
+        matrix: *const bitm_matrix, start: usize, end: usize, numbers: *mut u64, numbers_len: usize, counts: *mut u64,
+        counts_len: usize, written: *mut u64,
+    ) -> u32;
+    pub fn bitm_matrix_intersect(
+        matrix: *const bitm_matrix, first_start: usize, first_end: usize, second_start: usize, second_end: usize,
+        from: u64, numbers: *mut u64, numbers_len: usize, written: *mut u64,
+    ) -> u32;
     pub fn bitm_sequence_block_size(len: usize, largest: u64, out: *mut u64) -> u32;
     pub fn bitm_sequence_block_build(items: *const u64, items_len: usize, block: *mut u64, block_len: usize) -> u32;
     pub fn bitm_sequence_block_open(block: *const u64, block_len: usize, sequence: *mut bitm_sequence) -> u32;

@@ -166,6 +166,83 @@ impl<'a> WaveletMatrixView<'a> {
         self.in_range(bitm_matrix_previous_value, range, bound)
     }
 
+    /// Writes the distinct numbers of a range that are at least `least`, rising, and how often each is there: as many as
+    /// there is room for; and says how many these are. So go on at the last one and 1. `None` exactly where there is no
+    /// such range. Where the tables are wrong, items may have been written.
+    ///
+    /// ```
+    /// let made = bitm_proved::WaveletMatrix::build(&[3, 1, 4, 1, 5, 1])?;
+    /// let (mut numbers, mut counts) = ([0; 2], [0; 2]);
+    /// assert_eq!(made.view().distinct(0..6, 0, &mut numbers, &mut counts), Ok(Some(2)));
+    /// assert_eq!((numbers, counts), ([1, 3], [3, 1]));
+    /// assert_eq!(made.view().distinct(0..6, 4, &mut numbers, &mut counts), Ok(Some(2))); // 4 and 5
+    /// # Ok::<(), bitm_proved::BuildError>(())
+    /// ```
+    pub fn distinct(
+        &self,
+        range: Range<usize>,
+        least: u64,
+        numbers: &mut [u64],
+        counts: &mut [usize],
+    ) -> Result<Option<usize>, ListError> {
+        let (room, (from, to)) = (pairs(numbers.len(), counts.len())?, (range.start, range.end));
+        let (list, of_each) = (numbers.as_mut_ptr(), as_u64_mut(counts).as_mut_ptr());
+        // SAFETY: a view, two mutable slices, which overlap neither it nor each other, and room for one number.
+        let found = unsafe {
+            self.block.find(|it, n| bitm_matrix_distinct(it, from, to, least, list, room, of_each, room, n))
+        };
+        found.map_err(|_| ListError::WrongTables { wrong: room })
+    }
+
+    /// Writes the most frequent numbers of a range, the most frequent first and of equally frequent ones the least, and
+    /// how often each is there: as many as there is room for, or all; and says how many these are. `None` exactly where
+    /// there is no such range. Where the tables are wrong, items may have been written.
+    ///
+    /// ```
+    /// let made = bitm_proved::WaveletMatrix::build(&[3, 1, 4, 1, 5, 1])?;
+    /// let (mut numbers, mut counts) = ([0; 2], [0; 2]);
+    /// assert_eq!(made.view().top(0..6, &mut numbers, &mut counts), Ok(Some(2)));
+    /// assert_eq!((numbers, counts), ([1, 3], [3, 1]));
+    /// # Ok::<(), bitm_proved::BuildError>(())
+    /// ```
+    pub fn top(
+        &self,
+        range: Range<usize>,
+        numbers: &mut [u64],
+        counts: &mut [usize],
+    ) -> Result<Option<usize>, ListError> {
+        let (room, (from, to)) = (pairs(numbers.len(), counts.len())?, (range.start, range.end));
+        let (list, of_each) = (numbers.as_mut_ptr(), as_u64_mut(counts).as_mut_ptr());
+        // SAFETY: as of `distinct`.
+        let found = unsafe { self.block.find(|it, n| bitm_matrix_top(it, from, to, list, room, of_each, room, n)) };
+        found.map_err(|_| ListError::WrongTables { wrong: room })
+    }
+
+    /// Writes the numbers that are in both ranges and at least `least`, each once, rising: as many as there is room for;
+    /// and says how many these are. So go on at the last one and 1. `None` exactly where there is no such range. In no
+    /// more turns than the first range has numbers: so give the shorter one first. Where the tables are wrong, numbers
+    /// may have been written.
+    ///
+    /// ```
+    /// let made = bitm_proved::WaveletMatrix::build(&[3, 1, 4, 1, 5, 1])?;
+    /// let mut numbers = [0; 2];
+    /// assert_eq!(made.view().intersect(0..3, 3..6, 0, &mut numbers), Ok(Some(1)));
+    /// assert_eq!(numbers[0], 1);
+    /// # Ok::<(), Box<dyn std::error::Error>>(())
+    /// ```
+    pub fn intersect(
+        &self,
+        first: Range<usize>,
+        second: Range<usize>,
+        least: u64,
+        numbers: &mut [u64],
+    ) -> Result<Option<usize>, WrongTables> {
+        let (list, room) = (numbers.as_mut_ptr(), numbers.len());
+        let (a, b, c, d) = (first.start, first.end, second.start, second.end);
+        // SAFETY: as of `distinct`, with one slice.
+        unsafe { self.block.find(|it, n| bitm_matrix_intersect(it, a, b, c, d, least, list, room, n)) }
+    }
+
     /// The numbers at a list of indices, up to the first that has none.
     ///
     /// ```

@@ -3,7 +3,7 @@ use Rattle.std.proofs.Common.{◌≡◌, ℕ, ◌++◌, ◌∷◌, [], ◌<◌, 
 use Rattle.std.proofs.lemmas.Iterator.Consumers.{YieldsList-from_first, YieldsList-so_far, YieldsList-turn, YieldsList-end}
 use Rattle.std.proofs.lemmas.List.Elements.{All-weaker, All-contains}
 use Rattle.std.specs.List.{insert}
-use Rattle.wavelet_matrix.proofs.lemmas.FrequentLemmas.{AreFirst, first-are, first-more, less-so-far}
+use Rattle.number_lists.proofs.FrequentLemmas.{AreFirst, first-are, first-more, less-so-far}
 use Rattle.wavelet_matrix.proofs.matrix.WaveletMatrix.top_k.Goals as goal
 
 -- by a slice of what was found

@@ -1,4 +1,4 @@
-use Rattle.wavelet_matrix.proofs.lemmas.FrequentLemmas.{AreFirst}
+use Rattle.number_lists.proofs.FrequentLemmas.{AreFirst}
 use Rattle.wavelet_matrix.proofs.matrix.WaveletMatrix.top_k.Given as goal
 
 -- the first of those that came are found

@@ -1,0 +1,62 @@
+//! A matrix in a block as C passes it, and as the library queries it.
+ghost use Rattle.std.specs.Prelude.{◌≡◌, SomeIff};
+ghost use Rattle.matrix_block.specs.Block.{HasLengths};
+ghost use Rattle.bitm_abi.specs.Matrix.{matrix_parts};
+
+use lent_levels::LevelsView;
+use matrix_block::MatrixView;
+
+/// A matrix in the caller's memory: how many numbers it holds and of how many bits, and the words and tables of its
+/// block, for C five pairs of a pointer and a length.
+#[repr(C)]
+#[derive(Clone, Copy)]
+pub struct Matrix<'a> {
+    /// The number of numbers.
+    pub len: usize,
+    /// How many bits each number has at most.
+    pub width: u64,
+    /// The words that hold the bits of the numbers.
+    pub words: &'a [u64],
+    /// The upper table of these words.
+    pub upper: &'a [u64],
+    /// The lower table of these words.
+    pub lower: &'a [u64],
+    /// The 1 bits before each level.
+    pub ones: &'a [u64],
+    /// The 0 bits of each level.
+    pub zeros: &'a [u64],
+    /// Room for later versions; this one does not read it.
+    pub reserved: [u64; 2],
+}
+
+impl<'a> Matrix<'a> {
+    /// What C is passed for a view of a block.
+    #[inline(always)]
+    pub fn of(view: &MatrixView<'a>) -> Matrix<'a>
+        ensures { matrix_parts result ≡ view.now }
+    {
+        let (levels, _) = view.parts();
+        Matrix {
+            len: levels.len(),
+            width: levels.width() as u64,
+            words: view.words(),
+            upper: view.upper(),
+            lower: view.lower(),
+            ones: levels.ones(),
+            zeros: levels.zeros(),
+            reserved: [0; 2],
+        }
+    }
+
+    /// The matrix as the library queries it; `None` exactly where a length is not right.
+    #[inline(always)]
+    pub fn view(&self) -> Option<MatrixView<'a>>
+        ensures { SomeIff result (HasLengths (matrix_parts self.now)) (matrix_parts self.now) }
+    {
+        if self.width > 64 {
+            return None;
+        }
+        let levels = LevelsView::over(self.len, self.width as u8, self.ones, self.zeros)?;
+        MatrixView::over(levels, self.words, self.upper, self.lower)
+    }
+}

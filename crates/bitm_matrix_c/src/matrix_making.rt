@@ -1,0 +1,87 @@
+//! The block of a matrix: how many words it takes, writing it, opening it and checking it.
+ghost use Rattle.std.specs.Prelude.{◌≡◌, ◌≢◌, ◌*◌, ◌^◌, ◌<◌, ◌↔◌, ◌⊎◌, All, length};
+ghost use Rattle.bitm_block.specs.Layout.{end_of};
+ghost use Rattle.lent_levels.specs.Levels.{AreNumbers};
+ghost use Rattle.matrix_block.specs.Block.{matrix_in, matrix_sections, CanHold, IsBlockOf, IsMatrixBlock, IsSoundBlock};
+ghost use Rattle.bitm_abi.specs.Matrix.{matrix_parts};
+
+use bitm_abi::{BAD_SIZE, Matrix, OK, WRONG};
+use matrix_block::{BuildError, MatrixView, build, size};
+
+/// Writes how many words the block of the given number of numbers of `width` bits takes.
+#[unsafe(no_mangle)]
+pub extern "C" fn bitm_matrix_size(len: usize, width: u32, out: &mut usize) -> u32
+    ensures ok { (result ≡ 0) ↔ AreNumbers len width }
+    ensures size { result ≡ 0 → out.new ≡ end_of (matrix_sections len width) }
+    ensures kept { result ≢ 0 → (result ≡ 2) × (out.new ≡ out.old) }
+{
+    if width > 64 {
+        return BAD_SIZE;
+    }
+    match size(len, width as u8) {
+        Some(words) => {
+            *out = words;
+            OK
+        }
+        None => BAD_SIZE,
+    }
+}
+
+/// Writes the block of these numbers of `width` bits; what the scratch has is overwritten.
+#[unsafe(no_mangle)]
+pub extern "C" fn bitm_matrix_build(
+    numbers: &[u64],
+    width: u32,
+    scratch: &mut [u64],
+    block: &mut [u64],
+) -> u32
+    ensures ok { (result ≡ 0) ↔ (CanHold numbers.now width
+        × (length block.old ≡ end_of (matrix_sections (length numbers.now) width))
+        × (length scratch.old ≡ 2 * length numbers.now)) }
+    ensures wrong { (result ≡ 3)
+        ↔ (AreNumbers (length numbers.now) width × (¬ (All (λ x. x < 2 ^ width) numbers.now))) }
+    ensures status { (result ≡ 0) ⊎ (result ≡ 2) ⊎ (result ≡ 3) }
+    ensures block { result ≡ 0 → IsBlockOf numbers.now width block.new }
+    ensures kept { result ≢ 0 → (block.new ≡ block.old) × (scratch.new ≡ scratch.old) }
+{
+    if width > 64 {
+        return BAD_SIZE;
+    }
+    match build(numbers, width as u8, scratch, block) {
+        Ok(()) => OK,
+        Err(BuildError::TooWide) => WRONG,
+        Err(BuildError::WrongWidth) => BAD_SIZE,
+        Err(BuildError::TooLong) => BAD_SIZE,
+        Err(BuildError::WrongLength) => BAD_SIZE,
+        Err(BuildError::WrongScratch) => BAD_SIZE,
+    }
+}
+
+/// Opens a block: writes the matrix that queries take. What the words and tables hold is not looked at.
+#[unsafe(no_mangle)]
+pub extern "C" fn bitm_matrix_open<'a>(block: &'a [u64], matrix: &mut Matrix<'a>) -> u32
+    ensures ok { (result ≡ 0) ↔ IsMatrixBlock block.now }
+    ensures matrix { result ≡ 0 → matrix_parts matrix.new ≡ matrix_in block.now }
+    ensures kept { result ≢ 0 → (result ≡ 3) × (matrix.new ≡ matrix.old) }
+{
+    match MatrixView::open(block) {
+        Some(view) => {
+            *matrix = Matrix::of(&view);
+            OK
+        }
+        None => WRONG,
+    }
+}
+
+/// Whether a block is as it was written, and holds a matrix: two passes over its words.
+#[unsafe(no_mangle)]
+pub extern "C" fn bitm_matrix_check(block: &[u64]) -> u32
+    ensures ok { (result ≡ 0) ↔ IsSoundBlock block.now }
+    ensures status { (result ≡ 0) ⊎ (result ≡ 3) }
+{
+    if MatrixView::open_checked(block).is_some() {
+        OK
+    } else {
+        WRONG
+    }
+}

@@ -1,0 +1,17 @@
+use Rattle.std.proofs.Common.{◌-◌, ◌^◌, slice_range}
+use Rattle.matrix_block.specs.Block.{items_in, HoldsMatrix}
+use Rattle.matrix_block.specs.RangeLists.{AreCounts, AreNarrow}
+use Rattle.matrix_block.proofs.FrequentLemmas.{AreKept}
+use Rattle.matrix_block.proofs.matrix.MatrixView.top_k.Given as goal
+
+-- the most frequent numbers so far
+abbrev pub invariant-loop-less : goal.invariant-loop-less
+invariant-loop-less l = record {
+  numbers : AreNarrow l.self.levels.width l.kept l.fn.numbers l.numbers;
+  counts : AreCounts (l.end - l.start) l.kept l.fn.counts l.counts;
+  right : HoldsMatrix l.self
+      → AreKept (slice_range (items_in l.self) l.start l.end) (2 ^ l.self.levels.width) l.less l.kept l.numbers l.counts;
+}
+
+abbrev pub decreases-loop-less : goal.decreases-loop-less
+decreases-loop-less l = l.end - l.start - l.less

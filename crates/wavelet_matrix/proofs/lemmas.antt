@@ -1,2 +1,0 @@
-pub mod DistinctLemmas
-pub mod FrequentLemmas
