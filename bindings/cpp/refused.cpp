@@ -65,6 +65,12 @@ bitm::tree_view local()
     const bitm::tree t = grown();
     return t.view();
 }
+#elif CASE == 109
+bitm::cursor left()
+{
+    const bitm::sequence s = numbers();
+    return bitm::cursor(s);
+}
 #elif CASE == 107
 void kept() { bitm::words_in w = words(5); (void)w; }
 #endif
@@ -187,6 +193,16 @@ int main()
     auto v = bitm::wavelet_matrix_view::in(words(100));
 #elif CASE == 49
     bitm::wavelet_matrix_view v = listed();
+#elif CASE == 50 // cursors of temporaries
+    bitm::cursor c(numbers());
+#elif CASE == 51
+    std::vector<bitm::cursor> c{bitm::cursor(numbers())};
+#elif CASE == 52
+    const bitm::sequence s = numbers();
+    bitm::cursor c = s; // it starts by a search: c(s)
+#elif CASE == 53
+    const std::vector<bitm::cursor> fixed;
+    bitm::intersect(fixed, 0, bitm::words_out());
 #elif CASE == 110 // an answer that is not looked at
     bitm::rank_index::try_load("a");
 #elif CASE >= 100

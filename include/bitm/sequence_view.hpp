@@ -39,6 +39,37 @@ inline std::uint64_t number_of(const bitm_sequence &of, std::uint64_t at)
     return out;
 }
 
+// The end of a walk or a cursor, and where it stands before that: to go through it once.
+struct end_mark {};
+template <class Of> class once_iterator {
+public:
+    // The types of an input iterator.
+    using iterator_category = std::input_iterator_tag;
+    using value_type = std::uint64_t;
+    using difference_type = std::ptrdiff_t;
+    using pointer = const std::uint64_t *;
+    using reference = std::uint64_t;
+
+    // The number where the walk stands; moves the walk on by one.
+    once_iterator() noexcept = default;
+    std::uint64_t operator*() const { return of_->here(); }
+    once_iterator &operator++()
+    {
+        of_->next();
+        return *this;
+    }
+    void operator++(int) { of_->next(); }
+    friend bool operator==(const once_iterator &it, end_mark) noexcept { return it.of_->done(); }
+    friend bool operator!=(const once_iterator &it, end_mark) noexcept { return !it.of_->done(); }
+    friend bool operator==(end_mark, const once_iterator &it) noexcept { return it.of_->done(); }
+    friend bool operator!=(end_mark, const once_iterator &it) noexcept { return !it.of_->done(); }
+
+private:
+    friend Of;
+    explicit once_iterator(Of *of) noexcept : of_(of) {}
+    Of *of_ = nullptr;
+};
+
 } // namespace detail
 
 // The numbers by index: each is one selection. It holds the parts, so it outlives a view (not an owner).
@@ -57,35 +88,9 @@ private:
 // advanced to a value.
 class sequence_walk {
 public:
-    struct end_mark {};
-    class iterator {
-    public:
-        // The types of an input iterator.
-        using iterator_category = std::input_iterator_tag;
-        using value_type = std::uint64_t;
-        using difference_type = std::ptrdiff_t;
-        using pointer = const std::uint64_t *;
-        using reference = std::uint64_t;
-
-        // The number where the walk stands; moves the walk on by one.
-        iterator() noexcept = default;
-        std::uint64_t operator*() const { return of_->here(); }
-        iterator &operator++()
-        {
-            of_->next();
-            return *this;
-        }
-        void operator++(int) { of_->next(); }
-        friend bool operator==(const iterator &it, end_mark) noexcept { return it.of_->done(); }
-        friend bool operator!=(const iterator &it, end_mark) noexcept { return !it.of_->done(); }
-        friend bool operator==(end_mark, const iterator &it) noexcept { return it.of_->done(); }
-        friend bool operator!=(end_mark, const iterator &it) noexcept { return !it.of_->done(); }
-
-    private:
-        friend class sequence_walk;
-        explicit iterator(sequence_walk *of) noexcept : of_(of) {}
-        sequence_walk *of_ = nullptr;
-    };
+    // The types of a range that is gone through once.
+    using end_mark = detail::end_mark;
+    using iterator = detail::once_iterator<sequence_walk>;
 
     // At the end of no numbers; or at an index. Whether it is at the end; true where it is not.
     sequence_walk() noexcept = default;
@@ -123,6 +128,7 @@ public:
     end_mark end() const noexcept { return {}; }
 
 private:
+    friend class detail::once_iterator<sequence_walk>;
     std::uint64_t here() const noexcept { return walk_.numbers[walk_.at]; }
     // Whether a move ends at a number.
     static bool stands(std::uint32_t status)

@@ -2,8 +2,10 @@
 export { BitVector } from "./bit_vector.js";
 export { Index } from "./bit_index.js";
 export { EliasFano } from "./elias_fano.js";
+export { Cursor, intersect, union } from "./cursor.js";
 export { SparseBits } from "./sparse_bits.js";
 export { PerfectHash } from "./perfect_hash.js";
+export { Dictionary } from "./dictionary.js";
 export { Tree } from "./tree.js";
 export { WaveletMatrix } from "./wavelet_matrix.js";
 export { TextIndex } from "./text_index.js";

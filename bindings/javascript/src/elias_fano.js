@@ -1,5 +1,6 @@
 import { BESIDE, bytesAt, calls, numberAt, wasm, wordsAt } from "./core.js";
 import { Opened } from "./bit_index.js";
+import { Cursor, wordsOfUnion } from "./cursor.js";
 import { BITM_LIST_COUNTS } from "./layout.js";
 import { answers, copyIn, copyOut, itemsAt, numbersOf } from "./lists.js";
 import { Block, dispose, freed, withRoom } from "./memory.js";
@@ -16,10 +17,20 @@ class Listed {
     }
 }
 
+/** Where the struct of a sequence stands: TypeError where it is no EliasFano, or one that was freed. */
+export let partsOf;
+
 /** Numbers that do not decrease, each from 0 to 2^64 - 1, in little memory. */
 export class EliasFano {
     #block;
     #header;
+
+    static {
+        partsOf = it => {
+            if (typeof it !== "object" || it === null || !(#block in it)) throw new TypeError("bitm: it is no EliasFano");
+            return it.#live();
+        };
+    }
 
     /** The numbers, sorted: a Uint32Array, Float64Array, BigUint64Array, or another iterable of numbers and BigInts. */
     constructor(numbers) {
@@ -155,6 +166,12 @@ export class EliasFano {
             return copyOut(at, n, form, false);
         });
     }
+
+    /** A position at the first number, which moves forward only. */
+    cursor() { return new Cursor(this); }
+
+    /** The numbers that any of these has, each once. */
+    union(...others) { return new EliasFano(wordsOfUnion([this, ...others])); }
 
     /** The numbers that all of these have, each once. */
     intersection(...others) {

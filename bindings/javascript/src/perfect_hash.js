@@ -5,7 +5,8 @@ import { copyOut } from "./lists.js";
 import { Block, dispose, freed, withRoom } from "./memory.js";
 import { must, orThrow, refused } from "./numbers.js";
 
-const LEVELS = 256, STRUCT = 192, TRIES = 4;
+export const LEVELS = 256;
+const STRUCT = 192, TRIES = 4;
 const out = new Int32Array(3);
 const rounded = bytes => Math.ceil(bytes / 64) * 64;
 
@@ -137,7 +138,7 @@ function putHashes(all, seed, at, after) {
     }
 }
 
-function within(it, least, most, name) {
+export function within(it, least, most, name) {
     if (typeof it !== "number") throw new TypeError(`bitm: ${name} must be a whole number`);
     if (!Number.isInteger(it) || it < least || it > most) throw new RangeError(`bitm: ${name} is ${least} to ${most}, and not ${it}`);
     return it;

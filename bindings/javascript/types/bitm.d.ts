@@ -198,8 +198,11 @@ export class EliasFano implements Iterable<number | bigint> {
     toBigUint64Array(): BigUint64Array;
     /** RangeError if a number is 2^53 or more. */
     toFloat64Array(): Float64Array;
-    /** The numbers that all of these have, each once. */
+    /** The numbers that all of these have, each once; the numbers that any has. */
     intersection(...others: EliasFano[]): EliasFano;
+    union(...others: EliasFano[]): EliasFano;
+    /** A position at the first number, which moves forward only. */
+    cursor(): Cursor;
 
     /** Whether all parts are those of some sequence, by going over all. */
     check(): boolean;
@@ -207,6 +210,25 @@ export class EliasFano implements Iterable<number | bigint> {
     free(): void;
     [Symbol.dispose](): void;
 }
+
+/** A position in an EliasFano: at a number, or at the end. As an iterator it gives the number where it stands, and moves on to the
+ *  next greater one. TypeError once the sequence is freed. */
+export class Cursor implements IterableIterator<number | bigint> {
+    constructor(sequence: EliasFano);
+    /** The index of the number where it stands; how many numbers there are at the end. */
+    readonly index: number;
+    readonly number: number | bigint | undefined;
+    /** Moves to the first number from here on that is at least value, and returns it; stays where the number here is. */
+    nextGeq(value: Whole): number | bigint | undefined;
+    next(): IteratorResult<number | bigint, undefined>;
+    [Symbol.iterator](): this;
+    free(): void;
+    [Symbol.dispose](): void;
+}
+
+/** The numbers from `from` on that each of the sequences has, or that any has: rising, each once, the first `limit` of them. */
+export function intersect(sequences: Iterable<EliasFano>, from?: Whole, limit?: Whole): (number | bigint)[];
+export function union(sequences: Iterable<EliasFano>, from?: Whole, limit?: Whole): (number | bigint)[];
 
 /** Bits of which few are 1 bits, and that do not change: the positions of these alone take memory. */
 export class SparseBits {
@@ -324,6 +346,44 @@ export class PerfectHash {
     readonly byteLength: number;
     get(key: Key): number | undefined;
     getList(keys: Iterable<Key>): (number | undefined)[];
+    free(): void;
+    [Symbol.dispose](): void;
+}
+
+export interface DictionaryOptions {
+    /** 100 takes least memory, 200 less time. */
+    percent?: number;
+    /** What is added to a key to hash it: 0. */
+    seed?: Whole;
+}
+
+/** Numbers for keys that are whole numbers, with the keys: each of n keys has a number of its own below n, and nothing else has. */
+export class Dictionary implements Iterable<number | bigint> {
+    /** RangeError if two keys are equal. */
+    constructor(keys: Wholes, options?: DictionaryOptions);
+    /** The dictionary in the bytes of a block, which are copied once. */
+    static open(bytes: Bytes, options?: OpenOptions): Dictionary;
+
+    readonly length: number;
+    readonly byteLength: number;
+    readonly seed: number | bigint;
+    get(key: Whole): number | undefined;
+    has(key: Whole): boolean;
+    /** NaN, NO_ANSWER or undefined for what is no key. */
+    getList(keys: NumberArray): Float64Array;
+    getList(keys: BigUint64Array): BigUint64Array;
+    getList(keys: Iterable<Whole>): (number | undefined)[];
+    /** The key that has a number. */
+    keyOf(number: Whole): number | bigint | undefined;
+    /** The keys, in the order of their numbers. */
+    keys(): IterableIterator<number | bigint>;
+    [Symbol.iterator](): IterableIterator<number | bigint>;
+    toBigUint64Array(): BigUint64Array;
+
+    /** Whether the block is as it was written and holds a dictionary, by going over all of it. */
+    check(): boolean;
+    /** The bytes of the block. */
+    toBytes(): Uint8Array;
     free(): void;
     [Symbol.dispose](): void;
 }

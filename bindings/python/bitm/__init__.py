@@ -16,15 +16,16 @@ arguments, Python's conventions) is tested.
 from collections.abc import MutableSequence, Sequence
 
 from . import _more, _shard_docs
-from ._core import BitVector, Dictionary, EliasFano, Index, PerfectHash, SparseBits, TextIndex, Tree, WaveletMatrix, WrongTables
+from ._core import BitVector, Cursor, Dictionary, EliasFano, Index, PerfectHash, SparseBits, TextIndex, Tree, WaveletMatrix, WrongTables
 from ._files import load, loads
 from ._more import tables_of
+from ._sets import intersect, union
 from .shards import ShardError, Shards
 
 __version__ = "0.3.0"
 __all__ = [
-    "BitVector", "Dictionary", "EliasFano", "Index", "PerfectHash", "ShardError", "Shards", "SparseBits", "TextIndex", "Tree",
-    "WaveletMatrix", "WrongTables", "load", "loads", "tables_of",
+    "BitVector", "Cursor", "Dictionary", "EliasFano", "Index", "PerfectHash", "ShardError", "Shards", "SparseBits", "TextIndex",
+    "Tree", "WaveletMatrix", "WrongTables", "intersect", "load", "loads", "tables_of", "union",
 ]
 
 _more.complete()

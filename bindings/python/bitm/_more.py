@@ -5,7 +5,7 @@ import hashlib
 import pickle
 from typing import Any, Callable, Optional, Tuple
 
-from . import _blocks, _core
+from . import _blocks, _core, _sets
 from ._files import save
 
 
@@ -181,29 +181,6 @@ def index_index(self: Any, bit: Any, start: int = 0, stop: Optional[int] = None)
     return found
 
 
-# ---- sequences of numbers
-
-
-def intersection(self: Any, *others: Any) -> "_core.EliasFano":
-    """The numbers that are in this sequence and in each other one, each once, in a new one. Each number of the shortest is
-    looked up in the others.
-
-    >>> list(EliasFano([2, 3, 5]).intersection(EliasFano([3, 4, 5]), EliasFano([5, 5, 6])))
-    [5]
-    """
-    return _core.EliasFano(_core.sequence_common(self, *others))
-
-
-def union(self: Any, *others: Any) -> "_core.EliasFano":
-    """The numbers that are in this sequence or in any other one, each once, in a new one. Needs memory for all numbers of
-    all sequences, twice.
-
-    >>> list(EliasFano([2, 3, 5]).union(EliasFano([3, 4, 5]), EliasFano([5, 5, 6])))
-    [2, 3, 4, 5, 6]
-    """
-    return _core.EliasFano(_core.sequence_merged(self, *others))
-
-
 # ---- keys
 
 
@@ -260,8 +237,9 @@ def _copy(share: Callable[[Any], Any]) -> Callable[[Any], Any]:
 
 
 def complete() -> None:
-    """Gives the types of the extension those methods that stand here and in `_blocks`."""
+    """Gives the types of the extension those methods that stand here, in `_blocks` and in `_sets`."""
     _blocks.complete()
+    _sets.complete()
     kept = (_core.Index, _core.EliasFano, _core.SparseBits, _core.PerfectHash, _core.Dictionary, _core.Tree, _core.WaveletMatrix,
             _core.TextIndex)
     for kind in kept:
@@ -279,6 +257,4 @@ def complete() -> None:
         setattr(_core.WaveletMatrix, name, matrix_to_numpy)
     setattr(_core.Index, "over", classmethod(index_over))
     setattr(_core.EliasFano, "over", classmethod(sequence_over))
-    setattr(_core.EliasFano, "intersection", intersection)
-    setattr(_core.EliasFano, "union", union)
     setattr(_core.EliasFano, "parts", property(parts))

@@ -29,6 +29,7 @@ class Lists:
     def rank_list(self, queries: "_Plain") -> List[int]: ...
     @overload
     def rank_list(self, queries: "_Array") -> "_Answers": ...
+
     def rank_list(self, queries: Any) -> Any:
         """`rank` of each position: a list, or an array of uint64 for an array. IndexError where one is past the end."""
         return self._asked(POSITIONS, queries, lambda known, them: known.rank_list(True, them))
@@ -37,6 +38,7 @@ class Lists:
     def rank0_list(self, queries: "_Plain") -> List[int]: ...
     @overload
     def rank0_list(self, queries: "_Array") -> "_Answers": ...
+
     def rank0_list(self, queries: Any) -> Any:
         """`rank0` of each position, likewise."""
         return self._asked(POSITIONS, queries, lambda known, them: known.rank_list(False, them))
@@ -49,6 +51,7 @@ class Lists:
     def select_list(self, queries: "_Array", *, missing: Union[SupportsIndex, Literal["error"]]) -> "_Answers": ...
     @overload
     def select_list(self, queries: "_Array", *, missing: Optional[Literal["mask"]] = None) -> "_Masked": ...
+
     def select_list(self, queries: Any, *, missing: Any = None) -> Any:
         """`select` of each rank: a list, or an array for an array. Where there is none: None, in an array masked; the
         number `missing`; or IndexError for `missing="error"`."""
@@ -62,6 +65,7 @@ class Lists:
     def select0_list(self, queries: "_Array", *, missing: Union[SupportsIndex, Literal["error"]]) -> "_Answers": ...
     @overload
     def select0_list(self, queries: "_Array", *, missing: Optional[Literal["mask"]] = None) -> "_Masked": ...
+
     def select0_list(self, queries: Any, *, missing: Any = None) -> Any:
         """`select0` of each rank, likewise."""
         return self._asked(ZEROS, queries, lambda known, them: known.select_list(False, them, missing))

@@ -303,6 +303,7 @@ class Shards(_shard_lists.Lists):
     def __getitem__(self, position: SupportsIndex, /) -> bool: ...
     @overload
     def __getitem__(self, position: slice, /) -> BitVector: ...
+
     def __getitem__(self, position: Union[SupportsIndex, slice], /) -> Union[bool, BitVector]:
         if isinstance(position, slice):
             return self._slice(position)

@@ -36,10 +36,10 @@
 #define KEYWORDS(name, function, arguments, text) METHOD(name, function, METH_FASTCALL | METH_KEYWORDS, arguments, text)
 
 extern PyObject *WrongTables;
-extern PyTypeObject *Memory_Type, *Window_Type, *Positions_Type, *Numbers_Type, *Vector_Type, *Index_Type,
+extern PyTypeObject *Memory_Type, *Window_Type, *Positions_Type, *Numbers_Type, *Cursor_Type, *Vector_Type, *Index_Type,
     *Sequence_Type, *Sparse_Type, *Dictionary_Type, *Hash_Type, *Tree_Type, *Matrix_Type, *Text_Type, *ShardSet_Type;
-extern PyType_Spec memory_spec, window_spec, positions_spec, numbers_spec, vector_spec, index_spec, sequence_spec,
-    sparse_spec, dictionary_spec, hash_spec, tree_spec, matrix_spec, text_spec, shard_set_spec;
+extern PyType_Spec memory_spec, window_spec, positions_spec, numbers_spec, cursor_spec, vector_spec, index_spec,
+    sequence_spec, sparse_spec, dictionary_spec, hash_spec, tree_spec, matrix_spec, text_spec, shard_set_spec;
 
 /* ---- arguments.c */
 
@@ -263,8 +263,10 @@ void walk_dealloc(PyObject *self);
     }
 #define WALK_FLAGS (Py_TPFLAGS_DEFAULT | Py_TPFLAGS_HAVE_GC | Py_TPFLAGS_DISALLOW_INSTANTIATION)
 
-/* A buffer that Python code may look at: of memory that it keeps (read-only), or of its own (writable). */
+/* A buffer that Python code may look at: of memory that it keeps (read-only), or of its own (writable): new, or the
+ * numbers in a piece of malloc's, which it takes even where it fails. */
 PyObject *window_of(Memory *base, const void *at, size_t len, size_t size);
+PyObject *window_taking(uint64_t *own, size_t len);
 PyObject *window_new(size_t len, uint64_t **at);
 
 /* A function of bitm/_more.py, with arguments that it takes. */
@@ -338,7 +340,7 @@ PyObject *text_of_letters(PyObject *type, PyObject *const *args, Py_ssize_t coun
  * none; -1 and an error. */
 int bytes_kept(PyObject *from, PyObject **bytes);
 
-/* ---- sequence.c, numbers.c, sets.c, keys.c, stored.c */
+/* ---- sequence.c, numbers.c, cursor.c, sets.c, merged.c, keys.c, stored.c */
 
 /* What equals a whole number of 64 bits: 1 and the number, 0 where it cannot be one, -1 and an error. */
 int equal_number(PyObject *value, uint64_t *out);
@@ -350,6 +352,18 @@ PyObject *sequence_slice(PyObject *self, PyObject *slice);
 PyObject *sequence_window(PyObject *module, PyObject *self);
 PyObject *sequence_common(PyObject *module, PyObject *args);
 PyObject *sequence_merged(PyObject *module, PyObject *args);
+PyObject *cursor_new(PyObject *sequence, PyObject *none);
+PyObject *cursors_merged(PyObject *module, PyObject *args);
+
+/* The memory of several sequences, which is kept, and how many numbers they have in all. */
+typedef struct {
+    Memory **all;
+    size_t count, numbers;
+} Several;
+
+/* Those of a tuple. -1 and an error. */
+int several_take(Several *it, PyObject *sequences);
+void several_drop(Several *it);
 
 /* Whether it is an EliasFano; TypeError else. */
 int is_sequence(PyObject *it);

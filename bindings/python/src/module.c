@@ -2,8 +2,8 @@
 #include "core.h"
 
 PyObject *WrongTables;
-PyTypeObject *Memory_Type, *Window_Type, *Positions_Type, *Numbers_Type, *Vector_Type, *Index_Type, *Sequence_Type,
-    *Sparse_Type, *Dictionary_Type, *Hash_Type, *Tree_Type, *Matrix_Type, *Text_Type, *ShardSet_Type;
+PyTypeObject *Memory_Type, *Window_Type, *Positions_Type, *Numbers_Type, *Cursor_Type, *Vector_Type, *Index_Type,
+    *Sequence_Type, *Sparse_Type, *Dictionary_Type, *Hash_Type, *Tree_Type, *Matrix_Type, *Text_Type, *ShardSet_Type;
 
 static PyMethodDef functions[] = {{"stored_load", stored_load, METH_O, NULL},
                                   {"index_header", stored_index_header, METH_VARARGS, NULL},
@@ -13,6 +13,7 @@ static PyMethodDef functions[] = {{"stored_load", stored_load, METH_O, NULL},
                                   {"sequence_window", sequence_window, METH_O, NULL},
                                   {"sequence_common", sequence_common, METH_VARARGS, NULL},
                                   {"sequence_merged", sequence_merged, METH_VARARGS, NULL},
+                                  {"cursors_merged", cursors_merged, METH_VARARGS, NULL},
                                   {NULL, NULL, 0, NULL}};
 
 /* The name of what the processor lacks of x86-64-v2, for which the library is compiled; NULL where it has all. */
@@ -58,6 +59,7 @@ static int filled(PyObject *module)
                  {&window_spec, &Window_Type, NULL},
                  {&positions_spec, &Positions_Type, NULL},
                  {&numbers_spec, &Numbers_Type, NULL},
+                 {&cursor_spec, &Cursor_Type, "Cursor"},
                  {&vector_spec, &Vector_Type, "BitVector"},
                  {&index_spec, &Index_Type, "Index"},
                  {&sequence_spec, &Sequence_Type, "EliasFano"},

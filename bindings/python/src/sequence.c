@@ -225,6 +225,7 @@ static PyMethodDef methods[] = {
     NAMED(contains_list, "($self, queries)", SEQUENCE_CONTAINS_LIST),
     NAMED(items, "($self, start=0, stop=None, *, reverse=False)", SEQUENCE_ITEMS),
     KEYWORDS("from_value", numbers_from, "($self, value, *, reverse=False)", SEQUENCE_FROM_VALUE),
+    METHOD("cursor", cursor_new, METH_NOARGS, "($self, /)", SEQUENCE_CURSOR),
     PLAIN("index", sequence_index, "($self, value, /)", SEQUENCE_INDEX),
     PLAIN("count", sequence_count, "($self, value, /)", SEQUENCE_COUNT),
     METHOD("check", sequence_check, METH_NOARGS, "($self, /)", SEQUENCE_CHECK),

@@ -42,6 +42,9 @@
     "iterator with seek and next_geq, or next_leq." EXAMPLE("list(EliasFano([2, 3, 5, 7, 11]).from_value(4))")         \
         PRINTS("[5, 7, 11]") EXAMPLE("list(EliasFano([2, 3, 5, 7, "                                                    \
                                      "11]).from_value(4, reverse=True))") PRINTS("[3, 2]")
+#define SEQUENCE_CURSOR                                                                                                \
+    "A Cursor at the first number. Costs three selections." EXAMPLE("EliasFano([2, 3, 5, 7, 11]).cursor().number")     \
+        PRINTS("2")
 #define SEQUENCE_INDEX                                                                                                 \
     "The first index of a number; ValueError where it is not in the sequence." EXAMPLE(                                \
         "EliasFano([2, 3, 5, 7, 11]).index(5)") PRINTS("2")
@@ -60,5 +63,24 @@
 #define NUMBERS_NEXT_LEQ                                                                                               \
     "The same backwards: the first number, of those that are left, that is at most value, or None." EXAMPLE(           \
         "walk = reversed(EliasFano([2, 3, 5, 7, 11]))") THEN("walk.next_leq(6), next(walk)") PRINTS("(5, 3)")
+
+#define CURSOR_DOC                                                                                                     \
+    "A position in an EliasFano, made by its cursor(): at a number, or at the end. It moves forward only, and past "   \
+    "equal numbers at once. As an iterator it gives the number where it stands, and moves on to the next greater "     \
+    "one.\n\n"                                                                                                         \
+    "ValueError once the sequence is closed or made anew, WrongTables over parts that are not those of a "             \
+    "sequence." EXAMPLE("cursor = EliasFano([2, 3, 3, 7, 11]).cursor()")                                               \
+        THEN("cursor.next_geq(3), next(cursor), list(cursor)") PRINTS("(3, 3, [7, 11])")
+#define CURSOR_NEXT_GEQ                                                                                                \
+    "Moves to the first number from here on that is at least value, and returns it; stays where the number here is. "  \
+    "None where each is less: the cursor is at the end then. A number that is near costs 25 words, another one three " \
+    "selections more." EXAMPLE("cursor = EliasFano([2, 3, 5, 7, 11]).cursor()")                                        \
+        THEN("cursor.next_geq(4), cursor.next_geq(4), cursor.next_geq(12)") PRINTS("(5, 5, None)")
+#define CURSOR_INDEX                                                                                                   \
+    "The index of the number where it stands; how many numbers there are at the end." EXAMPLE(                         \
+        "cursor = EliasFano([2, 3, 5, 7, 11]).cursor()") THEN("cursor.next_geq(6), cursor.index") PRINTS("(7, 3)")
+#define CURSOR_NUMBER                                                                                                  \
+    "The number where it stands, or None at the end." EXAMPLE("cursor = EliasFano([2, 3]).cursor()")                   \
+        THEN("cursor.number, list(cursor), cursor.number") PRINTS("(2, [2, 3], None)")
 
 #endif

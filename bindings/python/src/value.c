@@ -190,14 +190,18 @@ PyObject *window_of(Memory *base, const void *at, size_t len, size_t size)
     return (PyObject *)it;
 }
 
+PyObject *window_taking(uint64_t *own, size_t len)
+{
+    PyObject *made = window_of(NULL, own, len, 8);
+    if (made == NULL)
+        free(own);
+    else
+        ((Window *)made)->own = own;
+    return made;
+}
+
 PyObject *window_new(size_t len, uint64_t **at)
 {
-    uint64_t *own = room_for(len);
-    PyObject *made = own == NULL ? NULL : window_of(NULL, own, len, 8);
-    if (made == NULL) {
-        free(own);
-        return NULL;
-    }
-    ((Window *)made)->own = *at = own;
-    return made;
+    *at = room_for(len);
+    return *at == NULL ? NULL : window_taking(*at, len);
 }

@@ -100,9 +100,9 @@ def test_counts_and_indexes_that_do_not_fit_are_refused():
     made = ShardSet(numbers, array.array("Q", [0, 0]))
     closed = bitm.Index(BitVector(3))
     closed.close()
-    for shard, given, error in [(1, index, IndexError), (-1, index, IndexError), (0, closed, ValueError), (0, BitVector(3), TypeError)]:
+    for shard, value, error in [(1, index, IndexError), (-1, index, IndexError), (0, closed, ValueError), (0, BitVector(3), TypeError)]:
         with pytest.raises(error):
-            made.put(shard, given)
+            made.put(shard, value)
     made.put(0, index)
     made.put(0, bitm.Index(b"\xff"))  # the first one stays
     assert made.rank(0, 3) == 3 and made.needed(2, [0, 1]) == [] and made.place(2, 3) is None

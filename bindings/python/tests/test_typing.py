@@ -29,6 +29,8 @@ shards[1]; shards[1:]; shards.rank(3); shards.select(3); shards.next_one(3); sha
 shards.rank_list([1]); shards.rank_list(array); shards.select_list([1]); shards.select_list(array); shards.select0_list(array, missing="error")
 bitm.TextIndex(b"a", 3).count(b"a"); bitm.TextIndex.of_letters([1], 2).locate([1]); bitm.TextIndex.of_letters(array, 9, step=1)[0]
 bitm.Shards.build([bits, (b"", 0)], "x"); shards.count(); shards.folder
+bitm.intersect([sequence]); bitm.union(iter([sequence]), 3, limit=4); bitm.union([sequence], to_numpy=True); bitm.intersect([], 1, None, to_numpy=True)
+sequence.cursor(); sequence.cursor().next_geq(3); next(sequence.cursor()); sequence.cursor().number; sequence.cursor().index; list(sequence.cursor())
 bitm.load("x"); bitm.load("x").check(); bitm.loads(b""); bitm.tables_of(b""); bitm.Index(b"").over(b"", b"", b"")""".replace("\n", "; ").split("; ")
 
 
@@ -81,8 +83,8 @@ def test_pyright_finds_nothing(tmp_path):
 
 def test_every_name_has_a_stub_and_a_text():
     stub = pathlib.Path(bitm.__file__).with_name("_core.pyi").read_text()
-    for kind in (bitm.BitVector, bitm.Index, bitm.EliasFano, bitm.SparseBits, bitm.PerfectHash, bitm.Dictionary, bitm.Tree,
-                 bitm.WaveletMatrix, bitm.TextIndex):
+    for kind in (bitm.BitVector, bitm.Index, bitm.EliasFano, bitm.Cursor, bitm.SparseBits, bitm.PerfectHash, bitm.Dictionary,
+                 bitm.Tree, bitm.WaveletMatrix, bitm.TextIndex):
         body = re.search(rf"class {kind.__name__}.*?:\n(.*?)(\n\S|\Z)", stub, re.S)[1] + re.search(r"class _Value:\n(.*?)\n\S", stub, re.S)[1]
         for name in dir(kind):
             if not name.startswith("_"):

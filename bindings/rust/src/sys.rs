@@ -1,6 +1,7 @@
 //! The only module with `unsafe` blocks: calls of the archive, memory, owners, bytes and mapped files.
 pub(crate) mod block;
 pub(crate) mod bytes;
+pub(crate) mod cursor;
 pub(crate) mod dictionary;
 pub(crate) mod hash;
 pub(crate) mod held;

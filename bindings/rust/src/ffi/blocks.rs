@@ -88,6 +88,19 @@ extern "C" {
         hash: *const bitm_hash, key_hashes: *const u64, key_hashes_len: usize, out: *mut u64, out_len: usize,
         counts: *mut bitm_list_counts,
     ) -> u32;
+    pub fn bitm_hash_set_prints(
+        hash: *const bitm_hash, key_hashes: *const u64, key_hashes_len: usize, key_prints: *const u64,
+        key_prints_len: usize, prints: *mut u64, prints_len: usize, width: u32,
+    ) -> u32;
+    pub fn bitm_hash_find(
+        hash: *const bitm_hash, prints: *const u64, prints_len: usize, width: u32, key_hash: u64, key_print: u64,
+        out: *mut u64,
+    ) -> u32;
+    pub fn bitm_hash_find_list(
+        hash: *const bitm_hash, prints: *const u64, prints_len: usize, width: u32, key_hashes: *const u64,
+        key_hashes_len: usize, key_prints: *const u64, key_prints_len: usize, out: *mut u64, out_len: usize,
+        counts: *mut bitm_list_counts,
+    ) -> u32;
 }
 #[repr(C)]
 #[derive(Copy, Clone)]

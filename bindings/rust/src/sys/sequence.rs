@@ -75,6 +75,11 @@ impl<'a> SequenceView<'a> {
         Ok(view)
     }
 
+    /// All of it as C takes it.
+    pub(crate) fn raw(&self) -> bitm_sequence {
+        self.raw
+    }
+
     #[inline(always)]
     fn call(&self, call: One, number: u64) -> Result<Option<u64>, WrongTables> {
         // SAFETY: a view, which borrows its slices, and room for the number that a call writes where it returns OK.

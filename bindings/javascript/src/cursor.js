@@ -1,0 +1,131 @@
+// Cursors over EliasFano values, and what several of these share, or any of them has: each by one call of the library for a
+// move, or for a block of the answer.
+import { bytesAt, calls, numberAt, smallest, wordsAt } from "./core.js";
+import { partsOf } from "./elias_fano.js";
+import { BITM_CURSOR, BITM_SEQUENCE } from "./layout.js";
+import { copyOut } from "./lists.js";
+import { Block, dispose, freed, withRoom } from "./memory.js";
+import { answerOf, big, byBigInts, must, orNone, place, refused } from "./numbers.js";
+
+const MOST = 2n ** 64n - 1n;
+/** How many numbers of an intersection or a union are read by one call. */
+const BLOCK = 2048;
+
+/** Puts a cursor at the first number of a sequence, whose struct stands at `parts`. */
+function startAt(at, parts) {
+    bytesAt(at, BITM_CURSOR.bytes).fill(0);
+    bytesAt(at, BITM_SEQUENCE.bytes).set(bytesAt(parts, BITM_SEQUENCE.bytes));
+    must(calls.bitm_cursor_start(at), "the sequence");
+}
+
+/**
+ * A position in an EliasFano, which moves forward only: at a number, or at the end. As an iterator it gives the number where it
+ * stands, and moves on to the next greater one, so each number once.
+ */
+export class Cursor {
+    #sequence;
+    #block;
+
+    /** At the first number of a sequence. */
+    constructor(sequence) {
+        const parts = partsOf(sequence);
+        this.#sequence = sequence;
+        this.#block = new Block(BITM_CURSOR.bytes).heldBy(this, at => startAt(at, parts));
+    }
+
+    /** Where the struct stands. TypeError where the sequence was freed, or the cursor. */
+    #live() {
+        partsOf(this.#sequence);
+        const at = this.#block.at;
+        if (at === 0) throw freed("Cursor");
+        return at;
+    }
+
+    /** The index of the number where it stands; how many numbers there are at the end. */
+    get index() { return numberAt(this.#live() + BITM_CURSOR.index); }
+
+    /** The number where it stands; undefined at the end. */
+    get number() {
+        const at = this.#live();
+        return numberAt(at + BITM_CURSOR.index) < numberAt(at + BITM_CURSOR.sequence_len) ? numberAt(at + BITM_CURSOR.number) : undefined;
+    }
+
+    /** Moves to the first number from here on that is at least value, and returns it; stays where the number here is. */
+    nextGeq(value) {
+        const at = this.#live();
+        return orNone(answerOf("bitm_cursor_next", at, value), "value", value);
+    }
+
+    /** The number where it stands, as an iterator gives it; and moves on to the next greater one. */
+    next() {
+        const value = this.number, at = this.#live();
+        if (value === undefined) return { value, done: true };
+        const more = BigInt(value) + 1n;
+        if (more > MOST) wordsAt(at + BITM_CURSOR.index, 1)[0] = wordsAt(at + BITM_CURSOR.sequence_len, 1)[0]; // the end: none is greater
+        else orNone(answerOf("bitm_cursor_next", at, smallest(more)), "value", more);
+        return { value, done: false };
+    }
+    [Symbol.iterator]() { return this; }
+
+    /** Gives the memory back at once. */
+    free() { this.#block.free(); }
+    [dispose]() { this.free(); }
+}
+
+/**
+ * The numbers from `from` on of a call that merges sequences, the first `most` of them: take(at, n) gets each block. The
+ * shortest sequence is first, whose numbers an intersection looks up in the others.
+ */
+function merge(name, sequences, from, most, take) {
+    const parts = sequences.sort((a, b) => a.length - b.length).map(partsOf), n = parts.length;
+    withRoom(BITM_CURSOR.bytes * n + 8 * BLOCK, cursors => {
+        const out = cursors + BITM_CURSOR.bytes * n;
+        parts.forEach((it, k) => startAt(cursors + BITM_CURSOR.bytes * k, it));
+        for (let room = Math.min(BLOCK, most); ; room = Math.min(BLOCK, most)) {
+            const found = byBigInts(name, cursors, n, from, out, room);
+            if (found < 0) throw refused(found, "sequences", n);
+            const last = found === 0 ? MOST : wordsAt(out, found)[found - 1];
+            take(out, found);
+            most -= found;
+            if (found < room || most === 0 || last === MOST) return;
+            from = last + 1n;
+        }
+    });
+}
+
+/** All sequences that a user gave, of which each is one that is not freed. */
+function allOf(sequences) {
+    if (typeof sequences !== "object" || sequences === null || typeof sequences[Symbol.iterator] !== "function")
+        throw new TypeError("bitm: sequences must be an array or another iterable of EliasFano values");
+    const all = Array.from(sequences);
+    all.forEach(partsOf);
+    return all;
+}
+
+function merged(name, sequences, from, limit) {
+    const found = [], first = big(from, "from"), most = limit === undefined ? Infinity : place(limit, "limit");
+    merge(name, allOf(sequences), first, most, (at, n) => {
+        for (const it of copyOut(at, n, "plain", false)) found.push(it);
+    });
+    return found;
+}
+
+/** The numbers from `from` on that each of the sequences has, rising and each once, the first `limit` of them. RangeError where
+ *  there is no sequence. */
+export function intersect(sequences, from = 0, limit = undefined) { return merged("bitm_cursors_intersect", sequences, from, limit); }
+
+/** The numbers from `from` on that any of the sequences has, likewise. */
+export function union(sequences, from = 0, limit = undefined) { return merged("bitm_cursors_union", sequences, from, limit); }
+
+/** All of these in one BigUint64Array. */
+export function wordsOfUnion(sequences) {
+    const blocks = [];
+    let length = 0;
+    merge("bitm_cursors_union", allOf(sequences), 0n, Infinity, (at, n) => {
+        blocks.push(wordsAt(at, n).slice());
+        length += n;
+    });
+    const all = new BigUint64Array(length);
+    for (let k = 0, to = 0; k < blocks.length; to += blocks[k++].length) all.set(blocks[k], to);
+    return all;
+}

@@ -1,0 +1,117 @@
+import { BESIDE, bytesAt, calls, halvesAt, numberAt, smallest, wordsAt } from "./core.js";
+import { Copied, InBlock, checked } from "./in_block.js";
+import { BITM_DICTIONARY } from "./layout.js";
+import { answers, copyIn, numbersOf } from "./lists.js";
+import { dispose, withRoom } from "./memory.js";
+import { answerOf, big, must, orNone, orThrow } from "./numbers.js";
+import { LEVELS, within } from "./perfect_hash.js";
+
+const KIND = { name: "Dictionary", what: "a dictionary", open: "bitm_dictionary_open", check: "bitm_dictionary_check", layout: BITM_DICTIONARY };
+/** How many keys are copied at a time. */
+const PIECE = 512;
+
+/** Writes the hashes of n keys: their sums with the seed, which wrap. */
+function putHashes(keys, n, salt, to) {
+    const hashes = wordsAt(to, n), from = wordsAt(keys, n);
+    for (let k = 0; k < n; k++) hashes[k] = from[k] + salt;
+}
+
+/** Numbers for keys that are whole numbers, with the keys: each of n keys has a number of its own below n, and nothing else has. */
+export class Dictionary {
+    #held;
+    #length;
+
+    /** The keys, no two equal, each 0 to 2^64 - 1. percent: 100 takes least memory, 200 less time; seed is added to a key to hash it. */
+    constructor(keys, options = {}) {
+        if (keys instanceof Copied) this.#held = new InBlock(KIND, this, keys);
+        else this.#build(numbersOf(keys, "keys").items, options);
+        this.#length = this.#held.member("keys_len");
+    }
+
+    /** Rooms for the keys, their hashes, the keys at their numbers, and the levels. */
+    #build(items, { percent = 100, seed = 0 }) {
+        const n = items.length, salt = big(seed, "seed");
+        const first = calls.bitm_hash_level_len(n, within(percent, 50, 10000, "percent"));
+        // All levels together have some e^(100 / percent) times the words of the first, and each has one at least.
+        const most = 8 * first + 2 * LEVELS;
+        withRoom(8 * (3 * n + first + most + LEVELS), keys => {
+            const hashes = keys + 8 * n, placed = hashes + 8 * n, again = placed + 8 * n, words = again + 8 * first, sizes = words + 8 * most;
+            copyIn(items, keys, "keys");
+            putHashes(keys, n, salt, hashes);
+            const rooms = [words, most, again, first, sizes, LEVELS, BESIDE, BESIDE + 8];
+            if (orThrow(calls.bitm_hash_build(hashes, n, percent, ...rooms), "keys", n) !== 0) throw new RangeError("bitm: two keys are equal");
+            this.#of({ n, salt, keys, hashes, placed, words, words_len: numberAt(BESIDE + 8), sizes, sizes_len: numberAt(BESIDE) });
+        });
+    }
+
+    /** Builds the tables of the levels, puts each key at its number, and writes the block of these. */
+    #of(it) {
+        const upper_len = calls.bitm_index_upper_len(it.words_len), lower_len = calls.bitm_index_lower_len(it.words_len);
+        withRoom(BITM_DICTIONARY.bytes + 8 * (upper_len + lower_len), at => {
+            const upper = at + BITM_DICTIONARY.bytes, lower = upper + 8 * upper_len;
+            orThrow(calls.bitm_index_build(it.words, it.words_len, upper, upper_len, lower, lower_len), "the levels", it.words_len);
+            bytesAt(at, BITM_DICTIONARY.bytes).fill(0);
+            const members = {
+                hash_index_words: it.words, hash_index_words_len: it.words_len, hash_index_upper: upper, hash_index_upper_len: upper_len,
+                hash_index_lower: lower, hash_index_lower_len: lower_len, hash_index_bits_len: 64 * it.words_len, hash_sizes: it.sizes,
+                hash_sizes_len: it.sizes_len, hash_keys: it.n, keys: it.placed, keys_len: it.n, seed: it.salt,
+            };
+            for (const [name, value] of Object.entries(members)) wordsAt(at + BITM_DICTIONARY[name], 1)[0] = BigInt(value);
+            putHashes(it.keys, it.n, it.salt, it.hashes); // the build has moved them
+            const halves = halvesAt(it.hashes, 2 * it.n), keys = wordsAt(it.keys, it.n), placed = wordsAt(it.placed, it.n);
+            for (let k = 0; k < it.n; k++) placed[orThrow(calls.bitm_hash_get(at, halves[2 * k], halves[2 * k + 1]), "key", k)] = keys[k];
+            const size = orThrow(calls.bitm_dictionary_size(it.words_len, it.sizes_len, it.n), "keys", it.n);
+            this.#held = new InBlock(KIND, this, size, to => must(calls.bitm_dictionary_build(at, to, size), "the keys"));
+        });
+    }
+
+    /**
+     * The dictionary in the bytes of a block, as toBytes() gives them and the C library writes them; they are copied once. Unless
+     * `check` is false, all of them are looked at, and WrongTables is thrown where they are not as they were written; without
+     * that, a key may have no number, but a number that is found is that of the key which stands there.
+     */
+    static open(bytes, options = {}) { return checked(new Dictionary(new Copied(KIND, bytes)), options); }
+
+    /** How many keys there are. */
+    get length() { return this.#length; }
+
+    /** How many bytes the block has. */
+    get byteLength() { return this.#held.byteLength; }
+
+    /** What is added to a key to hash it. */
+    get seed() { return this.#held.member("seed"); }
+
+    /** The number of a key, below length; undefined for what is no key. And whether it is one. */
+    get(key) { return orNone(answerOf("bitm_dictionary_find", this.#held.at, key), "key", key); }
+    has(key) { return this.get(key) !== undefined; }
+
+    /** The numbers of a list of keys: an array of the same kind, see README.md. */
+    getList(keys) {
+        return answers([[keys, "keys"]], "fill", (n, out, at) => calls.bitm_dictionary_find_list(this.#held.at, at, n, out, n, BESIDE));
+    }
+
+    /** The key that has a number; undefined where there is none. */
+    keyOf(number) {
+        const at = this.#held.member("keys"), k = big(number, "number");
+        return k < this.#length ? numberAt(at + 8 * Number(k)) : undefined;
+    }
+
+    /** The keys, in the order of their numbers. */
+    *keys() {
+        for (let k = 0; k < this.#length; k += PIECE) yield* Array.from(this.#keysAt(k, Math.min(PIECE, this.#length - k)), smallest);
+    }
+    [Symbol.iterator]() { return this.keys(); }
+    toBigUint64Array() { return this.#keysAt(0, this.#length); }
+
+    #keysAt(k, n) { return wordsAt(this.#held.member("keys") + 8 * k, n).slice(); }
+
+    /** Whether the block is as it was written and holds a dictionary, by going over all of it. */
+    check() { return this.#held.check(); }
+
+    /** The bytes of the block: what open() takes, and the C library and its other bindings. */
+    toBytes() { return this.#held.toBytes(); }
+
+    /** Gives the memory back at once. */
+    free() { this.#held.free(); }
+    [dispose]() { this.free(); }
+}
