@@ -7,7 +7,7 @@ use Rattle.elias_fano.specs.Answers.{IsPlaceOf}
 use Rattle.lent_levels.specs.Answers.{IsIndexWithin, IsRankWithin}
 use Rattle.lent_tables.specs.Ranks.{IsCountWithin}
 use Rattle.matrix_block.specs.Block.{HasLengths, MatrixParts}
-use Rattle.bitm_block_c.specs.Tree.{IsFoundBelow}
+use Rattle.bitm_abi.specs.Status.{IsFoundBelow}
 
 module _ (n : ℕ) (short : n < 2 ^ 60) (i : ℕ) where
   pub parent_code : (answer : Answer ℕ) → IsParentWithin n i answer → IsFoundBelow (2 ^ 64 - 2) answer

@@ -1,12 +1,13 @@
 //! Lists of queries of a tree in a block.
 ghost use Rattle.std.specs.Prelude.{◌≡◌, ◌≢◌, ◌-◌, ◌^◌, ◌<◌, ◌↔◌, ℕ, length, slice_index};
 ghost use Rattle.bitm_abi.specs.Lists.{AreCounted};
+ghost use Rattle.bitm_abi.specs.Status.{IsFoundBelow};
+ghost use Rattle.bitm_abi.specs.Tree.{tree_parts};
 ghost use Rattle.bitm_view.specs.Queries.{selected_by};
 ghost use Rattle.louds_block.specs.Block.{HasLengths};
-ghost use Rattle.bitm_block_c.specs.Tree.{tree_parts, Answers, IsChild, IsFoundBelow, IsParent, IsDegree};
+ghost use Rattle.bitm_block_c.specs.Tree.{Answers, IsChild, IsParent, IsDegree};
 
-use crate::tree::Tree;
-use bitm_abi::{BAD_SIZE, ListCounts, report_list};
+use bitm_abi::{BAD_SIZE, ListCounts, Tree, report_list};
 use bitm_select::search::selected::{NO_ANSWER, WRONG_TABLES};
 use bitm_tables::answer::Answer;
 use louds_block::LoudsView;

@@ -6,9 +6,8 @@ ghost use Rattle.bitm_view.specs.Queries.{selected_by};
 ghost use Rattle.bitm_block_c.specs.Sparse.{sparse_parts, IsBit, IsRankIn, IsSelectIn, Responds};
 
 use crate::lists::code_of;
-use crate::queries::as_number;
 use crate::sparse::Sparse;
-use bitm_abi::{BAD_SIZE, ListCounts, report_list};
+use bitm_abi::{BAD_SIZE, ListCounts, as_number, report_list};
 use bitm_select::search::selected::WRONG_TABLES;
 use sparse_block::SparseView;
 
