@@ -262,7 +262,7 @@ def _copy(share: Callable[[Any], Any]) -> Callable[[Any], Any]:
 def complete() -> None:
     """Gives the types of the extension those methods that stand here and in `_blocks`."""
     _blocks.complete()
-    kept = (_core.Index, _core.EliasFano, _core.SparseBits, _core.PerfectHash, _core.Dictionary, _core.Tree, _core.WaveletMatrix,
+    kept = (_core.Index, _core.EliasFano, _core.SparseBits, _core.PerfectHash, _core.Dictionary, _core.Tree, _core.Trie, _core.WaveletMatrix,
             _core.TextIndex)
     for kind in kept:
         setattr(kind, "save", save)
