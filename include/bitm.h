@@ -1,6 +1,6 @@
 /* Succinct bit vectors with rank and select: words, and two tables of counts beside them. And monotone integer
- * sequences (Elias-Fano), sparse bits, minimal perfect hashes and dictionaries, trees (LOUDS), lists of numbers in any
- * order (wavelet matrices) and indexes of texts, in words with such tables.
+ * sequences (Elias-Fano), sparse bits, minimal perfect hashes and dictionaries, trees (LOUDS) and tries, lists of
+ * numbers in any order (wavelet matrices) and indexes of texts, in words with such tables.
  *
  * Bit i is bit i % 64, lowest first, of words[i / 64]. You own the memory of words and tables, which may be a mapped
  * file. No call allocates, keeps a pointer or has state, so any number of threads may query at once.
@@ -14,8 +14,8 @@
  *     if (bitm_index_select(&index, true, 4, &position) != BITM_OK || position != 64) return 1;
  *
  * NAMES. The prefix says what is queried: bitm_bits_ (words without tables), bitm_index_ (words with tables),
- * bitm_sequence_, bitm_cursor_, bitm_sparse_, bitm_hash_, bitm_dictionary_, bitm_tree_, bitm_matrix_, bitm_text_,
- * bitm_stored_.
+ * bitm_sequence_, bitm_cursor_, bitm_sparse_, bitm_hash_, bitm_dictionary_, bitm_tree_, bitm_trie_, bitm_matrix_,
+ * bitm_text_, bitm_stored_.
  * `bool one` says which bits are meant: true the 1 bits, false the 0 bits. A position counts from 0; the rank of a bit
  * is how many bits of its kind there are before it.
  *
@@ -25,8 +25,8 @@
  * Promised, and proved of each call, for all arguments that keep the duties below:
  *   - it returns, and reads and writes only the memory that it is passed, WHATEVER the tables hold;
  *   - a status other than BITM_OK leaves all that the call could have written unchanged, but for cursors, which may have
- *     moved, and for the lists of positions or letters of a text, of ranges of a matrix and of cursors where it is
- *     BITM_WRONG;
+ *     moved, and for the lists of positions or letters of a text, of ranges of a matrix and of cursors, and the word of a
+ *     node of a trie, where it is BITM_WRONG;
  *   - over any tables, stale and hostile ones too, a rank is at most its position and a selection finds a position that
  *     is inside and holds the requested bit; BITM_WRONG says that the tables are not those of the words, but BITM_OK
  *     does not say that they are;
@@ -118,8 +118,8 @@ enum bitm_status {
     BITM_NONE = 1,     /* there is no such position, bit or number */
     BITM_BAD_SIZE = 2, /* a length is wrong: see each call; bitm_index_fault, bitm_sequence_fault, .. say which one */
     BITM_WRONG = 3,    /* the tables or samples are not those of the words, the parts not those of a sequence, the
-                        * header or the block is not one, the degrees are those of no tree, a number has more bits
-                        * than the width, or a letter is outside its alphabet */
+                        * header or the block is not one, the degrees are those of no tree, the labels are none for a
+                        * tree, a number has more bits than the width, or a letter is outside its alphabet */
     BITM_UNSORTED = 4  /* a number is less than the one before it */
 };
 
@@ -1336,6 +1336,135 @@ BITM_MUST_USE uint32_t bitm_tree_degree_list(const struct bitm_tree *tree, const
 BITM_MUST_USE uint32_t bitm_tree_child_list(const struct bitm_tree *tree, const uint64_t *nodes, size_t nodes_len,
                                             const uint64_t *ks, size_t ks_len, uint64_t *out, size_t out_len,
                                             struct bitm_list_counts *counts);
+
+/* ---- tries: sets of words, each in one block of memory
+ *
+ * A trie is a tree in which each node but the root has a label, and the labels of the children of a node rise. A
+ * word, a list of labels, leads from the root to at most one node. Labels are numbers of `width` bits each, 1 to 63:
+ * bytes, say. Ends are a bit for each node, lowest bit first, which says whether a word ends there; a trie may have
+ * none. A node takes about 2.1 bits, its label and its end. A block is written and opened as that of a tree;
+ * labels[0] is that of node 1, since the root has none:
+ *
+ *     const uint64_t children[4] = {2, 0, 1, 0}, node_labels[3] = {'a', 'b', 'e'}, node_ends[1] = {14}; // a, b and be
+ *     uint64_t trie_len, matched, word[4];
+ *     if (bitm_trie_size(4, 8, true, &trie_len) != BITM_OK) return 1; // labels are bytes
+ *     uint64_t *of_words = malloc(8 * trie_len); // or a mapped file
+ *     struct bitm_trie trie = {0};
+ *     if (!of_words || bitm_trie_build(children, 4, node_labels, 3, 8, node_ends, 1, of_words, trie_len) != BITM_OK ||
+ *         bitm_trie_open(of_words, trie_len, &trie) != BITM_OK ||
+ *         bitm_trie_find_bytes(&trie, (const uint8_t *)"be", 2, &node) != BITM_OK || node != 3) return 1;
+ *
+ * The calls of a tree take trie.tree: parents, children by their number, degrees.
+ *
+ *     if (bitm_tree_parent(&trie.tree, 3, &node) != BITM_OK || node != 2) return 1;
+ *
+ * Over any block that bitm_trie_open takes, a stale or hostile one too, a query returns within the reads that are
+ * named below, a node that is found is less than trie.tree.len, and a child more than its node; a label has no more
+ * than trie.width bits, and the word of a node no more labels than the number of the node. If bitm_trie_build wrote
+ * the block or bitm_trie_check passes it, and it did not change afterwards, the answers are those of one trie, and no
+ * query returns BITM_WRONG. */
+struct bitm_trie {
+    struct bitm_tree tree; /* the nodes */
+    uint64_t width;        /* how many bits a label has */
+    const uint64_t *labels;
+    size_t labels_len;
+    const uint64_t *ends; /* NULL or no words where there are none */
+    size_t ends_len;
+    uint64_t reserved[2]; /* 0: not read */
+};
+
+/* How many words the block of a trie of that many nodes takes, whose labels have `width` bits, with a bit for each
+ * node or without. BITM_BAD_SIZE if there are 2^57 nodes or more, or width is not 1 to 63. */
+BITM_MUST_USE uint32_t bitm_trie_size(size_t nodes, uint32_t width, bool has_ends, uint64_t *out);
+
+/* Writes the block of the trie of these degrees and labels. ends are no words, or ceil(degrees_len / 64); they are
+ * copied as they are. BITM_BAD_SIZE if bitm_trie_size does not take degrees_len and width; else BITM_WRONG exactly if
+ * the degrees are those of no tree (bitm_tree_build), labels_len is not degrees_len - 1, a label has more than
+ * `width` bits, or the labels of the children of a node do not rise; else BITM_BAD_SIZE if ends_len is neither of
+ * these, or block_len is not what bitm_trie_size says. Allocates nothing, and needs no other memory. block may
+ * overlap nothing that is read. Three passes over degrees and labels, and four over the block (evident from the
+ * code).
+ *
+ *     const uint64_t of_fall[3] = {'b', 'a', 'e'};
+ *     if (bitm_trie_build(children, 4, of_fall, 3, 8, node_ends, 1, of_words, trie_len) != BITM_WRONG) return 1; */
+BITM_MUST_USE uint32_t bitm_trie_build(const uint64_t *degrees, size_t degrees_len, const uint64_t *labels,
+                                       size_t labels_len, uint32_t width, const uint64_t *ends, size_t ends_len,
+                                       uint64_t *block, size_t block_len);
+
+/* Opens a block: writes the trie that queries take, which points into the block. *trie has to be zeros, or a trie
+ * whose block is still there. BITM_WRONG exactly if the header or the directory of the block is not right, or is that
+ * of no trie, or block_len is not as they say. Reads at most 80 words, however long the block is (evident from the
+ * code); what its other words hold is not looked at.
+ *
+ *     if (bitm_trie_open(of_words, trie_len - 1, &trie) != BITM_WRONG || trie.tree.len != 4) return 1; */
+BITM_MUST_USE uint32_t bitm_trie_open(const uint64_t *block, size_t block_len, struct bitm_trie *trie);
+
+/* Whether a block is as it was written and holds a trie: BITM_OK, or BITM_WRONG as bitm_trie_open, if a checksum is
+ * not that of its words, if words and tables are not those of a tree, or if the labels of the children of a node do
+ * not rise. So a block in which one word was changed is refused. Four passes over the words of the block (evident
+ * from the code).
+ *
+ *     of_words[40] ^= 1;
+ *     if (bitm_trie_check(of_words, trie_len) != BITM_WRONG) return 1;
+ *     of_words[40] ^= 1;
+ *     if (bitm_trie_check(of_words, trie_len) != BITM_OK) return 1; */
+BITM_MUST_USE uint32_t bitm_trie_check(const uint64_t *block, size_t block_len);
+
+/* Each of these calls returns BITM_BAD_SIZE if a length in *trie is not that of its number of nodes and its width,
+ * and BITM_WRONG only where the block is not that of a trie.
+ *
+ * The label of a node. BITM_NONE exactly at the root and if there is no such node. Reads at most two words (evident
+ * from the code).
+ *
+ *     if (bitm_trie_label(&trie, 2, &value) != BITM_OK || value != 'b') return 1; */
+BITM_MUST_USE uint32_t bitm_trie_label(const struct bitm_trie *trie, size_t node, uint64_t *out);
+
+/* Whether a word ends at a node, as 0 or 1. BITM_NONE exactly if there is no such node, or the trie has no ends.
+ * Reads at most one word (evident from the code).
+ *
+ *     if (bitm_trie_is_end(&trie, 3, &value) != BITM_OK || value != 1) return 1; */
+BITM_MUST_USE uint32_t bitm_trie_is_end(const struct bitm_trie *trie, size_t node, uint64_t *out);
+
+/* The child of a node with the given label. BITM_NONE exactly if none has it, or there is no such node. Reads what
+ * two selections do, and a label for each binary digit of the number of nodes, and one.
+ *
+ *     if (bitm_trie_child(&trie, 0, 'b', &node) != BITM_OK || node != 2 ||
+ *         bitm_trie_child(&trie, 0, 'e', &node) != BITM_NONE) return 1; */
+BITM_MUST_USE uint32_t bitm_trie_child(const struct bitm_trie *trie, size_t node, uint64_t label, uint64_t *out);
+
+/* The node to which a word leads from the root, label by label: the root for an empty one. Whether a word of the set
+ * ends there, bitm_trie_is_end says. A call over bytes takes each byte as a label. BITM_NONE exactly if the word
+ * leads to no node. Each reads for each label of the word at most what bitm_trie_child does.
+ *
+ *     if (bitm_trie_find(&trie, node_labels, 1, &node) != BITM_OK || node != 1 ||
+ *         bitm_trie_find_bytes(&trie, (const uint8_t *)"ab", 2, &node) != BITM_NONE) return 1; */
+BITM_MUST_USE uint32_t bitm_trie_find(const struct bitm_trie *trie, const uint64_t *word, size_t word_len,
+                                      uint64_t *out);
+BITM_MUST_USE uint32_t bitm_trie_find_bytes(const struct bitm_trie *trie, const uint8_t *word, size_t word_len,
+                                            uint64_t *out);
+
+/* The deepest node to which a beginning of a word leads from the root, and how many labels lead there: word_len where
+ * the word leads to a node. No longer beginning of the word leads to one. So the longest word of the set with which a
+ * text begins ends at that node, or at the first node above it that is an end. BITM_NONE exactly if there are no
+ * nodes, as in no trie that was built. Each reads for each label of the word at most what bitm_trie_child does.
+ *
+ *     if (bitm_trie_longest_bytes(&trie, (const uint8_t *)"bee", 3, &node, &matched) != BITM_OK || node != 3 ||
+ *         matched != 2) return 1; */
+BITM_MUST_USE uint32_t bitm_trie_longest(const struct bitm_trie *trie, const uint64_t *word, size_t word_len,
+                                         uint64_t *node, uint64_t *matched);
+BITM_MUST_USE uint32_t bitm_trie_longest_bytes(const struct bitm_trie *trie, const uint8_t *word, size_t word_len,
+                                               uint64_t *node, uint64_t *matched);
+
+/* How many labels the word has that leads from the root to a node. If they are no more than out_len, they are the
+ * last items of out then, and the items before them stay as they are; else out holds no word. BITM_NONE exactly if
+ * there is no such node; where it is BITM_WRONG, out may have changed. Reads for each label of the word what one
+ * selection does, and that label.
+ *
+ *     if (bitm_trie_word(&trie, 3, word, 4, &matched) != BITM_OK || matched != 2 || word[2] != 'b' || word[3] != 'e')
+ *         return 1;
+ *     free(of_words); */
+BITM_MUST_USE uint32_t bitm_trie_word(const struct bitm_trie *trie, size_t node, uint64_t *out, size_t out_len,
+                                      uint64_t *word_len);
 
 /* ---- matrices: lists of numbers in any order, each in one block of memory
  *

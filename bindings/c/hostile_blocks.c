@@ -165,6 +165,41 @@ static void tree_queried(uint64_t node, uint64_t other)
     QUERY(is && out + 1 == node, bitm_tree_previous_sibling, &tree, node);
 }
 
+/* ---- a trie */
+
+static struct bitm_trie trie;
+
+static uint64_t trie_built(uint64_t *block, size_t len)
+{
+    static uint64_t labels[LEN], ends[(LEN + 63) / 64];
+    uint64_t words, labelled = 1;
+    (void)tree_built(block, len); /* draws the degrees */
+    for (size_t i = 0; i < len; i++) /* labels of siblings rise */
+        for (uint64_t k = 0, label = draw() % 8; k < numbers[i]; k++, label += 1 + draw() % 8)
+            labels[labelled++] = label;
+    MUST(bitm_trie_size(len, 8, true, &words) == BITM_OK && 8 * words <= ROOM);
+    MUST(bitm_trie_build(numbers, len, labels + 1, len - 1, 8, ends, (len + 63) / 64, block, words) == BITM_OK);
+    return words;
+}
+
+static bool trie_opens(const uint64_t *block, size_t words)
+{
+    return bitm_trie_open(block, words, &trie) == BITM_OK;
+}
+
+static void trie_queried(uint64_t node, uint64_t other)
+{
+    const bool is = node < trie.tree.len;
+    const uint64_t word[4] = {other & 255, other >> 8 & 7, other >> 16 & 7, other >> 24 & 7};
+    uint64_t labels[2], first = UNTOUCHED;
+    QUERY(is && node > 0 && out < 256, bitm_trie_label, &trie, node);
+    QUERY(is && out <= 1, bitm_trie_is_end, &trie, node);
+    QUERY(is && node < out && out < trie.tree.len, bitm_trie_child, &trie, node, word[1]);
+    QUERY(out < trie.tree.len, bitm_trie_find, &trie, word, other % 5);
+    QUERY(first < trie.tree.len && out <= 4, bitm_trie_longest, &trie, word, 4, &first);
+    QUERY(is && out <= node, bitm_trie_word, &trie, node, labels, 2);
+}
+
 /* ---- a wavelet matrix */
 
 static struct bitm_matrix matrix;
@@ -201,6 +236,7 @@ static const struct kind kinds[] = {
     {"sequence", sequence_built, 32, sequence_opens, sequence_queried},
     {"sparse bits", sparse_built, 32, sparse_opens, sparse_queried},
     {"tree", tree_built, 32, tree_opens, tree_queried},
+    {"trie", trie_built, 40, trie_opens, trie_queried},
     {"matrix", matrix_built, 40, matrix_opens, matrix_queried},
 };
 enum { KINDS = sizeof kinds / sizeof *kinds };

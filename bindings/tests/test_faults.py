@@ -29,13 +29,13 @@ EXPORTS = {
         " stored_index stored_index_room stored_build stored_sequence prefix_sums tree_size matrix_size"
         " matrix_get_list matrix_rank_list matrix_select_list index_block_size index_block_build sequence_block_size"
         " sparse_size text_size text_size_letters text_size_bytes text_build_bytes text_len"
-        " hash_block_size hash_block_build dictionary_size",
+        " hash_block_size hash_block_build dictionary_size trie_size",
     "- words": "bits_clear_from",
     "N": "bits_copy_range bits_equal_range bits_select_in_word",
     "B words other": "bits_intersects bits_is_subset",
     "N bytes": "bytes_get57 bytes_init57 bytes_set57 bytes_get25 bytes_init25 bytes_set25",
     "BW": "hash_set_prints index_check sequence_check tree_build matrix_build text_build cursor_start cursors_intersect"
-        " dictionary_build",
+        " dictionary_build trie_build",
     "BW words": "index_check_samples",
     "NBW words lower": "index_rank hash_get hash_find tree_parent tree_child tree_degree tree_is_leaf tree_next_sibling"
         " tree_previous_sibling tree_child_rank",
@@ -53,15 +53,17 @@ EXPORTS = {
     "W file": "stored_read",
     "W": "cursors_union prefix_sums_check tree_check matrix_check index_block_check sequence_block_check"
         " sparse_check text_check text_open"
-        " hash_block_check dictionary_check",
+        " hash_block_check dictionary_check trie_check",
     "NBW bits ones": "shards_find",
     "NBW bits ones shards": "shards_rank shards_select shards_next shards_previous",
     "B bits ones shards": "shards_rank_list shards_select_list",
     "W block": "tree_open matrix_open index_block_open sequence_block_open sparse_open"
-        " hash_block_open dictionary_open",
+        " hash_block_open dictionary_open trie_open",
     "NBW words": "matrix_get matrix_rank matrix_select matrix_count_less matrix_quantile"
         " matrix_distinct matrix_top matrix_intersect"
         " dictionary_find",
+    "NB labels ends words": "trie_label trie_is_end",
+    "NBW labels words lower": "trie_child trie_find trie_find_bytes trie_longest trie_longest_bytes trie_word",
     "NBW": "matrix_next_value matrix_previous_value cursor_next",
     "BW words starts": "text_count text_count_bytes",
     "BW words starts samples": "text_locate text_locate_bytes",
@@ -79,7 +81,7 @@ BESIDE = {
 SCRATCH, LEFT = ("again", "room", "scratch", "cursors"), ("hashes",)
 # The statuses with which a list may hold anything.
 SPOILS = {"W": "text_locate text_locate_bytes text_extract text_extract_bytes cursors_union"
-          " matrix_distinct matrix_top matrix_intersect", "BW": "cursors_intersect"}
+          " matrix_distinct matrix_top matrix_intersect trie_word", "BW": "cursors_intersect"}
 # What no answer of these may be, whatever the tables hold, where they would say that the tables are wrong; a list's i-th answer.
 OUTSIDE = {
     "position + 1": "index_rank shards_rank sparse_rank",
@@ -90,6 +92,8 @@ OUTSIDE = {
     "2": "sequence_contains sequence_contains_list tree_is_leaf sparse_get sparse_get_list",
     "node": "tree_parent",
     "nodes[i]": "tree_parent_list",
+    "trie->tree.len": "trie_child trie_find trie_find_bytes",
+    "node + 1": "trie_word",
     "tree->len": "tree_child tree_degree tree_next_sibling tree_previous_sibling tree_child_rank tree_degree_list tree_child_list",
     "matrix->width < 64 ? (uint64_t)1 << matrix->width : 0": "matrix_get matrix_quantile",
     "end - start + 1": "matrix_count_less",
@@ -105,7 +109,7 @@ OUTSIDE = {
     "shards->counts.bits[shards->shards_len]": "shards_select shards_next shards_previous shards_select_list",
 }
 # The programs that have to see such an answer by themselves, before any other is run.
-HOSTILE = ["hostile", "cursors", "guarded", "hashes", "fingerprints", "shards", "trees", "matrices", "matrix_ranges", "matrix_tallies", "sparse", "texts", "dictionaries"]
+HOSTILE = ["hostile", "cursors", "guarded", "hashes", "fingerprints", "shards", "trees", "tries", "matrices", "matrix_ranges", "matrix_tallies", "sparse", "texts", "dictionaries"]
 PROGRAMS = list(dict.fromkeys(["statuses", "pages", *IN_C]))
 for one in ("walks", "lengths", "careless"):
     PROGRAMS.remove(one)

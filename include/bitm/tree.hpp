@@ -57,14 +57,16 @@ struct tree_kind : block_kind<tree_kind, bitm_tree, bitm_tree_open> {
         raw.words_len = raw.upper_len = raw.lower_len = 1;
         return raw;
     }
+    static const bitm_tree &nodes(const bitm_tree &raw) noexcept { return raw; }
 };
 
-template <class Self> class tree_calls : public block_calls<Self, tree_kind> {
+// The queries of nodes, of each kind of block that has a tree in it.
+template <class Self, class Kind> class node_calls : public block_calls<Self, Kind> {
 public:
     // How many nodes there are, and whether there are none; all of it as C takes it, and the block.
-    std::uint64_t size() const noexcept { return raw().len; }
+    std::uint64_t size() const noexcept { return nodes_().len; }
     bool empty() const noexcept { return size() == 0; }
-    const bitm_tree &raw() const noexcept BITM_LIFETIMEBOUND { return this->self().own_.raw(); }
+    const typename Kind::raw_type &raw() const noexcept BITM_LIFETIMEBOUND { return this->self().own_.raw(); }
     words_in block() const noexcept BITM_LIFETIMEBOUND { return this->self().own_.words(); }
 
     // The parent of a node; none at the root and where there is no such node.
@@ -74,13 +76,13 @@ public:
     maybe_position child(std::uint64_t node, std::uint64_t k) const
     {
         std::uint64_t out = 0;
-        const std::uint32_t status = bitm_tree_child(&raw(), node, k, &out);
+        const std::uint32_t status = bitm_tree_child(&nodes_(), node, k, &out);
         return found(status, out);
     }
     result<maybe_position> try_child(std::uint64_t node, std::uint64_t k) const noexcept
     {
         std::uint64_t out = 0;
-        const std::uint32_t status = bitm_tree_child(&raw(), node, k, &out);
+        const std::uint32_t status = bitm_tree_child(&nodes_(), node, k, &out);
         return tried(status, out);
     }
     // How many children a node has; none where there is no such node.
@@ -91,8 +93,8 @@ public:
     result<node_range> try_children(std::uint64_t node) const noexcept
     {
         std::uint64_t first = 0, count = 0;
-        std::uint32_t status = bitm_tree_degree(&raw(), node, &count);
-        if (status == BITM_OK && count > 0) status = bitm_tree_child(&raw(), node, 0, &first);
+        std::uint32_t status = bitm_tree_degree(&nodes_(), node, &count);
+        if (status == BITM_OK && count > 0) status = bitm_tree_child(&nodes_(), node, 0, &first);
         if (status > BITM_NONE) return error_of(status);
         return status == BITM_OK ? node_range(first, count) : node_range();
     }
@@ -101,7 +103,7 @@ public:
     result<std::optional<bool>> try_is_leaf(std::uint64_t node) const noexcept
     {
         std::uint64_t out = 0;
-        const std::uint32_t status = bitm_tree_is_leaf(&raw(), node, &out);
+        const std::uint32_t status = bitm_tree_is_leaf(&nodes_(), node, &out);
         if (status > BITM_NONE) return error_of(status);
         return status == BITM_OK ? std::optional<bool>(out != 0) : std::optional<bool>();
     }
@@ -132,32 +134,36 @@ public:
         need_apart(nodes, out), need_apart(ks, out);
         if (BITM_RARELY(ks.size() != nodes.size())) fail(bad_size("there is not one k for each node"));
         bitm_list_counts counts{};
-        const std::uint32_t status = bitm_tree_child_list(&raw(), nodes.data(), nodes.size(), ks.data(), ks.size(),
+        const std::uint32_t status = bitm_tree_child_list(&nodes_(), nodes.data(), nodes.size(), ks.data(), ks.size(),
                                                           out.data(), out.size(), &counts);
         need_list(status, counts);
     }
 
-    // Whether the block is as it was written and holds a tree: looks at all of it, three times.
-    bool check() const noexcept { return checked(bitm_tree_check, block()); }
-
 private:
+    const bitm_tree &nodes_() const noexcept { return Kind::nodes(raw()); }
     using node_call = std::uint32_t (*)(const bitm_tree *, std::size_t, std::uint64_t *);
     maybe_position ask(node_call call, std::uint64_t node) const
     {
         std::uint64_t out = 0;
-        const std::uint32_t status = call(&raw(), node, &out);
+        const std::uint32_t status = call(&nodes_(), node, &out);
         return found(status, out);
     }
     result<maybe_position> try_ask(node_call call, std::uint64_t node) const noexcept
     {
         std::uint64_t out = 0;
-        const std::uint32_t status = call(&raw(), node, &out);
+        const std::uint32_t status = call(&nodes_(), node, &out);
         return tried(status, out);
     }
     template <class Call> void list(Call call, words_in queries, words_out out) const
     {
-        answer_list(call, queries, out, &raw());
+        answer_list(call, queries, out, &nodes_());
     }
+};
+
+template <class Self> class tree_calls : public node_calls<Self, tree_kind> {
+public:
+    // Whether the block is as it was written and holds a tree: looks at all of it, three times.
+    bool check() const noexcept { return checked(bitm_tree_check, this->block()); }
 };
 
 } // namespace detail
@@ -177,7 +183,7 @@ public:
 
 private:
     friend class tree;
-    friend class detail::tree_calls<tree_view>;
+    friend class detail::node_calls<tree_view, detail::tree_kind>;
     explicit tree_view(const detail::in_block<detail::tree_kind> &found) noexcept : own_(found) {}
 
     detail::in_block<detail::tree_kind> own_;
@@ -215,7 +221,7 @@ public:
     void raw() const && = delete;
 
 private:
-    friend class detail::tree_calls<tree>;
+    friend class detail::node_calls<tree, detail::tree_kind>;
     explicit tree(const detail::gathered &degrees) : tree(words_in(degrees.data(), degrees.size())) {}
 };
 

@@ -174,6 +174,21 @@ export const BITM_TREE = {
     lower: 40,
     lower_len: 48,
 };
+export const BITM_TRIE = {
+    bytes: 128,
+    tree_len: 0,
+    tree_words: 8,
+    tree_words_len: 16,
+    tree_upper: 24,
+    tree_upper_len: 32,
+    tree_lower: 40,
+    tree_lower_len: 48,
+    width: 72,
+    labels: 80,
+    labels_len: 88,
+    ends: 96,
+    ends_len: 104,
+};
 export const BITM_MATRIX = {
     bytes: 112,
     len: 0,

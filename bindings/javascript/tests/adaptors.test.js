@@ -28,13 +28,13 @@ function both(call, parts) {
 }
 
 test("each adaptor does what its export does", () => {
-    assert.equal(exported.length, 165);
+    assert.equal(exported.length, 177);
     for (const call of exported) {
         let answered = 0;
         for (let round = 0; round < 60; round++) answered += both(call, prepare(round % 4 === 3));
         assert.ok(answered >= 5, `${call.name} answered ${answered} times of 60`);
     }
-    tally.atLeast(165 * 60);
+    tally.atLeast(177 * 60);
 });
 
 test("each adaptor refuses what is no whole number of its range", () => {
@@ -89,6 +89,18 @@ const LEFT_OUT = {
     bitm_matrix_distinct: "lists of ranges are not made here yet",
     bitm_matrix_top: "as bitm_matrix_distinct",
     bitm_matrix_intersect: "as bitm_matrix_distinct",
+    bitm_trie_size: "there are no tries here yet",
+    bitm_trie_build: "as bitm_trie_size",
+    bitm_trie_open: "as bitm_trie_size",
+    bitm_trie_check: "as bitm_trie_size",
+    bitm_trie_label: "as bitm_trie_size",
+    bitm_trie_is_end: "as bitm_trie_size",
+    bitm_trie_child: "as bitm_trie_size",
+    bitm_trie_find: "as bitm_trie_size",
+    bitm_trie_find_bytes: "as bitm_trie_size",
+    bitm_trie_longest: "as bitm_trie_size",
+    bitm_trie_longest_bytes: "as bitm_trie_size",
+    bitm_trie_word: "as bitm_trie_size",
     bitm_text_len: "the struct of an open block has the length",
     bitm_text_size: "a block of other widths than those of letters below a bound is not made here",
 };

@@ -7,6 +7,7 @@ from ._files import load
 # What a value is, one, how many nodes, 1 bits, keys, numbers or letters it has, and a query of it with its answer.
 BLOCKS = (
     (_core.Tree, "A tree", "Tree([2, 0, 1, 0])", 4, "parent(3)", 2),
+    (_core.Trie, "A trie", 'Trie([2, 0, 1, 0], b"abe")', 4, 'find(b"be")', 3),
     (_core.SparseBits, "Sparse bits", "SparseBits([3, 100, 101, 4000], 5000)", 4, "rank(101)", 2),
     (_core.Dictionary, "A dictionary", "Dictionary([4, 9, 49])", 3, "get(50, -1)", -1),
     (_core.WaveletMatrix, "A list of numbers", "WaveletMatrix([3, 1, 4, 1, 5, 1])", 6, "rank(1, 4)", 2),

@@ -37,9 +37,9 @@
 
 extern PyObject *WrongTables;
 extern PyTypeObject *Memory_Type, *Window_Type, *Positions_Type, *Numbers_Type, *Cursor_Type, *Vector_Type, *Index_Type,
-    *Sequence_Type, *Sparse_Type, *Dictionary_Type, *Hash_Type, *Tree_Type, *Matrix_Type, *Text_Type, *ShardSet_Type;
+    *Sequence_Type, *Sparse_Type, *Dictionary_Type, *Hash_Type, *Tree_Type, *Trie_Type, *Matrix_Type, *Text_Type, *ShardSet_Type;
 extern PyType_Spec memory_spec, window_spec, positions_spec, numbers_spec, cursor_spec, vector_spec, index_spec,
-    sequence_spec, sparse_spec, dictionary_spec, hash_spec, tree_spec, matrix_spec, text_spec, shard_set_spec;
+    sequence_spec, sparse_spec, dictionary_spec, hash_spec, tree_spec, trie_spec, matrix_spec, text_spec, shard_set_spec;
 
 /* ---- arguments.c */
 
@@ -167,9 +167,10 @@ typedef struct {
     struct bitm_dictionary dictionary;
     struct bitm_hash hash;
     struct bitm_tree tree;
+    struct bitm_trie trie;
     struct bitm_matrix matrix;
     struct bitm_text text;
-    const uint64_t *block; /* the words of the block of a tree, a matrix, a text, sparse bits or a dictionary */
+    const uint64_t *block; /* the words of the block of a tree, a trie, a matrix, a text, sparse bits or a dictionary */
     size_t block_len;
     const uint64_t *prints; /* the fingerprints of a hash: hash.keys numbers of print_width bits */
     size_t prints_len;

@@ -3,7 +3,7 @@
 
 PyObject *WrongTables;
 PyTypeObject *Memory_Type, *Window_Type, *Positions_Type, *Numbers_Type, *Cursor_Type, *Vector_Type, *Index_Type,
-    *Sequence_Type, *Sparse_Type, *Dictionary_Type, *Hash_Type, *Tree_Type, *Matrix_Type, *Text_Type, *ShardSet_Type;
+    *Sequence_Type, *Sparse_Type, *Dictionary_Type, *Hash_Type, *Tree_Type, *Trie_Type, *Matrix_Type, *Text_Type, *ShardSet_Type;
 
 static PyMethodDef functions[] = {{"stored_load", stored_load, METH_O, NULL},
                                   {"index_header", stored_index_header, METH_VARARGS, NULL},
@@ -67,6 +67,7 @@ static int filled(PyObject *module)
                  {&dictionary_spec, &Dictionary_Type, "Dictionary"},
                  {&hash_spec, &Hash_Type, "PerfectHash"},
                  {&tree_spec, &Tree_Type, "Tree"},
+                 {&trie_spec, &Trie_Type, "Trie"},
                  {&matrix_spec, &Matrix_Type, "WaveletMatrix"},
                  {&text_spec, &Text_Type, "TextIndex"},
                  {&shard_set_spec, &ShardSet_Type, "ShardSet"}};

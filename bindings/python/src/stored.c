@@ -12,7 +12,8 @@ static const struct {
 } KINDS[] = {{4, &Sparse_Type, sparse_opened},
              {5, &Dictionary_Type, dictionary_opened},
              {6, &Matrix_Type, matrix_opened},
-             {8, &Text_Type, text_opened}};
+             {8, &Text_Type, text_opened},
+             {9, &Trie_Type, trie_opened}};
 
 /* A perfect hash is stored as an index with these numbers after it: mark, keys, bits of a fingerprint, seed, number of
  * sizes, words of fingerprints; then the sizes and the fingerprints. */
@@ -21,8 +22,8 @@ enum { TAIL = 6 };
 static PyObject *not_whole(Memory *it)
 {
     DROP(it);
-    PyErr_SetString(PyExc_ValueError, "it is not a stored index, sequence, hash, dictionary, tree, matrix, text or "
-                                      "sparse bits of this format, or not all of it");
+    PyErr_SetString(PyExc_ValueError, "it is not a stored index, sequence, hash, dictionary, tree, trie, matrix, text "
+                                      "or sparse bits of this format, or not all of it");
     return NULL;
 }
 

@@ -8,36 +8,10 @@ int text_opened(Memory *it)
 
 /* ---- patterns */
 
-/* The letters of a pattern: bytes, or numbers of its own. */
-typedef struct {
-    PyObject *bytes; /* or NULL */
-    const uint8_t *at;
-    uint64_t *letters;
-    size_t len;
-} Pattern;
-
-/* Bytes, or a list of numbers. -1 and an error. */
-static int pattern_take(Pattern *it, PyObject *from)
+static int pattern_of(Pattern *it, PyObject *from)
 {
-    it->letters = NULL;
-    if (PyUnicode_Check(from)) {
-        PyErr_SetString(PyExc_TypeError, "a pattern is bytes or a list of letters, no str: encode it as the text was");
-        return -1;
-    }
-    int found = bytes_kept(from, &it->bytes);
-    if (found == 0)
-        it->letters = integers_all(from, "a letter", &it->len);
-    if (found <= 0)
-        return it->letters == NULL ? -1 : 0;
-    it->at = (const uint8_t *)PyBytes_AsString(it->bytes);
-    it->len = (size_t)PyBytes_Size(it->bytes);
-    return 0;
-}
-
-static void pattern_drop(Pattern *it)
-{
-    Py_XDECREF(it->bytes);
-    free(it->letters);
+    return pattern_take(it, from, "a letter",
+                        "a pattern is bytes or a list of letters, no str: encode it as the text was");
 }
 
 /* Whether the text can be asked for the pattern: TypeError for numbers where letters stand for bytes. */
@@ -68,7 +42,7 @@ static int counted(PyObject *self, PyObject *query, uint64_t *out)
 {
     Pattern pattern;
     uint32_t status = BITM_OK;
-    if (pattern_take(&pattern, query))
+    if (pattern_of(&pattern, query))
         return -1;
     Memory *it = memory_kept(self);
     int is_asked = it != NULL && may_ask(it, &pattern);
@@ -120,7 +94,7 @@ static PyObject *text_locate(PyObject *self, PyObject *const *args, Py_ssize_t c
     uint64_t from, most;
     Pattern pattern;
     if (pick("locate", names, 1, 3, args, count, keywords, given) || number_or(given[1], 0, "the start", &from) ||
-        number_or(given[2], UINT64_MAX, "the limit", &most) || pattern_take(&pattern, given[0]))
+        number_or(given[2], UINT64_MAX, "the limit", &most) || pattern_of(&pattern, given[0]))
         return NULL;
     Memory *it = memory_kept(self);
     PyObject *found = it == NULL || !may_ask(it, &pattern) ? NULL : located(it, &pattern, from, most);

@@ -22,6 +22,29 @@ int bytes_kept(PyObject *from, PyObject **bytes)
     return *bytes == NULL ? -1 : 1;
 }
 
+int pattern_take(Pattern *it, PyObject *from, const char *what, const char *no_text)
+{
+    it->letters = NULL;
+    if (PyUnicode_Check(from)) {
+        PyErr_SetString(PyExc_TypeError, no_text);
+        return -1;
+    }
+    int found = bytes_kept(from, &it->bytes);
+    if (found == 0)
+        it->letters = integers_all(from, what, &it->len);
+    if (found <= 0)
+        return it->letters == NULL ? -1 : 0;
+    it->at = (const uint8_t *)PyBytes_AsString(it->bytes);
+    it->len = (size_t)PyBytes_Size(it->bytes);
+    return 0;
+}
+
+void pattern_drop(Pattern *it)
+{
+    Py_XDECREF(it->bytes);
+    free(it->letters);
+}
+
 /* The bytes of a text. NULL and an error. */
 static PyObject *text_of(PyObject *from)
 {

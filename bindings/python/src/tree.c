@@ -68,24 +68,27 @@ static PyObject *tree_child(PyObject *self, PyObject *const *args, Py_ssize_t co
     return it == NULL ? NULL : answer_or_none(bitm_tree_child(&it->tree, (size_t)node, (size_t)k, &out), &out);
 }
 
-/* The children of a node follow one another: a range of them. */
-static PyObject *tree_children(PyObject *self, PyObject *value)
+PyObject *children_of(const struct bitm_tree *tree, uint64_t node)
 {
-    uint64_t node, degree = 0, first = 0;
-    if (number(value, "a node", &node))
-        return NULL;
-    Memory *it = memory_of(self);
-    if (it == NULL)
-        return NULL;
-    uint32_t status = bitm_tree_degree(&it->tree, (size_t)node, &degree);
+    uint64_t degree = 0, first = 0;
+    uint32_t status = bitm_tree_degree(tree, (size_t)node, &degree);
     if (status == BITM_OK && degree > 0)
-        status = bitm_tree_child(&it->tree, (size_t)node, 0, &first);
+        status = bitm_tree_child(tree, (size_t)node, 0, &first);
     if (status == BITM_NONE)
         degree = 0;
     else if (status != BITM_OK)
         return wrong();
     return PyObject_CallFunction((PyObject *)&PyRange_Type, "KK", (unsigned long long)first,
                                  (unsigned long long)(first + degree));
+}
+
+static PyObject *tree_children(PyObject *self, PyObject *value)
+{
+    uint64_t node;
+    if (number(value, "a node", &node))
+        return NULL;
+    Memory *it = memory_of(self);
+    return it == NULL ? NULL : children_of(&it->tree, node);
 }
 
 /* ---- lists */

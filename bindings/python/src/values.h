@@ -18,6 +18,7 @@ int matrix_opened(Memory *it);
 int sparse_opened(Memory *it);
 int dictionary_opened(Memory *it);
 int text_opened(Memory *it);
+int trie_opened(Memory *it);
 
 /* ---- values.c */
 
@@ -146,6 +147,25 @@ static inline PyObject *ask_rank(PyObject *self, PyObject *query, query_call cal
     BIT_QUERY(class, next_zero, next, false, "a position")                                                             \
     BIT_QUERY(class, previous_one, previous, true, "a position")                                                       \
     BIT_QUERY(class, previous_zero, previous, false, "a position")
+
+/* ---- text_make.c: patterns of a text, and words of a trie */
+
+/* Its letters: bytes, or numbers of its own. */
+typedef struct {
+    PyObject *bytes; /* or NULL */
+    const uint8_t *at;
+    uint64_t *letters;
+    size_t len;
+} Pattern;
+
+/* Bytes, or a list of numbers, of which `what` is one: -1 and an error, `no_text` where it is a str. */
+int pattern_take(Pattern *it, PyObject *from, const char *what, const char *no_text);
+void pattern_drop(Pattern *it);
+
+/* ---- tree.c */
+
+/* The children of a node, which follow one another: a range of them. */
+PyObject *children_of(const struct bitm_tree *tree, uint64_t node);
 
 /* ---- numbers of keys */
 

@@ -7,7 +7,7 @@ import pytest
 import bitm
 pytest.importorskip("numpy")
 KINDS = (bitm.BitVector, bitm.Index, bitm.EliasFano, bitm.Cursor, bitm.SparseBits, bitm.PerfectHash, bitm.Dictionary, bitm.Shards,
-         bitm.Tree, bitm.WaveletMatrix, bitm.TextIndex)
+         bitm.Tree, bitm.Trie, bitm.WaveletMatrix, bitm.TextIndex)
 WALK = type(iter(bitm.EliasFano([1])))
 
 

@@ -84,7 +84,7 @@ def test_pyright_finds_nothing(tmp_path):
 def test_every_name_has_a_stub_and_a_text():
     stub = pathlib.Path(bitm.__file__).with_name("_core.pyi").read_text()
     for kind in (bitm.BitVector, bitm.Index, bitm.EliasFano, bitm.Cursor, bitm.SparseBits, bitm.PerfectHash, bitm.Dictionary,
-                 bitm.Tree, bitm.WaveletMatrix, bitm.TextIndex):
+                 bitm.Tree, bitm.Trie, bitm.WaveletMatrix, bitm.TextIndex):
         body = re.search(rf"class {kind.__name__}.*?:\n(.*?)(\n\S|\Z)", stub, re.S)[1] + re.search(r"class _Value:\n(.*?)\n\S", stub, re.S)[1]
         for name in dir(kind):
             if not name.startswith("_"):

@@ -32,7 +32,7 @@ impl fmt::Display for NoMemory {
 
 impl Error for NoMemory {}
 
-/// The tables are not those of the words, or the parts not those of a sequence, a hash or a tree.
+/// The tables are not those of the words, or the parts not those of a sequence, a hash, a tree or a trie.
 ///
 /// ```
 /// use bitm_proved::{IndexView, Queries, WrongTables};

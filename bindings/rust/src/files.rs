@@ -8,6 +8,7 @@ use crate::sys::owned::Sequence;
 use crate::sys::sparse::owned::SparseBits;
 use crate::sys::text::owned::TextIndex;
 use crate::sys::tree::owned::Tree;
+use crate::sys::trie::owned::Trie;
 use std::path::Path;
 
 /// A value over a file that is mapped. The texts: what it is; the words of such a file; what is so of it, with what
@@ -62,6 +63,9 @@ files! { SequenceFile: Sequence;
 }
 files! { TreeFile: Tree;
     "A tree", "Tree::build(&[2, 0, 1, 0])?.block()", "parent(3) == Some(2)", "Tree"
+}
+files! { TrieFile: Trie;
+    "A trie", "Trie::build(&[1, 0], &[97], 8, &[2])?.block()", "find(b\"a\") == Some(1)", "Trie"
 }
 files! { WaveletMatrixFile: WaveletMatrix;
     "A list of numbers", "WaveletMatrix::build(&[3, 1, 4])?.block()", "count_less(0..3, 4) == Some(2)", "WaveletMatrix"

@@ -6,6 +6,7 @@ use crate::sys::matrix::owned::WaveletMatrix;
 use crate::sys::owned::{EliasFano, Sequence};
 use crate::sys::sparse::owned::SparseBits;
 use crate::sys::tree::owned::Tree;
+use crate::sys::trie::owned::Trie;
 use alloc::vec::Vec;
 use serde::{de::Error as _, ser::Error as _, Deserialize, Deserializer, Serialize, Serializer};
 
@@ -32,7 +33,7 @@ macro_rules! serializes_its_block {
         }
     )* };
 }
-serializes_its_block!(Tree, WaveletMatrix, SparseBits, Dictionary);
+serializes_its_block!(Tree, Trie, WaveletMatrix, SparseBits, Dictionary);
 
 macro_rules! deserializes_what_is_right {
     ($($kind:ty),*) => { $(
@@ -45,4 +46,4 @@ macro_rules! deserializes_what_is_right {
         }
     )* };
 }
-deserializes_what_is_right!(Index<Vec<u64>>, EliasFano, Tree, WaveletMatrix, SparseBits, Dictionary);
+deserializes_what_is_right!(Index<Vec<u64>>, EliasFano, Tree, Trie, WaveletMatrix, SparseBits, Dictionary);

@@ -24,6 +24,7 @@ pub(crate) mod stored;
 pub(crate) mod tables;
 pub(crate) mod text;
 pub(crate) mod tree;
+pub(crate) mod trie;
 pub(crate) mod view;
 pub(crate) mod writes;
 

@@ -8,3 +8,4 @@ pub mod Sequence
 pub mod Shards
 pub mod Status
 pub mod Stored
+pub mod Tree

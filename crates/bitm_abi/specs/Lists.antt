@@ -1,16 +1,8 @@
--- The number of codes in a list of answers, and which answers are no code.
-use Rattle.std.specs.Prelude.{◌≡◌, ⊤, ℕ, ◌-◌, ◌^◌, ◌<◌, ◌==◌, List, count_by}
-use Rattle.bitm_tables.specs.declared.answer.Answer.{Answer}
-use Rattle.bitm_tables.specs.declared.answer.Answer.TheVariants.{Found, Absent, Wrong}
+-- The number of codes in a list of answers.
+use Rattle.std.specs.Prelude.{◌≡◌, ℕ, ◌-◌, ◌^◌, ◌==◌, List, count_by}
 use Rattle.bitm_abi.specs.declared.counts.ListCounts.{ListCounts}
 
 -- those for no answer, and those for wrong tables
 pub record AreCounted (answers : List ℕ) (counts : ListCounts) : Type 0 where
   pub missing : counts.missing ≡ count_by (λ n. n == 2 ^ 64 - 1) answers
   pub wrong : counts.wrong ≡ count_by (λ n. n == 2 ^ 64 - 2) answers
-
--- a number that is found is less than the limit
-abbrev pub IsFoundBelow : ℕ → Answer ℕ → Type 0
-IsFoundBelow limit (Found n) = n < limit
-IsFoundBelow limit Absent = ⊤
-IsFoundBelow limit Wrong = ⊤

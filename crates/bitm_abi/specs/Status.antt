@@ -1,5 +1,5 @@
 -- What the exported calls answer: a status, and a number written where the caller says.
-use Rattle.std.specs.Prelude.{◌≡◌, ◌≢◌, ℕ, ◌⊎◌, if◌then◌else◌, nat_eq}
+use Rattle.std.specs.Prelude.{◌≡◌, ◌≢◌, ⊤, ℕ, ◌<◌, ◌==◌, ◌⊎◌, Bool, if◌then◌else◌, nat_eq}
 use Rattle.bitm_tables.specs.declared.answer.Answer.{Answer}
 use Rattle.bitm_tables.specs.declared.answer.Answer.TheVariants.{Found, Absent, Wrong}
 
@@ -23,3 +23,15 @@ pub record Exported {T : Type 0} (sized : Type 0) (P : Answer T → Type 0) (sta
   pub good : sized → (status ≡ 0) ⊎ (status ≡ 1) ⊎ (status ≡ 3)
   pub kept : status ≢ 0 → new ≡ old
   pub answer : sized → P (answer_of status new)
+
+-- the truth that 1 stands for, and 0
+abbrev pub truth_of : Answer ℕ → Answer Bool
+truth_of (Found n) = Found (n == 1)
+truth_of Absent = Absent
+truth_of Wrong = Wrong
+
+-- a number that is found is less than the limit
+abbrev pub IsFoundBelow : ℕ → Answer ℕ → Type 0
+IsFoundBelow limit (Found n) = n < limit
+IsFoundBelow limit Absent = ⊤
+IsFoundBelow limit Wrong = ⊤

@@ -1,6 +1,6 @@
 //! How an export reports an answer: by a status, and by a number that is written only where the status is `OK`.
 ghost use Rattle.std.specs.Prelude.{◌≡◌, if◌then◌else◌, MatchOption};
-ghost use Rattle.bitm_abi.specs.Status.{IsReported};
+ghost use Rattle.bitm_abi.specs.Status.{truth_of, IsFoundBelow, IsReported};
 
 use bitm_tables::answer::Answer;
 
@@ -46,6 +46,19 @@ pub fn report<T: Copy>(answer: Answer<T>, out: &mut T) -> u32
         }
         Answer::Absent => NONE,
         Answer::Wrong => WRONG,
+    }
+}
+
+/// A truth as 0 or 1.
+#[inline(always)]
+pub fn as_number(answer: Answer<bool>) -> Answer<usize>
+    ensures truth { IsFoundBelow 2 result }
+    ensures answer { truth_of result ≡ answer }
+{
+    match answer {
+        Answer::Found(is) => Answer::Found(is as usize),
+        Answer::Absent => Answer::Absent,
+        Answer::Wrong => Answer::Wrong,
     }
 }
 

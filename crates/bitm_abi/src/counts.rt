@@ -1,6 +1,7 @@
 //! How a list of answers is reported: by a status, and by the number of its codes.
 ghost use Rattle.std.specs.Prelude.{◌≡◌, ◌≢◌, ◌-◌, ◌^◌, ◌↔◌, IsTrue};
-ghost use Rattle.bitm_abi.specs.Lists.{AreCounted, IsFoundBelow};
+ghost use Rattle.bitm_abi.specs.Lists.{AreCounted};
+ghost use Rattle.bitm_abi.specs.Status.{IsFoundBelow};
 ghost use Rattle.bitm_view.specs.Queries.{selected_by};
 
 use crate::answer::{BAD_SIZE, OK};

@@ -18,6 +18,7 @@
 // - `sequence`: an Elias-Fano sequence, and the lengths of its parts
 // - `sequence_lists`: lists of queries of a sequence
 // - `shards`: indexes over shards
+// - `tree`: a tree
 mod answer;
 mod counts;
 mod hash;
@@ -31,8 +32,9 @@ mod samples;
 mod sequence;
 mod sequence_lists;
 mod shards;
+mod tree;
 
-pub use answer::{BAD_SIZE, NONE, OK, UNSORTED, WRONG, done, report, tell};
+pub use answer::{BAD_SIZE, NONE, OK, UNSORTED, WRONG, as_number, done, report, tell};
 pub use counts::{ListCounts, code_of, report_list};
 pub use hash::{Hash, number_list};
 pub use header::{HEADER_WORDS, header_at, index_of, sequence_of};
@@ -45,3 +47,4 @@ pub use samples::{Samples, narrow_log2, samples_room};
 pub use sequence::{Sequence, SequenceLens, tell_list};
 pub use sequence_lists::{contains_list, last_at_most_list};
 pub use shards::{Prefixes, ShardPlace, Shards, in_c, kind_of};
+pub use tree::Tree;

@@ -5,7 +5,7 @@ use Rattle.bitm_tables.specs.declared.answer.Answer.TheVariants.{Found, Absent, 
 use Rattle.louds_block.specs.Answers.{IsChildWithin, IsDegreeWithin, IsParentWithin}
 use Rattle.elias_fano.specs.Answers.{IsPlaceOf}
 use Rattle.lent_tables.specs.Ranks.{IsCountWithin}
-use Rattle.bitm_abi.specs.Lists.{IsFoundBelow}
+use Rattle.bitm_abi.specs.Status.{IsFoundBelow}
 
 module _ (n : ℕ) (short : n < 2 ^ 60) (i : ℕ) where
   pub parent_code : (answer : Answer ℕ) → IsParentWithin n i answer → IsFoundBelow (2 ^ 64 - 2) answer

@@ -2,15 +2,13 @@
 use Rattle.std.specs.Prelude.{ℕ, ◌+◌, Bool, List, min}
 use Rattle.bitm_tables.specs.declared.answer.Answer.{Answer}
 use Rattle.bitm_abi.specs.Sequence.{lent_parts, IsSized}
-use Rattle.bitm_abi.specs.Status.{Exported}
+use Rattle.bitm_abi.specs.Status.{truth_of, Exported, IsFoundBelow}
 use Rattle.bitm_select.specs.Answers.{IsFoundFrom, IsSelected}
 use Rattle.elias_fano.specs.Answers.{IsPlaceOf}
 use Rattle.lent_tables.specs.Nearest.{IsNext, IsPrevious}
 use Rattle.lent_tables.specs.Ranks.{IsCountWithin, IsRanked}
 use Rattle.sparse_block.specs.Answers.{IsBitOf, IsBitWithin}
 use Rattle.sparse_block.specs.Block.{bits_of, parts_of, HoldsOnes, SparseParts}
-use Rattle.bitm_abi.specs.Lists.{IsFoundBelow}
-use Rattle.bitm_block_c.specs.Tree.{truth_of}
 use Rattle.bitm_block_c.specs.declared.sparse.Sparse.{Sparse}
 use Rattle.bitm_block_c.specs.declared.sparse_lists.Query.{Query}
 use Rattle.bitm_block_c.specs.declared.sparse_lists.Query.TheVariants.{Bit, Rank, Select}

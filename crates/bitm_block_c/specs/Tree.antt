@@ -1,22 +1,17 @@
 -- A tree in a block as C passes it, and what the exported calls answer.
-use Rattle.std.specs.Prelude.{ℕ, ◌==◌, Bool}
+use Rattle.std.specs.Prelude.{ℕ}
 use Rattle.bitm_tables.specs.declared.answer.Answer.{Answer}
-use Rattle.bitm_tables.specs.declared.answer.Answer.TheVariants.{Found, Absent, Wrong}
-use Rattle.bitm_abi.specs.Lists.{IsFoundBelow}
-use Rattle.bitm_abi.specs.Status.{Exported}
+use Rattle.bitm_abi.specs.Status.{truth_of, Exported, IsFoundBelow}
+use Rattle.bitm_abi.specs.Tree.{tree_parts}
+use Rattle.bitm_abi.specs.declared.tree.Tree.{Tree}
 use Rattle.louds.specs.Counted.{degrees_in, IsLouds}
 use Rattle.louds_block.specs.Answers.{IsChildOf, IsChildWithin, IsChildRankOf, IsChildRankWithin, IsDegreeOf, IsDegreeWithin, IsLeafOf, IsLeafWithin, IsNextSiblingOf, IsNextSiblingWithin, IsParentOf, IsParentWithin, IsPreviousSiblingOf, IsPreviousSiblingWithin}
-use Rattle.louds_block.specs.Block.{parts_of, HasLengths, TreeParts}
+use Rattle.louds_block.specs.Block.{HasLengths, TreeParts}
 use Rattle.bitm_block_c.specs.declared.lists.Asked.{Asked}
 use Rattle.bitm_block_c.specs.declared.lists.Asked.TheVariants.{Parent, Degree}
-use Rattle.bitm_block_c.specs.declared.tree.Tree.{Tree}
 
 -- A status is 0 where the answer was written, 1 where there is no such node, 2 where a length is wrong, and 3 where the
 -- words and tables are not those of a tree.
-
--- the number of nodes, and the words with their tables
-abbrev pub tree_parts : Tree → TreeParts
-tree_parts tree = parts_of tree.len tree.words.now tree.upper.now tree.lower.now
 
 -- the parent of a node: less than the node, whatever the words and tables hold, and that of the tree where they hold one
 pub record IsParent (node : ℕ) (parts : TreeParts) (answer : Answer ℕ) : Type 0 where
@@ -32,12 +27,6 @@ pub record IsChild (node k : ℕ) (parts : TreeParts) (answer : Answer ℕ) : Ty
 pub record IsDegree (node : ℕ) (parts : TreeParts) (answer : Answer ℕ) : Type 0 where
   pub inside : IsDegreeWithin parts.len node answer
   pub right : IsLouds parts.len parts.lists → IsDegreeOf (degrees_in parts.len parts.lists) node answer
-
--- the truth that 1 stands for, and 0
-abbrev pub truth_of : Answer ℕ → Answer Bool
-truth_of (Found n) = Found (n == 1)
-truth_of Absent = Absent
-truth_of Wrong = Wrong
 
 -- whether a node has no children, as 0 or 1
 pub record IsLeaf (node : ℕ) (parts : TreeParts) (answer : Answer ℕ) : Type 0 where

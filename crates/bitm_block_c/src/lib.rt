@@ -23,7 +23,6 @@
 // - `text`: the index of a text as C passes it
 // - `text_making`: the block of the index of a text, opened, and its length
 // - `text_queries`: the positions of a pattern, and parts of the text, over letters and over bytes
-// - `tree`: a tree as C passes it
 mod dictionary;
 mod dictionary_making;
 mod dictionary_queries;
@@ -40,4 +39,3 @@ mod sparse_queries;
 mod text;
 mod text_making;
 mod text_queries;
-mod tree;

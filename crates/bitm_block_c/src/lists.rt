@@ -1,12 +1,12 @@
 //! Lists of queries of a tree in a block.
 ghost use Rattle.std.specs.Prelude.{◌≡◌, ◌≢◌, ◌-◌, ◌^◌, ◌<◌, ◌↔◌, ℕ, length, slice_index};
+ghost use Rattle.bitm_abi.specs.Lists.{AreCounted};
+ghost use Rattle.bitm_abi.specs.Tree.{tree_parts};
 ghost use Rattle.bitm_view.specs.Queries.{selected_by};
 ghost use Rattle.louds_block.specs.Block.{HasLengths};
-ghost use Rattle.bitm_abi.specs.Lists.{AreCounted};
-ghost use Rattle.bitm_block_c.specs.Tree.{tree_parts, Answers, IsChild, IsParent, IsDegree};
+ghost use Rattle.bitm_block_c.specs.Tree.{Answers, IsChild, IsParent, IsDegree};
 
-use crate::tree::Tree;
-use bitm_abi::{BAD_SIZE, ListCounts, code_of, report_list};
+use bitm_abi::{BAD_SIZE, ListCounts, Tree, code_of, report_list};
 use louds_block::LoudsView;
 
 /// A query of each node of a list.

@@ -3,10 +3,9 @@ ghost use Rattle.std.specs.Prelude.{◌≡◌, ◌≢◌, ◌^◌, ◌<◌, ◌�
 ghost use Rattle.bitm_block.specs.Layout.{end_of};
 ghost use Rattle.louds.specs.Tree.{IsTree};
 ghost use Rattle.louds_block.specs.Block.{tree_in, tree_sections, CanHold, HoldsTree, IsBlockOf, IsTreeBlock};
-ghost use Rattle.bitm_block_c.specs.Tree.{tree_parts};
+ghost use Rattle.bitm_abi.specs.Tree.{tree_parts};
 
-use crate::tree::Tree;
-use bitm_abi::{BAD_SIZE, OK, WRONG};
+use bitm_abi::{BAD_SIZE, OK, Tree, WRONG};
 use louds_block::{BuildError, LoudsView, build, size};
 
 /// Writes how many words the block of a tree of that many nodes takes; there are fewer than 2^60 nodes.

@@ -1,12 +1,9 @@
 //! Queries of a tree in a block.
 ghost use Rattle.std.specs.Prelude.{◌≡◌};
-ghost use Rattle.bitm_abi.specs.Lists.{IsFoundBelow};
-ghost use Rattle.bitm_block_c.specs.Tree.{truth_of, ChildAnswered, ChildRankAnswered, DegreeAnswered};
-ghost use Rattle.bitm_block_c.specs.Tree.{LeafAnswered, NextSiblingAnswered, ParentAnswered, PreviousSiblingAnswered};
+ghost use Rattle.bitm_block_c.specs.Tree.{ChildAnswered, ChildRankAnswered, DegreeAnswered, LeafAnswered};
+ghost use Rattle.bitm_block_c.specs.Tree.{NextSiblingAnswered, ParentAnswered, PreviousSiblingAnswered};
 
-use crate::tree::Tree;
-use bitm_abi::{BAD_SIZE, report};
-use bitm_tables::answer::Answer;
+use bitm_abi::{BAD_SIZE, Tree, as_number, report};
 
 /// The parent of a node.
 #[unsafe(no_mangle)]
@@ -49,19 +46,6 @@ pub extern "C" fn bitm_tree_is_leaf(tree: &Tree<'_>, node: usize, out: &mut usiz
     match tree.view() {
         Some(view) => report(as_number(view.is_leaf(node)), out),
         None => BAD_SIZE,
-    }
-}
-
-/// A truth as 0 or 1.
-#[inline(always)]
-pub(crate) fn as_number(answer: Answer<bool>) -> Answer<usize>
-    ensures truth { IsFoundBelow 2 result }
-    ensures answer { truth_of result ≡ answer }
-{
-    match answer {
-        Answer::Found(is) => Answer::Found(is as usize),
-        Answer::Absent => Answer::Absent,
-        Answer::Wrong => Answer::Wrong,
     }
 }
 

@@ -5,9 +5,8 @@ ghost use Rattle.bitm_abi.specs.Sequence.{IsSized};
 ghost use Rattle.bitm_view.specs.Queries.{selected_by};
 ghost use Rattle.bitm_block_c.specs.Sparse.{sparse_parts, IsBit, IsRankIn, IsSelectIn, Responds};
 
-use crate::queries::as_number;
 use crate::sparse::Sparse;
-use bitm_abi::{BAD_SIZE, ListCounts, code_of, report_list};
+use bitm_abi::{BAD_SIZE, ListCounts, as_number, code_of, report_list};
 use bitm_select::search::selected::WRONG_TABLES;
 use sparse_block::SparseView;
 

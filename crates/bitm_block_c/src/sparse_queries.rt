@@ -1,9 +1,8 @@
 //! Queries of sparse bits in a block. `one` says which bits are meant: true the 1 bits, false the 0 bits.
 ghost use Rattle.bitm_block_c.specs.Sparse.{BitAnswered, NextAnswered, PreviousAnswered, RankAnswered, SelectAnswered};
 
-use crate::queries::as_number;
 use crate::sparse::Sparse;
-use bitm_abi::{BAD_SIZE, report};
+use bitm_abi::{BAD_SIZE, as_number, report};
 
 /// The bit at a position, as 0 or 1.
 #[unsafe(no_mangle)]

@@ -2,7 +2,7 @@
 use Rattle.std.proofs.Common.{ℕ, ◌-◌, ◌^◌, ◌<◌, arith, mul-le-mul_right}
 use Rattle.bitm_tables.specs.declared.answer.Answer.{Answer}
 use Rattle.bitm_tables.specs.declared.answer.Answer.TheVariants.{Found, Absent, Wrong}
-use Rattle.bitm_abi.specs.Lists.{IsFoundBelow}
+use Rattle.bitm_abi.specs.Status.{IsFoundBelow}
 use Rattle.lent_levels.specs.Answers.{IsIndexWithin, IsRankWithin}
 use Rattle.matrix_block.specs.Block.{HasLengths, MatrixParts}
 

@@ -151,7 +151,7 @@ fn unseen_flips(words: &mut [u64]) -> usize {
             unseen = unseen.wrapping_add(TrieView::open_checked(&*words).is_some() as usize);
             if let Some(trie) = TrieView::open(&*words) {
                 unseen = unseen.wrapping_add(!are_within(answers(&trie).as_slice()) as usize);
-                let found = told(trie.find([98, 101].as_slice()));
+                let found = told(trie.find([98u64, 101].as_slice()));
                 unseen = unseen.wrapping_add((found < 1000 && found >= 4) as usize);
                 let labels = told(trie.word(3, [0u64; 4].as_mut_slice()));
                 unseen = unseen.wrapping_add((labels < 1000 && labels > 3) as usize);
@@ -201,13 +201,39 @@ fn words_lead_to_their_nodes(rt: HostRuntime) -> Result<(), Fail> {
         assert!(rt; false, "not opened");
         return Ok(());
     };
-    assert!(rt; told(trie.find([].as_slice())) == 0);
-    assert!(rt; told(trie.find([97].as_slice())) == 1);
-    assert!(rt; told(trie.find([98].as_slice())) == 2);
-    assert!(rt; told(trie.find([98, 101].as_slice())) == 3);
-    assert!(rt; told(trie.find([97, 101].as_slice())) == 1000);
-    assert!(rt; told(trie.find([98, 101, 97].as_slice())) == 1000);
-    assert!(rt; told(trie.find([99].as_slice())) == 1000);
+    assert!(rt; told(trie.find([0u64; 0].as_slice())) == 0);
+    assert!(rt; told(trie.find([97u64].as_slice())) == 1);
+    assert!(rt; told(trie.find([98u64].as_slice())) == 2);
+    assert!(rt; told(trie.find([98u64, 101].as_slice())) == 3);
+    assert!(rt; told(trie.find([97u64, 101].as_slice())) == 1000);
+    assert!(rt; told(trie.find([98u64, 101, 97].as_slice())) == 1000);
+    assert!(rt; told(trie.find([99u64].as_slice())) == 1000);
+    Ok(())
+}
+
+/// The node and the number of labels that were found, as 10 times the node and that number, or 1001 for `Wrong`.
+fn told_longest(answer: Answer<(usize, usize)>) -> usize {
+    match answer {
+        Answer::Found((node, matched)) => node.wrapping_mul(10).wrapping_add(matched),
+        Answer::Absent => 1000,
+        Answer::Wrong => 1001,
+    }
+}
+
+#[test]
+fn beginnings_of_words_lead_to_the_deepest_nodes(rt: HostRuntime) -> Result<(), Fail> {
+    let words = TRIE;
+    let Some(trie) = TrieView::open(words.as_slice()) else {
+        assert!(rt; false, "not opened");
+        return Ok(());
+    };
+    assert!(rt; told(trie.find(b"be".as_slice())) == 3);
+    assert!(rt; told(trie.find(b"ab".as_slice())) == 1000);
+    assert!(rt; told_longest(trie.longest(b"be".as_slice())) == 32);
+    assert!(rt; told_longest(trie.longest(b"bee".as_slice())) == 32);
+    assert!(rt; told_longest(trie.longest(b"bat".as_slice())) == 21);
+    assert!(rt; told_longest(trie.longest([97u64, 1 << 63].as_slice())) == 11);
+    assert!(rt; told_longest(trie.longest(b"".as_slice())) == 0);
     Ok(())
 }
 

@@ -3,7 +3,7 @@ use Rattle.std.proofs.Common.{◌≡◌, ◌≢◌, ℕ, zero, suc, ◌+◌, ◌
 use Rattle.std.proofs.Math.Nat.{mul-le-mul_left}
 use Rattle.std.proofs.Math.Seq.{drop-cons}
 use Rattle.std.proofs.lemmas.Bool.{cases_lt}
-use Rattle.std.proofs.lemmas.List.{take_more}
+use Rattle.std.proofs.lemmas.List.{get_or-take, length-take-le, take_more}
 use Rattle.std.proofs.lemmas.Nat.{row_fits}
 use Rattle.bit_lists.specs.Bits.{bits_of}
 use Rattle.bit_lists.specs.Number.{number_at, IsFragmentInRange}
@@ -69,24 +69,36 @@ module _ (d ls : List ℕ) (i first past : ℕ) (rise : Rise d ls) (are : AreChi
 
 -- ---- words
 
-module _ (d ls word : List ℕ) (i at : ℕ) (inside : i < length word) (on : (v : ℕ) → Leads d ls word 0 v → Leads d ls (drop i word) at v) where
-  rest : drop i word ≡ get_or word i 0 ∷ drop (i + 1) word
-  rest = let next : suc i ≡ i + 1 = omega arith in drop-cons word i 0 inside ∙ ap (λ k. get_or word i 0 ∷ drop k word) next
+-- as far as the beginnings of a word lead on from the root, they lead on from node `at` without their first i labels
+abbrev pub GoesOn : List ℕ → List ℕ → List ℕ → ℕ → ℕ → Type 0
+GoesOn d ls word i at =
+    (k : ℕ) → i ≤ k → k ≤ length word → (v : ℕ) → Leads d ls (take k word) 0 v → Leads d ls (drop i (take k word)) at v
+
+module _ (d ls word : List ℕ) (i at : ℕ) where
+  -- what is left of a beginning of a word begins with the next label
+  rest : (k : ℕ) → i < k → k ≤ length word → drop i (take k word) ≡ get_or word i 0 ∷ drop (i + 1) (take k word)
+  rest k more to =
+      let next : suc i ≡ i + 1 = omega arith in
+      drop-cons (take k word) i 0 (omega (arith, length-take-le k word to, more))
+      ∙ ap (λ j. get_or (take k word) i 0 ∷ drop j (take k word)) next
+      ∙ ap (λ x. x ∷ drop (i + 1) (take k word)) (get_or-take k word i 0 more)
 
   -- the labels so far and one more lead to the child that has it
-  pub down_more : (child : ℕ) → IsChildWith d ls at (get_or word i 0) child → Leads d ls (take i word) 0 at → Leads d ls (take (i + 1) word) 0 child
-  down_more child has down =
+  pub down_more : (child : ℕ) → i < length word → IsChildWith d ls at (get_or word i 0) child → Leads d ls (take i word) 0 at
+      → Leads d ls (take (i + 1) word) 0 child
+  down_more child inside has down =
       subst (λ (w : List ℕ). Leads d ls w 0 child) (sym (take_more word i 0 inside))
       (leads_more d ls (take i word) (get_or word i 0) 0 at child down has)
 
-  -- and the word leads on from there
-  pub on_more : (child : ℕ) → Rise d ls → IsChildWith d ls at (get_or word i 0) child → (v : ℕ) → Leads d ls word 0 v
-      → Leads d ls (drop (i + 1) word) child v
-  on_more child rise has v leads =
-      leads_rest d ls (drop i word) (drop (i + 1) word) (get_or word i 0) at child v rise rest has (on v leads)
+  -- and the beginnings of the word lead on from there
+  pub on_more : (child : ℕ) → Rise d ls → IsChildWith d ls at (get_or word i 0) child → GoesOn d ls word i at → GoesOn d ls word (i + 1) child
+  on_more child rise has on k from to v leads =
+      leads_rest d ls (drop i (take k word)) (drop (i + 1) (take k word)) (get_or word i 0) at child v rise (rest k (omega (arith, from)) to) has
+      (on k (omega (arith, from)) to v leads)
 
-  -- where no child has it, the word leads nowhere
-  pub leads_nowhere : ((u : ℕ) → IsChildWith d ls at (get_or word i 0) u → ⊥) → (v : ℕ) → Leads d ls word 0 v → ⊥
-  leads_nowhere none v leads =
-      let step = subst (λ (w : List ℕ). Leads d ls w at v) rest (on v leads) in
+  -- where no child has it, no longer beginning leads anywhere
+  pub leads_nowhere : ((u : ℕ) → IsChildWith d ls at (get_or word i 0) u → ⊥) → GoesOn d ls word i at → (k : ℕ) → i < k → k ≤ length word
+      → (v : ℕ) → Leads d ls (take k word) 0 v → ⊥
+  leads_nowhere none on k more to v leads =
+      let step = subst (λ (w : List ℕ). Leads d ls w at v) (rest k more to) (on k (omega (arith, more)) to v leads) in
       none step.0 step.1

@@ -30,6 +30,21 @@ IsNodeOf d ls word (Found v) = Leads d ls word 0 v
 IsNodeOf d ls word Absent = (v : ℕ) → Leads d ls word 0 v → ⊥
 IsNodeOf d ls word Wrong = ⊥
 
+-- of n nodes: one of them, and no more than the k labels of a word; Absent is answered exactly where there are none
+abbrev pub IsLongestWithin : ℕ → ℕ → Answer (ℕ × ℕ) → Type 0
+IsLongestWithin n k (Found at) = (at.0 < n) × (at.1 ≤ k)
+IsLongestWithin n k Absent = n ≡ 0
+IsLongestWithin n k Wrong = 0 < n
+
+-- the node to which the first labels of a word lead from the root, and how many these are: no longer beginning of the word
+-- leads to a node
+abbrev pub IsLongestOf : List ℕ → List ℕ → List ℕ → Answer (ℕ × ℕ) → Type 0
+IsLongestOf d ls word (Found at) =
+    Leads d ls (take at.1 word) 0 at.0
+    × ((k : ℕ) → at.1 < k → k ≤ length word → (v : ℕ) → Leads d ls (take k word) 0 v → ⊥)
+IsLongestOf d ls word Absent = ⊥
+IsLongestOf d ls word Wrong = ⊥
+
 -- whether a word ends at node v, whatever the memory holds, and Absent exactly where v is no node or there are no ends
 abbrev pub IsEndOf : TrieParts → ℕ → Answer Bool → Type 0
 IsEndOf parts v (Found ends) = (v < parts.tree.len) × (0 < length parts.ends) × (ends ≡ item (bits_of parts.ends) v)

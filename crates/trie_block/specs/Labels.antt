@@ -11,7 +11,7 @@ label_words n width = div_ceil ((n - 1) * width) 64
 abbrev pub labels_of : List ℕ → ℕ → ℕ → List ℕ
 labels_of words width n = 0 ∷ numbers_of words width (n - 1)
 
--- a label can have so many bits
+-- a label can have `width` bits
 abbrev pub IsWidth : ℕ → Type 0
 IsWidth width = (1 ≤ width) × (width ≤ 63)
 

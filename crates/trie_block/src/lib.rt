@@ -10,7 +10,8 @@
 //! build(&[2, 0, 1, 0], &[97, 98, 101], 8, &[0b1110], block.as_mut_slice());   // Ok(())
 //! let Some(trie) = TrieView::open(block.as_slice()) else { .. };
 //! trie.check();                 // true
-//! trie.find(&[98, 101]);        // Found(3), Absent or Wrong
+//! trie.find(b"be".as_slice());             // Found(3), Absent or Wrong
+//! trie.longest(b"bee".as_slice());         // Found((3, 2)) or Wrong
 //! trie.child_by_label(0, 98);   // Found(2), Absent or Wrong
 //! trie.is_end(3);               // Found(true)
 //! ```
@@ -25,7 +26,7 @@
 // - `error`: why no block was written
 // - `given`: whether labels that are given are those of a tree
 // - `labels`: the labels of nodes, whose reads are counted
-// - `queries`: children by their labels, and words, over any source
+// - `queries`: children by their labels, and nodes by their words, over any source
 // - `sections`: the sections of the block of a trie
 // - `view`: the view of a block, and its queries
 // - `words`: the word that leads to a node, over any source
@@ -44,7 +45,7 @@ pub use building::build;
 pub use error::BuildError;
 pub use labels::LabelProbe;
 pub use louds_block::LoudsView;
-pub use queries::{total_child_by_label_on, total_find_on};
+pub use queries::{total_child_by_label_on, total_find_on, total_longest_on};
 pub use sections::{TRIE, size};
 pub use view::TrieView;
 pub use words::total_word_on;

@@ -6,13 +6,15 @@ ghost use Rattle.louds.specs.Counted.{degrees_in, IsLouds, OnlySelects};
 ghost use Rattle.louds.specs.Labels.{MatchesChildWith, Rise};
 ghost use Rattle.louds.specs.Tree.{AreChildren};
 ghost use Rattle.louds_block.specs.Answers.{IsChildWithin};
-ghost use Rattle.trie_block.specs.Answers.{IsChildByLabelOf, IsNodeOf, IsNodeWithin};
+ghost use Rattle.trie_block.specs.Answers.{IsChildByLabelOf, IsLongestOf, IsLongestWithin};
+ghost use Rattle.trie_block.specs.Answers.{IsNodeOf, IsNodeWithin};
 ghost use Rattle.trie_block.specs.Labels.{labels_of, Grow, HasLabels, IsFirstFrom, ReadsLabels};
 
 use crate::labels::LabelProbe;
 use bitm_tables::answer::Answer;
 use bitm_tables::source::TableSource;
 use louds_block::total_children_on;
+use suffix_order::Letters;
 
 /// Of the nodes from `first` on and before `past`, the first whose label is not less than the given one, by halving;
 /// `past` where each is less.
@@ -116,7 +118,56 @@ pub fn total_child_by_label_on<T: TableSource>(
     }
 }
 
-/// The node to which a word leads from the root, label by label.
+/// The deepest node to which a beginning of a word leads from the root, and how many labels lead there: all of them
+/// where the word leads to a node. A word is a list of labels, such as `&[u64]`, or `&[u8]` where labels are bytes.
+///
+/// Whatever the source and the labels hold, the node is less than the number of nodes, no more labels lead there than
+/// the word has, and the answer is `Absent` exactly where there are no nodes. Where they hold a trie, no longer
+/// beginning of the word leads to a node, and the answer is never `Wrong`.
+///
+/// # Conditions
+/// There are fewer than 2^58 words, and the tables and the labels have the right lengths. They may hold anything.
+/// # Cost
+/// For each label of the word at most what `total_child_by_label_on` reads, whatever they hold.
+///
+/// ```
+/// total_longest_on(&mut source, &mut labels, 4, [98u64, 101, 97].as_slice());   // Found((3, 2)) or Wrong
+/// ```
+pub fn total_longest_on<T: TableSource, W: Letters>(
+    source: &mut T,
+    labels: &mut LabelProbe<'_>,
+    len: usize,
+    word: W,
+) -> Answer<(usize, usize)>
+    requires sized { HasSizes (T.lists source.old) }
+    requires labels { HasLabels labels.old.words labels.old.width len }
+    ensures inside { IsLongestWithin len (length (W.letters word)) result }
+    ensures answer { IsLouds len (T.lists source.old)
+        → Rise (degrees_in len (T.lists source.old)) (labels_of labels.old.words labels.old.width len)
+        → IsLongestOf (degrees_in len (T.lists source.old))
+        (labels_of labels.old.words labels.old.width len) (W.letters word) result }
+    ensures reads { OnlySelects T.lists T.reads source.old source.new (2 * length (W.letters word)) 0 }
+    ensures labels { ReadsLabels labels.old labels.new
+        (length (W.letters word) * (digit_count len + 1)) }
+{
+    if len == 0 {
+        return Answer::Absent;
+    }
+    let count = word.letters_len();
+    let mut at = 0;
+    for i in 0..count {
+        let label = word.letter_at(i);
+        match total_child_by_label_on(&mut *source, &mut *labels, len, at, label) {
+            Answer::Found(child) => at = child,
+            Answer::Absent => return Answer::Found((at, i)),
+            Answer::Wrong => return Answer::Wrong,
+        }
+    }
+    Answer::Found((at, count))
+}
+
+/// The node to which a word leads from the root, label by label. A word is a list of labels, such as `&[u64]`, or
+/// `&[u8]` where labels are bytes.
 ///
 /// Whatever the source and the labels hold, it is less than the number of nodes. Where they hold a trie, the answer is
 /// that node, `Absent` exactly where the word leads to none, and never `Wrong`.
@@ -124,16 +175,16 @@ pub fn total_child_by_label_on<T: TableSource>(
 /// # Conditions
 /// There are fewer than 2^58 words, and the tables and the labels have the right lengths. They may hold anything.
 /// # Cost
-/// For each label of the word what `total_child_by_label_on` reads, whatever they hold.
+/// For each label of the word at most what `total_child_by_label_on` reads, whatever they hold.
 ///
 /// ```
-/// total_find_on(&mut source, &mut labels, 4, &[7, 2]);   // Found(3), Absent or Wrong
+/// total_find_on(&mut source, &mut labels, 4, [98u64, 101].as_slice());   // Found(3), Absent or Wrong
 /// ```
-pub fn total_find_on<T: TableSource>(
+pub fn total_find_on<T: TableSource, W: Letters>(
     source: &mut T,
     labels: &mut LabelProbe<'_>,
     len: usize,
-    word: &[u64],
+    word: W,
 ) -> Answer<usize>
     requires sized { HasSizes (T.lists source.old) }
     requires labels { HasLabels labels.old.words labels.old.width len }
@@ -141,20 +192,20 @@ pub fn total_find_on<T: TableSource>(
     ensures answer { IsLouds len (T.lists source.old)
         → Rise (degrees_in len (T.lists source.old)) (labels_of labels.old.words labels.old.width len)
         → IsNodeOf (degrees_in len (T.lists source.old))
-        (labels_of labels.old.words labels.old.width len) word.now result }
-    ensures reads { OnlySelects T.lists T.reads source.old source.new (2 * length word.now) 0 }
-    ensures labels { ReadsLabels labels.old labels.new (length word.now * (digit_count len + 1)) }
+        (labels_of labels.old.words labels.old.width len) (W.letters word) result }
+    ensures reads { OnlySelects T.lists T.reads source.old source.new (2 * length (W.letters word)) 0 }
+    ensures labels { ReadsLabels labels.old labels.new
+        (length (W.letters word) * (digit_count len + 1)) }
 {
-    if len == 0 {
-        return Answer::Wrong;
-    }
-    let mut at = 0;
-    for label in word {
-        match total_child_by_label_on(&mut *source, &mut *labels, len, at, *label) {
-            Answer::Found(child) => at = child,
-            Answer::Absent => return Answer::Absent,
-            Answer::Wrong => return Answer::Wrong,
+    match total_longest_on(source, labels, len, word) {
+        Answer::Found((node, matched)) => {
+            if matched == word.letters_len() {
+                Answer::Found(node)
+            } else {
+                Answer::Absent
+            }
         }
+        Answer::Absent => Answer::Absent,
+        Answer::Wrong => Answer::Wrong,
     }
-    Answer::Found(at)
 }

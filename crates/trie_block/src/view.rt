@@ -1,15 +1,15 @@
 //! A trie in a block that may hold anything.
-ghost use Rattle.std.specs.Prelude.{◌≡◌, ◌↔◌, IsTrue, SomeIff};
+ghost use Rattle.std.specs.Prelude.{◌≡◌, ◌↔◌, IsTrue, SomeIff, length};
 ghost use Rattle.louds_block.specs.Answers.{IsChildWithin};
-ghost use Rattle.trie_block.specs.Answers.{IsChildByLabelOf, IsEndOf, IsLabelOf, IsNodeOf, IsNodeWithin};
-ghost use Rattle.trie_block.specs.Answers.{IsWordOf, IsWordWithin};
+ghost use Rattle.trie_block.specs.Answers.{IsChildByLabelOf, IsEndOf, IsLabelOf, IsLongestOf, IsLongestWithin};
+ghost use Rattle.trie_block.specs.Answers.{IsNodeOf, IsNodeWithin, IsWordOf, IsWordWithin};
 ghost use Rattle.trie_block.specs.Block.{degrees_of_parts, labels_of_parts, trie_in, trie_of};
 ghost use Rattle.trie_block.specs.Block.{HasTrieLengths, HasTrieSections, HoldsTrie, IsSoundBlock, IsTrieBlock};
 
 use crate::building::has_ends;
 use crate::checking::{label_of, labels_rise};
 use crate::labels::LabelProbe;
-use crate::queries::{total_child_by_label_on, total_find_on};
+use crate::queries::{total_child_by_label_on, total_find_on, total_longest_on};
 use crate::sections::{TRIE, is_shape, label_words};
 use crate::words::total_word_on;
 use bit_words::words;
@@ -17,6 +17,7 @@ use bitm_block::Block;
 use bitm_tables::answer::Answer;
 use louds_block::LoudsView;
 use std::marker::Model;
+use suffix_order::Letters;
 
 /// Whether header and directory are those of a trie.
 #[inline(always)]
@@ -41,7 +42,7 @@ fn is_trie_block(block: &Block<'_>) -> bool
 /// ```
 /// let Some(trie) = TrieView::open(&block) else { .. };
 /// trie.check();           // true of a block that `build` wrote
-/// trie.find(&[98, 101]);  // Found(3), Absent or Wrong
+/// trie.find(b"be".as_slice());       // Found(3), Absent or Wrong
 /// ```
 #[derive(Drop)]
 pub struct TrieView<'a> {
@@ -184,6 +185,30 @@ impl<'a> TrieView<'a> {
         &self.tree
     }
 
+    /// The words of the labels of the nodes from 1 on.
+    ///
+    /// ```
+    /// trie.labels().len();   // 1
+    /// ```
+    #[inline(always)]
+    pub fn labels(&self) -> &'a [u64]
+        ensures { result.now ≡ self.now.labels }
+    {
+        self.labels
+    }
+
+    /// The words of the ends: a bit for each node, lowest bit first, or no words.
+    ///
+    /// ```
+    /// trie.ends().len();   // 1
+    /// ```
+    #[inline(always)]
+    pub fn ends(&self) -> &'a [u64]
+        ensures { result.now ≡ self.now.ends }
+    {
+        self.ends
+    }
+
     /// Whether the block holds a trie: then the answers are those of the trie.
     ///
     /// # Cost
@@ -258,25 +283,48 @@ impl<'a> TrieView<'a> {
         total_child_by_label_on(&mut source, &mut labels, self.tree.len(), node, label)
     }
 
-    /// The node to which a word leads from the root, label by label. Whatever the block holds, it is less than the
-    /// number of nodes. Where the block holds a trie, the answer is `Absent` exactly where the word leads to none, and
-    /// never `Wrong`.
+    /// The node to which a word leads from the root, label by label: a list of labels, such as `&[u64]`, or `&[u8]`
+    /// where labels are bytes. Whatever the block holds, it is less than the number of nodes. Where the block holds a
+    /// trie, the answer is `Absent` exactly where the word leads to none, and never `Wrong`.
     ///
     /// # Cost
     /// That of `total_find_on`.
     ///
     /// ```
-    /// trie.find(&[98, 101]);   // Found(3)
+    /// trie.find(b"be".as_slice());                        // Found(3)
+    /// trie.find([98u64, 101].as_slice());      // Found(3)
     /// ```
     #[inline]
-    pub fn find(&self, word: &[u64]) -> Answer<usize>
+    pub fn find<W: Letters>(&self, word: W) -> Answer<usize>
         ensures inside { IsNodeWithin self.now.tree.len result }
         ensures answer { HoldsTrie self.now → IsNodeOf (degrees_of_parts self.now)
-            (labels_of_parts self.now) word.now result }
+            (labels_of_parts self.now) (W.letters word) result }
     {
         let mut labels = LabelProbe::new(self.labels, self.width);
         let mut source = self.tree.probe();
         total_find_on(&mut source, &mut labels, self.tree.len(), word)
+    }
+
+    /// The deepest node to which a beginning of a word leads from the root, and how many labels lead there: all of them
+    /// where the word leads to a node. Whatever the block holds, the node is less than the number of nodes, no more
+    /// labels lead there than the word has, and the answer is `Absent` exactly where there are no nodes. Where the
+    /// block holds a trie, no longer beginning of the word leads to a node, and the answer is never `Wrong`.
+    ///
+    /// # Cost
+    /// That of `total_longest_on`.
+    ///
+    /// ```
+    /// trie.longest(b"bee".as_slice());   // Found((3, 2)): be leads to node 3
+    /// ```
+    #[inline]
+    pub fn longest<W: Letters>(&self, word: W) -> Answer<(usize, usize)>
+        ensures inside { IsLongestWithin self.now.tree.len (length (W.letters word)) result }
+        ensures answer { HoldsTrie self.now → IsLongestOf (degrees_of_parts self.now)
+            (labels_of_parts self.now) (W.letters word) result }
+    {
+        let mut labels = LabelProbe::new(self.labels, self.width);
+        let mut source = self.tree.probe();
+        total_longest_on(&mut source, &mut labels, self.tree.len(), word)
     }
 
     /// How many labels the word has that leads from the root to a node. Where `out` has room for them, they are its

@@ -2,7 +2,7 @@
 use super::NoMemory;
 use core::{error::Error, fmt};
 
-/// Why an index, a sequence, sparse bits, a hash, a tree, a list of numbers or the index of a text was not built.
+/// Why an index, a sequence, sparse bits, a hash, a tree, a trie, a list of numbers or the index of a text was not built.
 ///
 /// ```
 /// use bitm_proved::{BuildError, EliasFano};
@@ -71,6 +71,13 @@ pub enum BuildError {
     /// assert_eq!(Tree::build(&[1, 1]).err(), Some(BuildError::NotATree)); // two children of two nodes
     /// ```
     NotATree,
+    /// The degrees are those of no tree, or the labels, their width or the ends none for it.
+    ///
+    /// ```
+    /// use bitm_proved::{BuildError, Trie};
+    /// assert_eq!(Trie::build(&[1, 0], &[8], 3, &[]).err(), Some(BuildError::NotATrie)); // 8 has four bits
+    /// ```
+    NotATrie,
     /// The number at an index has more bits than the width.
     ///
     /// ```
@@ -131,6 +138,7 @@ impl fmt::Display for BuildError {
             BuildError::LetterOutside { index } => write!(f, "letter {index} is outside the alphabet"),
             BuildError::WrongStep => f.write_str("the step between samples is 0"),
             BuildError::NotATree => f.write_str("the degrees are those of no tree"),
+            BuildError::NotATrie => f.write_str("the degrees, labels, width and ends are those of no trie"),
             BuildError::NoMemory(why) => why.fmt(f),
         }
     }

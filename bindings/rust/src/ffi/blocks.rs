@@ -141,6 +141,40 @@ extern "C" {
 }
 #[repr(C)]
 #[derive(Copy, Clone)]
+pub struct bitm_trie {
+    pub tree: bitm_tree,
+    pub width: u64,
+    pub labels: *const u64,
+    pub labels_len: usize,
+    pub ends: *const u64,
+    pub ends_len: usize,
+    pub reserved: [u64; 2usize],
+}
+extern "C" {
+    pub fn bitm_trie_size(nodes: usize, width: u32, has_ends: bool, out: *mut u64) -> u32;
+    pub fn bitm_trie_build(
+        degrees: *const u64, degrees_len: usize, labels: *const u64, labels_len: usize, width: u32, ends: *const u64,
+        ends_len: usize, block: *mut u64, block_len: usize,
+    ) -> u32;
+    pub fn bitm_trie_open(block: *const u64, block_len: usize, trie: *mut bitm_trie) -> u32;
+    pub fn bitm_trie_check(block: *const u64, block_len: usize) -> u32;
+    pub fn bitm_trie_label(trie: *const bitm_trie, node: usize, out: *mut u64) -> u32;
+    pub fn bitm_trie_is_end(trie: *const bitm_trie, node: usize, out: *mut u64) -> u32;
+    pub fn bitm_trie_child(trie: *const bitm_trie, node: usize, label: u64, out: *mut u64) -> u32;
+    pub fn bitm_trie_find(trie: *const bitm_trie, word: *const u64, word_len: usize, out: *mut u64) -> u32;
+    pub fn bitm_trie_find_bytes(trie: *const bitm_trie, word: *const u8, word_len: usize, out: *mut u64) -> u32;
+    pub fn bitm_trie_longest(
+        trie: *const bitm_trie, word: *const u64, word_len: usize, node: *mut u64, matched: *mut u64,
+    ) -> u32;
+    pub fn bitm_trie_longest_bytes(
+        trie: *const bitm_trie, word: *const u8, word_len: usize, node: *mut u64, matched: *mut u64,
+    ) -> u32;
+    pub fn bitm_trie_word(
+        trie: *const bitm_trie, node: usize, out: *mut u64, out_len: usize, word_len: *mut u64,
+    ) -> u32;
+}
+#[repr(C)]
+#[derive(Copy, Clone)]
 pub struct bitm_matrix {
     pub len: usize,
     pub width: u64,

@@ -1,4 +1,4 @@
-//! Blocks: trees, lists of numbers, sparse bits, dictionaries and indexes of texts are each one slice of words, which
+//! Blocks: trees, tries, lists of numbers, sparse bits, dictionaries and indexes of texts are each one slice of words, which
 //! is also their file. What all views of blocks have.
 use crate::errors::{StoredError, WrongTables};
 use crate::sys::{query, OK};

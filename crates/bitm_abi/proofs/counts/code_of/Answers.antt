@@ -3,7 +3,7 @@ use Rattle.std.proofs.Common.{◌≡◌, ℕ, ◌-◌, ◌^◌, sym, subst}
 use Rattle.bitm_tables.specs.declared.answer.Answer.{Answer}
 use Rattle.bitm_view.proofs.CodeLemmas.{selected_place}
 use Rattle.bitm_view.specs.Queries.{selected_by}
-use Rattle.bitm_abi.specs.Lists.{IsFoundBelow}
+use Rattle.bitm_abi.specs.Status.{IsFoundBelow}
 use Rattle.bitm_abi.proofs.counts.code_of.Goals as goal
 
 pub returns-in-Found : goal.returns-in-Found

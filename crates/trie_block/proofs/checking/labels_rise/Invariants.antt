@@ -6,7 +6,7 @@ use Rattle.trie_block.specs.Labels.{labels_of}
 use Rattle.trie_block.proofs.RiseLemmas.{RiseTo}
 use Rattle.trie_block.proofs.checking.labels_rise.Given as goal
 
--- so many nodes have their 1 bits so far, and their labels rise
+-- `node` counts the 1 bits before `place`, and the labels of siblings before that node rise
 abbrev pub invariant-loop-place : goal.invariant-loop-place
 invariant-loop-place l = record {
   ones : l.node ≡ ones_before (bits_of l.bits) l.place;

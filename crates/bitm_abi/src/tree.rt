@@ -1,7 +1,7 @@
 //! A tree in a block as C passes it, and as the library queries it.
 ghost use Rattle.std.specs.Prelude.{◌≡◌, SomeIff};
 ghost use Rattle.louds_block.specs.Block.{HasLengths};
-ghost use Rattle.bitm_block_c.specs.Tree.{tree_parts};
+ghost use Rattle.bitm_abi.specs.Tree.{tree_parts};
 
 use louds_block::LoudsView;
 
@@ -25,7 +25,7 @@ pub struct Tree<'a> {
 impl<'a> Tree<'a> {
     /// What C is passed for a view of a block.
     #[inline(always)]
-    pub(crate) fn of(view: &LoudsView<'a>) -> Tree<'a>
+    pub fn of(view: &LoudsView<'a>) -> Tree<'a>
         ensures { tree_parts result ≡ view.now }
     {
         Tree {
@@ -39,7 +39,7 @@ impl<'a> Tree<'a> {
 
     /// The tree as the library queries it; `None` exactly where a length is not right.
     #[inline(always)]
-    pub(crate) fn view(&self) -> Option<LoudsView<'a>>
+    pub fn view(&self) -> Option<LoudsView<'a>>
         ensures { SomeIff result (HasLengths (tree_parts self.now)) (tree_parts self.now) }
     {
         LoudsView::over(self.len, self.words, self.upper, self.lower)

@@ -1,0 +1,265 @@
+/* bitm.Trie: a set of words, in one block of memory. */
+#include "values.h"
+
+int trie_opened(Memory *it)
+{
+    return block_opened("a trie", bitm_trie_open(it->block, it->block_len, &it->trie) == BITM_OK);
+}
+
+/* ---- made */
+
+/* What a trie is made of. */
+typedef struct {
+    uint64_t *degrees, *labels, *ends;
+    size_t count, labels_len, ends_len;
+    uint32_t width;
+} Parts;
+
+/* A copy of the words of bits, which others may change; none of None. -1 and an error. */
+static int ends_take(Parts *it, PyObject *from)
+{
+    const uint64_t *words;
+    uint64_t bits;
+    if (from == NULL || from == Py_None)
+        return 0;
+    Memory *held = memory_new();
+    if (held != NULL && memory_words(held, from, &words, &it->ends_len, &bits) == 0 &&
+        (it->ends = room_for(it->ends_len)) != NULL)
+        memcpy(it->ends, words, 8 * it->ends_len);
+    DROP(held);
+    return it->ends == NULL ? -1 : 0;
+}
+
+/* Writes the block of the trie into memory of its own. -1 and an error. */
+static int built(Memory *it, const Parts *from)
+{
+    uint64_t len, *block;
+    uint32_t status = bitm_trie_size(from->count, from->width, from->ends_len > 0, &len);
+    if (status == BITM_OK && (block = block_room(it, len)) != NULL) {
+        Py_BEGIN_ALLOW_THREADS
+        status = bitm_trie_build(from->degrees, from->count, from->labels, from->labels_len, from->width, from->ends,
+                                 from->ends_len, block, (size_t)len);
+        Py_END_ALLOW_THREADS
+    }
+    if (PyErr_Occurred())
+        return -1;
+    if (status == BITM_OK)
+        return trie_opened(it);
+    PyErr_SetString(PyExc_ValueError, status == BITM_WRONG
+                                          ? "the degrees are those of no tree, or the labels none for it"
+                                          : "the width is not 1 to 63, or the ends are not a bit for each node");
+    return -1;
+}
+
+static int trie_init(PyObject *self, PyObject *args, PyObject *keywords)
+{
+    static char *names[] = {"degrees", "labels", "width", "ends", NULL};
+    PyObject *degrees, *labels, *ends = NULL, *wanted = NULL;
+    Parts parts = {0};
+    uint64_t width;
+    if (!PyArg_ParseTupleAndKeywords(args, keywords, "OO|OO:Trie", names, &degrees, &labels, &wanted, &ends) ||
+        number_or(wanted, 8, "the width", &width))
+        return -1;
+    parts.width = width > 64 ? 64 : (uint32_t)width;
+    const int taken = (parts.degrees = integers_all(degrees, "a degree", &parts.count)) != NULL &&
+                      (parts.labels = integers_all(labels, "a label", &parts.labels_len)) != NULL &&
+                      ends_take(&parts, ends) == 0;
+    Memory *it = taken ? memory_new() : NULL;
+    int is_made = it != NULL && built(it, &parts) == 0;
+    free(parts.degrees);
+    free(parts.labels);
+    free(parts.ends);
+    return value_made(self, it, is_made);
+}
+
+/* ---- queries by words */
+
+static int word_take(Pattern *it, PyObject *from)
+{
+    return pattern_take(it, from, "a label", "a word is bytes or a list of labels, no str: encode it");
+}
+
+static PyObject *trie_find(PyObject *self, PyObject *query)
+{
+    Pattern word;
+    uint64_t out;
+    uint32_t status = BITM_OK;
+    if (word_take(&word, query))
+        return NULL;
+    Memory *it = memory_of(self);
+    if (it != NULL)
+        status = word.bytes != NULL ? bitm_trie_find_bytes(&it->trie, word.at, word.len, &out)
+                                    : bitm_trie_find(&it->trie, word.letters, word.len, &out);
+    pattern_drop(&word);
+    return it == NULL ? NULL : answer_or_none(status, &out);
+}
+
+static PyObject *trie_longest(PyObject *self, PyObject *query)
+{
+    Pattern word;
+    uint64_t node = 0, count = 0;
+    uint32_t status = BITM_OK;
+    if (word_take(&word, query))
+        return NULL;
+    Memory *it = memory_of(self);
+    if (it != NULL)
+        status = word.bytes != NULL ? bitm_trie_longest_bytes(&it->trie, word.at, word.len, &node, &count)
+                                    : bitm_trie_longest(&it->trie, word.letters, word.len, &node, &count);
+    pattern_drop(&word);
+    if (it == NULL)
+        return NULL;
+    return status > BITM_NONE ? wrong() : Py_BuildValue("KK", (unsigned long long)node, (unsigned long long)count);
+}
+
+/* The labels as bytes, where each is one; else as a list. */
+static PyObject *word_of(const uint64_t *labels, size_t count, uint64_t width)
+{
+    if (width > 8)
+        return list_of(labels, count, 0);
+    PyObject *bytes = PyBytes_FromStringAndSize(NULL, (Py_ssize_t)count);
+    char *at = bytes == NULL ? NULL : PyBytes_AsString(bytes);
+    for (size_t i = 0; at != NULL && i < count; i++)
+        at[i] = (char)labels[i];
+    return bytes;
+}
+
+static PyObject *trie_word(PyObject *self, PyObject *value)
+{
+    uint64_t node, count, *labels = NULL;
+    if (number(value, "a node", &node))
+        return NULL;
+    Memory *it = memory_kept(self);
+    if (it == NULL)
+        return NULL;
+    PyObject *found = NULL;
+    uint32_t status = bitm_trie_word(&it->trie, (size_t)node, NULL, 0, &count);
+    if (status != BITM_OK)
+        found = answer_or_none(status, &count);
+    else if ((labels = room_for(count)) != NULL)
+        found = bitm_trie_word(&it->trie, (size_t)node, labels, (size_t)count, &count) == BITM_OK
+                    ? word_of(labels, (size_t)count, it->trie.width)
+                    : wrong();
+    free(labels);
+    DROP(it);
+    return found;
+}
+
+/* ---- queries of one node */
+
+#define NODE(name, call, member)                                                                                       \
+    QUERY_OF(name##_of, call, member)                                                                                  \
+    static PyObject *trie_##name(PyObject *self, PyObject *node) { return ask(self, node, name##_of, true, "a node"); }
+NODE(label, bitm_trie_label, trie)
+NODE(parent, bitm_tree_parent, trie.tree)
+NODE(degree, bitm_tree_degree, trie.tree)
+
+static PyObject *trie_is_end(PyObject *self, PyObject *value)
+{
+    uint64_t node, out;
+    if (number(value, "a node", &node))
+        return NULL;
+    Memory *it = memory_of(self);
+    if (it == NULL)
+        return NULL;
+    uint32_t status = bitm_trie_is_end(&it->trie, (size_t)node, &out);
+    return status == BITM_OK ? boxed_bit(out) : answer_or_none(status, &out);
+}
+
+static PyObject *trie_child_by_label(PyObject *self, PyObject *const *args, Py_ssize_t count, PyObject *keywords)
+{
+    static const char *const names[] = {"node", "label"};
+    PyObject *given[2];
+    uint64_t node, label, out;
+    if (pick("child_by_label", names, 2, 2, args, count, keywords, given) || number(given[0], "a node", &node) ||
+        number(given[1], "a label", &label))
+        return NULL;
+    Memory *it = memory_of(self);
+    return it == NULL ? NULL : answer_or_none(bitm_trie_child(&it->trie, (size_t)node, label, &out), &out);
+}
+
+static PyObject *trie_children(PyObject *self, PyObject *value)
+{
+    uint64_t node;
+    if (number(value, "a node", &node))
+        return NULL;
+    Memory *it = memory_of(self);
+    return it == NULL ? NULL : children_of(&it->trie.tree, node);
+}
+
+/* ---- the rest */
+
+BLOCK_CHECK(trie)
+
+ATTRIBUTE(trie, width, trie.width)
+
+static PyObject *trie_has_ends(PyObject *self, void *none)
+{
+    const Memory *it = memory_of(self);
+    (void)none;
+    return it == NULL ? NULL : boxed_bit(it->trie.ends_len > 0);
+}
+
+static uint64_t length(const Memory *it) { return it->trie.tree.len; } /* below 2^57 */
+static Py_ssize_t trie_len(PyObject *self) { return value_len(self, length); }
+
+static PyObject *trie_repr(PyObject *self)
+{
+    Memory *it = ((Value *)self)->memory;
+    return it == NULL ? PyUnicode_FromString("<Trie, closed>")
+                      : PyUnicode_FromFormat("<Trie of %zu nodes>", it->trie.tree.len);
+}
+
+#define OF(rest) EXAMPLE("trie = Trie([2, 0, 1, 0], b'abe', ends=BitVector.from_bits('0111'))") THEN("trie" rest)
+#define PLAIN(name, text) METHOD(#name, trie_##name, METH_O, "($self, node, /)", text)
+#define WORD(name, text) METHOD(#name, trie_##name, METH_O, "($self, word, /)", text)
+static PyMethodDef methods[] = {
+    WORD(find,
+         "The node to which a word leads from the root, bytes or a list of labels; None where it leads to none." OF(
+             ".find(b'be')") PRINTS("3")),
+    WORD(longest,
+         "The deepest node to which a beginning of a word leads from the root, and how many labels lead there: "
+         "all of them where the word leads to a node." OF(".longest(b'bee')") PRINTS("(3, 2)")),
+    PLAIN(word,
+          "The word that leads from the root to a node: bytes where a label has at most 8 bits, else a list; None "
+          "where there is no such node." OF(".word(3)") PRINTS("b'be'")),
+    PLAIN(label,
+          "The label of a node; None at the root and where there is no such node." OF(".label(3)") PRINTS("101")),
+    PLAIN(is_end, "Whether a word ends at a node; None where there is no such node, or the trie has no ends." OF(
+                      ".is_end(3)") PRINTS("True")),
+    KEYWORDS("child_by_label", trie_child_by_label, "($self, node, label)",
+             "The child of a node with a label; None where none has it, or there is no such node." OF(
+                 ".child_by_label(0, 98)") PRINTS("2")),
+    PLAIN(parent,
+          "The parent of a node; None at the root and where there is no such node." OF(".parent(3)") PRINTS("2")),
+    PLAIN(degree, "How many children a node has; None where there is no such node." OF(".degree(0)") PRINTS("2")),
+    PLAIN(children,
+          "The children of a node, by rising labels, as a range, for they follow one another; empty where there "
+          "is no such node." OF(".children(0)") PRINTS("range(1, 3)")),
+    METHOD("check", trie_check, METH_NOARGS, "($self, /)",
+           "Whether the block is as it was written and holds a trie: looks at all of it." OF(".check()")
+               PRINTS("True")),
+    VALUE_METHODS,
+    {NULL, NULL, 0, NULL}};
+
+static PyGetSetDef attributes[] = {
+    {"width", trie_width, NULL, DOC("How many bits a label has." OF(".width") PRINTS("8")), NULL},
+    {"has_ends", trie_has_ends, NULL,
+     DOC("Whether there is a bit for each node that says whether a word ends there." OF(".has_ends") PRINTS("True")),
+     NULL},
+    VALUE_CLOSED,
+    {NULL, NULL, NULL, NULL, NULL}};
+
+#define TRIE_DOC                                                                                                       \
+    "Trie(degrees, labels, width=8, ends=None)\n--\n\n"                                                                \
+    "A trie in one block of memory: a tree, from the degree of each node, in which each node but the root has a "      \
+    "label, and the labels of the children of a node rise, so that a word leads to at most one node. `labels` has "    \
+    "those of the nodes from 1 on, bytes or numbers of `width` bits each, 1 to 63; `ends`, a BitVector or words, has " \
+    "a bit for each node that says whether a word ends there. Words are bytes, or lists of labels." EXAMPLE(           \
+        "trie = Trie([2, 0, 1, 0], b'abe', ends=BitVector.from_bits('0111'))  # a, b and be")                          \
+        THEN("trie.find(b'be'), trie.find(b'e'), trie.word(2)") PRINTS("(3, None, b'b')")
+
+static PyType_Slot slots[] = {VALUE_SLOTS(TRIE_DOC, trie_init, methods, attributes, trie_repr),
+                              {Py_tp_hash, PyObject_HashNotImplemented},
+                              {Py_sq_length, trie_len},
+                              {0, NULL}};
+PyType_Spec trie_spec = {"bitm.Trie", sizeof(Value), 0, VALUE_FLAGS, slots};

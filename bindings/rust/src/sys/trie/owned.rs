@@ -1,0 +1,50 @@
+//! A trie and the owner of its block.
+use crate::errors::{made, BuildError, StoredError};
+use crate::sys::held::Held;
+use crate::sys::memory::copied;
+use crate::sys::owner::owners_of_blocks;
+use crate::sys::trie::{build, TrieView};
+use alloc::vec::Vec;
+use core::fmt;
+
+/// A trie, a set of words, and the owner of its block.
+///
+/// A trie is a tree in which each node but the root has a label, and the labels of the children of a node rise: a word, a
+/// list of labels, leads from the root to at most one node. Labels are bytes, or numbers of at most 63 bits, of which the
+/// calls that end in `_labels` take words. The block is the file of the trie, the same in each language.
+///
+/// ```
+/// use bitm_proved::Trie;
+/// // the words a, b and be: how many children each node has, the letters of the nodes 1 to 3, and where words end
+/// let trie = Trie::build(&[2, 0, 1, 0], &[97, 98, 101], 8, &[0b1110])?;
+/// assert_eq!((trie.find(b"be"), trie.find(b"bee"), trie.longest(b"bee")), (Some(3), None, (3, 2)));
+/// assert_eq!((trie.is_end(3), trie.child_by_label(0, 98), trie.children(0)), (Some(true), Some(2), 1..3));
+/// # Ok::<(), bitm_proved::BuildError>(())
+/// ```
+pub struct Trie<O = Vec<u64>> {
+    view: TrieView<'static>,
+    held: Held<O>,
+}
+
+impl Trie {
+    /// The trie whose nodes have these degrees, and those from 1 on these labels, of `width` bits each, 1 to 63. The ends
+    /// are a bit for each node, lowest first, which says whether a word ends there; or no words.
+    ///
+    /// `NotATrie` exactly where the degrees are those of no tree (`Tree::build`), there is not one label for each node but
+    /// the root, a label has more bits than the width, those of the children of a node do not rise, or the width or the
+    /// number of ends is another.
+    ///
+    /// ```
+    /// use bitm_proved::{BuildError, Trie};
+    /// assert_eq!(Trie::build(&[2, 0, 1, 0], &[97, 98, 101], 8, &[14])?.find(b"be"), Some(3));
+    /// assert_eq!(Trie::build(&[2, 0, 1, 0], &[98, 97, 101], 8, &[]).err(), Some(BuildError::NotATrie)); // b before a
+    /// # Ok::<(), BuildError>(())
+    /// ```
+    pub fn build(degrees: &[u64], labels: &[u64], width: u32, ends: &[u64]) -> Result<Self, BuildError> {
+        Self::of_block(build(degrees, labels, width, ends)?, BuildError::NotATrie)
+    }
+}
+
+owners_of_blocks! { Trie with TrieView;
+    "trie", "bitm_proved::Trie::build(&[2, 0, 1, 0], &[97, 98, 101], 8, &[14])?", "4"
+}

@@ -1,0 +1,23 @@
+use Rattle.std.proofs.Common.{ℕ, ◌+◌, ◌*◌, ◌<◌, take}
+use Rattle.bit_lists.specs.Bits.{digit_count}
+use Rattle.louds.specs.Counted.{degrees_in, IsLouds, OnlySelects}
+use Rattle.louds.specs.Labels.{Leads, Rise}
+use Rattle.trie_block.specs.Labels.{labels_of, ReadsLabels}
+use Rattle.trie_block.proofs.LabelLemmas.{GoesOn}
+use Rattle.trie_block.proofs.queries.total_longest_on.Given as goal
+
+-- in a trie the labels so far lead to a node, and the beginnings of the word lead on from there
+abbrev pub invariant-loop-i : goal.invariant-loop-i
+invariant-loop-i g l =
+    let T = g.T.TableSource in
+    let lists = T.lists l.fn.source in
+    let word = g.W.Letters.letters l.word in
+    let d = degrees_in l.len lists in
+    let ls = labels_of l.fn.labels.words l.fn.labels.width l.len in
+    record {
+      inside : l.at < l.len;
+      down : IsLouds l.len lists → Rise d ls → Leads d ls (take l.i word) 0 l.at;
+      on : IsLouds l.len lists → Rise d ls → GoesOn d ls word l.i l.at;
+      reads : OnlySelects T.lists T.reads l.fn.source l.source (2 * l.i) 0;
+      labels : ReadsLabels l.fn.labels l.labels (l.i * (digit_count l.len + 1));
+    }

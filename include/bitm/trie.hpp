@@ -1,0 +1,203 @@
+// Tries, sets of words, each in one block of memory: an owner, and a view of a block in memory of the caller's.
+//
+//     // the words a, b and be: a tree, the letters of the nodes 1 to 3, of 8 bits each, and which nodes end a word
+//     const std::vector<std::uint64_t> children{2, 0, 1, 0}, letters{'a', 'b', 'e'}, ends{14};
+//     const bitm::trie words(children, letters, 8, ends);
+//     std::cout << words.find("be").value() << ' ' << words.is_end(3).value() << '\n';               // 3 1
+//     std::cout << words.longest("bee").count << ' ' << words.parent(3).value() << '\n';             // 2 2
+//
+// A trie is a tree in which each node but the root has a label, and the labels of the children of a node rise; so a
+// word leads from the root to at most one node. Labels are bytes, or numbers of at most 63 bits, of which the calls
+// that end in _labels take words. A trie has the queries of a tree. Its file is its block, the same bytes from each
+// language.
+#ifndef BITM_TRIE_HPP
+#define BITM_TRIE_HPP
+
+#include <bitm/tree.hpp>
+
+#include <string_view>
+
+BITM_NAMESPACE_BEGIN
+
+// The node to which the first `count` labels of a word lead.
+struct trie_match {
+    // The node; how many labels lead there.
+    std::uint64_t node = 0, count = 0;
+    friend bool operator==(const trie_match &a, const trie_match &b) noexcept
+    {
+        return a.node == b.node && a.count == b.count;
+    }
+    friend bool operator!=(const trie_match &a, const trie_match &b) noexcept { return !(a == b); }
+};
+
+namespace detail {
+
+// A trie of no nodes: what an owner or a view that was default constructed queries.
+struct trie_kind : block_kind<trie_kind, bitm_trie, bitm_trie_open> {
+    static bitm_trie none() noexcept
+    {
+        bitm_trie raw{};
+        raw.tree = tree_kind::none();
+        raw.width = 1;
+        return raw;
+    }
+    static const bitm_tree &nodes(const bitm_trie &raw) noexcept { return raw.tree; }
+};
+
+inline const std::uint8_t *labels_of(std::string_view word) noexcept
+{
+    return reinterpret_cast<const std::uint8_t *>(word.data());
+}
+
+template <class Self> class trie_calls : public node_calls<Self, trie_kind> {
+public:
+    // How many bits a label has, and whether there is a bit for each node that says whether a word ends there.
+    std::uint64_t width() const noexcept { return trie().width; }
+    bool has_ends() const noexcept { return trie().ends_len > 0; }
+
+    // The label of a node; none at the root and where there is no such node.
+    maybe_position label(std::uint64_t node) const { return try_label(node).value(); }
+    result<maybe_position> try_label(std::uint64_t node) const noexcept
+    {
+        std::uint64_t out = 0;
+        const std::uint32_t status = bitm_trie_label(&trie(), node, &out);
+        return tried(status, out);
+    }
+    // Whether a word ends at a node; none where there is no such node, or no ends.
+    std::optional<bool> is_end(std::uint64_t node) const { return try_is_end(node).value(); }
+    result<std::optional<bool>> try_is_end(std::uint64_t node) const noexcept
+    {
+        std::uint64_t out = 0;
+        const std::uint32_t status = bitm_trie_is_end(&trie(), node, &out);
+        if (status > BITM_NONE) return error_of(status);
+        return status == BITM_OK ? std::optional<bool>(out != 0) : std::optional<bool>();
+    }
+    // The child of a node with a label; none where no child has it, or there is no such node.
+    maybe_position child_by_label(std::uint64_t node, std::uint64_t label) const
+    {
+        std::uint64_t out = 0;
+        const std::uint32_t status = bitm_trie_child(&trie(), node, label, &out);
+        return found(status, out);
+    }
+    result<maybe_position> try_child_by_label(std::uint64_t node, std::uint64_t label) const noexcept
+    {
+        std::uint64_t out = 0;
+        const std::uint32_t status = bitm_trie_child(&trie(), node, label, &out);
+        return tried(status, out);
+    }
+    // The node to which a word leads from the root; none where it leads to none.
+    maybe_position find(std::string_view word) const { return try_find(word).value(); }
+    maybe_position find_labels(words_in word) const { return try_find_labels(word).value(); }
+    result<maybe_position> try_find(std::string_view word) const noexcept
+    {
+        std::uint64_t out = 0;
+        const std::uint32_t status = bitm_trie_find_bytes(&trie(), labels_of(word), word.size(), &out);
+        return tried(status, out);
+    }
+    result<maybe_position> try_find_labels(words_in word) const noexcept
+    {
+        std::uint64_t out = 0;
+        const std::uint32_t status = bitm_trie_find(&trie(), word.data(), word.size(), &out);
+        return tried(status, out);
+    }
+    // The deepest node to which a beginning of a word leads from the root, and how many labels lead there: all of them
+    // where the word leads to a node. Of no nodes it is node 0, with no labels.
+    trie_match longest(std::string_view word) const { return try_longest(word).value(); }
+    trie_match longest_labels(words_in word) const { return try_longest_labels(word).value(); }
+    result<trie_match> try_longest(std::string_view word) const noexcept
+    {
+        trie_match out;
+        const auto *const bytes = labels_of(word);
+        const std::uint32_t status = bitm_trie_longest_bytes(&trie(), bytes, word.size(), &out.node, &out.count);
+        if (status > BITM_NONE) return error_of(status);
+        return out;
+    }
+    result<trie_match> try_longest_labels(words_in word) const noexcept
+    {
+        trie_match out;
+        const std::uint32_t status = bitm_trie_longest(&trie(), word.data(), word.size(), &out.node, &out.count);
+        if (status > BITM_NONE) return error_of(status);
+        return out;
+    }
+    // How many labels lead from the root to a node; none where there is no such node. They are the last of memory of
+    // the caller's, where there is room for them.
+    maybe_position word(std::uint64_t node, words_out out = {}) const { return try_word(node, out).value(); }
+    result<maybe_position> try_word(std::uint64_t node, words_out out = {}) const noexcept
+    {
+        std::uint64_t len = 0;
+        const std::uint32_t status = bitm_trie_word(&trie(), node, out.data(), out.size(), &len);
+        return tried(status, len);
+    }
+
+    // Whether the block is as it was written and holds a trie: looks at all of it, four times.
+    bool check() const noexcept { return checked(bitm_trie_check, this->block()); }
+
+private:
+    const bitm_trie &trie() const noexcept { return this->raw(); }
+};
+
+} // namespace detail
+
+// A trie whose block is in memory of the caller's, who keeps it: a mapped file, say.
+class BITM_POINTER trie_view : public detail::trie_calls<trie_view> {
+public:
+    // Of no nodes; of the block that begins the words: fails where it is none of a trie, or not all of it.
+    trie_view() noexcept = default;
+    static result<trie_view> try_in(detail::kept<const std::uint64_t> file BITM_LIFETIMEBOUND) noexcept
+    {
+        const auto found = detail::trie_kind::in(file.data(), file.size());
+        if (!found) return found.error();
+        return trie_view(*found);
+    }
+    static trie_view in(detail::kept<const std::uint64_t> file BITM_LIFETIMEBOUND) { return try_in(file).value(); }
+
+private:
+    friend class trie;
+    friend class detail::node_calls<trie_view, detail::trie_kind>;
+    explicit trie_view(const detail::in_block<detail::trie_kind> &found) noexcept : own_(found) {}
+
+    detail::in_block<detail::trie_kind> own_;
+};
+
+// A trie that owns its block, made from how many children each node has, and the labels of the nodes from 1 on.
+class BITM_OWNER trie : public detail::trie_calls<trie>, public detail::stored_calls<trie, detail::trie_kind> {
+public:
+    // Of no nodes; of the degrees of the nodes, the labels of those from 1 on, of `width` bits each, 1 to 63, and,
+    // lowest first, a bit for each node that says whether a word ends there, or none. Fails where the degrees are those
+    // of no tree, or the labels of the children of a node do not rise.
+    trie() noexcept = default;
+    trie(words_in degrees, words_in labels, std::uint32_t width, words_in ends = {})
+        : trie(try_of(degrees, labels, width, ends).value())
+    {
+    }
+    static result<trie> try_of(words_in degrees, words_in labels, std::uint32_t width, words_in ends = {})
+    {
+        std::uint64_t len = 0;
+        if (bitm_trie_size(degrees.size(), width, !ends.empty(), &len) != BITM_OK)
+            return detail::bad_size("2^57 nodes or more, or a width that is not 1 to 63");
+        detail::block all(len);
+        const std::uint32_t status = bitm_trie_build(degrees.data(), degrees.size(), labels.data(), labels.size(),
+                                                     width, ends.data(), ends.size(), all.data(), all.size());
+        if (status == BITM_WRONG)
+            return failure{errc::no_tree, 0, 0,
+                           "or the labels are not one for each node but the root, of at most that "
+                           "width, which rise among the children of a node"};
+        if (status != BITM_OK) return detail::bad_size("the ends are not a bit for each node");
+        return opened(std::move(all), verify::no);
+    }
+
+    // A view, which the owner has to outlive; the block, and all of it as C takes it. Deleted for temporaries.
+    trie_view view() const &noexcept BITM_LIFETIMEBOUND { return trie_view(own_.found()); }
+    words_in block() const &noexcept BITM_LIFETIMEBOUND { return own_.words(); }
+    const bitm_trie &raw() const &noexcept BITM_LIFETIMEBOUND { return own_.raw(); }
+    void view() const && = delete;
+    void block() const && = delete;
+    void raw() const && = delete;
+
+private:
+    friend class detail::node_calls<trie, detail::trie_kind>;
+};
+
+BITM_NAMESPACE_END
+
+#endif
