@@ -16,7 +16,7 @@ use bitm_tables::source::TableSource;
 /// # Cost
 /// At most `WORDS` words.
 #[inline(always)]
-pub(crate) fn near_last_zero_on<const WORDS: usize, T: TableSource>(
+pub fn near_last_zero_on<const WORDS: usize, T: TableSource>(
     source: &mut T,
     to: usize,
 ) -> Option<usize>

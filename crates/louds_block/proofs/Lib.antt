@@ -1,4 +1,5 @@
 pub mod BlockLemmas
 pub mod CheckLemmas
 pub mod LeadLemmas
+pub mod NearLemmas
 pub mod SiblingLemmas

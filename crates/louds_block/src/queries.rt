@@ -1,5 +1,7 @@
 //! Parents, children and degrees over any source, of which the words and tables may hold anything.
-ghost use Rattle.std.specs.Prelude.{◌≡◌, ◌+◌, ◌-◌, ◌^◌, ◌<◌, ◌≤◌, ℕ, List, length, IfSome, MatchOption};
+ghost use Rattle.std.specs.Prelude.{◌≡◌, ◌+◌, ◌-◌, ◌^◌, ◌<◌, ◌≤◌, ℕ, List, length, slice_index};
+ghost use Rattle.std.specs.Prelude.{IfSome, MatchOption};
+ghost use Rattle.bitm_tables.specs.Reads.{OnlyReads};
 ghost use Rattle.bitm_tables.specs.Tables.{HasSizes};
 ghost use Rattle.louds.specs.Counted.{degrees_in, IsLouds, OnlySelects};
 ghost use Rattle.louds.specs.Held.{zero_place, IsOneOf};
@@ -10,6 +12,7 @@ ghost use Rattle.louds_block.specs.Answers.{IsParentOf, IsParentWithin};
 use bitm_select::search::selecting::total_select_on;
 use bitm_tables::answer::Answer;
 use bitm_tables::source::TableSource;
+use louds::near_last_zero_on;
 
 /// The parent of a node whose 1 bit stands at a position; `Wrong` only where none does.
 #[inline(always)]
@@ -93,6 +96,28 @@ pub(crate) fn total_zero_on<T: TableSource>(
     }
 }
 
+/// In how many words the 1 bits of a node are looked at before their end is selected: up to which child, and how many
+/// words these bits and the 0 bit before them are in at most.
+const NEAR: usize = 64;
+
+const NEAR_WORDS: usize = 2;
+
+/// Child `k` of a node that has more than `k` children, of which the 0 bit before its 1 bits stands at `start`; `Wrong`
+/// only where it does not.
+#[inline(always)]
+fn child_from(start: usize, len: usize, node: usize, k: usize) -> Answer<usize>
+    requires node { node < len }
+    requires room { start + k < 2 ^ 64 }
+    ensures inside { IsChildWithin len node result }
+    ensures answer { (d : List ℕ) → len ≡ length d → IsTree d → start ≡ zero_place d node
+        → k < slice_index d node → IsChildOf d node k result }
+{
+    match (start + k).checked_sub(node) {
+        Some(child) if node < child && child < len => Answer::Found(child),
+        _ => Answer::Wrong,
+    }
+}
+
 /// Child `k` of a node, of which the 0 bits before and after its 1 bits stand at `start` and `end`; `Wrong` only where
 /// they do not.
 #[inline(always)]
@@ -108,8 +133,37 @@ fn child_between(start: usize, end: usize, len: usize, node: usize, k: usize) ->
     if k >= end - start - 1 {
         return Answer::Absent;
     }
-    match (start + k).checked_sub(node) {
-        Some(child) if node < child && child < len => Answer::Found(child),
+    child_from(start, len, node, k)
+}
+
+/// Child `k` of a node, one of its first 64, of which the 0 bit before its 1 bits stands at `start`; `Wrong` only where
+/// the source holds no tree.
+///
+/// The last 0 bit up to where the child's 1 bit would stand is that at `start` exactly where there is such a child.
+#[inline(always)]
+fn near_child_on<T: TableSource>(
+    source: &mut T,
+    len: usize,
+    node: usize,
+    start: usize,
+    k: usize,
+) -> Answer<usize>
+    requires sized { HasSizes (T.lists source.old) }
+    requires node { node < len }
+    requires near { k < 64 }
+    ensures inside { IsChildWithin len node result }
+    ensures answer { IsLouds len (T.lists source.old)
+        → start ≡ zero_place (degrees_in len (T.lists source.old)) node
+        → IsChildOf (degrees_in len (T.lists source.old)) node k result }
+    ensures reads { OnlyReads T.lists T.reads source.old source.new 0 0 2 }
+{
+    let place = start.saturating_add(k + 1);
+    if place / 64 >= source.words_len() {
+        return Answer::Absent;
+    }
+    match near_last_zero_on::<NEAR_WORDS, T>(source, place) {
+        Some(last) if last > start => Answer::Absent,
+        Some(last) if last == start => child_from(start, len, node, k),
         _ => Answer::Wrong,
     }
 }
@@ -122,7 +176,8 @@ fn child_between(start: usize, end: usize, len: usize, node: usize, k: usize) ->
 /// # Conditions
 /// There are fewer than 2^58 words, and the tables have the right lengths. They may hold anything.
 /// # Cost
-/// What two selections by binary search read, whatever the source holds.
+/// What two selections by binary search read, whatever the source holds; of the first 64 children what one selection
+/// reads, and two words.
 ///
 /// ```
 /// total_child_on(&mut source, 4, 0, 1);   // Found(2), Absent or Wrong
@@ -137,16 +192,21 @@ pub fn total_child_on<T: TableSource>(
     ensures inside { IsChildWithin len node result }
     ensures answer { IsLouds len (T.lists source.old)
         → IsChildOf (degrees_in len (T.lists source.old)) node k result }
+    ensures near { k < 64 → OnlySelects T.lists T.reads source.old source.new 1 2 }
     ensures reads { OnlySelects T.lists T.reads source.old source.new 2 0 }
 {
     if node >= len {
         return Answer::Absent;
     }
-    let start = total_zero_on(source, len, node);
-    let end = total_zero_on(source, len, node + 1);
-    match (start, end) {
-        (Some(start), Some(end)) => child_between(start, end, len, node, k),
-        _ => Answer::Wrong,
+    let Some(start) = total_zero_on(source, len, node) else {
+        return Answer::Wrong;
+    };
+    if k < NEAR {
+        return near_child_on(source, len, node, start, k);
+    }
+    match total_zero_on(source, len, node + 1) {
+        Some(end) => child_between(start, end, len, node, k),
+        None => Answer::Wrong,
     }
 }
 
