@@ -1,5 +1,5 @@
 /* bitm.WaveletMatrix: a list of numbers in any order, in one block of memory. */
-#include "values.h"
+#include "matrix.h"
 
 int matrix_opened(Memory *it)
 {
@@ -195,13 +195,8 @@ static PyObject *of_range(PyObject *self, range_call call, const char *name, con
         number_or(given[1], 0, "start", &start) || number_or(given[2], UINT64_MAX, "stop", &stop))
         return NULL;
     Memory *it = memory_of(self);
-    if (it == NULL)
+    if (it == NULL || matrix_range(it, given[2], start, &stop))
         return NULL;
-    if (given[2] == NULL || given[2] == Py_None)
-        stop = it->matrix.len;
-    if (start > stop || stop > it->matrix.len)
-        return PyErr_Format(PyExc_IndexError, "the range from %llu to %llu of %zu numbers", (unsigned long long)start,
-                            (unsigned long long)stop, it->matrix.len);
     return answer_or_none(call(&it->matrix, (size_t)start, (size_t)stop, asked, &out), &out);
 }
 
@@ -278,6 +273,16 @@ static PyMethodDef methods[] = {
           "The greatest number of a range that is less than bound; None where there is none. IndexError where there is "
           "no "
           "such range." OF(".previous_value(4, 1, 5)") PRINTS("1")),
+    NAMED(distinct, "($self, start=0, stop=None)",
+          "The distinct numbers of a range, rising, each with how often it is there. IndexError where there is no such "
+          "range." OF(".distinct(1, 5)") PRINTS("[(1, 2), (4, 1), (5, 1)]")),
+    NAMED(top, "($self, k, start=0, stop=None)",
+          "The k most frequent numbers of a range, or all, each with how often it is there: the most frequent first, and "
+          "of equally frequent ones the least. IndexError where there is no such range." OF(".top(2)")
+              PRINTS("[(1, 3), (3, 1)]")),
+    NAMED(intersect, "($self, start, stop, other_start, other_stop)",
+          "The numbers that are in both ranges, each once, rising. IndexError where there is no such range." OF(
+              ".intersect(0, 3, 3, 6)") PRINTS("[1]")),
     NAMED(get_list, "($self, queries)",
           "The numbers at many indices, in their manner." OF(".get_list([4, 0])") PRINTS("[5, 3]")),
     NAMED(rank_list, "($self, numbers, indices, *, missing=None)",

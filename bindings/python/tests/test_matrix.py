@@ -2,6 +2,7 @@
 changed or cut off."""
 import gc
 import random
+from collections import Counter
 
 import pytest
 from block_values import answer_of, over_each_change, refuses_another, refuses_once_closed, stored_and_copied, wrong_while_closed
@@ -44,6 +45,11 @@ def as_plain_lists(matrix, plain):
                 assert matrix.count_less(bound, start, stop) == sum(it < bound for it in part)
                 assert matrix.next_value(bound, start, stop) == none_or(min, [it for it in part if it >= bound])
                 assert matrix.previous_value(bound, start, stop) == none_or(max, [it for it in part if it < bound])
+            counts = Counter(part)
+            assert matrix.distinct(start, stop) == sorted(counts.items())
+            for k in (0, 2, n):
+                assert matrix.top(k, start, stop) == sorted(counts.items(), key=lambda it: (-it[1], it[0]))[:k]
+            assert matrix.intersect(start, stop, stop, n) == sorted(set(part) & set(plain[stop:]))
 
 
 @pytest.mark.parametrize("plain", LISTS, ids=len)

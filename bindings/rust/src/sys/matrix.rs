@@ -188,9 +188,8 @@ impl<'a> WaveletMatrixView<'a> {
         let (room, (from, to)) = (pairs(numbers.len(), counts.len())?, (range.start, range.end));
         let (list, of_each) = (numbers.as_mut_ptr(), as_u64_mut(counts).as_mut_ptr());
         // SAFETY: a view, two mutable slices, which overlap neither it nor each other, and room for one number.
-        let found = unsafe {
-            self.block.find(|it, n| bitm_matrix_distinct(it, from, to, least, list, room, of_each, room, n))
-        };
+        let found =
+            unsafe { self.block.find(|it, n| bitm_matrix_distinct(it, from, to, least, list, room, of_each, room, n)) };
         found.map_err(|_| ListError::WrongTables { wrong: room })
     }
 

@@ -1,5 +1,5 @@
 -- The answers of a group follow those of the groups before.
-use Rattle.std.proofs.Common.{◌≡◌, ℕ, ◌+◌, ◌≤◌, ◌∙◌, length, slice_index, subst, arith}
+use Rattle.std.proofs.Common.{◌≡◌, ◌+◌, ◌≤◌, ◌∙◌, length, arith}
 use Rattle.bitm_view.specs.Queries.{selected_by}
 use Rattle.bitm_many.proofs.lemmas.ManyLemmas.{part_long, put_long}
 use Rattle.bitm_matrix_c.specs.Matrix.{IsRank}

@@ -1,5 +1,5 @@
 -- One more answer.
-use Rattle.std.proofs.Common.{◌≡◌, ℕ, length, slice_index, subst, sym, arith, ◌∙◌}
+use Rattle.std.proofs.Common.{◌≡◌, slice_index, subst, sym, arith, ◌∙◌}
 use Rattle.std.proofs.lemmas.List.{length-set}
 use Rattle.bit_slices.proofs.lemmas.PositionLemmas.{placed_more}
 use Rattle.bitm_tables.specs.Tables.{Lists}

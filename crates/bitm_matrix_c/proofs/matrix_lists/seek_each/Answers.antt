@@ -1,5 +1,5 @@
 -- What is sought is a rank or an index.
-use Rattle.std.proofs.Common.{ℕ, slice_index, sym, subst}
+use Rattle.std.proofs.Common.{slice_index, sym, subst}
 use Rattle.bitm_view.specs.Queries.{selected_by}
 use Rattle.bitm_matrix_c.specs.Matrix.{Seeks}
 use Rattle.bitm_matrix_c.specs.declared.matrix_lists.Sought.{Sought}
