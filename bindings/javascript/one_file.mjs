@@ -1,5 +1,5 @@
 // node one_file.mjs [FILE]: writes all of src/web.js as one file (else page/bitm.js), by esbuild (Debian has it), so that a
-// page without a bundler fetches one script in place of fifteen. The first line has the sum of the sources. `npm pack` calls
+// page without a bundler fetches one script in place of all of these. The first line has the sum of the sources. `npm pack` calls
 // it: the file is of the package, and not kept in the repository.
 import { execFileSync } from "node:child_process";
 import { createHash } from "node:crypto";

@@ -3,8 +3,8 @@ import { Copied, InBlock, checked } from "./in_block.js";
 import { BITM_DICTIONARY } from "./layout.js";
 import { answers, copyIn, numbersOf } from "./lists.js";
 import { dispose, withRoom } from "./memory.js";
-import { answerOf, big, must, orNone, orThrow } from "./numbers.js";
-import { LEVELS, within } from "./perfect_hash.js";
+import { answerOf, big, must, orNone, orThrow, within } from "./numbers.js";
+import { LEVELS } from "./perfect_hash.js";
 
 const KIND = { name: "Dictionary", what: "a dictionary", open: "bitm_dictionary_open", check: "bitm_dictionary_check", layout: BITM_DICTIONARY };
 /** How many keys are copied at a time. */

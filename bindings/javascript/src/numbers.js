@@ -49,6 +49,13 @@ export function upTo(it, most, name) {
     return found;
 }
 
+/** A whole number from `least` to `most`, which is no BigInt. */
+export function within(it, least, most, name) {
+    if (typeof it !== "number") throw new TypeError(`bitm: ${name} must be a whole number`);
+    if (!Number.isInteger(it) || it < least || it > most) throw new RangeError(`bitm: ${name} is ${least} to ${most}, and not ${it}`);
+    return it;
+}
+
 /** The error of what an adaptor returned in place of an answer. */
 export function refused(got, name, it) {
     switch (-got) {

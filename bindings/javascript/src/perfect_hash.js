@@ -3,7 +3,7 @@ import { hashKey } from "./keys.js";
 import { BITM_HASH } from "./layout.js";
 import { copyOut } from "./lists.js";
 import { Block, dispose, freed, withRoom } from "./memory.js";
-import { must, orThrow, refused } from "./numbers.js";
+import { must, orThrow, refused, within } from "./numbers.js";
 
 export const LEVELS = 256;
 const STRUCT = 192, TRIES = 4;
@@ -136,10 +136,4 @@ function putHashes(all, seed, at, after) {
         halves[2 * k + 1] = out[1];
         after?.(k);
     }
-}
-
-export function within(it, least, most, name) {
-    if (typeof it !== "number") throw new TypeError(`bitm: ${name} must be a whole number`);
-    if (!Number.isInteger(it) || it < least || it > most) throw new RangeError(`bitm: ${name} is ${least} to ${most}, and not ${it}`);
-    return it;
 }

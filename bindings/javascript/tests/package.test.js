@@ -43,10 +43,11 @@ test("package.json names files that are there, and nothing is left out", () => {
 });
 
 test("each value that is exported has a type, and each type a value", async () => {
-    const types = [...read("types/bitm.d.ts").matchAll(/^export (?:declare )?(?:class|function|const) (\w+)/gm)].map(it => it[1]);
+    const declarations = readdirSync(join(root, "types")).map(it => read(`types/${it}`)).join("\n");
+    const types = [...declarations.matchAll(/^export (?:declare )?(?:class|function|const) (\w+)/gm)].map(it => it[1]);
     assert.deepEqual([...new Set(types)].sort(), Object.keys(bitm).sort());
     for (const name of ["BitVector", "Index", "EliasFano", "Cursor", "SparseBits", "PerfectHash", "Dictionary", "Tree", "WaveletMatrix", "TextIndex"]) {
-        const body = new RegExp(`^export class ${name} [^]*?^}`, "m").exec(read("types/bitm.d.ts"))[0];
+        const body = new RegExp(`^export class ${name} [^]*?^}`, "m").exec(declarations)[0];
         const declared = new Set([...body.matchAll(/^    (?:static |readonly )?(\w+)[(:?]/gm)].map(it => it[1]));
         const own = [...Object.getOwnPropertyNames(bitm[name].prototype), ...Object.getOwnPropertyNames(bitm[name])];
         const there = new Set(own.filter(it => !["name", "prototype"].includes(it) && !(it === "length" && !declared.has(it))));

@@ -18,6 +18,8 @@ def _answer(window: Any, to_numpy: bool) -> Any:
 @overload
 def intersect(sequences: "Iterable[EliasFano]", start: SupportsIndex = 0, limit: Optional[SupportsIndex] = None, *,
               to_numpy: Literal[False] = False) -> List[int]: ...
+
+
 @overload
 def intersect(sequences: "Iterable[EliasFano]", start: SupportsIndex = 0, limit: Optional[SupportsIndex] = None, *,
               to_numpy: Literal[True]) -> "_Answers": ...
@@ -38,6 +40,8 @@ def intersect(sequences: Any, start: Any = 0, limit: Any = None, *, to_numpy: bo
 @overload
 def union(sequences: "Iterable[EliasFano]", start: SupportsIndex = 0, limit: Optional[SupportsIndex] = None, *,
           to_numpy: Literal[False] = False) -> List[int]: ...
+
+
 @overload
 def union(sequences: "Iterable[EliasFano]", start: SupportsIndex = 0, limit: Optional[SupportsIndex] = None, *,
           to_numpy: Literal[True]) -> "_Answers": ...

@@ -1,0 +1,23 @@
+// What the declarations of all classes share: numbers, lists and bytes that calls take.
+
+declare global {
+    interface SymbolConstructor {
+        readonly dispose: unique symbol;
+    }
+}
+
+/** A whole number from 0 to 2^53 - 1, or a BigInt from 0 to 2^64 - 1. */
+export type Whole = number | bigint;
+/** A list of whole numbers: doubles must be whole numbers from 0 to 2^53 - 1. */
+export type Wholes = Iterable<Whole> | NumberArray | BigUint64Array;
+/** Arrays that are answered by a Float64Array. */
+export type NumberArray = Uint32Array | Float64Array | Uint8Array | Uint8ClampedArray | Uint16Array | Int8Array | Int16Array | Int32Array | Float32Array;
+/** A number or a BigInt must be 0 or 1. */
+export type Bit = boolean | number | bigint;
+/** Bytes: any view, or a buffer. */
+export type Bytes = ArrayBuffer | SharedArrayBuffer | ArrayBufferView;
+
+export interface OpenOptions {
+    /** Whether to look at all parts, and throw WrongTables where they are not right: true unless given. */
+    check?: boolean;
+}

@@ -1,0 +1,62 @@
+// Numbers for keys: of any kind, none of which is kept, and whole numbers, which are.
+
+import type { Whole, Wholes, NumberArray, Bytes, OpenOptions } from "./common.js";
+
+export type Key = string | number | bigint | Uint8Array;
+
+export interface PerfectHashOptions {
+    /** 0 to 32, else 16: all but one in 2^fingerprintBits of the values that are no key are known for none. */
+    fingerprintBits?: number;
+    /** 50 to 10000, else 100: 100 takes least memory, 200 less time. */
+    percent?: number;
+}
+
+/** Numbers for keys: each of n keys has one of its own below n. No key is kept. */
+export class PerfectHash {
+    /** RangeError if two keys are equal. */
+    constructor(keys: Iterable<Key>, options?: PerfectHashOptions);
+    readonly length: number;
+    readonly byteLength: number;
+    get(key: Key): number | undefined;
+    getList(keys: Iterable<Key>): (number | undefined)[];
+    free(): void;
+    [Symbol.dispose](): void;
+}
+
+export interface DictionaryOptions {
+    /** 100 takes least memory, 200 less time. */
+    percent?: number;
+    /** What is added to a key to hash it: 0. */
+    seed?: Whole;
+}
+
+/** Numbers for keys that are whole numbers, with the keys: each of n keys has a number of its own below n, and nothing else has. */
+export class Dictionary implements Iterable<number | bigint> {
+    /** RangeError if two keys are equal. */
+    constructor(keys: Wholes, options?: DictionaryOptions);
+    /** The dictionary in the bytes of a block, which are copied once. */
+    static open(bytes: Bytes, options?: OpenOptions): Dictionary;
+
+    readonly length: number;
+    readonly byteLength: number;
+    readonly seed: number | bigint;
+    get(key: Whole): number | undefined;
+    has(key: Whole): boolean;
+    /** NaN, NO_ANSWER or undefined for what is no key. */
+    getList(keys: NumberArray): Float64Array;
+    getList(keys: BigUint64Array): BigUint64Array;
+    getList(keys: Iterable<Whole>): (number | undefined)[];
+    /** The key that has a number. */
+    keyOf(number: Whole): number | bigint | undefined;
+    /** The keys, in the order of their numbers. */
+    keys(): IterableIterator<number | bigint>;
+    [Symbol.iterator](): IterableIterator<number | bigint>;
+    toBigUint64Array(): BigUint64Array;
+
+    /** Whether the block is as it was written and holds a dictionary, by going over all of it. */
+    check(): boolean;
+    /** The bytes of the block. */
+    toBytes(): Uint8Array;
+    free(): void;
+    [Symbol.dispose](): void;
+}

@@ -1,0 +1,92 @@
+// Texts and trees.
+
+import type { Whole, Wholes, NumberArray, Bytes, OpenOptions } from "./common.js";
+
+/** A string (as UTF-8), bytes, or letters. */
+export type Pattern = string | Uint8Array | Wholes;
+
+export interface LocateOptions {
+    /** How many of the first positions are left out. */
+    from?: Whole;
+    /** How many positions there are at most. */
+    limit?: Whole;
+}
+
+/** Each how many letters a position is kept, 32 if not given: the fewer, the less memory, and the longer locate() and slice() take. */
+export interface StepOptions { step?: Whole }
+
+/** Where a pattern stands in a text, by the index of the text in one block, which is all that is needed. */
+export class TextIndex {
+    /** Made by of() and ofLetters(), or opened by open(). */
+    constructor(block: never);
+    /** The index of a string, as its bytes in UTF-8, or of bytes. */
+    static of(text: string | Uint8Array, options?: StepOptions): TextIndex;
+    /** The index of numbers below `letters`, for each of which 8 bytes are kept. RangeError where a number is not below it. */
+    static ofLetters(numbers: Wholes, letters: Whole, options?: StepOptions): TextIndex;
+    /** The index in the bytes of a block, which are copied once. */
+    static open(bytes: Bytes, options?: OpenOptions): TextIndex;
+
+    readonly length: number;
+    readonly width: number;
+    readonly byteLength: number;
+    /** At how many positions a pattern stands; occurrences may overlap. */
+    count(pattern: Pattern): number;
+    has(pattern: Pattern): boolean;
+    /** These positions, in the order of the rest of the text from there on. */
+    locate(pattern: Pattern, options?: LocateOptions): number[];
+    /** All of them, in the order of the text. */
+    findAll(pattern: Pattern): number[];
+    /** The letter at a position. RangeError past the end. */
+    get(position: Whole): number | bigint;
+    /** The letters from one position on and before another: bytes, or an array where a letter may have more bits. */
+    slice(from?: Whole, to?: Whole): Uint8Array | (number | bigint)[];
+    /** The same as a string, of bytes in UTF-8. */
+    text(from?: Whole, to?: Whole): string;
+
+    /** Whether the block is as it was written and holds the index of a text, by going over all of it and through the text. */
+    check(): boolean;
+    /** The bytes of the block. */
+    toBytes(): Uint8Array;
+    free(): void;
+    [Symbol.dispose](): void;
+}
+
+/** A tree whose nodes are numbered level by level: the root is 0, and the children of a node follow one another. */
+export class Tree {
+    /** How many children each node has, in the order of the nodes. RangeError if that is no tree. */
+    constructor(degrees: Wholes);
+    /** The tree in the bytes of a block, which are copied once. */
+    static open(bytes: Bytes, options?: OpenOptions): Tree;
+
+    readonly length: number;
+    readonly byteLength: number;
+    /** undefined at the root, and where there is no such node. */
+    parent(node: Whole): number | undefined;
+    child(node: Whole, k: Whole): number | undefined;
+    degree(node: Whole): number | undefined;
+    isLeaf(node: Whole): boolean | undefined;
+    nextSibling(node: Whole): number | undefined;
+    previousSibling(node: Whole): number | undefined;
+    /** Which child of its parent a node is, counted from 0. */
+    childRank(node: Whole): number | undefined;
+    children(node: Whole): IterableIterator<number>;
+
+    /** NaN, NO_ANSWER or undefined where there is none. */
+    parentList(nodes: NumberArray): Float64Array;
+    parentList(nodes: BigUint64Array): BigUint64Array;
+    parentList(nodes: Iterable<Whole>): (number | undefined)[];
+    degreeList(nodes: NumberArray): Float64Array;
+    degreeList(nodes: BigUint64Array): BigUint64Array;
+    degreeList(nodes: Iterable<Whole>): (number | undefined)[];
+    /** Child ks[i] of each node nodes[i]. RangeError if these are not as many. */
+    childList(nodes: NumberArray, ks: Wholes): Float64Array;
+    childList(nodes: BigUint64Array, ks: Wholes): BigUint64Array;
+    childList(nodes: Iterable<Whole>, ks: Wholes): (number | undefined)[];
+
+    /** Whether the block is as it was written and holds a tree, by going over all of it. */
+    check(): boolean;
+    /** The bytes of the block. */
+    toBytes(): Uint8Array;
+    free(): void;
+    [Symbol.dispose](): void;
+}
