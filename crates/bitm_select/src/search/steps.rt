@@ -114,8 +114,8 @@ pub fn entry_by_steps<const BIT: u8, T: TableSource>(
 }
 
 /// The entry that a rank would have if the bits of the kind lay evenly in an upper block, which need not be one of its
-/// entries. `None` where the entry in the middle tells that they do not: it is more than eight entries from where an
-/// even half would be.
+/// entries. `None` where the entry in the middle shows that they do not: the bits of the kind before it are not half of
+/// all, to within what at least four entries hold.
 ///
 /// All searches in an upper block read the same two entries and go the same way, so neither costs much.
 #[inline(always)]
@@ -144,8 +144,8 @@ fn even_guess<const BIT: u8, T: TableSource>(
 }
 
 /// The last entry of an upper block with at most `rank` bits of the kind before it there, and what it packs: the right
-/// one where the tables are those of the words. `None` where the bits of the kind do not lie evenly in the upper block,
-/// which has 2^`size` entries or more, but fewer than twice as many.
+/// one where the tables are those of the words. `None` where one guess does not find it, which is for bits of the kind
+/// that lie evenly in the upper block. `size` is the number of its whole halvings.
 ///
 /// # Conditions
 /// The upper block has this number of entries, and the tables are as long as those of the words. They may hold
