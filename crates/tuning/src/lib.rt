@@ -64,8 +64,9 @@ pub const SELECTIONS_SIDE_BY_SIDE: usize = 16;
 /// Up to this number of entries, 64 KiB, a search of an upper block is compiled into its callers; above, it is a call,
 /// and halves the entries around a guess where it has too many for one guess and all halvings.
 ///
-/// That was measured on the 22nd beside binary search, with a limit of 2^12: even at 2^20 bits (2^9 entries); at 2^24, 153 ns for 144 before (ones),
-/// 108 for 131 (zeros); at 2^28, 262 for 363 and 252 for 376. Moved to 2^13 on the 26th; the figures were not kept.
+/// That was measured on the 22nd beside binary search, with a limit of 2^12: even at 2^20 bits (2^9 entries); at 2^24,
+/// 153 ns for 144 before (ones), 108 for 131 (zeros); at 2^28, 262 for 363 and 252 for 376. Moved to 2^13 on the 26th; the
+/// figures were not kept.
 pub const FEW_ENTRIES: usize = 1 << 13;
 
 /// The fewest entries of an upper block in which the selections of a list begin at a guess; with fewer, binary search
