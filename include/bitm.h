@@ -741,7 +741,9 @@ BITM_MUST_USE static inline uint32_t bitm_sequence_walk_to(struct bitm_sequence_
  *     if (bitm_cursor_start(&lists[0]) != BITM_OK || bitm_cursor_start(&lists[1]) != BITM_OK ||
  *         bitm_cursor_next(&lists[0], 4, &item) != BITM_OK || item != 5 ||
  *         bitm_cursors_intersect(lists, 2, 0, found, 8, &written) != BITM_OK || written != 3 ||
- *         found[2] != 11) return 1; */
+ *         found[2] != 11) return 1;
+ *     if (bitm_cursor_start(&lists[1]) != BITM_OK || bitm_cursors_union(lists, 2, 6, found, 8, &written) != BITM_OK ||
+ *         written != 2 || found[0] != 7) return 1; // lists[0] is at its end */
 
 /* A position in a sequence, which moves forward only: at a number, or at the end, where index is that of no number. You
  * give the sequence, and bitm_cursor_start the rest. A cursor keeps a copy of the struct of the sequence, and is memory
