@@ -5,7 +5,7 @@
 #include "changed.h"
 
 enum { NODES = 900, SMALL = 9, DEEP = NODES + 3 };
-enum { OF_DEGREES = OF_MORE, OF_LABELS, OF_ENDS, OF_WORD, OF_BYTES, OF_MATCHED, OF_ROOM };
+enum { OF_DEGREES = OF_MORE, OF_LABELS, OF_ENDS, OF_WORD, OF_BYTES, OF_MATCHED, OF_ROOM, OF_TRIE };
 
 /* A trie as arrays: the children of a node stand side by side, from `first` on; the root's label is not one. */
 struct plain {
@@ -241,9 +241,10 @@ static void drawn_tries(void)
         uint64_t words;
         draw_trie(&plain, i < 12 ? i + 1 : 1 + draw() % NODES, widths[i % 8], most[i % 6]);
         uint64_t *block = built(&plain, &words);
-        struct bitm_trie trie = {0};
-        MUST(bitm_trie_open(block, words, &trie) == BITM_OK && bitm_trie_check(block, words) == BITM_OK);
-        answers_as(&plain, &trie);
+        struct bitm_trie *const trie = placed(OF_TRIE, sizeof *trie);
+        *trie = (struct bitm_trie){0};
+        MUST(bitm_trie_open(block, words, trie) == BITM_OK && bitm_trie_check(block, words) == BITM_OK);
+        answers_as(&plain, trie);
     }
 }
 
