@@ -5,6 +5,7 @@
 #![tactic(auto)]
 
 // What is in each file:
+// - `lists`: what ranges have, worked out by hand
 // - `matrices`: the block of a small matrix
 // - `ranges`: the ranges of a matrix in a block, beside plain loops
 #[cfg(test)]
