@@ -262,6 +262,45 @@ function ofHashBlock() {
     return { words: slot(70), words_len: len, sizes: slot(72), sizes_len: levels, block: slot(84), block_len: size - (r() % 7 ? 0 : 1) };
 }
 
+/** Keys of the hash in slot 76, their fingerprints, and the words in which these stand. */
+function ofPrints() {
+    dictionary(false);
+    for (let i = 0; i < N; i++) words(slot(81), N)[i] = words(slot(68), N)[r() % 9 ? i : 0] + (r() % 9 ? 7n : 8n);
+    const key_hash = Number(words(slot(81), N)[r() % N]), prints_len = r() % 7 ? N : r() % N;
+    return { hash: slot(76), key_hash, key_hashes: slot(81), key_prints: slot(10), key_print: r() % 9, prints: slot(85), prints_len, width: r() % 5 ? r() % 4 : r() % 70 };
+}
+
+/** The lists of what ranges of the matrix in slot 43 have. */
+function ofRanges() {
+    const room = r() % N, range = () => [r() % 30, 20 + (r() % 25)], [first_start, first_end] = range(), [second_start, second_end] = range();
+    return { ...ofMatrix(), first_start, first_end, second_start, second_end, from: r() % 140, numbers: slot(46), numbers_len: room, counts: slot(47), counts_len: room + (r() % 7 ? 0 : 1) };
+}
+
+/** A trie of 40 nodes in slot 95, whose labels are the numbers of the nodes, with the struct in slot 96; a word of the block
+ * may be wrong: its words. Degrees are in slot 23, labels in slot 93, ends in slot 94. */
+function trie(spoilt) {
+    tree(false);
+    for (let i = 0; i < N; i++) words(slot(93), N)[i] = BigInt(i + 1);
+    words(slot(94), 1)[0] = BigInt(r());
+    assert.equal(library.bitm_trie_size(BigInt(N), 7, 1, BigInt(ANSWER)), 0);
+    const size = words(ANSWER, 1)[0], parts = [slot(23), N, slot(93), N - 1].map(BigInt);
+    assert.equal(library.bitm_trie_build(...parts, 7, BigInt(slot(94)), 1n, BigInt(slot(95)), size), 0);
+    assert.equal(library.bitm_trie_open(BigInt(slot(95)), size, BigInt(slot(96))), 0);
+    if (spoilt) words(slot(95), Number(size))[40 + (r() % (Number(size) - 40))] ^= BigInt(r());
+    return Number(size);
+}
+function ofTrie() {
+    trie(r() % 3 === 0);
+    for (let i = 0; i < 3; i++) words(slot(97), 3)[i] = BigInt(1 + (r() % (4 + 6 * i)));
+    return { trie: slot(96), word: slot(97), word_len: r() % 3, label: 1 + (r() % N) };
+}
+const ofNode = () => ({ ...ofTrie(), node: r() % (N + 5) });
+const ofTrieBlock = () => ({ block: slot(95), block_len: trie(r() % 3 === 0) - (r() % 7 ? 0 : 1), trie: slot(98) });
+function ofTrieBuilt() {
+    const block_len = trie(false) - (r() % 7 ? 0 : 1);
+    return { degrees: slot(23), degrees_len: N, labels: slot(93), labels_len: N - 1, width: r() % 7 ? 7 : r() % 9, ends: slot(94), ends_len: 1, block: slot(98), block_len };
+}
+
 const someLog2 = () => (r() % 5 ? [0, 7 + (r() % 8)][r() % 2] : r() % 40);
 // By export: arguments that have to fit together, by name.
 const FITTING = {
@@ -311,6 +350,24 @@ const FITTING = {
     bitm_matrix_get_list: ofMatrices,
     bitm_matrix_rank_list: ofMatrices,
     bitm_matrix_select_list: ofMatrices,
+    bitm_matrix_distinct: ofRanges,
+    bitm_matrix_top: ofRanges,
+    bitm_matrix_intersect: ofRanges,
+    bitm_trie_size: () => ({ nodes: r() % 3000, width: r() % 66 }),
+    bitm_trie_build: ofTrieBuilt,
+    bitm_trie_open: ofTrieBlock,
+    bitm_trie_check: ofTrieBlock,
+    bitm_trie_label: ofNode,
+    bitm_trie_is_end: ofNode,
+    bitm_trie_child: () => ({ ...ofNode(), ...(([node, label]) => ({ node, label }))(r() % 2 ? [0, 1] : [r() % 9, r() % N]) }),
+    bitm_trie_find: ofTrie,
+    bitm_trie_find_bytes: () => ({ ...ofTrie(), word_len: r() % 2 }),
+    bitm_trie_longest: ofTrie,
+    bitm_trie_longest_bytes: ofTrie,
+    bitm_trie_word: () => (({ trie }) => ({ trie, node: r() % (N + 5) }))(ofTrie()),
+    bitm_hash_set_prints: ofPrints,
+    bitm_hash_find: ofPrints,
+    bitm_hash_find_list: ofPrints,
     bitm_cursor_start: ofCursor,
     bitm_cursor_next: ofCursor,
     bitm_cursors_intersect: ofCursors,
