@@ -886,8 +886,8 @@ BITM_MUST_USE uint32_t bitm_hash_find(const struct bitm_hash *hash, const uint64
  * and BITM_WRONG_TABLES for BITM_WRONG; counts says how many of each there are. BITM_BAD_SIZE also if key_prints_len or
  * out_len is not key_hashes_len. out and counts may overlap nothing else.
  *
- *     const uint64_t asked[3] = {7, 12, 13};
- *     if (bitm_hash_find_list(&hash, prints, 1, 8, three, 3, asked, 3, answers, 3, &counts) != BITM_OK ||
+ *     const uint64_t claimed[3] = {7, 12, 13};
+ *     if (bitm_hash_find_list(&hash, prints, 1, 8, three, 3, claimed, 3, answers, 3, &counts) != BITM_OK ||
  *         counts.missing != 1 || counts.wrong != 0 || answers[1] != BITM_NO_ANSWER) return 1; */
 BITM_MUST_USE uint32_t bitm_hash_find_list(const struct bitm_hash *hash, const uint64_t *prints, size_t prints_len,
                                            uint32_t width, const uint64_t *key_hashes, size_t key_hashes_len,
