@@ -1450,7 +1450,9 @@ BITM_MUST_USE uint32_t bitm_trie_find_bytes(const struct bitm_trie *trie, const 
  * text begins ends at that node, or at the first node above it that is an end. BITM_NONE exactly if there are no
  * nodes, as in no trie that was built. Each reads for each label of the word at most what bitm_trie_child does.
  *
- *     if (bitm_trie_longest_bytes(&trie, (const uint8_t *)"bee", 3, &node, &matched) != BITM_OK || node != 3 ||
+ *     const uint64_t bee[3] = {'b', 'e', 'e'};
+ *     if (bitm_trie_longest(&trie, bee, 3, &node, &matched) != BITM_OK || node != 3 || matched != 2 ||
+ *         bitm_trie_longest_bytes(&trie, (const uint8_t *)"bee", 3, &node, &matched) != BITM_OK || node != 3 ||
  *         matched != 2) return 1; */
 BITM_MUST_USE uint32_t bitm_trie_longest(const struct bitm_trie *trie, const uint64_t *word, size_t word_len,
                                          uint64_t *node, uint64_t *matched);

@@ -21,8 +21,10 @@ BITM_NAMESPACE_BEGIN
 
 // The node to which the first `count` labels of a word lead.
 struct trie_match {
-    // The node; how many labels lead there.
-    std::uint64_t node = 0, count = 0;
+    // The node.
+    std::uint64_t node = 0;
+    // How many labels lead there.
+    std::uint64_t count = 0;
     friend bool operator==(const trie_match &a, const trie_match &b) noexcept
     {
         return a.node == b.node && a.count == b.count;
