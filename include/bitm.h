@@ -25,8 +25,8 @@
  * Promised, and proved of each call, for all arguments that keep the duties below:
  *   - it returns, and reads and writes only the memory that it is passed, WHATEVER the tables hold;
  *   - a status other than BITM_OK leaves all that the call could have written unchanged, but for cursors, which may have
- *     moved, and for the lists of positions or letters of a text, of ranges of a matrix and of cursors, and the word of a
- *     node of a trie, where it is BITM_WRONG;
+ *     moved, and for the lists of positions or letters of a text, of ranges of a matrix and of cursors, the word of a
+ *     node of a trie, and the fingerprints of keys, where it is BITM_WRONG;
  *   - over any tables, stale and hostile ones too, a rank is at most its position and a selection finds a position that
  *     is inside and holds the requested bit; BITM_WRONG says that the tables are not those of the words, but BITM_OK
  *     does not say that they are;
@@ -859,11 +859,12 @@ BITM_MUST_USE uint32_t bitm_hash_get_list(const struct bitm_hash *hash, const ui
 
 /* Writes the fingerprint of each key at its number: number k of the fingerprints, of width bits each, is the lowest bits
  * of the fingerprint of the key with number k. By it bitm_hash_find answers BITM_NONE for almost all that are no keys.
- * A fingerprint is any number that you compute from the key beside its hash. Over the hash of these keys each has its
- * own place; of keys with one number the last is written, and other fingerprints stay. BITM_WRONG if a key has no
- * number, or its number no place among the words (the other keys are written); BITM_BAD_SIZE as bitm_hash_get, if
- * prints_len is 2^58 or more, width is above 64, or key_prints_len is not key_hashes_len. The fingerprints may overlap
- * nothing else.
+ * A fingerprint is any number that you compute from the key beside its hash. Over right tables and sizes, as
+ * bitm_hash_get says, a number that several keys have gets the fingerprint of the last of them, a number that none has
+ * keeps its own, and BITM_WRONG says that a key has no number, or its number no place among the words; the others are
+ * written. Over other tables only the words of the fingerprints may change. BITM_BAD_SIZE, and nothing is written, as
+ * bitm_hash_get, if prints_len is 2^58 or more, width is above 64, or key_prints_len is not key_hashes_len. The
+ * fingerprints may overlap nothing else.
  *
  *     const uint64_t three[3] = {0x243f6a8885a308d3, 0x13198a2e03707344, 0xa4093822299f31d0}, marks3[3] = {7, 11, 13};
  *     uint64_t prints[1] = {0};
@@ -875,7 +876,8 @@ BITM_MUST_USE uint32_t bitm_hash_set_prints(const struct bitm_hash *hash, const 
 /* The number of a key, by its hash and its fingerprint: what bitm_hash_get answers, but BITM_NONE where the fingerprint
  * at that number is not the lowest width bits of key_print, and BITM_WRONG where there is none: so of a value that is
  * no key, with a good hash, a number is found once in 2^width. BITM_BAD_SIZE as bitm_hash_get, if prints_len is 2^58 or
- * more, or width is above 64. Reads what bitm_hash_get reads, and at most two words of the fingerprints.
+ * more, or width is above 64. Reads what bitm_hash_get reads, and at most two words of the fingerprints (evident from
+ * the code).
  *
  *     if (bitm_hash_find(&hash, prints, 1, 8, three[1], 11, &number) != BITM_OK || number > 2 ||
  *         bitm_hash_find(&hash, prints, 1, 8, three[1], 12, &number) != BITM_NONE) return 1; */

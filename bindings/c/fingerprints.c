@@ -8,12 +8,6 @@ enum { OF_WORDS = OF_MORE, OF_UPPER, OF_LOWER, OF_SIZES, OF_PRINTS, OF_KEYS, OF_
 
 static uint64_t *keys, *marks;
 
-/* These numbers beside a page that may not be touched. */
-static uint64_t *copied(unsigned place, const uint64_t *from, size_t len)
-{
-    return len ? memcpy(placed(place, 8 * len), from, 8 * len) : placed(place, 0);
-}
-
 /* The hash of all keys. */
 static struct bitm_hash built(void)
 {

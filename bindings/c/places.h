@@ -22,6 +22,12 @@ static inline void *placed(unsigned place, size_t size)
 /* Memory of which each byte is UNTOUCHED. */
 static inline void *untouched_at(unsigned place, size_t size) { return memset(placed(place, size), UNTOUCHED, size); }
 
+/* These numbers beside a page that may not be touched. */
+static inline uint64_t *copied(unsigned place, const uint64_t *from, size_t len)
+{
+    return len ? memcpy(placed(place, 8 * len), from, 8 * len) : placed(place, 0);
+}
+
 static inline bool is_untouched(const void *memory, size_t size)
 {
     for (size_t i = 0; i < size; i++)

@@ -27,11 +27,6 @@ static struct bitm_trie built(size_t len)
     return trie;
 }
 
-static const uint64_t *copied(unsigned place, const uint64_t *from, size_t len)
-{
-    return len ? memcpy(placed(place, 8 * len), from, 8 * len) : placed(place, 0);
-}
-
 /* The same trie, with a copy of each section in memory of its own. */
 static struct bitm_trie apart(struct bitm_trie trie)
 {

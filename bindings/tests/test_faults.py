@@ -80,7 +80,7 @@ BESIDE = {
 # Arrays of which nothing is said after a call: all of them, or what is after those that are left.
 SCRATCH, LEFT = ("again", "room", "scratch", "cursors"), ("hashes",)
 # The statuses with which a list may hold anything.
-SPOILS = {"W": "text_locate text_locate_bytes text_extract text_extract_bytes cursors_union"
+SPOILS = {"W": "text_locate text_locate_bytes text_extract text_extract_bytes cursors_union hash_set_prints"
           " matrix_distinct matrix_top matrix_intersect trie_word", "BW": "cursors_intersect"}
 # What no answer of these may be, whatever the tables hold, where they would say that the tables are wrong; a list's i-th answer.
 OUTSIDE = {
