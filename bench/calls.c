@@ -67,7 +67,7 @@ static void numbers(int log2, int rounds, size_t count)
                             &width) != BITM_OK)
         abort();
     struct bitm_sequence of_numbers = {count, width, low, of.low_len, words, of.words_len, upper, of.upper_len, lower,
-                                       of.lower_len, {0, 0}};
+                                       of.lower_len, NULL, 0};
     ask(count);
     ROW("sequence_get", "C", EACH(bitm_sequence_get, &of_numbers));
     ROW("sequence_get_list", "C", ALL_NUMBERS(bitm_sequence_get_list, &of_numbers));

@@ -540,7 +540,28 @@ BITM_MUST_USE uint32_t bitm_index_previous(const struct bitm_index *index, bool 
 /* The parts of a sequence of len numbers: the width low bits of each number in low, the high bits as 1 bits in words,
  * and the two tables of these words. Calls that take one return BITM_BAD_SIZE if len is 2^56 or more, width is above
  * 63, low does not have as many words as len * width bits take, words_len is 2^58 or more, or a table is not as long as
- * bitm_index_upper_len and bitm_index_lower_len say. */
+ * bitm_index_upper_len and bitm_index_lower_len say.
+ *
+ * Queries select in words: a number by a 1 bit, a successor by up to two 0 bits. samples makes that faster in long
+ * sequences: item 0 has the samples of the 1 bits of words, item 1 those of the 0 bits, and a list may end before either.
+ * bitm_index_build_samples writes them, as for any index. They may hold anything: samples shorten a search, never change
+ * an answer, and never lead to a read outside. A selection then reads up to 51 lower entries in place of 23, and at most
+ * 28 where the samples are those of the words. A cursor selects without them.
+ *
+ *     const struct bitm_index high_bits = {.words = high, .words_len = of.words_len, .upper = high_upper,
+ *                                          .upper_len = of.upper_len, .lower = high_lower, .lower_len = of.lower_len,
+ *                                          .bits_len = 64 * of.words_len};
+ *     uint32_t ones_of[1], zeros_of[1]; // bitm_index_samples_len(1, 7) is 1
+ *     uint64_t starts_of_ones[1], starts_of_zeros[1], ones_used, zeros_used;
+ *     if (of.words_len != 1 ||
+ *         bitm_index_build_samples(&high_bits, true, 7, ones_of, 1, starts_of_ones, 1, &ones_used) != BITM_OK ||
+ *         bitm_index_build_samples(&high_bits, false, 7, zeros_of, 1, starts_of_zeros, 1, &zeros_used) != BITM_OK)
+ *         return 1;
+ *     const struct bitm_samples both[2] = {{ones_of, ones_used, starts_of_ones, 1, 7, 0},
+ *                                          {zeros_of, zeros_used, starts_of_zeros, 1, 7, 0}};
+ *     primes.samples = both;
+ *     primes.samples_len = 2;
+ *     if (bitm_sequence_get(&primes, 4, &item) != BITM_OK || item != 11) return 1; */
 struct bitm_sequence {
     size_t len;
     uint64_t width;
@@ -552,7 +573,8 @@ struct bitm_sequence {
     size_t upper_len;
     const uint64_t *lower;
     size_t lower_len;
-    uint64_t reserved[2]; /* 0: not given */
+    const struct bitm_samples *samples; /* NULL: none */
+    size_t samples_len;                 /* 0, 1 or 2: items after the second are not looked at */
 };
 
 /* Faults of a sequence: see bitm_bits_fault.
@@ -1061,8 +1083,8 @@ static inline struct bitm_sequence bitm_stored_sequence_of(const uint64_t *file,
     sequence.upper_len = s->upper.len;
     sequence.lower = bitm_stored_items(file, s->lower);
     sequence.lower_len = s->lower.len;
-    sequence.reserved[0] = 0;
-    sequence.reserved[1] = 0;
+    sequence.samples = NULL;
+    sequence.samples_len = 0;
     return sequence;
 }
 

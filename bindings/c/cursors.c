@@ -44,7 +44,7 @@ static void make(struct list *list)
     MUST(bitm_sequence_build(list->numbers, list->len, list->low, of.low_len, list->words, of.words_len, upper,
                              of.upper_len, list->lower, of.lower_len, &width) == BITM_OK);
     list->made = (struct bitm_sequence){list->len, width,        list->low,   of.low_len,   list->words, of.words_len,
-                                        upper,     of.upper_len, list->lower, of.lower_len, {0, 0}};
+                                        upper,     of.upper_len, list->lower, of.lower_len, NULL, 0};
 }
 
 /* That a cursor is over its list, at the number of the list's index. */
@@ -198,7 +198,7 @@ static void no_numbers(void)
 {
     uint64_t none = 0, upper = 0, lower = 0, ones, out[2] = {UNTOUCHED, UNTOUCHED}, one = UNTOUCHED;
     MUST(bitm_index_build(&none, 1, &upper, 1, &lower, 1, &ones) == BITM_OK && ones == 0);
-    const struct bitm_sequence sequence = {1, 0, NULL, 0, &none, 1, &upper, 1, &lower, 1, {0, 0}};
+    const struct bitm_sequence sequence = {1, 0, NULL, 0, &none, 1, &upper, 1, &lower, 1, NULL, 0};
     struct bitm_cursor cursor = {.sequence = sequence, .index = 0, .position = 64, .number = 3}, kept = cursor;
     MUST(bitm_cursor_start(&cursor) == BITM_WRONG && memcmp(&cursor, &kept, sizeof kept) == 0);
     MUST(bitm_cursor_next(&cursor, 3, &one) == BITM_OK && one == 3 && memcmp(&cursor, &kept, sizeof kept) == 0);

@@ -148,7 +148,7 @@ static unsigned long query_a_sequence(void)
         MUST(bitm_sequence_build(items, n, low, lens.low_len, words, lens.words_len, upper, lens.upper_len, lower,
                                  lens.lower_len, &width) == BITM_OK);
     const struct bitm_sequence view = {n,     width,          low,   lens.low_len,   words,  lens.words_len,
-                                       upper, lens.upper_len, lower, lens.lower_len, {0, 0}};
+                                       upper, lens.upper_len, lower, lens.lower_len, NULL, 0};
     for (unsigned turn = 0; turn < 40; turn++) {
         size_t index = draw() % 4 ? draw() % (n + 2) : draw();
         uint64_t out = UNTOUCHED;

@@ -56,7 +56,7 @@ static void drawn(void)
         const uint64_t width = draw() % 66;
         const size_t len = draw() % 8 ? draw() % 8 : ((size_t)1 << 56) - draw() % 2;
         const struct bitm_sequence sequence = {len, width, low, near_to(bitm_bits_words_len(len % 8 * width)), words,
-                                               words_len, upper, uppers, lower, lowers, {0, 0}};
+                                               words_len, upper, uppers, lower, lowers, NULL, 0};
         MUST(agrees(bitm_sequence_get(&sequence, 0, &out), bitm_sequence_fault(&sequence),
                     " len width low_len words_len upper_len lower_len "));
     }
@@ -72,7 +72,7 @@ static void by_hand(void)
     MUST(strcmp(bitm_index_fault(&index), "upper_len is not bitm_index_upper_len(words_len)") == 0);
     MUST(strcmp(bitm_tables_fault(33, 1, 1), "lower_len is not bitm_index_lower_len(words_len)") == 0);
     MUST(strcmp(bitm_bits_fault((size_t)1 << 58, 7), "words_len is 2^58 or more") == 0);
-    struct bitm_sequence sequence = {3, 5, low, 2, words, WORDS, upper, 1, lower, LOWERS, {0, 0}};
+    struct bitm_sequence sequence = {3, 5, low, 2, words, WORDS, upper, 1, lower, LOWERS, NULL, 0};
     MUST(strcmp(bitm_sequence_fault(&sequence), "low_len is not bitm_bits_words_len(len * width)") == 0);
     sequence.low_len = 1;
     MUST(!bitm_sequence_fault(&sequence));

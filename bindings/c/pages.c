@@ -133,7 +133,7 @@ static void query_a_sequence(uint64_t *one)
                                     of.lower_len, one));
     width = *one;
     const struct bitm_sequence view = {ITEMS, width,        low,   of.low_len,   words,  of.words_len,
-                                       upper, of.upper_len, lower, of.lower_len, {0, 0}};
+                                       upper, of.upper_len, lower, of.lower_len, NULL, 0};
     TOUCHES_ANY(bitm_sequence_check(&view));
     uint64_t *queries = placed(OF_QUERIES, 8 * LIST), *out = placed(OF_OUT, 8 * LIST);
     for (unsigned turn = 0; turn < 20; turn++) {

@@ -1,9 +1,7 @@
-/* Builds monotone integer sequences, queries them, and compares every answer with the numbers. Then queries with
- * wrong lengths and with each part spoilt. Each block has the exact size, so that the sanitizers see a read or write of
+/* Builds monotone integer sequences, queries them, by samples too, and compares every answer with the numbers. Then
+ * queries with wrong lengths and with each part spoilt. Each block has the exact size, so that the sanitizers see a read or write of
  * one number too far. */
-#include "common.h"
-
-#include <string.h>
+#include "sampled.h"
 
 /* A block of the exact size. */
 static uint64_t *block_of(uint64_t count)
@@ -185,6 +183,34 @@ static void wrong_lengths(const struct bitm_sequence *view, const uint64_t *item
     }
 }
 
+/* A list of samples holds any numbers. */
+static void spoil(const struct bitm_samples *of)
+{
+    uint32_t *samples = (uint32_t *)(uintptr_t)of->samples;
+    for (size_t i = 0; i < of->samples_len; i++) samples[i] = (uint32_t)draw();
+    for (size_t i = 0; i < of->starts_len; i++) writable(of->starts)[i] = draw() >> draw() % 64;
+}
+
+/* The same answers with samples: of 1 bits, of both kinds, and with an item that is not looked at; right ones, with any
+ * numbers in them, and too short. */
+static void by_samples(struct bitm_sequence view, const uint64_t *items)
+{
+    const struct bitm_index high =
+        index_over(view.words, view.words_len, view.upper, view.upper_len, view.lower, view.lower_len);
+    const uint32_t log2 = 7 + draw() % 3;
+    struct bitm_samples list[3] = {built_samples(&high, true, log2), built_samples(&high, false, log2), {0}};
+    view.samples = list;
+    for (int turn = 0; turn < 3; turn++) {
+        for (view.samples_len = 1; view.samples_len <= 3; view.samples_len++) {
+            query_sequence(&view, items);
+            MUST(any_parts(&view, 100) == 0 && bitm_sequence_check(&view) == BITM_OK);
+        }
+        if (turn == 0) spoil(&list[0]), spoil(&list[1]);
+        else list[0].samples_len /= 2, list[0].starts_len = 0, list[1].samples_len /= 2, list[1].log2 = 40;
+    }
+    for (int i = 0; i < 2; i++) free((void *)(uintptr_t)list[i].samples), free(writable(list[i].starts));
+}
+
 /* A sequence of len numbers of that many bits: built, queried, with wrong lengths, and spoilt part by part. Answers how
  * often parts were called wrong. */
 static unsigned sequence_of(size_t len, int bits)
@@ -206,9 +232,10 @@ static unsigned sequence_of(size_t len, int bits)
     MUST(bitm_sequence_build(items, len, low, of.low_len, words, of.words_len, upper, of.upper_len, lower, of.lower_len,
                              &width) == BITM_OK && width == of.width);
     struct bitm_sequence view = {len,   width,        low,   of.low_len,   words,  of.words_len,
-                                 upper, of.upper_len, lower, of.lower_len, {0, 0}};
+                                 upper, of.upper_len, lower, of.lower_len, NULL, 0};
     query_sequence(&view, items);
     MUST(bitm_sequence_check(&view) == BITM_OK && any_parts(&view, 100) == 0);
+    by_samples(view, items);
     wrong_lengths(&view, items);
     uint64_t *const parts[] = {low, words, upper, lower};
     const uint64_t lens[] = {of.low_len, of.words_len, of.upper_len, of.lower_len};

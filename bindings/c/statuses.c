@@ -340,7 +340,7 @@ static void sequences(void)
     LEAVES(BITM_BAD_SIZE, BUILD(rising, 0));
     LEAVES(BITM_BAD_SIZE, BUILD(rising, 2));
     MUST(bitm_sequence_build(rising, 7, &low, 1, &upper_vector, 1, &part, 1, &lower_part, 1, &width) == BITM_OK);
-    struct bitm_sequence view = {7, width, &low, 1, &upper_vector, 1, &part, 1, &lower_part, 1, {0, 0}};
+    struct bitm_sequence view = {7, width, &low, 1, &upper_vector, 1, &part, 1, &lower_part, 1, NULL, 0};
     MUST(bitm_sequence_check(&view) == BITM_OK);
     LEAVES(BITM_NONE, bitm_sequence_get(&view, 7, &written.one));
     LEAVES(BITM_NONE, bitm_sequence_get(&view, SIZE_MAX, &written.one));

@@ -20,7 +20,7 @@ static struct bitm_sequence drawn(size_t len)
     MUST(bitm_sequence_build(numbers, len, low, of.low_len, words, of.words_len, upper, of.upper_len, lower,
                              of.lower_len, &width) == BITM_OK);
     const struct bitm_sequence made = {len, width, low, of.low_len, words, of.words_len, upper, of.upper_len, lower,
-                                       of.lower_len, {0, 0}};
+                                       of.lower_len, NULL, 0};
     return made;
 }
 

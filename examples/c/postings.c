@@ -17,7 +17,7 @@ static uint32_t build(struct list *to, const uint64_t *documents, size_t count)
     if (bitm_sequence_sizes(count, documents[count - 1], &of) != BITM_OK || of.low_len > ROOM || of.words_len > ROOM)
         return BITM_BAD_SIZE;
     to->sequence = (struct bitm_sequence){count, of.width, to->low, of.low_len, to->words, of.words_len,
-                                          to->upper, of.upper_len, to->lower, of.lower_len, {0, 0}};
+                                          to->upper, of.upper_len, to->lower, of.lower_len, NULL, 0};
     return bitm_sequence_build(documents, count, to->low, of.low_len, to->words, of.words_len, to->upper,
                                of.upper_len, to->lower, of.lower_len, &width);
 }

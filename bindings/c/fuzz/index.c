@@ -12,20 +12,6 @@ static uint64_t *words_of(struct input *from, size_t len)
     return words;
 }
 
-static struct bitm_samples samples_of(struct input *from, const struct bitm_index *x, bool one, unsigned which)
-{
-    const uint32_t log2 = (uint32_t)take(from, 1) % 34;
-    const size_t most = bitm_index_samples_len(x->words_len, log2 ? log2 : 7);
-    uint64_t *const starts = numbers_of(which, x->upper_len), used = most;
-    uint32_t *const samples = array(which + 1, 4 * most);
-    take_bytes(from, samples, 4 * most);
-    if (take(from, 1) % 2 && bitm_index_build_samples(x, one, log2, samples, most, starts, x->upper_len, &used) != BITM_OK)
-        used = 0;
-    spoil(from, starts, x->upper_len);
-    const struct bitm_samples some = {samples, used, starts, x->upper_len, log2, 0};
-    return some;
-}
-
 int LLVMFuzzerTestOneInput(const uint8_t *data, size_t size)
 {
     struct input from = {data, size};

@@ -1,4 +1,5 @@
-/* Queries of a sequence whose parts are built of numbers of the input and then spoilt, or are anything. */
+/* Queries of a sequence whose parts are built of numbers of the input and then spoilt, or are anything; with samples
+ * or without. */
 #include "queries.h"
 
 enum { WORDS = 100 };
@@ -18,7 +19,7 @@ static bool build(struct input *from, struct bitm_sequence *to)
     MUST(bitm_sequence_build(numbers, len, low, of.low_len, words, of.words_len, upper, of.upper_len, lower, of.lower_len,
                              &width) == BITM_OK && width == of.width);
     *to = (struct bitm_sequence){len, width, low, of.low_len, words, of.words_len, upper, of.upper_len, lower,
-                                 of.lower_len, {0, 0}};
+                                 of.lower_len, NULL, 0};
     static uint64_t back[NUMBERS];
     MUST(bitm_sequence_check(to) == BITM_OK && decoded(to, back) == len && memcmp(back, numbers, 8 * len) == 0);
     if (len > 1 && numbers[0] < numbers[1]) { /* the first after the second is refused */
@@ -46,15 +47,23 @@ static void anything(struct input *from, struct bitm_sequence *to)
     MUST(bitm_index_build(at, words, upper, uppers, lower, lowers, &ones) == BITM_OK);
     spoil(from, upper, uppers), spoil(from, lower, lowers);
     *to = (struct bitm_sequence){wrong % 4 == 3 && ones < len ? ones : len, width, low, lows, at, words, upper, uppers + (wrong == 8),
-                                 lower, lowers + (wrong == 16), {0, 0}};
+                                 lower, lowers + (wrong == 16), NULL, 0};
 }
 
 int LLVMFuzzerTestOneInput(const uint8_t *data, size_t size)
 {
     struct input from = {data, size};
     struct bitm_sequence sequence;
+    struct bitm_samples both[2];
     if (take(&from, 1) % 4 == 0) anything(&from, &sequence);
     else build(&from, &sequence);
+    if (take(&from, 1) % 2 && !bitm_sequence_fault(&sequence)) {
+        const struct bitm_index high = {.words = sequence.words, .words_len = sequence.words_len, .upper = sequence.upper,
+                                        .upper_len = sequence.upper_len, .lower = sequence.lower,
+                                        .lower_len = sequence.lower_len, .bits_len = 64 * sequence.words_len};
+        both[0] = samples_of(&from, &high, true, 4), both[1] = samples_of(&from, &high, false, 6);
+        sequence.samples = both, sequence.samples_len = take(&from, 1) % 3;
+    }
     query_sequence(&sequence, &from);
     return 0;
 }

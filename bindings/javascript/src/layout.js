@@ -46,6 +46,8 @@ export const BITM_SEQUENCE = {
     upper_len: 56,
     lower: 64,
     lower_len: 72,
+    samples: 80,
+    samples_len: 88,
 };
 export const BITM_SEQUENCE_LENS = {
     bytes: 40,
@@ -67,6 +69,8 @@ export const BITM_SEQUENCE_WALK = {
     sequence_upper_len: 56,
     sequence_lower: 64,
     sequence_lower_len: 72,
+    sequence_samples: 80,
+    sequence_samples_len: 88,
     first: 96,
     at: 104,
     len: 112,
@@ -84,6 +88,8 @@ export const BITM_CURSOR = {
     sequence_upper_len: 56,
     sequence_lower: 64,
     sequence_lower_len: 72,
+    sequence_samples: 80,
+    sequence_samples_len: 88,
     index: 96,
     position: 104,
     number: 112,
@@ -216,6 +222,8 @@ export const BITM_SPARSE = {
     positions_upper_len: 56,
     positions_lower: 64,
     positions_lower_len: 72,
+    positions_samples: 80,
+    positions_samples_len: 88,
     bits_len: 96,
 };
 export const BITM_DICTIONARY = {

@@ -34,7 +34,7 @@ static int build(Memory *it, const uint64_t *items, size_t count)
                                  lens.lower_len, &width);
     Py_END_ALLOW_THREADS
     struct bitm_sequence made = {count, width,          low,   lens.low_len,   words, lens.words_len,
-                                 upper, lens.upper_len, lower, lens.lower_len, {0, 0}};
+                                 upper, lens.upper_len, lower, lens.lower_len, NULL, 0};
     it->sequence = made;
     if (status == BITM_OK)
         return 0;

@@ -3,10 +3,11 @@ ghost use Rattle.std.specs.Prelude.{SomeIff};
 ghost use Rattle.bitm_abi.specs.Sequence.{lent_parts, IsListTold, IsSized};
 
 use crate::answer::{BAD_SIZE, OK};
+use crate::samples::Samples;
 use elias_fano_view::{LentSequence, ListAnswer};
-use lent_tables::Lent;
+use lent_tables::{Lent, LentSamples};
 
-/// A sequence in the caller's memory: for C two numbers, four pairs of a pointer and a length, and room.
+/// A sequence in the caller's memory: for C two numbers and five pairs of a pointer and a length.
 #[repr(C)]
 #[derive(Clone, Copy)]
 pub struct Sequence<'a> {
@@ -22,8 +23,8 @@ pub struct Sequence<'a> {
     pub upper: &'a [usize],
     /// The lower table of these words.
     pub lower: &'a [u64],
-    /// Room for later versions; this one does not read it.
-    pub reserved: [u64; 2],
+    /// Samples of the 1 bits of these words, then of the 0 bits; the list may end before either.
+    pub samples: &'a [Samples<'a>],
 }
 
 /// The lengths of the parts of a sequence.
@@ -52,7 +53,21 @@ impl<'a> Sequence<'a> {
         if self.width > 63 {
             return None;
         }
-        LentSequence::over(self.len, self.width as u8, self.low, upper)
+        let parts = LentSequence::over(self.len, self.width as u8, self.low, upper)?;
+        Some(parts.with_samples(samples_at(self.samples, 0), samples_at(self.samples, 1)))
+    }
+}
+
+/// Item `at` of a list of samples as the library takes it; no samples where the list ends before.
+#[inline(always)]
+fn samples_at<'a>(list: &[Samples<'a>], at: usize) -> LentSamples<'a> {
+    match list.get(at) {
+        Some(some) => some.lent(),
+        None => LentSamples {
+            samples: &[],
+            starts: &[],
+            log2: 0,
+        },
     }
 }
 

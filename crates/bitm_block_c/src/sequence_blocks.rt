@@ -66,7 +66,7 @@ pub(crate) fn sequence_at<'a>(block: &Block<'a>) -> Sequence<'a>
             words,
             upper: as_entries(upper),
             lower,
-            reserved: [0; 2],
+            samples: &[],
         },
         _ => unreachable!(),
     }

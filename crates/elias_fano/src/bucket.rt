@@ -13,6 +13,7 @@ ghost use Rattle.elias_fano.specs.Sequence.{IsFirstAtLeast};
 use crate::low::LowDigits;
 use crate::searching::{count_at_zero, count_to, place_in_bucket};
 use bitm::{index_laws, near_zero_on};
+use bitm_select::search::selecting::ByTables;
 use bitm_tables::answer::Answer;
 use bitm_tables::source::TableSource;
 
@@ -37,7 +38,7 @@ fn end_on<T: TableSource>(source: &mut T, n: usize, above: usize, begin: usize) 
 {
     match near_zero_on::<NEAR, T>(source, begin) {
         Some(zero) => count_at_zero(zero, above, n),
-        None => count_to::<0, T>(source, above, n),
+        None => count_to::<0, T, ByTables>(source, &ByTables, above, n),
     }
 }
 

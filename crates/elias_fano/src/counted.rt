@@ -10,7 +10,7 @@ ghost use Rattle.elias_fano.specs.Sequence.{IsFirstAtLeast, IsLastAtMost, Reache
 use crate::low::LowDigits;
 use crate::searching::{first_on, item_at_one, total_item_on};
 use bitm::index_laws;
-use bitm_select::search::selecting::total_select_on;
+use bitm_select::search::selecting::{ByTables, total_select_on};
 use bitm_tables::answer::Answer;
 use bitm_tables::source::TableSource;
 
@@ -99,7 +99,7 @@ pub fn first_at_least_on<T: TableSource>(
             None
         };
     }
-    match first_on::<0, T>(source, low, n, v) {
+    match first_on::<0, T, ByTables>(source, &ByTables, low, n, v) {
         Answer::Found(place) => Some(place),
         Answer::Absent => None,
         Answer::Wrong => None,

@@ -11,15 +11,17 @@ ghost use Rattle.elias_fano.specs.Sequence.{ReachesTo};
 ghost use Rattle.elias_fano.specs.Told.{IfLast, TellsAtMost, TellsLess};
 
 use crate::low::LowDigits;
-use crate::searching::{total_first_at_least_on, total_item_on};
+use crate::searching::{total_first_at_least_by, total_item_by};
+use bitm_select::search::selecting::{ByTables, FindsEntry};
 use bitm_tables::answer::Answer;
 use bitm_tables::source::TableSource;
 
 /// How many numbers are at most `v`: those before the first that is at least `v + 1`; `None` only where the parts are
 /// wrong.
 #[inline(always)]
-fn count_at_most<T: TableSource>(
+fn count_at_most<T: TableSource, F: FindsEntry<0, T>>(
     source: &mut T,
+    finder: &F,
     low: &mut LowDigits<'_>,
     n: usize,
     v: u64,
@@ -32,7 +34,7 @@ fn count_at_most<T: TableSource>(
     ensures reaches { (xs : List ℕ) → Holds xs (parts_with n low.old (T.lists source.old))
         → IsSomeAnd result (ReachesTo xs v) }
     ensures reads { OnlyReads T.lists T.reads source.old source.new
-        (2 * (digit_count (length (T.lists source.old).upper) + 1)) (2 * 23) (2 * 8) }
+        (2 * (digit_count (length (T.lists source.old).upper) + 1)) (2 * F.lowers) (2 * 8) }
     ensures fragments { ReadsFragments low.old low.new (digit_count n) }
     ensures shared { (xs : List ℕ) → Holds xs (parts_with n low.old (T.lists source.old))
         → ReadsFragments low.old low.new (digit_count (sharing xs low.old.width (v + 1))) }
@@ -40,7 +42,7 @@ fn count_at_most<T: TableSource>(
     if v == u64::MAX {
         return Some(n);
     }
-    match total_first_at_least_on(source, low, n, v + 1) {
+    match total_first_at_least_by(source, finder, low, n, v + 1) {
         Answer::Found(place) => Some(place),
         Answer::Absent => Some(n),
         Answer::Wrong => None,
@@ -76,7 +78,35 @@ pub fn total_last_at_most_on<T: TableSource>(
     ensures shared { (xs : List ℕ) → Holds xs (parts_with n low.old (T.lists source.old))
         → ReadsFragments low.old low.new (digit_count (sharing xs low.old.width (v + 1))) }
 {
-    match count_at_most(source, low, n, v) {
+    total_last_at_most_by::<T, ByTables>(source, &ByTables, low, n, v)
+}
+
+/// Like `total_last_at_most_on`, with selections whose entries `finder` finds.
+///
+/// # Conditions
+/// As of `total_item_by`.
+/// # Cost
+/// That of `total_first_at_least_by` of `v + 1`, and nothing where `v` is 2^64 - 1.
+pub fn total_last_at_most_by<T: TableSource, F: FindsEntry<0, T>>(
+    source: &mut T,
+    finder: &F,
+    low: &mut LowDigits<'_>,
+    n: usize,
+    v: u64,
+) -> Answer<usize>
+    requires lengths { HasLengths (parts_with n low.old (T.lists source.old)) }
+    requires sized { HasSizes (T.lists source.old) }
+    ensures inside { IsPlaceOf n result }
+    ensures told { IfLast result (TellsAtMost (parts_with n low.old (T.lists source.old)) v) }
+    ensures answer { (xs : List ℕ) → Holds xs (parts_with n low.old (T.lists source.old))
+        → IsLast xs v result }
+    ensures reads { OnlyReads T.lists T.reads source.old source.new
+        (2 * (digit_count (length (T.lists source.old).upper) + 1)) (2 * F.lowers) (2 * 8) }
+    ensures fragments { ReadsFragments low.old low.new (digit_count n) }
+    ensures shared { (xs : List ℕ) → Holds xs (parts_with n low.old (T.lists source.old))
+        → ReadsFragments low.old low.new (digit_count (sharing xs low.old.width (v + 1))) }
+{
+    match count_at_most(source, finder, low, n, v) {
         Some(0) => Answer::Absent,
         Some(count) => Answer::Found(count - 1),
         None => Answer::Wrong,
@@ -111,8 +141,37 @@ pub fn total_contains_on<T: TableSource>(
     ensures shared { (xs : List ℕ) → Holds xs (parts_with n low.old (T.lists source.old))
         → ReadsFragments low.old low.new (digit_count (sharing xs low.old.width v) + 1) }
 {
-    match total_first_at_least_on(source, low, n, v) {
-        Answer::Found(place) => match total_item_on(source, low, n, place) {
+    total_contains_by::<T, ByTables, ByTables>(source, &ByTables, &ByTables, low, n, v)
+}
+
+/// Like `total_contains_on`, with selections whose entries are found by `finder`, and of 1 bits by `of_ones`.
+///
+/// # Conditions
+/// As of `total_item_by`.
+/// # Cost
+/// That of `total_first_at_least_by`, and where an index is found that of `total_item_by`.
+pub fn total_contains_by<T: TableSource, F: FindsEntry<0, T>, G: FindsEntry<1, T>>(
+    source: &mut T,
+    finder: &F,
+    of_ones: &G,
+    low: &mut LowDigits<'_>,
+    n: usize,
+    v: u64,
+) -> Option<bool>
+    requires lengths { HasLengths (parts_with n low.old (T.lists source.old)) }
+    requires sized { HasSizes (T.lists source.old) }
+    ensures answer { (xs : List ℕ) → Holds xs (parts_with n low.old (T.lists source.old))
+        → IsSomeAnd result (λ is. IsTrue is ↔ Contains xs v) }
+    ensures told { IfSome result (λ is. (p : ℕ)
+        × TellsLess (parts_with n low.old (T.lists source.old)) v p × (p ≡ n → is ≡ false)) }
+    ensures reads { OnlyReads T.lists T.reads source.old source.new
+        (3 * (digit_count (length (T.lists source.old).upper) + 1)) (2 * F.lowers + G.lowers) (3 * 8) }
+    ensures fragments { ReadsFragments low.old low.new (digit_count n + 1) }
+    ensures shared { (xs : List ℕ) → Holds xs (parts_with n low.old (T.lists source.old))
+        → ReadsFragments low.old low.new (digit_count (sharing xs low.old.width v) + 1) }
+{
+    match total_first_at_least_by(source, finder, low, n, v) {
+        Answer::Found(place) => match total_item_by(source, of_ones, low, n, place) {
             Answer::Found(item) => Some(item == v),
             Answer::Absent => None,
             Answer::Wrong => None,

@@ -4,7 +4,7 @@ ghost use Rattle.std.specs.Prelude.{◌≡◌, ◌≢◌, ◌+◌, ◌-◌, ◌*
 ghost use Rattle.std.specs.Prelude.{length, slice_index, false, IfSome};
 ghost use Rattle.bit_lists.specs.Bits.{bits_of, digit_count};
 ghost use Rattle.bit_lists.specs.Count.{Picks};
-ghost use Rattle.bitm_tables.specs.Reads.{OnlyReads};
+ghost use Rattle.bitm_tables.specs.Reads.{OnlyReads, ReadsAtMost};
 ghost use Rattle.bitm_tables.specs.Tables.{HasSizes, HasTables};
 ghost use Rattle.bitm_tables.specs.Entry.{less};
 ghost use Rattle.elias_fano.specs.Answers.{IsFirst, IsItem, IsOfPlace, IsPlaceOf};
@@ -16,7 +16,7 @@ ghost use Rattle.elias_fano.specs.Told.{IfPlace, PartsAt, TellsBelow, TellsLess,
 
 use crate::low::LowDigits;
 use bit_words::n_lowest_bits;
-use bitm_select::search::selecting::{ByTables, search_on, total_select_on};
+use bitm_select::search::selecting::{ByTables, FindsEntry, search_on};
 use bitm_tables::answer::Answer;
 use bitm_tables::source::TableSource;
 
@@ -84,10 +84,39 @@ pub fn total_item_on<T: TableSource>(
         (digit_count (length (T.lists source.old).upper) + 1) 23 8 }
     ensures fragments { ReadsFragments low.old low.new 1 }
 {
+    total_item_by::<T, ByTables>(source, &ByTables, low, n, at)
+}
+
+/// Like `total_item_on`, with a selection whose entry `finder` finds.
+///
+/// # Conditions
+/// Those of `total_item_on`. The finder has none: it never changes an answer.
+/// # Cost
+/// That of `total_item_on`, with the lower entries that the finder reads in place of 23.
+#[inline(always)]
+pub fn total_item_by<T: TableSource, F: FindsEntry<1, T>>(
+    source: &mut T,
+    finder: &F,
+    low: &mut LowDigits<'_>,
+    n: usize,
+    at: usize,
+) -> Answer<u64>
+    requires lengths { HasLengths (parts_with n low.old (T.lists source.old)) }
+    requires sized { HasSizes (T.lists source.old) }
+    ensures inside { IsOfPlace n at result }
+    ensures answer { (xs : List ℕ) → Holds xs (parts_with n low.old (T.lists source.old))
+        → IsItem xs at result }
+    ensures reads { OnlyReads T.lists T.reads source.old source.new
+        (digit_count (length (T.lists source.old).upper) + 1) F.lowers 8 }
+    ensures reads_led { F.leads finder.now (T.lists source.old)
+        → ReadsAtMost (T.reads source.old) (T.reads source.new)
+        (digit_count (length (T.lists source.old).upper) + 1) F.lowers_led 8 }
+    ensures fragments { ReadsFragments low.old low.new 1 }
+{
     if at >= n {
         return Answer::Absent;
     }
-    match total_select_on::<1, T>(source, at) {
+    match search_on::<1, 1, T, F>(source, finder, at) {
         Answer::Found(place) => Answer::Found(item_at_one(place, low, at)),
         Answer::Absent => Answer::Wrong,
         Answer::Wrong => Answer::Wrong,
@@ -110,8 +139,9 @@ pub fn count_at_zero(place: usize, above: usize, n: usize) -> Option<usize>
 /// How many items have a number at most `above` above their low bits: the 1 bits before the 0 bit of that number, if
 /// the parts are right; `None` only where they are not. `TESTS` as in `first_on`. It is not inlined, so that both ends
 /// of a bucket are found by one copy of the search.
-pub(crate) fn count_to<const TESTS: u8, T: TableSource>(
+pub(crate) fn count_to<const TESTS: u8, T: TableSource, F: FindsEntry<0, T>>(
     source: &mut T,
+    finder: &F,
     above: usize,
     n: usize,
 ) -> Option<usize>
@@ -122,9 +152,9 @@ pub(crate) fn count_to<const TESTS: u8, T: TableSource>(
         → IsSomeAnd result (CountsTo xs l above) }
     ensures told { TESTS ≢ 0 → IfSome result (TellsTo (T.lists source.old) n above) }
     ensures reads { OnlyReads T.lists T.reads source.old source.new
-        (digit_count (length (T.lists source.old).upper) + 1) 23 8 }
+        (digit_count (length (T.lists source.old).upper) + 1) F.lowers 8 }
 {
-    match search_on::<0, TESTS, T, ByTables>(source, &ByTables, above) {
+    match search_on::<0, TESTS, T, F>(source, finder, above) {
         Answer::Found(place) => count_at_zero(place, above, n),
         Answer::Absent => Some(n),
         Answer::Wrong => None,
@@ -134,8 +164,9 @@ pub(crate) fn count_to<const TESTS: u8, T: TableSource>(
 /// How many items have a number below `above` above their low bits, if the parts are right; `None` only where they are
 /// not. `TESTS` as in `first_on`.
 #[inline(always)]
-fn count_below<const TESTS: u8, T: TableSource>(
+fn count_below<const TESTS: u8, T: TableSource, F: FindsEntry<0, T>>(
     source: &mut T,
+    finder: &F,
     above: usize,
     n: usize,
 ) -> Option<usize>
@@ -146,12 +177,12 @@ fn count_below<const TESTS: u8, T: TableSource>(
         → IsSomeAnd result (CountsBelow xs l above) }
     ensures told { TESTS ≢ 0 → IfSome result (TellsBelow (T.lists source.old) n above) }
     ensures reads { OnlyReads T.lists T.reads source.old source.new
-        (digit_count (length (T.lists source.old).upper) + 1) 23 8 }
+        (digit_count (length (T.lists source.old).upper) + 1) F.lowers 8 }
 {
     if above == 0 {
         return Some(0);
     }
-    count_to::<TESTS, T>(source, above - 1, n)
+    count_to::<TESTS, T, F>(source, finder, above - 1, n)
 }
 
 /// The least index from `first` up to `end` whose low bits are at least `rest`, and `end` where there is none; `first`
@@ -232,11 +263,12 @@ pub fn place_in_bucket(
     }
 }
 
-/// What `total_first_at_least_on` answers. Where `TESTS` is 0 its selections look for no wrong tables but by the words,
+/// What `total_first_at_least_by` answers. Where `TESTS` is 0 its selections look for no wrong tables but by the words,
 /// as in `search_on` of `bitm_select`.
 #[inline(always)]
-pub(crate) fn first_on<const TESTS: u8, T: TableSource>(
+pub(crate) fn first_on<const TESTS: u8, T: TableSource, F: FindsEntry<0, T>>(
     source: &mut T,
+    finder: &F,
     low: &mut LowDigits<'_>,
     n: usize,
     v: u64,
@@ -249,20 +281,20 @@ pub(crate) fn first_on<const TESTS: u8, T: TableSource>(
     ensures answer { (xs : List ℕ) → Holds xs (parts_with n low.old (T.lists source.old))
         → IsFirst xs v result }
     ensures reads { OnlyReads T.lists T.reads source.old source.new
-        (2 * (digit_count (length (T.lists source.old).upper) + 1)) (2 * 23) (2 * 8) }
+        (2 * (digit_count (length (T.lists source.old).upper) + 1)) (2 * F.lowers) (2 * 8) }
     ensures fragments { ReadsFragments low.old low.new (digit_count n) }
     ensures shared { (xs : List ℕ) → Holds xs (parts_with n low.old (T.lists source.old))
         → ReadsFragments low.old low.new (digit_count (sharing xs low.old.width v)) }
 {
     let width = low.width();
     let above = (v >> width) as usize;
-    let Some(first) = count_below::<TESTS, T>(source, above, n) else {
+    let Some(first) = count_below::<TESTS, T, F>(source, finder, above, n) else {
         return Answer::Wrong;
     };
     if width == 0 {
         return place_in_bucket(low, n, first, n, v);
     }
-    let Some(end) = count_to::<TESTS, T>(source, above, n) else {
+    let Some(end) = count_to::<TESTS, T, F>(source, finder, above, n) else {
         return Answer::Wrong;
     };
     place_in_bucket(low, n, first, end, v)
@@ -300,5 +332,33 @@ pub fn total_first_at_least_on<T: TableSource>(
     ensures shared { (xs : List ℕ) → Holds xs (parts_with n low.old (T.lists source.old))
         → ReadsFragments low.old low.new (digit_count (sharing xs low.old.width v)) }
 {
-    first_on::<1, T>(source, low, n, v)
+    total_first_at_least_by::<T, ByTables>(source, &ByTables, low, n, v)
+}
+
+/// Like `total_first_at_least_on`, with selections whose entries `finder` finds.
+///
+/// # Conditions
+/// Those of `total_first_at_least_on`. The finder has none: it never changes an answer.
+/// # Cost
+/// That of `total_first_at_least_on`, with twice the lower entries that the finder reads in place of 46.
+pub fn total_first_at_least_by<T: TableSource, F: FindsEntry<0, T>>(
+    source: &mut T,
+    finder: &F,
+    low: &mut LowDigits<'_>,
+    n: usize,
+    v: u64,
+) -> Answer<usize>
+    requires lengths { HasLengths (parts_with n low.old (T.lists source.old)) }
+    requires sized { HasSizes (T.lists source.old) }
+    ensures inside { IsPlaceOf n result }
+    ensures told { IfPlace n result (TellsLess (parts_with n low.old (T.lists source.old)) v) }
+    ensures answer { (xs : List ℕ) → Holds xs (parts_with n low.old (T.lists source.old))
+        → IsFirst xs v result }
+    ensures reads { OnlyReads T.lists T.reads source.old source.new
+        (2 * (digit_count (length (T.lists source.old).upper) + 1)) (2 * F.lowers) (2 * 8) }
+    ensures fragments { ReadsFragments low.old low.new (digit_count n) }
+    ensures shared { (xs : List ℕ) → Holds xs (parts_with n low.old (T.lists source.old))
+        → ReadsFragments low.old low.new (digit_count (sharing xs low.old.width v)) }
+{
+    first_on::<1, T, F>(source, finder, low, n, v)
 }

@@ -1,7 +1,8 @@
 //! A sequence whose parts are borrowed.
 ghost use Rattle.std.specs.Prelude.{◌≡◌, ◌+◌, ◌*◌, ◌/◌, ◌^◌, ◌<◌, ◌≤◌, ◌↔◌, ℕ, SomeIff};
 ghost use Rattle.std.specs.Prelude.{IsTrue, List, length, slice_index, true};
-ghost use Rattle.bitm_select.specs.Answers.{SelectTold};
+ghost use Rattle.bit_lists.specs.Count.{as_bit};
+ghost use Rattle.bitm_select.specs.Answers.{SelectTold, ToldEach};
 ghost use Rattle.bitm_tables.specs.Tables.{Lists};
 ghost use Rattle.elias_fano.specs.Parts.{HasFragment};
 ghost use Rattle.elias_fano.specs.Answers.{IsFirst, IsItem, IsOfPlace, IsPlaceOf};
@@ -18,8 +19,9 @@ use crate::checking::are_parts;
 use bitm_select::search::selected::WRONG_TABLES;
 use bitm_tables::answer::Answer;
 use elias_fano::building::item_at_one;
-use elias_fano::{LowDigits, total_first_at_least_on, total_item_on};
-use lent_tables::Lent;
+use bitm_tables::source::Probe;
+use elias_fano::{LowDigits, total_first_at_least_by, total_item_by};
+use lent_tables::{ByGuess, Lent, LentSamples, select_list_on};
 use std::marker::Model;
 use tuning::SELECTIONS_SIDE_BY_SIDE;
 
@@ -46,12 +48,17 @@ fn item_of(low: &mut LowDigits<'_>, n: usize, place: usize, one: usize) -> Answe
 /// Contracts see the number of numbers, the number of low bits of each, and the lists. The lists may hold anything:
 /// each call says what it answers where they are the parts of a sequence, and what it answers otherwise. A view keeps
 /// the number of low bits and not the largest number, from which each call would have to compute it by a division.
+///
+/// A view may have samples of the high bits, by which it selects. Contracts do not see them, since they never change an
+/// answer, whatever they hold.
 #[derive(Drop)]
 pub struct LentSequence<'a> {
     len: usize,
     width: u8,
     low: &'a [u64],
     upper: Lent<'a>,
+    ones: LentSamples<'a>,
+    zeros: LentSamples<'a>,
 }
 
 impl<'a> Model for LentSequence<'a> {
@@ -79,12 +86,78 @@ impl<'a> LentSequence<'a> {
         if low.len() != (len * width as usize).div_ceil(64) {
             return None;
         }
+        let none = LentSamples {
+            samples: &[],
+            starts: &[],
+            log2: 0,
+        };
         Some(LentSequence {
             len,
             width,
             low,
             upper,
+            ones: none,
+            zeros: none,
         })
+    }
+
+    /// The sequence with samples of the 1 bits and of the 0 bits of its high bits, in place of those that it had; the
+    /// list is empty where there are none. The samples that `Lent::build_samples` writes shorten the searches, and no
+    /// samples change an answer.
+    ///
+    /// # Cost
+    /// A selection from samples has the cost of `Lent::sampled_select`.
+    ///
+    /// ```
+    /// let primes = primes.with_samples(ones, zeros);
+    /// primes.get(4);   // Found(11)
+    /// ```
+    #[inline(always)]
+    pub fn with_samples(self, ones: LentSamples<'a>, zeros: LentSamples<'a>) -> LentSequence<'a>
+        ensures { result ≡ self }
+    {
+        LentSequence {
+            len: self.len,
+            width: self.width,
+            low: self.low,
+            upper: self.upper,
+            ones,
+            zeros,
+        }
+    }
+
+    /// The search for the entry of a 1 bit among the high bits.
+    #[inline(always)]
+    fn by_ones(&self) -> ByGuess<'a> {
+        ByGuess { samples: self.ones }
+    }
+
+    /// The search for the entry of a 0 bit among the high bits.
+    #[inline(always)]
+    fn by_zeros(&self) -> ByGuess<'a> {
+        ByGuess {
+            samples: self.zeros,
+        }
+    }
+
+    /// Writes the position with each rank among the high bits, or `NO_ANSWER` for `Absent` and `WRONG_TABLES` for
+    /// `Wrong`, from the samples where there are some. Of 0 bits where `BIT` is 0.
+    #[inline(always)]
+    fn select_each<const BIT: u8>(
+        &self,
+        samples: &LentSamples<'_>,
+        ranks: &[usize],
+        out: &mut [usize],
+    )
+        requires room { length out.old ≡ length ranks.now }
+        ensures told { ToldEach (as_bit BIT) self.now.upper ranks.now out.new }
+    {
+        if samples.samples.is_empty() {
+            self.upper.select_list::<BIT>(ranks, out);
+        } else {
+            let source = &mut self.upper.probe();
+            select_list_on::<BIT, Probe<'_>, LentSamples<'_>>(source, samples, ranks, out);
+        }
     }
 
     /// The number of numbers, less than 2^56.
@@ -125,8 +198,8 @@ impl<'a> LentSequence<'a> {
             return;
         }
         let count = (places.len() - at).min(SELECTIONS_SIDE_BY_SIDE);
-        self.upper
-            .select_list::<1>(&places[at..at + count], &mut ones[0..count]);
+        let next = &places[at..at + count];
+        self.select_each::<1>(&self.ones, next, &mut ones[0..count]);
     }
 
     /// At each sixteenth value of the list, selects the 0 bits of the buckets of the next sixteen side by side: the 0
@@ -172,7 +245,7 @@ impl<'a> LentSequence<'a> {
     {
         let mut ranks = [0; SELECTIONS_SIDE_BY_SIDE];
         rank_each(values, self.width, less, &mut ranks);
-        self.upper.select_list::<0>(&ranks[0..values.len()], zeros);
+        self.select_each::<0>(&self.zeros, &ranks[0..values.len()], zeros);
     }
 
     /// Number `place`, from the code `one` of the position of its 1 bit.
@@ -200,13 +273,14 @@ impl<'a> LentSequence<'a> {
     /// there is no such number.
     ///
     /// # Cost
-    /// That of `total_item_on`: one selection, and the low bits of at most one number.
+    /// That of `total_item_by`: one selection, and the low bits of at most one number.
     #[inline(always)]
     pub fn get(&self, i: usize) -> Answer<u64>
         ensures inside { IsOfPlace self.now.len i result }
         ensures answer { (xs : List ℕ) → Holds xs self.now → IsItem xs i result }
     {
-        total_item_on(&mut self.upper.probe(), &mut self.low_digits(), self.len, i)
+        let source = &mut self.upper.probe();
+        total_item_by(source, &self.by_ones(), &mut self.low_digits(), self.len, i)
     }
 
     /// The successor of `v`: the least index whose number is at least `v`, and `Absent` exactly where each number is
@@ -214,13 +288,14 @@ impl<'a> LentSequence<'a> {
     /// that all numbers before the index are less than `v`, or all numbers for `Absent`.
     ///
     /// # Cost
-    /// That of `total_first_at_least_on`.
+    /// That of `total_first_at_least_by`.
     #[inline]
     pub fn first_at_least(&self, v: u64) -> Answer<usize>
         ensures inside { IsPlaceOf self.now.len result }
         ensures told { IfPlace self.now.len result (TellsLess self.now v) }
         ensures answer { (xs : List ℕ) → Holds xs self.now → IsFirst xs v result }
     {
-        total_first_at_least_on(&mut self.upper.probe(), &mut self.low_digits(), self.len, v)
+        let source = &mut self.upper.probe();
+        total_first_at_least_by(source, &self.by_zeros(), &mut self.low_digits(), self.len, v)
     }
 }

@@ -67,7 +67,8 @@ impl<'a> SequenceView<'a> {
             upper_len: upper.len(),
             lower: lower.as_ptr(),
             lower_len: lower.len(),
-            reserved: [0; 2],
+            samples: core::ptr::null(),
+            samples_len: 0,
         };
         let view = SequenceView { raw, borrows: PhantomData };
         // There is no number at index `len`, so an error is one of the lengths.

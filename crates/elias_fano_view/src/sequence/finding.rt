@@ -7,7 +7,7 @@ ghost use Rattle.elias_fano.specs.Told.{IfLast, TellsAtMost, TellsLess};
 
 use crate::sequence::LentSequence;
 use bitm_tables::answer::Answer;
-use elias_fano::{total_contains_on, total_last_at_most_on};
+use elias_fano::{total_contains_by, total_last_at_most_by};
 
 impl<'a> LentSequence<'a> {
     /// The predecessor of `v`: the greatest index whose number is at most `v`, and `Absent` exactly where each number
@@ -15,14 +15,15 @@ impl<'a> LentSequence<'a> {
     /// claim that all numbers up to the index are at most `v`, or that none is for `Absent`.
     ///
     /// # Cost
-    /// That of `total_last_at_most_on`: the cost of `first_at_least` of `v + 1`.
+    /// That of `total_last_at_most_by`: the cost of `first_at_least` of `v + 1`.
     #[inline]
     pub fn last_at_most(&self, v: u64) -> Answer<usize>
         ensures inside { IsPlaceOf self.now.len result }
         ensures told { IfLast result (TellsAtMost self.now v) }
         ensures answer { (xs : List ℕ) → Holds xs self.now → IsLast xs v result }
     {
-        total_last_at_most_on(&mut self.upper.probe(), &mut self.low_digits(), self.len, v)
+        let source = &mut self.upper.probe();
+        total_last_at_most_by(source, &self.by_zeros(), &mut self.low_digits(), self.len, v)
     }
 
     /// Whether `v` is one of the numbers, where the parts are those of a sequence; in other parts the answer may be
@@ -30,7 +31,7 @@ impl<'a> LentSequence<'a> {
     /// answer is false where that is all of them.
     ///
     /// # Cost
-    /// That of `total_contains_on`: the cost of `first_at_least`, and that of `get` where it finds an index.
+    /// That of `total_contains_by`: the cost of `first_at_least`, and that of `get` where it finds an index.
     #[inline]
     pub fn contains(&self, v: u64) -> Option<bool>
         ensures answer { (xs : List ℕ) → Holds xs self.now
@@ -38,6 +39,8 @@ impl<'a> LentSequence<'a> {
         ensures told { IfSome result (λ is. (p : ℕ) × TellsLess self.now v p
             × (p ≡ self.now.len → is ≡ false)) }
     {
-        total_contains_on(&mut self.upper.probe(), &mut self.low_digits(), self.len, v)
+        let source = &mut self.upper.probe();
+        let (by, of_ones) = (&self.by_zeros(), &self.by_ones());
+        total_contains_by(source, by, of_ones, &mut self.low_digits(), self.len, v)
     }
 }

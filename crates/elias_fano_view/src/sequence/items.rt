@@ -126,7 +126,7 @@ impl<'a> LentSequence<'a> {
         if most == 0 {
             return 0;
         }
-        let first = match self.upper.select::<1>(from) {
+        let first = match self.upper.sampled_select::<1>(&self.ones, from) {
             Answer::Found(first) => first,
             Answer::Absent => return 0,
             Answer::Wrong => return 0,

@@ -2,7 +2,7 @@
 use Rattle.std.proofs.Common.{◌≡◌, ℕ, ◌+◌, ◌-◌, subst, arith}
 use Rattle.elias_fano.specs.LentParts.{parts_with}
 use Rattle.elias_fano.specs.Told.{TellsAtMost}
-use Rattle.elias_fano.proofs.predecessor.total_last_at_most_on.Goals as goal
+use Rattle.elias_fano.proofs.predecessor.total_last_at_most_by.Goals as goal
 
 pub returns-in-Some-clause-told : goal.returns-in-Some-clause-told
 returns-in-Some-clause-told g c =

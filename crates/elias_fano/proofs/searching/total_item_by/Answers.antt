@@ -1,7 +1,7 @@
 -- The place that is selected is that of the item's one, and each item has one.
 use Rattle.std.proofs.Common.{◌<◌, length, arith}
 use Rattle.elias_fano.proofs.lemmas.UpperLemmas.{ones_are}
-use Rattle.elias_fano.proofs.searching.total_item_on.Goals as goal
+use Rattle.elias_fano.proofs.searching.total_item_by.Goals as goal
 
 pub returns-in-Found-clause-answer : goal.returns-in-Found-clause-answer
 returns-in-Found-clause-answer g c = λ xs h.

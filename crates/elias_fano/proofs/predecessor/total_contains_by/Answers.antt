@@ -3,13 +3,13 @@ use Rattle.std.proofs.Common.{sym, ◌∙◌}
 use Rattle.std.proofs.lemmas.Bool.{eqb-true, eq-eqb}
 use Rattle.elias_fano.proofs.lemmas.FragmentLemmas.{holds-kept}
 use Rattle.elias_fano.proofs.lemmas.SequenceLemmas.{contains-first}
-use Rattle.elias_fano.proofs.predecessor.total_contains_on.Goals as goal
+use Rattle.elias_fano.proofs.predecessor.total_contains_by.Goals as goal
 
-pub returns-in-Found-total_item_on-clause-answer : goal.returns-in-Found-total_item_on-clause-answer
-returns-in-Found-total_item_on-clause-answer g c = λ xs h.
+pub returns-in-Found-total_item_by-clause-answer : goal.returns-in-Found-total_item_by-clause-answer
+returns-in-Found-total_item_by-clause-answer g c = λ xs h.
     let first = contains-first xs c.args.v _ h.are.sequence.rising (c.in-Found.ensures.answer xs h) in
     let kept = holds-kept xs c.args.n _ _ _ _ _ (c.in-Found.ensures.shared xs h) c.in-Found.ensures.reads.same h in
-    let item = (c.in-Found-total_item_on.ensures.answer xs kept).1 in (
+    let item = (c.in-Found-total_item_by.ensures.answer xs kept).1 in (
       λ yes. first.0 (sym item ∙ eqb-true _ _ yes),
       λ held. eq-eqb _ _ (item ∙ first.1 held),
     )
