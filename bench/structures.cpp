@@ -8,7 +8,8 @@
 // then again by the thread's processor time. A row is the least of the rounds, as those of `tool_bench`, whose numbers,
 // trees and queries these are, but that the numbers of a sequence rise by 1 more, since a set has each number once. The
 // last column is the sum of the answers; the program fails where the forms differ in it. A `list` has 4096 queries. All
-// memory is in small pages. The C library selects without samples here; the rows of space say what each side keeps.
+// memory is in small pages. The C library selects without samples here, but in the rows `C with samples` of sequences, which
+// have one for each 2^13 bits of a kind; the rows of space say what each side keeps.
 #include "turns.hpp"
 
 #include <cstring>
@@ -181,6 +182,38 @@ void matrices(const Bench &bench, int width)
     });
 }
 
+// Samples of the high bits of a sequence, and the sequence with them.
+struct Sampled {
+    static constexpr uint32_t LOG2 = 13;
+    std::vector<uint32_t> samples[2];
+    Numbers starts[2];
+    bitm_samples both[2] = {};
+    bitm_sequence sequence;
+
+    explicit Sampled(const bitm_sequence &plain) : sequence(plain)
+    {
+        bitm_index high{};
+        high.words = plain.words, high.words_len = plain.words_len, high.bits_len = 64 * plain.words_len;
+        high.upper = plain.upper, high.upper_len = plain.upper_len;
+        high.lower = plain.lower, high.lower_len = plain.lower_len;
+        for (int zeros = 0; zeros < 2; zeros++) {
+            uint64_t used = 0;
+            samples[zeros].resize(bitm_index_samples_len(plain.words_len, LOG2));
+            starts[zeros].resize(plain.upper_len);
+            have(bitm_index_build_samples(&high, !zeros, LOG2, samples[zeros].data(), samples[zeros].size(),
+                                          starts[zeros].data(), starts[zeros].size(), &used),
+                 "bitm_index_build_samples");
+            both[zeros] = {samples[zeros].data(), used, starts[zeros].data(), starts[zeros].size(), LOG2, 0};
+        }
+        sequence.samples = both;
+        sequence.samples_len = 2;
+    }
+    size_t bytes() const
+    {
+        return 4 * (both[0].samples_len + both[1].samples_len) + 8 * (both[0].starts_len + both[1].starts_len);
+    }
+};
+
 // Rows of numbers that rise by 1 to 1000.
 void sequences(const Bench &bench)
 {
@@ -207,8 +240,10 @@ void sequences(const Bench &bench)
              return got + 1;
          }},
     });
+    const Sampled sampled(sequence);
     bench.space("space", "sdsl", sdsl::size_in_bytes(set));
     bench.space("space", "C", words * 8.0);
+    bench.space("space", "C with samples", words * 8.0 + sampled.bytes());
 
     const sdsl::select_support_sd<> select(&set);
     const sdsl::rank_support_sd<> rank(&set);
@@ -218,10 +253,20 @@ void sequences(const Bench &bench)
         {"get", "sdsl", [&] { return each(places, [&](uint64_t at) { return select(at + 1); }); }},
         {"get", "C",
          [&] { return each(places, [&](uint64_t at) { return bitm_sequence_get(&sequence, at, &got), got; }); }},
+        {"get", "C with samples",
+         [&] {
+             return each(places, [&](uint64_t at) { return bitm_sequence_get(&sampled.sequence, at, &got), got; });
+         }},
         {"get_list", "C",
          [&] {
              return lists([&](size_t from) {
                  return bitm_sequence_get_list(&sequence, &places[from], LIST, answers, LIST, &got), 0;
+             });
+         }},
+        {"get_list", "C with samples",
+         [&] {
+             return lists([&](size_t from) {
+                 return bitm_sequence_get_list(&sampled.sequence, &places[from], LIST, answers, LIST, &got), 0;
              });
          }},
     });
@@ -231,10 +276,23 @@ void sequences(const Bench &bench)
          [&] {
              return each(values, [&](uint64_t it) { return bitm_sequence_first_at_least(&sequence, it, &got), got; });
          }},
+        {"first_at_least", "C with samples",
+         [&] {
+             return each(values, [&](uint64_t it) {
+                 return bitm_sequence_first_at_least(&sampled.sequence, it, &got), got;
+             });
+         }},
         {"first_at_least_list", "C",
          [&] {
              return lists([&](size_t from) {
                  bitm_sequence_first_at_least_list(&sequence, &values[from], LIST, answers, LIST, &counts);
+                 return counts.missing;
+             });
+         }},
+        {"first_at_least_list", "C with samples",
+         [&] {
+             return lists([&](size_t from) {
+                 bitm_sequence_first_at_least_list(&sampled.sequence, &values[from], LIST, answers, LIST, &counts);
                  return counts.missing;
              });
          }},

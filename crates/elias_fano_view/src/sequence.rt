@@ -18,8 +18,8 @@ use crate::bucket::{place_of, rank_each};
 use crate::checking::are_parts;
 use bitm_select::search::selected::WRONG_TABLES;
 use bitm_tables::answer::Answer;
-use elias_fano::building::item_at_one;
 use bitm_tables::source::Probe;
+use elias_fano::building::item_at_one;
 use elias_fano::{LowDigits, total_first_at_least_by, total_item_by};
 use lent_tables::{ByGuess, Lent, LentSamples, select_list_on};
 use std::marker::Model;
@@ -296,6 +296,12 @@ impl<'a> LentSequence<'a> {
         ensures answer { (xs : List ℕ) → Holds xs self.now → IsFirst xs v result }
     {
         let source = &mut self.upper.probe();
-        total_first_at_least_by(source, &self.by_zeros(), &mut self.low_digits(), self.len, v)
+        total_first_at_least_by(
+            source,
+            &self.by_zeros(),
+            &mut self.low_digits(),
+            self.len,
+            v,
+        )
     }
 }

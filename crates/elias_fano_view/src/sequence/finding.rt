@@ -23,7 +23,13 @@ impl<'a> LentSequence<'a> {
         ensures answer { (xs : List ℕ) → Holds xs self.now → IsLast xs v result }
     {
         let source = &mut self.upper.probe();
-        total_last_at_most_by(source, &self.by_zeros(), &mut self.low_digits(), self.len, v)
+        total_last_at_most_by(
+            source,
+            &self.by_zeros(),
+            &mut self.low_digits(),
+            self.len,
+            v,
+        )
     }
 
     /// Whether `v` is one of the numbers, where the parts are those of a sequence; in other parts the answer may be
