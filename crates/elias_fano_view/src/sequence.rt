@@ -43,6 +43,16 @@ fn item_of(low: &mut LowDigits<'_>, n: usize, place: usize, one: usize) -> Answe
     Answer::Found(item_at_one(one, low, place))
 }
 
+/// No samples of a kind: selections go by the tables alone.
+#[inline(always)]
+fn no_samples<'a>() -> LentSamples<'a> {
+    LentSamples {
+        samples: &[],
+        starts: &[],
+        log2: 0,
+    }
+}
+
 /// The borrowed parts of a sequence, whose lengths are right.
 ///
 /// Contracts see the number of numbers, the number of low bits of each, and the lists. The lists may hold anything:
@@ -86,18 +96,13 @@ impl<'a> LentSequence<'a> {
         if low.len() != (len * width as usize).div_ceil(64) {
             return None;
         }
-        let none = LentSamples {
-            samples: &[],
-            starts: &[],
-            log2: 0,
-        };
         Some(LentSequence {
             len,
             width,
             low,
             upper,
-            ones: none,
-            zeros: none,
+            ones: no_samples(),
+            zeros: no_samples(),
         })
     }
 
@@ -114,13 +119,20 @@ impl<'a> LentSequence<'a> {
     /// ```
     #[inline(always)]
     pub fn with_samples(self, ones: LentSamples<'a>, zeros: LentSamples<'a>) -> LentSequence<'a>
-        ensures { result ≡ self }
+        ensures { result ≡ self.entry }
     {
+        let LentSequence {
+            len,
+            width,
+            low,
+            upper,
+            ..
+        } = self;
         LentSequence {
-            len: self.len,
-            width: self.width,
-            low: self.low,
-            upper: self.upper,
+            len,
+            width,
+            low,
+            upper,
             ones,
             zeros,
         }
@@ -279,8 +291,8 @@ impl<'a> LentSequence<'a> {
         ensures inside { IsOfPlace self.now.len i result }
         ensures answer { (xs : List ℕ) → Holds xs self.now → IsItem xs i result }
     {
-        let source = &mut self.upper.probe();
-        total_item_by(source, &self.by_ones(), &mut self.low_digits(), self.len, i)
+        let (source, low) = (&mut self.upper.probe(), &mut self.low_digits());
+        total_item_by(source, &self.by_ones(), low, self.len, i)
     }
 
     /// The successor of `v`: the least index whose number is at least `v`, and `Absent` exactly where each number is
@@ -295,13 +307,7 @@ impl<'a> LentSequence<'a> {
         ensures told { IfPlace self.now.len result (TellsLess self.now v) }
         ensures answer { (xs : List ℕ) → Holds xs self.now → IsFirst xs v result }
     {
-        let source = &mut self.upper.probe();
-        total_first_at_least_by(
-            source,
-            &self.by_zeros(),
-            &mut self.low_digits(),
-            self.len,
-            v,
-        )
+        let (source, low) = (&mut self.upper.probe(), &mut self.low_digits());
+        total_first_at_least_by(source, &self.by_zeros(), low, self.len, v)
     }
 }

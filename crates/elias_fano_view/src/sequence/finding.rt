@@ -22,14 +22,8 @@ impl<'a> LentSequence<'a> {
         ensures told { IfLast result (TellsAtMost self.now v) }
         ensures answer { (xs : List ℕ) → Holds xs self.now → IsLast xs v result }
     {
-        let source = &mut self.upper.probe();
-        total_last_at_most_by(
-            source,
-            &self.by_zeros(),
-            &mut self.low_digits(),
-            self.len,
-            v,
-        )
+        let (source, low) = (&mut self.upper.probe(), &mut self.low_digits());
+        total_last_at_most_by(source, &self.by_zeros(), low, self.len, v)
     }
 
     /// Whether `v` is one of the numbers, where the parts are those of a sequence; in other parts the answer may be
@@ -45,8 +39,7 @@ impl<'a> LentSequence<'a> {
         ensures told { IfSome result (λ is. (p : ℕ) × TellsLess self.now v p
             × (p ≡ self.now.len → is ≡ false)) }
     {
-        let source = &mut self.upper.probe();
-        let (by, of_ones) = (&self.by_zeros(), &self.by_ones());
-        total_contains_by(source, by, of_ones, &mut self.low_digits(), self.len, v)
+        let (source, low) = (&mut self.upper.probe(), &mut self.low_digits());
+        total_contains_by(source, &self.by_zeros(), &self.by_ones(), low, self.len, v)
     }
 }
