@@ -112,6 +112,8 @@ const cursor: Cursor = numbers.cursor(), there: number | bigint | undefined = cu
 const words = new Dictionary([4, 9n], { percent: 150, seed: 3n }), which: number | undefined = words.get(4n), many: (number | undefined)[] = words.getList([4]), key9: number | bigint | undefined = words.keyOf(1);
 const trie = new Trie([2, 0, 1n, 0], "abe", { width: 9, ends: BitVector.fromPositions([1], 4) }), node: number | undefined = trie.find([98n]), deepest: { node: number; count: number } = trie.longest("bee");
 const label: number | bigint | undefined = trie.label(3n), ends: boolean | undefined = Trie.open(trie.toBytes(), { check: false }).isEnd(1), letters: Uint8Array | (number | bigint)[] | undefined = trie.word(3);
+const kinds: [number | bigint, number][] = matrix.distinct(0, 2n), often3 = new Map(matrix.top(3)), shared: (number | bigint)[] = matrix.intersect(0, 1, 1n, 2);
+void [kinds, often3.get(3), shared];
 void [node, deepest, label, ends, letters, ...trie.children(0)];
 void [there, rest, which, many, key9, Dictionary.open(words.toBytes(), { check: false }).has(4), numbers.union(numbers).length];
 void [median, often, before, found, near, bits, places, part, text.has([1n, 2]), made];
@@ -120,7 +122,7 @@ void [rank, place, doubles, wide, list, all, least, flags, bytes, key, NO_ANSWER
 const WRONG = ["index.rank('1')", "index.rank()", "const x: number = index.select(1)", "const x: number = numbers.at(0)", "new EliasFano('12')",
     "new Index([1, 2])", "index.selectList([1]).byteLength", "open('name')", "new PerfectHash([{}])", "index.set(1)", "matrix.select(1)", "const y: number = matrix.get(0)", "TextIndex.of([1])",
     "TextIndex.ofLetters([1])", "new Cursor([1])", "cursor.nextGeq('1')", "const z: number = words.get(1)", "new Dictionary(['1'])", "intersect(numbers)", "union([index])",
-    "new Trie([1, 0])", "trie.find(98)", "const w: number = trie.find('b')", "new Trie([1, 0], 'a', { ends: [1] })"];
+    "matrix.top()", "matrix.intersect(0, 1)", "new Trie([1, 0])", "trie.find(98)", "const w: number = trie.find('b')", "new Trie([1, 0], 'a', { ends: [1] })"];
 
 test("tsc takes the types, and refuses what is wrong", { skip: !(has("tsc") && has("npm")) && "tsc is not here" }, () => {
     const folder = installed(), base = ["--strict", "--noEmit", "--target", "es2022", "--lib", "es2022,dom"];
