@@ -85,7 +85,7 @@ const LEFT_OUT = {
     bitm_hash_block_build: "as bitm_hash_block_size",
     bitm_hash_block_open: "as bitm_hash_block_size",
     bitm_hash_block_check: "as bitm_hash_block_size",
-    bitm_hash_get_list: "bitm_hash_find_list looks at the fingerprints too",
+    bitm_hash_get: "bitm_hash_find looks at the fingerprint too",
     bitm_text_len: "the struct of an open block has the length",
     bitm_text_size: "a block of other widths than those of letters below a bound is not made here",
 };
