@@ -10,7 +10,8 @@
     sdsl [RUNS]             sdsl.csv: beside sdsl-lite (Debian: libsdsl-dev)
     structures [RUNS]       structures.csv: matrices, sequences and trees beside those of sdsl-lite; 8 GB of memory
     texts [RUNS]            texts.csv: indexes of texts beside those of sdsl-lite; words from a list (Debian: wamerican)
-    limits [RUNS]           limits.csv: beside one random word and a rank by hand, in small pages and huge ones
+    limits [RUNS]           limits.csv: beside one random word and a rank by hand, in the loop that is timed and as a call
+                            with checks, in small pages and huge ones
     mapped [RUNS]           mapped.csv: blocks in mapped files of 1.1 GB, below $TMPDIR or /tmp, which has to be on a disk;
                             8 GB of memory
     javascript [RUNS]       javascript.csv: the package beside plain JavaScript, by both modules (Node)

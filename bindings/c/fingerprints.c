@@ -3,7 +3,7 @@
 #define _DEFAULT_SOURCE
 #include "places.h"
 
-enum { KEYS = 300, LEVELS = 256, ROOM = 1000 };
+enum { KEYS = 300, LEVELS = 256, ROOM = 1000, DRAWS = 2000 };
 enum { OF_WORDS = OF_MORE, OF_UPPER, OF_LOWER, OF_SIZES, OF_PRINTS, OF_KEYS, OF_MARKS };
 
 static uint64_t *keys, *marks;
@@ -57,11 +57,36 @@ static uint32_t same(const struct bitm_hash *hash, const uint64_t *prints, size_
     return status;
 }
 
+/* Whether so many of the tries, which hit with a chance of 2^-width each, have hit as may be expected: but for one in
+ * 10^12 draws they do. The chance of k hits or more is at most mean^k / k!; many are within eight times their deviation. */
+static bool are_expected(uint64_t hits, uint64_t tries, uint32_t width)
+{
+    const double mean = (double)tries / (width < 64 ? (double)((uint64_t)1 << width) : 0x1p64);
+    const double off = (double)hits - mean;
+    double chance = 1;
+    if (mean >= 64) return off * off <= 64 * mean;
+    for (uint64_t k = 1; k <= hits; k++) chance *= mean / (double)k;
+    return chance > 1e-12;
+}
+
+/* Values that are drawn have the number of a key, most of them, and its fingerprint as often as chance has it. */
+static void by_chance(const struct bitm_hash *hash, const uint64_t *prints, size_t len, uint32_t width)
+{
+    uint64_t numbered = 0, kept = 0;
+    for (int i = 0; i < DRAWS; i++) {
+        uint64_t number;
+        const uint64_t key = draw();
+        numbered += bitm_hash_get(hash, key, &number) == BITM_OK;
+        kept += same(hash, prints, len, width, key, draw()) == BITM_OK;
+    }
+    MUST(numbered > DRAWS / 2 && are_expected(kept, numbered, width));
+}
+
 /* Fingerprints of one width, in as few words as they take. */
 static void of_width(const struct bitm_hash *hash, uint32_t width)
 {
     const size_t len = bitm_bits_words_len((uint64_t)KEYS * width);
-    uint64_t *prints = placed(OF_PRINTS, 8 * len), *out = placed(OF_LIST, 8 * KEYS), found[KEYS], kept = 0;
+    uint64_t *prints = placed(OF_PRINTS, 8 * len), *out = placed(OF_LIST, 8 * KEYS), found[KEYS];
     struct bitm_list_counts *counts = counts_at_the_guard();
     for (size_t i = 0; i < len; i++) prints[i] = draw();
     const uint64_t last = len ? prints[len - 1] : 0;
@@ -75,9 +100,8 @@ static void of_width(const struct bitm_hash *hash, uint32_t width)
         MUST(print_at(prints, width, number) == (marks[i] & largest(width)));
         MUST(same(hash, prints, len, width, keys[i], marks[i]) == BITM_OK);
         MUST(same(hash, prints, len, width, keys[i], marks[i] ^ 1) == (width ? BITM_NONE : BITM_OK));
-        kept += same(hash, prints, len, width, draw(), draw()) == BITM_OK;
     }
-    MUST(width < 16 || kept == 0);
+    by_chance(hash, prints, len, width);
     const uint32_t behind = (uint32_t)(64 * len - (uint64_t)KEYS * width); /* bits after the last fingerprint */
     if (behind) MUST(prints[len - 1] >> (64 - behind) == last >> (64 - behind));
 }

@@ -2,7 +2,7 @@
  * byte is changed, each prefix, and blocks whose words and tables hold random numbers. All is beside pages that may not
  * be touched (places.h). */
 #define _DEFAULT_SOURCE
-#include "changed.h"
+#include "plain_numbers.h"
 
 enum { NUMBERS = 700, SMALL = 9, LIST = 64 };
 
@@ -15,14 +15,11 @@ struct plain {
 
 enum { OF_NUMBERS = OF_MORE, OF_SCRATCH, OF_ASKED, OF_INDICES, OF_RANKS };
 
-/* Drawn numbers, of which about `kinds` differ. */
-static void draw_numbers(struct plain *plain, size_t len, uint32_t width, uint64_t kinds)
+static void draw_plain(struct plain *plain, size_t len, uint32_t width, uint64_t kinds)
 {
     plain->len = len;
     plain->width = width;
-    const uint64_t first = draw();
-    for (size_t i = 0; i < len; i++)
-        plain->numbers[i] = (kinds == 0 ? draw() : first * (1 + draw() % kinds)) & largest(width);
+    draw_numbers(plain->numbers, len, width, kinds);
 }
 
 /* The block of the numbers, which ends at the guard, as they and the scratch do. */
@@ -172,7 +169,7 @@ static void drawn_matrices(void)
     static struct plain plain;
     for (uint32_t i = 0; i < 96; i++) {
         uint64_t words;
-        draw_numbers(&plain, i < 12 ? i : draw() % NUMBERS, 1 + i % 64, i % 3 == 2 ? 0 : 1 + 3 * (i % 3));
+        draw_plain(&plain, i < 12 ? i : draw() % NUMBERS, 1 + i % 64, i % 3 == 2 ? 0 : 1 + 3 * (i % 3));
         uint64_t *block = built(&plain, &words);
         struct bitm_matrix matrix = {0};
         MUST(bitm_matrix_open(block, words, &matrix) == BITM_OK);
@@ -220,7 +217,7 @@ static void changed_blocks(void)
 {
     static struct plain plain;
     uint64_t words;
-    draw_numbers(&plain, SMALL, 3, 0);
+    draw_plain(&plain, SMALL, 3, 0);
     uint64_t *const block = built(&plain, &words);
     changed_bytes(&of_matrix, block, words, 1);
     cut_off(&of_matrix, block, words);
@@ -233,7 +230,7 @@ static void random_blocks(void)
     struct bitm_matrix matrix;
     for (size_t turn = 0; turn < 400; turn++) {
         uint64_t words;
-        draw_numbers(&plain, 1 + draw() % 300, 1 + (uint32_t)(draw() % 64), draw() % 9);
+        draw_plain(&plain, 1 + draw() % 300, 1 + (uint32_t)(draw() % 64), draw() % 9);
         uint64_t *const block = built(&plain, &words);
         spoil(block, of_matrix.head, words, turn);
         MUST(opens(&of_matrix, block, words, &matrix));
@@ -251,7 +248,7 @@ static void wrong_lengths(void)
     static struct plain plain;
     uint64_t words, *out;
     uint32_t status;
-    draw_numbers(&plain, 200, 5, 4);
+    draw_plain(&plain, 200, 5, 4);
     uint64_t *const block = built(&plain, &words);
     struct bitm_matrix matrix = {0};
     MUST(bitm_matrix_open(block, words, &matrix) == BITM_OK);

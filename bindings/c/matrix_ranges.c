@@ -2,30 +2,11 @@
  * tables hold random numbers; ranges that are none, and structs of wrong lengths. The number that is written is beside
  * a page that may not be touched (places.h). */
 #define _DEFAULT_SOURCE
-#include "changed.h"
+#define NUMBERS 300
+#define WORDS 600
+#include "plain_numbers.h"
 
-enum { NUMBERS = 300, WORDS = 600 };
-
-static uint64_t numbers[NUMBERS], scratch[2 * NUMBERS], block[WORDS], sorted[NUMBERS];
-
-static int by_number(const void *one, const void *other)
-{
-    const uint64_t a = *(const uint64_t *)one, b = *(const uint64_t *)other;
-    return (a > b) - (a < b);
-}
-
-/* A matrix of drawn numbers, of which about `kinds` differ, or of any. */
-static struct bitm_matrix drawn(size_t len, uint32_t width, uint64_t kinds)
-{
-    uint64_t words;
-    struct bitm_matrix matrix = {0};
-    const uint64_t first = draw();
-    for (size_t i = 0; i < len; i++) numbers[i] = (kinds == 0 ? draw() : first * (1 + draw() % kinds)) & largest(width);
-    MUST(bitm_matrix_size(len, width, &words) == BITM_OK && words <= WORDS);
-    MUST(bitm_matrix_build(numbers, len, width, scratch, 2 * len, block, words) == BITM_OK);
-    MUST(bitm_matrix_open(block, words, &matrix) == BITM_OK);
-    return matrix;
-}
+static uint64_t sorted[NUMBERS];
 
 /* How many of the sorted numbers are less than the bound. */
 static size_t below(size_t size, uint64_t bound)
@@ -48,13 +29,13 @@ static void bound_as_sorted(const struct bitm_matrix *matrix, size_t start, size
     MUST(less > 0 ? status == BITM_OK && *out == sorted[less - 1] : status == BITM_NONE);
 }
 
-static void range_as_sorted(const struct bitm_matrix *matrix, size_t start, size_t end)
+static void range_as_sorted(const struct bitm_matrix *matrix, size_t turn, size_t start, size_t end)
 {
     uint64_t *out;
     uint32_t status;
     const size_t size = end - start;
-    memcpy(sorted, numbers + start, 8 * size);
-    qsort(sorted, size, 8, by_number);
+    (void)turn;
+    sort_range(start, end, sorted);
     for (size_t k = 0; k < size; k += 1 + size / 20) {
         ANSWER(bitm_matrix_quantile(matrix, start, end, k, out));
         MUST(status == BITM_OK && *out == sorted[k]);
@@ -85,26 +66,6 @@ static void all_are(const struct bitm_matrix *matrix, size_t start, size_t end, 
     MUST(status == wanted);
 }
 
-static void drawn_ranges(void)
-{
-    for (uint32_t i = 0; i < 96; i++) {
-        const size_t len = i < 6 ? i : draw() % (NUMBERS + 1);
-        struct bitm_matrix matrix = drawn(len, 1 + i % 64, i % 3 == 2 ? 0 : 1 + 6 * (i % 3));
-        for (size_t turn = 0; turn < 12; turn++) {
-            const size_t start = turn == 0 ? 0 : draw() % (len + 1);
-            range_as_sorted(&matrix, start, turn == 0 ? len : start + draw() % (len - start + 1));
-        }
-        all_are(&matrix, 0, len + 1, BITM_NONE);
-        all_are(&matrix, len, SIZE_MAX, BITM_NONE);
-        all_are(&matrix, SIZE_MAX, SIZE_MAX, BITM_NONE);
-        if (len > 0) all_are(&matrix, len, len - 1, BITM_NONE);
-        matrix.ones_len++;
-        all_are(&matrix, 0, len, BITM_BAD_SIZE);
-        matrix.ones_len--, matrix.width = 65;
-        all_are(&matrix, 0, len, BITM_BAD_SIZE);
-    }
-}
-
 /* Whatever the block holds: a count is at most that of the range, and a number on its side of the bound. */
 static void ranges_within(const struct bitm_matrix *matrix)
 {
@@ -125,19 +86,10 @@ static void ranges_within(const struct bitm_matrix *matrix)
     }
 }
 
-static void random_blocks(void)
-{
-    for (size_t turn = 0; turn < 400; turn++) {
-        const struct bitm_matrix matrix = drawn(1 + draw() % NUMBERS, 1 + (uint32_t)(draw() % 64), draw() % 9);
-        spoil(block, 40, WORDS, turn);
-        ranges_within(&matrix);
-    }
-}
-
 static void tests(void)
 {
-    drawn_ranges();
-    random_blocks();
+    each_range(range_as_sorted, all_are);
+    each_spoilt(ranges_within);
 }
 
 int main(int argc, char **argv)

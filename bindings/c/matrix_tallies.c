@@ -2,21 +2,15 @@
  * sorted copies of the ranges, with room for all and for fewer; blocks whose words and tables hold random numbers; ranges
  * that are none, and structs of wrong lengths. What is written is beside a page that may not be touched (places.h). */
 #define _DEFAULT_SOURCE
-#include "changed.h"
+#define NUMBERS 200
+#define WORDS 500
+#include "plain_numbers.h"
 
-enum { NUMBERS = 200, WORDS = 500, OF_TALLIES = OF_MORE };
+enum { OF_TALLIES = OF_MORE };
 
 struct tally {
     uint64_t number, count;
 };
-
-static uint64_t numbers[NUMBERS], scratch[2 * NUMBERS], block[WORDS];
-
-static int by_number(const void *one, const void *other)
-{
-    const uint64_t a = *(const uint64_t *)one, b = *(const uint64_t *)other;
-    return (a > b) - (a < b);
-}
 
 /* The most frequent first, and of equally frequent ones the least. */
 static int by_count(const void *one, const void *other)
@@ -25,26 +19,12 @@ static int by_count(const void *one, const void *other)
     return a->count != b->count ? (a->count < b->count) - (a->count > b->count) : by_number(&a->number, &b->number);
 }
 
-/* A matrix of drawn numbers, of which about `kinds` differ, or of any. */
-static struct bitm_matrix drawn(size_t len, uint32_t width, uint64_t kinds)
-{
-    uint64_t words;
-    struct bitm_matrix matrix = {0};
-    const uint64_t first = draw();
-    for (size_t i = 0; i < len; i++) numbers[i] = (kinds == 0 ? draw() : first * (1 + draw() % kinds)) & largest(width);
-    MUST(bitm_matrix_size(len, width, &words) == BITM_OK && words <= WORDS);
-    MUST(bitm_matrix_build(numbers, len, width, scratch, 2 * len, block, words) == BITM_OK);
-    MUST(bitm_matrix_open(block, words, &matrix) == BITM_OK);
-    return matrix;
-}
-
 /* The distinct numbers of a range, rising, with how often each is there. */
 static size_t tallies_of(size_t start, size_t end, struct tally *all)
 {
     uint64_t sorted[NUMBERS];
     size_t kinds = 0;
-    memcpy(sorted, numbers + start, 8 * (end - start));
-    qsort(sorted, end - start, 8, by_number);
+    sort_range(start, end, sorted);
     for (size_t i = 0; i < end - start; i++) {
         if (i == 0 || sorted[i] != sorted[i - 1]) all[kinds++] = (struct tally){sorted[i], 0};
         all[kinds - 1].count++;
@@ -95,8 +75,8 @@ static void shared_as(const struct bitm_matrix *matrix, size_t start, size_t end
     are(both, kinds, room, list, NULL);
 }
 
-/* The status of each of the three calls, which write nothing. */
-static void all_are(const struct bitm_matrix *matrix, size_t start, size_t end, size_t counts_len, uint32_t wanted)
+/* The status of each of the three calls, which write nothing; where counts_len is not 4, of those with counts. */
+static void each_is(const struct bitm_matrix *matrix, size_t start, size_t end, size_t counts_len, uint32_t wanted)
 {
     uint64_t *out, *const list = untouched_at(OF_LIST, 8 * 4), *const counts = untouched_at(OF_TALLIES, 8 * counts_len);
     uint32_t status;
@@ -112,28 +92,20 @@ static void all_are(const struct bitm_matrix *matrix, size_t start, size_t end, 
     MUST(is_untouched(list, 8 * 4) && is_untouched(counts, 8 * counts_len));
 }
 
-static void drawn_ranges(void)
+static void all_are(const struct bitm_matrix *matrix, size_t start, size_t end, uint32_t wanted)
 {
-    for (uint32_t i = 0; i < 96; i++) {
-        const size_t len = i < 6 ? i : draw() % (NUMBERS + 1);
-        struct bitm_matrix matrix = drawn(len, 1 + i % 64, i % 3 == 2 ? 0 : 1 + 9 * (i % 3));
-        for (size_t turn = 0; turn < 12; turn++) {
-            const size_t start = turn == 0 ? 0 : draw() % (len + 1), end = turn == 0 ? len : start + draw() % (len - start + 1);
-            const size_t room = turn < 3 ? len : draw() % 8;
-            const uint64_t from = turn % 2 && len ? numbers[draw() % len] + draw() % 2 : 0;
-            tallies_as(&matrix, start, end, room, from);
-            shared_as(&matrix, start, end, room, from);
-        }
-        tallies_as(&matrix, 0, len, len, UINT64_MAX);
-        all_are(&matrix, 0, len, 3, BITM_BAD_SIZE);
-        all_are(&matrix, 0, len + 1, 4, BITM_NONE);
-        all_are(&matrix, len, SIZE_MAX, 4, BITM_NONE);
-        if (len > 0) all_are(&matrix, len, len - 1, 4, BITM_NONE);
-        matrix.ones_len++;
-        all_are(&matrix, 0, len, 4, BITM_BAD_SIZE);
-        matrix.ones_len--, matrix.width = 65;
-        all_are(&matrix, 0, len, 4, BITM_BAD_SIZE);
-    }
+    each_is(matrix, start, end, 4, wanted);
+}
+
+static void range_as_tallies(const struct bitm_matrix *matrix, size_t turn, size_t start, size_t end)
+{
+    const size_t room = turn < 3 ? matrix->len : draw() % 8;
+    const uint64_t from = turn % 2 && matrix->len ? numbers[draw() % matrix->len] + draw() % 2 : 0;
+    tallies_as(matrix, start, end, room, from);
+    shared_as(matrix, start, end, room, from);
+    if (turn > 0) return;
+    tallies_as(matrix, start, end, room, UINT64_MAX);
+    each_is(matrix, start, end, 3, BITM_BAD_SIZE);
 }
 
 /* Whatever the block holds: numbers rise from a bound on, counts are those of a range, and what is behind is untouched. */
@@ -173,19 +145,10 @@ static void lists_within(const struct bitm_matrix *matrix)
     }
 }
 
-static void random_blocks(void)
-{
-    for (size_t turn = 0; turn < 400; turn++) {
-        const struct bitm_matrix matrix = drawn(1 + draw() % NUMBERS, 1 + (uint32_t)(draw() % 64), draw() % 9);
-        spoil(block, 40, WORDS, turn);
-        lists_within(&matrix);
-    }
-}
-
 static void tests(void)
 {
-    drawn_ranges();
-    random_blocks();
+    each_range(range_as_tallies, all_are);
+    each_spoilt(lists_within);
 }
 
 int main(int argc, char **argv)

@@ -4,34 +4,11 @@
 #define _DEFAULT_SOURCE
 #include "changed.h"
 
-enum { NODES = 3000, SMALL = 9, LIST = 64 };
-
-/* A tree as arrays: the children of a node stand side by side, from `first` on. */
-struct plain {
-    size_t len;
-    uint64_t degrees[NODES], parents[NODES], first[NODES];
-};
-
-enum { OF_DEGREES = OF_MORE };
-
-/* A drawn tree: each node has from 0 to `most` children, as long as there are nodes left; a path where most is 1. */
-static void draw_tree(struct plain *tree, size_t len, uint64_t most)
-{
-    size_t known = 1;
-    tree->len = len;
-    for (size_t node = 0; node < len; node++) {
-        uint64_t degree = draw() % (most + 1);
-        if (degree == 0 && known == node + 1) degree = 1; /* else the next node would have no parent */
-        if (degree > len - known) degree = len - known;
-        tree->degrees[node] = degree;
-        tree->first[node] = known;
-        for (uint64_t k = 0; k < degree; k++) tree->parents[known++] = node;
-    }
-    MUST(known == len);
-}
+enum { NODES = 3000, SMALL = 9, LIST = 64, OF_DEGREES = OF_MORE };
+#include "plain_tree.h"
 
 /* The block of the tree, at the guard, of degrees that are so too. */
-static uint64_t *built(const struct plain *tree, uint64_t *words)
+static uint64_t *built(const struct plain_tree *tree, uint64_t *words)
 {
     MUST(bitm_tree_size(tree->len, words) == BITM_OK && *words % 8 == 0);
     uint64_t *block = untouched_at(OF_BLOCK, 8 * *words); /* memory that is written may hold anything */
@@ -41,15 +18,14 @@ static uint64_t *built(const struct plain *tree, uint64_t *words)
     return block;
 }
 
-static void answers_as(const struct plain *plain, const struct bitm_tree *tree)
+static void answers_as(const struct plain_tree *plain, const struct bitm_tree *tree)
 {
     uint64_t *out;
     uint32_t status;
     MUST(tree->len == plain->len);
     for (size_t node = 0; node < plain->len; node++) {
         const uint64_t degree = plain->degrees[node];
-        ANSWER(bitm_tree_parent(tree, node, out));
-        MUST(node == 0 ? status == BITM_NONE : status == BITM_OK && *out == plain->parents[node]);
+        parent_as(plain, tree, node);
         ANSWER(bitm_tree_degree(tree, node, out));
         MUST(status == BITM_OK && *out == degree);
         for (uint64_t k = 0; k < degree; k += 1 + degree / 50) {
@@ -161,7 +137,7 @@ static void answers_within(const void *opened)
 static void drawn_trees(void)
 {
     static const uint64_t most[] = {1, 2, 3, 10, 100, NODES};
-    static struct plain plain;
+    static struct plain_tree plain;
     for (size_t i = 0; i < 60; i++) {
         uint64_t words;
         const size_t len = i < 12 ? i + 1 : 1 + draw() % NODES;
@@ -211,7 +187,7 @@ static const struct kind of_tree = {32, sizeof(struct bitm_tree), bitm_tree_chec
 
 static void changed_blocks(void)
 {
-    static struct plain plain;
+    static struct plain_tree plain;
     uint64_t words;
     draw_tree(&plain, SMALL, 3);
     uint64_t *const block = built(&plain, &words);
@@ -222,7 +198,7 @@ static void changed_blocks(void)
 /* Random words after a right header, and random words alone. */
 static void random_blocks(void)
 {
-    static struct plain plain;
+    static struct plain_tree plain;
     struct bitm_tree tree;
     for (size_t turn = 0; turn < 400; turn++) {
         uint64_t words;
@@ -240,7 +216,7 @@ static void random_blocks(void)
 /* Structs whose lengths are not those of the number of nodes. */
 static void wrong_lengths(void)
 {
-    static struct plain plain;
+    static struct plain_tree plain;
     uint64_t words, *out;
     uint32_t status;
     draw_tree(&plain, 200, 4);

@@ -5,12 +5,14 @@
 #include "changed.h"
 
 enum { NODES = 900, SMALL = 9, DEEP = NODES + 3 };
+#include "plain_tree.h"
 enum { OF_DEGREES = OF_MORE, OF_LABELS, OF_ENDS, OF_WORD, OF_BYTES, OF_MATCHED, OF_ROOM, OF_TRIE };
 
-/* A trie as arrays: the children of a node stand side by side, from `first` on; the root's label is not one. */
+/* A trie as arrays; the root's label is not one. */
 struct plain {
-    size_t len, width;
-    uint64_t degrees[NODES], parents[NODES], first[NODES], labels[NODES], ends[(NODES + 63) / 64];
+    struct plain_tree tree;
+    size_t width;
+    uint64_t labels[NODES], ends[(NODES + 63) / 64];
     bool has_ends;
 };
 
@@ -27,22 +29,12 @@ static void draw_labels(struct plain *trie, uint64_t first, uint64_t count)
     }
 }
 
-/* A drawn trie: each node has from 0 to `most` children, as long as there are nodes left; a path where most is 1. */
+/* A drawn trie, whose tree is that of draw_tree. */
 static void draw_trie(struct plain *trie, size_t len, size_t width, uint64_t most)
 {
-    size_t known = 1;
-    trie->len = len, trie->width = width, trie->has_ends = draw() % 4;
-    if (width < 10 && most > (uint64_t)1 << width) most = (uint64_t)1 << width;
-    for (size_t node = 0; node < len; node++) {
-        uint64_t degree = draw() % (most + 1);
-        if (degree == 0 && known == node + 1) degree = 1; /* else the next node would have no parent */
-        if (degree > len - known) degree = len - known;
-        trie->degrees[node] = degree;
-        trie->first[node] = known;
-        draw_labels(trie, known, degree);
-        for (uint64_t k = 0; k < degree; k++) trie->parents[known++] = node;
-    }
-    MUST(known == len);
+    draw_tree(&trie->tree, len, width < 10 && most > (uint64_t)1 << width ? (uint64_t)1 << width : most);
+    trie->width = width, trie->has_ends = draw() % 4;
+    for (size_t node = 0; node < len; node++) draw_labels(trie, trie->tree.first[node], trie->tree.degrees[node]);
     for (size_t i = 0; i < sizeof trie->ends / sizeof *trie->ends; i++) trie->ends[i] = draw();
 }
 
@@ -55,21 +47,21 @@ static void *given(unsigned place, const void *from, size_t size)
 static uint32_t build(const struct plain *trie, size_t labels_len, uint32_t width, size_t ends_len, uint64_t *block,
                       size_t words)
 {
-    const uint64_t *degrees = given(OF_DEGREES, trie->degrees, 8 * trie->len);
+    const uint64_t *degrees = given(OF_DEGREES, trie->tree.degrees, 8 * trie->tree.len);
     const uint64_t *labels = given(OF_LABELS, trie->labels + 1, 8 * labels_len);
     const uint64_t *ends = given(OF_ENDS, trie->ends, 8 * ends_len);
-    return bitm_trie_build(degrees, trie->len, labels, labels_len, width, ends, ends_len, block, words);
+    return bitm_trie_build(degrees, trie->tree.len, labels, labels_len, width, ends, ends_len, block, words);
 }
 
-static size_t ends_len(const struct plain *trie) { return trie->has_ends ? (trie->len + 63) / 64 : 0; }
+static size_t ends_len(const struct plain *trie) { return trie->has_ends ? (trie->tree.len + 63) / 64 : 0; }
 
 /* The block of the trie, at the guard. */
 static uint64_t *built(const struct plain *trie, uint64_t *words)
 {
     const uint32_t width = (uint32_t)trie->width;
-    MUST(bitm_trie_size(trie->len, width, trie->has_ends, words) == BITM_OK && *words % 8 == 0);
+    MUST(bitm_trie_size(trie->tree.len, width, trie->has_ends, words) == BITM_OK && *words % 8 == 0);
     uint64_t *block = untouched_at(OF_BLOCK, 8 * *words); /* memory that is written may hold anything */
-    MUST(build(trie, trie->len - 1, width, ends_len(trie), block, *words) == BITM_OK);
+    MUST(build(trie, trie->tree.len - 1, width, ends_len(trie), block, *words) == BITM_OK);
     return block;
 }
 
@@ -124,8 +116,8 @@ static uint32_t longest(const struct bitm_trie *trie, const uint64_t *word, size
 /* The child with the label; 0 where there is none. */
 static uint64_t plain_child(const struct plain *plain, uint64_t node, uint64_t label)
 {
-    for (uint64_t k = 0; k < plain->degrees[node]; k++)
-        if (plain->labels[plain->first[node] + k] == label) return plain->first[node] + k;
+    for (uint64_t k = 0; k < plain->tree.degrees[node]; k++)
+        if (plain->labels[plain->tree.first[node] + k] == label) return plain->tree.first[node] + k;
     return 0;
 }
 
@@ -147,7 +139,7 @@ static void words_of(const struct plain *plain, const struct bitm_trie *trie, si
     uint64_t *out;
     uint32_t status;
     size_t len = 0;
-    for (size_t at = node; at != 0; at = plain->parents[at]) word[DEEP - 3 - ++len] = plain->labels[at];
+    for (size_t at = node; at != 0; at = plain->tree.parents[at]) word[DEEP - 3 - ++len] = plain->labels[at];
     const uint64_t *const from = word + DEEP - 3 - len;
     const size_t room = draw() % 3 ? len + draw() % 4 : draw() % (len + 1);
     uint64_t *const list = untouched_at(OF_ROOM, 8 * room);
@@ -168,16 +160,15 @@ static void answers_as(const struct plain *plain, const struct bitm_trie *trie)
 {
     uint64_t *out;
     uint32_t status;
-    MUST(trie->tree.len == plain->len && trie->width == plain->width && trie->ends_len == ends_len(plain));
-    for (size_t node = 0; node < plain->len; node++) {
+    MUST(trie->tree.len == plain->tree.len && trie->width == plain->width && trie->ends_len == ends_len(plain));
+    for (size_t node = 0; node < plain->tree.len; node++) {
         ANSWER(bitm_trie_label(trie, node, out));
         MUST(node == 0 ? status == BITM_NONE : status == BITM_OK && *out == plain->labels[node]);
         ANSWER(bitm_trie_is_end(trie, node, out));
         MUST(plain->has_ends ? status == BITM_OK && *out == bit_of(plain->ends, node) : status == BITM_NONE);
-        ANSWER(bitm_tree_parent(&trie->tree, node, out));
-        MUST(node == 0 ? status == BITM_NONE : status == BITM_OK && *out == plain->parents[node]);
-        for (uint64_t k = 0; k < plain->degrees[node]; k += 1 + plain->degrees[node] / 50) {
-            const uint64_t child = plain->first[node] + k;
+        parent_as(&plain->tree, &trie->tree, node);
+        for (uint64_t k = 0; k < plain->tree.degrees[node]; k += 1 + plain->tree.degrees[node] / 50) {
+            const uint64_t child = plain->tree.first[node] + k;
             for (uint64_t more = 0; more < 3; more++) {
                 const uint64_t label = plain->labels[child] + more, is = plain_child(plain, node, label);
                 ANSWER(bitm_trie_child(trie, node, label, out));
@@ -186,16 +177,16 @@ static void answers_as(const struct plain *plain, const struct bitm_trie *trie)
         }
         ANSWER(bitm_trie_child(trie, node, UINT64_MAX, out));
         MUST(status == BITM_NONE);
-        if (plain->len < 60 || draw() % 8 == 0) words_of(plain, trie, node);
+        if (plain->tree.len < 60 || draw() % 8 == 0) words_of(plain, trie, node);
     }
     for (int far = 0; far < 2; far++) {
-        const size_t node = far ? SIZE_MAX : plain->len;
+        const size_t node = far ? SIZE_MAX : plain->tree.len;
         uint64_t *const list = untouched_at(OF_ROOM, 16);
         ANSWER(bitm_trie_label(trie, node, out));
         MUST(status == BITM_NONE);
         ANSWER(bitm_trie_is_end(trie, node, out));
         MUST(status == BITM_NONE);
-        ANSWER(bitm_trie_child(trie, node, plain->labels[plain->len - 1], out));
+        ANSWER(bitm_trie_child(trie, node, plain->labels[plain->tree.len - 1], out));
         MUST(status == BITM_NONE);
         ANSWER(bitm_trie_word(trie, node, list, 2, out));
         MUST(status == BITM_NONE && is_untouched(list, 16));
@@ -252,7 +243,8 @@ static void drawn_tries(void)
 
 static struct plain four(void)
 {
-    return (struct plain){.len = 4, .width = 8, .degrees = {2, 0, 1, 0}, .labels = {9, 'a', 'b', 'e'}, .ends = {14}};
+    return (struct plain){
+        .tree = {.len = 4, .degrees = {2, 0, 1, 0}}, .width = 8, .labels = {9, 'a', 'b', 'e'}, .ends = {14}};
 }
 
 static void refused(struct plain trie, uint32_t wanted, size_t labels_len, uint32_t width, size_t ends)
@@ -278,9 +270,9 @@ static void no_tries(void)
     refused(trie, BITM_WRONG, 3, 8, 1);
     trie = four(), trie.labels[1] = 'c';
     refused(trie, BITM_WRONG, 3, 8, 1);
-    trie = four(), trie.degrees[0] = 1;
+    trie = four(), trie.tree.degrees[0] = 1;
     refused(trie, BITM_WRONG, 3, 8, 1);
-    trie = four(), trie.len = 0;
+    trie = four(), trie.tree.len = 0;
     refused(trie, BITM_WRONG, 0, 8, 0);
     trie = four();
     for (size_t len = 0; len <= 88; len++) {

@@ -59,26 +59,3 @@
       (local.set $to (i64.add (local.get $to) (i64.const 1)))
       (local.set $from (i64.add (local.get $from) (i64.const 8)))
       (br $next))))
-
-  ;; Copies those of n values whose flag, of 64 bits too, is not 0 behind the first k of `to`, leaving out what equals the
-  ;; one before. Returns how many `to` has then.
-  (func (export "keep") (param $values f64) (param $flags f64) (param $n f64) (param $to f64) (param $k f64) (result f64)
-    (local $v i64) (local $f i64) (local $i i64) (local $end i64) (local $first i64) (local $p i64)
-    (local.set $v (i64.trunc_f64_u (local.get $values)))
-    (local.set $f (i64.trunc_f64_u (local.get $flags)))
-    (local.set $end (i64.trunc_f64_u (local.get $n)))
-    (local.set $first (i64.trunc_f64_u (local.get $to)))
-    (local.set $p (i64.add (local.get $first) (i64.shl (i64.trunc_f64_u (local.get $k)) (i64.const 3))))
-    (block $done (loop $next
-      (br_if $done (i64.ge_u (local.get $i) (local.get $end)))
-      (if (i64.ne (i64.load (local.get $f)) (i64.const 0)) (then
-        (if (i32.or (i64.eq (local.get $p) (local.get $first)) (i64.ne
-            (i64.load (select (i64.sub (local.get $p) (i64.const 8)) (local.get $v) (i64.gt_u (local.get $p) (local.get $first))))
-            (i64.load (local.get $v)))) (then
-          (i64.store (local.get $p) (i64.load (local.get $v)))
-          (local.set $p (i64.add (local.get $p) (i64.const 8)))))))
-      (local.set $v (i64.add (local.get $v) (i64.const 8)))
-      (local.set $f (i64.add (local.get $f) (i64.const 8)))
-      (local.set $i (i64.add (local.get $i) (i64.const 1)))
-      (br $next)))
-    (f64.convert_i64_u (i64.shr_u (i64.sub (local.get $p) (local.get $first)) (i64.const 3))))

@@ -7,6 +7,7 @@ export { SparseBits } from "./sparse_bits.js";
 export { PerfectHash } from "./perfect_hash.js";
 export { Dictionary } from "./dictionary.js";
 export { Tree } from "./tree.js";
+export { Trie } from "./trie.js";
 export { WaveletMatrix } from "./wavelet_matrix.js";
 export { TextIndex } from "./text_index.js";
 export { open } from "./open.js";

@@ -72,25 +72,20 @@ export class Cursor {
     [dispose]() { this.free(); }
 }
 
-/**
- * The numbers from `from` on of a call that merges sequences, the first `most` of them: take(at, n) gets each block. The
- * shortest sequence is first, whose numbers an intersection looks up in the others.
- */
-function merge(name, sequences, from, most, take) {
-    const parts = sequences.sort((a, b) => a.length - b.length).map(partsOf), n = parts.length;
-    withRoom(BITM_CURSOR.bytes * n + 8 * BLOCK, cursors => {
-        const out = cursors + BITM_CURSOR.bytes * n;
+/** Runs body(cursors, n, out) with cursors at the first numbers of n sequences, of the shortest first, and room for numbers. */
+function withCursors(sequences, room, body) {
+    const parts = [...sequences].sort((a, b) => a.length - b.length).map(partsOf), n = parts.length;
+    return withRoom(BITM_CURSOR.bytes * n + 8 * room, cursors => {
         parts.forEach((it, k) => startAt(cursors + BITM_CURSOR.bytes * k, it));
-        for (let room = Math.min(BLOCK, most); ; room = Math.min(BLOCK, most)) {
-            const found = byBigInts(name, cursors, n, from, out, room);
-            if (found < 0) throw refused(found, "sequences", n);
-            const last = found === 0 ? MOST : wordsAt(out, found)[found - 1];
-            take(out, found);
-            most -= found;
-            if (found < room || most === 0 || last === MOST) return;
-            from = last + 1n;
-        }
+        return body(cursors, n, cursors + BITM_CURSOR.bytes * n);
     });
+}
+
+/** How many numbers from `from` on a call that merges sequences wrote. */
+function written(name, cursors, n, from, out, room) {
+    const found = byBigInts(name, cursors, n, from, out, room);
+    if (found < 0) throw refused(found, "sequences", n);
+    return found;
 }
 
 /** All sequences that a user gave, of which each is one that is not freed. */
@@ -102,10 +97,18 @@ function allOf(sequences) {
     return all;
 }
 
+/** The first `limit` numbers from `from` on, block by block. */
 function merged(name, sequences, from, limit) {
-    const found = [], first = big(from, "from"), most = limit === undefined ? Infinity : place(limit, "limit");
-    merge(name, allOf(sequences), first, most, (at, n) => {
-        for (const it of copyOut(at, n, "plain", false)) found.push(it);
+    const found = [];
+    let next = big(from, "from"), most = limit === undefined ? Infinity : place(limit, "limit");
+    withCursors(allOf(sequences), BLOCK, (cursors, n, out) => {
+        for (let more = true; more;) {
+            const room = Math.min(BLOCK, most), count = written(name, cursors, n, next, out, room), last = count > 0 ? wordsAt(out, count)[count - 1] : MOST;
+            for (const it of copyOut(out, count, "plain", false)) found.push(it);
+            most -= count;
+            next = last + 1n;
+            more = count === room && most > 0 && last < MOST;
+        }
     });
     return found;
 }
@@ -117,15 +120,7 @@ export function intersect(sequences, from = 0, limit = undefined) { return merge
 /** The numbers from `from` on that any of the sequences has, likewise. */
 export function union(sequences, from = 0, limit = undefined) { return merged("bitm_cursors_union", sequences, from, limit); }
 
-/** All of these in one BigUint64Array. */
-export function wordsOfUnion(sequences) {
-    const blocks = [];
-    let length = 0;
-    merge("bitm_cursors_union", allOf(sequences), 0n, Infinity, (at, n) => {
-        blocks.push(wordsAt(at, n).slice());
-        length += n;
-    });
-    const all = new BigUint64Array(length);
-    for (let k = 0, to = 0; k < blocks.length; to += blocks[k++].length) all.set(blocks[k], to);
-    return all;
+/** Runs body(at, n) over all n numbers in memory that a call finds in sequences, which are no more than `most`. */
+export function withMerged(name, sequences, most, body) {
+    return withCursors(sequences, most, (cursors, n, out) => body(out, written(name, cursors, n, 0, out, most)));
 }

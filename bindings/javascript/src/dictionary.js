@@ -1,9 +1,9 @@
-import { BESIDE, bytesAt, calls, halvesAt, numberAt, smallest, wordsAt } from "./core.js";
+import { BESIDE, bytesAt, calls, doublesAt, numberAt, smallest, wordsAt } from "./core.js";
 import { Copied, InBlock, checked } from "./in_block.js";
-import { BITM_DICTIONARY } from "./layout.js";
+import { BITM_DICTIONARY, BITM_LIST_COUNTS } from "./layout.js";
 import { answers, copyIn, numbersOf } from "./lists.js";
 import { dispose, withRoom } from "./memory.js";
-import { answerOf, big, must, orNone, orThrow, within } from "./numbers.js";
+import { WrongTables, answerOf, big, must, orNone, orThrow, within } from "./numbers.js";
 import { LEVELS } from "./perfect_hash.js";
 
 const KIND = { name: "Dictionary", what: "a dictionary", open: "bitm_dictionary_open", check: "bitm_dictionary_check", layout: BITM_DICTIONARY };
@@ -47,8 +47,8 @@ export class Dictionary {
     /** Builds the tables of the levels, puts each key at its number, and writes the block of these. */
     #of(it) {
         const upper_len = calls.bitm_index_upper_len(it.words_len), lower_len = calls.bitm_index_lower_len(it.words_len);
-        withRoom(BITM_DICTIONARY.bytes + 8 * (upper_len + lower_len), at => {
-            const upper = at + BITM_DICTIONARY.bytes, lower = upper + 8 * upper_len;
+        withRoom(BITM_DICTIONARY.bytes + 8 * (upper_len + lower_len + it.n), at => {
+            const upper = at + BITM_DICTIONARY.bytes, lower = upper + 8 * upper_len, numbers = lower + 8 * lower_len;
             orThrow(calls.bitm_index_build(it.words, it.words_len, upper, upper_len, lower, lower_len), "the levels", it.words_len);
             bytesAt(at, BITM_DICTIONARY.bytes).fill(0);
             const members = {
@@ -58,11 +58,19 @@ export class Dictionary {
             };
             for (const [name, value] of Object.entries(members)) wordsAt(at + BITM_DICTIONARY[name], 1)[0] = BigInt(value);
             putHashes(it.keys, it.n, it.salt, it.hashes); // the build has moved them
-            const halves = halvesAt(it.hashes, 2 * it.n), keys = wordsAt(it.keys, it.n), placed = wordsAt(it.placed, it.n);
-            for (let k = 0; k < it.n; k++) placed[orThrow(calls.bitm_hash_get(at, halves[2 * k], halves[2 * k + 1]), "key", k)] = keys[k];
+            this.#place(at, it, numbers);
             const size = orThrow(calls.bitm_dictionary_size(it.words_len, it.sizes_len, it.n), "keys", it.n);
             this.#held = new InBlock(KIND, this, size, to => must(calls.bitm_dictionary_build(at, to, size), "the keys"));
         });
+    }
+
+    /** Puts each key at its number, which the hash at `at` has for it; `numbers` is room for all of these. */
+    #place(at, { hashes, n, keys, placed }, numbers) {
+        must(calls.bitm_hash_get_list(at, hashes, n, numbers, n, BESIDE), "keys");
+        if (numberAt(BESIDE + BITM_LIST_COUNTS.missing) + numberAt(BESIDE + BITM_LIST_COUNTS.wrong) > 0) throw new WrongTables();
+        calls.to_doubles(numbers, n, 0);
+        const to = wordsAt(placed, n), from = wordsAt(keys, n), where = doublesAt(numbers, n);
+        for (let k = 0; k < n; k++) to[where[k]] = from[k];
     }
 
     /**

@@ -1,13 +1,10 @@
-import { BESIDE, bytesAt, calls, numberAt, wasm, wordsAt } from "./core.js";
+import { BESIDE, bytesAt, calls, wasm, wordsAt } from "./core.js";
 import { Opened } from "./bit_index.js";
-import { Cursor, wordsOfUnion } from "./cursor.js";
-import { BITM_LIST_COUNTS } from "./layout.js";
+import { Cursor, withMerged } from "./cursor.js";
 import { answers, copyIn, copyOut, itemsAt, numbersOf } from "./lists.js";
 import { Block, dispose, freed, withRoom } from "./memory.js";
 import { WrongTables, byBigInts, must, notWhole, orNone, orThrow, place, refused, wrongType } from "./numbers.js";
 import { BEFORE, isWhole, putHeader, putSequence, sequenceHeader } from "./stored.js";
-
-const CHUNK = 4096;
 
 /** A list of numbers in our memory, from which a sequence is built without a copy by JavaScript. */
 class Listed {
@@ -170,37 +167,9 @@ export class EliasFano {
     /** A position at the first number, which moves forward only. */
     cursor() { return new Cursor(this); }
 
-    /** The numbers that any of these has, each once. */
-    union(...others) { return new EliasFano(wordsOfUnion([this, ...others])); }
-
-    /** The numbers that all of these have, each once. */
-    intersection(...others) {
-        for (const it of others) if (!(it instanceof EliasFano)) throw new TypeError("bitm: the other must be an EliasFano");
-        const [least, ...rest] = [this, ...others].sort((a, b) => a.length - b.length);
-        return withRoom(8 * least.length, to => {
-            let kept = 0;
-            for (let k = 0; k < least.length; k += CHUNK) kept = least.#keep(rest, k, Math.min(CHUNK, least.length - k), to, kept);
-            return new EliasFano(new Listed(to, kept));
-        });
-    }
-
-    /** Of n numbers from index k on, puts those that the others have after the first `kept` of a list. */
-    #keep(others, k, n, to, kept) {
-        return withRoom(24 * n, from => {
-            const flags = from + 8 * n, next = flags + 8 * n;
-            if (orThrow(calls.bitm_sequence_items(this.#live(), k, from, n), "index", k) < n) throw new WrongTables();
-            wordsAt(flags, n).fill(1n);
-            let count = n;
-            for (const it of others) {
-                must(calls.bitm_sequence_contains_list(it.#live(), from, count, flags, count, BESIDE), "the other");
-                if (numberAt(BESIDE + BITM_LIST_COUNTS.wrong) !== 0) throw new WrongTables();
-                count = calls.keep(from, flags, count, next, 0);
-                bytesAt(from, 8 * count).set(bytesAt(next, 8 * count));
-                wordsAt(flags, count).fill(1n);
-            }
-            return calls.keep(from, flags, count, to, kept);
-        });
-    }
+    /** The numbers that any of these has, each once; and those that all of them have. */
+    union(...others) { return merged("bitm_cursors_union", [this, ...others], (a, b) => a + b); }
+    intersection(...others) { return merged("bitm_cursors_intersect", [this, ...others], (a, b) => Math.min(a, b)); }
 
     /** Whether all parts are those of some sequence, by going over all. */
     check() {
@@ -214,4 +183,10 @@ export class EliasFano {
     /** Gives the memory back at once. */
     free() { this.#block.free(); }
     [dispose]() { this.free(); }
+}
+
+/** The sequence that a call makes of several; it has no more numbers than most(a, b) of their lengths. */
+function merged(name, sequences, most) {
+    sequences.forEach(partsOf);
+    return withMerged(name, sequences, sequences.map(it => it.length).reduce(most), (at, n) => new EliasFano(new Listed(at, n)));
 }

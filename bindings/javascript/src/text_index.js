@@ -1,41 +1,15 @@
 import { BESIDE, bytesAt, calls, numberAt } from "./core.js";
 import { Copied, InBlock, checked } from "./in_block.js";
 import { BITM_TEXT, STATUS } from "./layout.js";
-import { bytesOf, copyIn, copyOut, numbersOf } from "./lists.js";
+import { copyIn, copyOut, numbersOf } from "./lists.js";
 import { dispose, withRoom } from "./memory.js";
 import { must, orThrow, place, upTo } from "./numbers.js";
+import { encoded, withBytes, withPattern } from "./patterns.js";
 
 const KIND = { name: "TextIndex", what: "the index of a text", open: "bitm_text_open", check: "bitm_text_check", layout: BITM_TEXT };
 
-const COUNT = { letters: "bitm_text_count", bytes: "bitm_text_count_bytes" };
-const LOCATE = { letters: "bitm_text_locate", bytes: "bitm_text_locate_bytes" };
-
-/** The bytes of a string or of a Uint8Array; of anything else undefined. */
-function encoded(given, name) {
-    const bytes = typeof given === "string" ? new TextEncoder().encode(given) : given;
-    return bytes instanceof Uint8Array ? bytesOf(bytes, name) : undefined;
-}
-
-/** Copies bytes into memory and runs body(at, n). */
-function withBytes(bytes, body) {
-    const n = bytes.length;
-    return withRoom(n, at => {
-        bytesAt(at, n).set(bytes);
-        return body(at, n);
-    });
-}
-
-/** Copies a pattern into memory and runs body(call, at, n): of a string or bytes that of bytes, else that of letters. */
-function withPattern(pattern, isOfBytes, names, body) {
-    const bytes = encoded(pattern, "the pattern");
-    if (bytes) return withBytes(bytes, (at, n) => body(calls[names.bytes], at, n));
-    if (isOfBytes) throw new TypeError("bitm: this is the index of bytes, and a pattern is a string or a Uint8Array");
-    const { items } = numbersOf(pattern, "the pattern"), n = items.length;
-    return withRoom(8 * n, at => {
-        copyIn(items, at, "the pattern");
-        return body(calls[names.letters], at, n);
-    });
-}
+const COUNT = { numbers: "bitm_text_count", bytes: "bitm_text_count_bytes" };
+const LOCATE = { numbers: "bitm_text_locate", bytes: "bitm_text_locate_bytes" };
 
 /** A block of the given number of words, which fill(at) writes. */
 class Made {
@@ -114,11 +88,18 @@ export class TextIndex {
     /** How many bytes the block has. */
     get byteLength() { return this.#held.byteLength; }
 
-    /** At how many positions a pattern stands: a string (as UTF-8) or bytes in a Uint8Array; of numbers a list of them. */
-    count(pattern) {
-        const text = this.#held.at;
-        return withPattern(pattern, this.#isOfBytes, COUNT, (call, at, n) => orThrow(call(text, at, n), "the pattern", n));
+    /** Runs body(form, at, n) over a pattern that was copied into memory; of numbers only where the text is one of numbers. */
+    #with(pattern, body) {
+        return withPattern(pattern, "the pattern", (form, at, n) => {
+            if (form === "numbers" && this.#isOfBytes) throw new TypeError("bitm: this is the index of bytes, and a pattern is a string or a Uint8Array");
+            return body(form, at, n);
+        });
     }
+
+    #count(form, at, n) { return orThrow(calls[COUNT[form]](this.#held.at, at, n), "the pattern", n); }
+
+    /** At how many positions a pattern stands: a string (as UTF-8) or bytes in a Uint8Array; of numbers a list of them. */
+    count(pattern) { return this.#with(pattern, (...it) => this.#count(...it)); }
 
     /** Whether it stands anywhere. */
     has(pattern) { return this.count(pattern) > 0; }
@@ -128,12 +109,14 @@ export class TextIndex {
      * them, and at most `limit`.
      */
     locate(pattern, options = {}) {
-        const text = this.#held.at, from = place(options.from ?? 0, "from"), most = place(options.limit ?? Number.MAX_SAFE_INTEGER, "limit");
-        const room = Math.min(this.count(pattern), most);
-        return withPattern(pattern, this.#isOfBytes, LOCATE, (call, at, n) => withRoom(8 * room, out => {
-            const written = orThrow(call(text, at, n, from, out, room), "the pattern", n);
-            return copyOut(out, written, "plain", false);
-        }));
+        const from = place(options.from ?? 0, "from"), most = place(options.limit ?? Number.MAX_SAFE_INTEGER, "limit");
+        return this.#with(pattern, (form, at, n) => {
+            const room = Math.min(this.#count(form, at, n), most);
+            return withRoom(8 * room, out => {
+                const written = orThrow(calls[LOCATE[form]](this.#held.at, at, n, from, out, room), "the pattern", n);
+                return copyOut(out, written, "plain", false);
+            });
+        });
     }
 
     /** All of them, in the order of the text. */

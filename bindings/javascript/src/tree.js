@@ -3,7 +3,8 @@ import { Copied, InBlock, checked } from "./in_block.js";
 import { BITM_TREE } from "./layout.js";
 import { answers, copyIn, numbersOf } from "./lists.js";
 import { dispose, withRoom } from "./memory.js";
-import { WrongTables, orNone, orThrow, place } from "./numbers.js";
+import { childrenOf, isNode, ofNode } from "./nodes.js";
+import { orNone, orThrow, place } from "./numbers.js";
 
 const KIND = { name: "Tree", what: "a tree", open: "bitm_tree_open", check: "bitm_tree_check", layout: BITM_TREE };
 
@@ -44,7 +45,7 @@ export class Tree {
     get byteLength() { return this.#held.byteLength; }
 
     /** The parent of a node; undefined at the root and where there is no such node. */
-    parent(node) { return orNone(calls.bitm_tree_parent(this.#held.at, place(node, "node")), "node", node); }
+    parent(node) { return ofNode("bitm_tree_parent", this.#held.at, node); }
 
     /** Child k of a node, counted from 0; undefined where there is none. */
     child(node, k) {
@@ -53,27 +54,20 @@ export class Tree {
     }
 
     /** How many children a node has; undefined where there is no such node. */
-    degree(node) { return orNone(calls.bitm_tree_degree(this.#held.at, place(node, "node")), "node", node); }
+    degree(node) { return ofNode("bitm_tree_degree", this.#held.at, node); }
 
     /** Whether a node has no children; undefined where there is no such node. */
-    isLeaf(node) {
-        const got = orNone(calls.bitm_tree_is_leaf(this.#held.at, place(node, "node")), "node", node);
-        return got === undefined ? undefined : got === 1;
-    }
+    isLeaf(node) { return isNode("bitm_tree_is_leaf", this.#held.at, node); }
 
     /** The child of a node's parent after it, and before it; undefined where there is none. */
-    nextSibling(node) { return orNone(calls.bitm_tree_next_sibling(this.#held.at, place(node, "node")), "node", node); }
-    previousSibling(node) { return orNone(calls.bitm_tree_previous_sibling(this.#held.at, place(node, "node")), "node", node); }
+    nextSibling(node) { return ofNode("bitm_tree_next_sibling", this.#held.at, node); }
+    previousSibling(node) { return ofNode("bitm_tree_previous_sibling", this.#held.at, node); }
 
     /** Which child of its parent a node is, counted from 0; undefined at the root and where there is no such node. */
-    childRank(node) { return orNone(calls.bitm_tree_child_rank(this.#held.at, place(node, "node")), "node", node); }
+    childRank(node) { return ofNode("bitm_tree_child_rank", this.#held.at, node); }
 
     /** The children of a node, in their order. */
-    *children(node) {
-        const n = this.degree(node) ?? 0, first = n === 0 ? 0 : this.child(node, 0);
-        if (first === undefined) throw new WrongTables();
-        for (let k = 0; k < n; k++) yield first + k;
-    }
+    children(node) { return childrenOf(this.#held, node); }
 
     /** Lists: an array of the same kind as the nodes, see README.md. */
     parentList(nodes) { return this.#list("bitm_tree_parent_list", nodes); }

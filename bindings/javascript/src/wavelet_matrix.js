@@ -1,12 +1,14 @@
-import { BESIDE, calls } from "./core.js";
+import { BESIDE, calls, wordsAt } from "./core.js";
 import { Copied, InBlock, checked } from "./in_block.js";
 import { BITM_MATRIX, STATUS } from "./layout.js";
-import { answers, copyIn, itemsAt, numbersOf } from "./lists.js";
+import { answers, copyIn, copyOut, itemsAt, numbersOf } from "./lists.js";
 import { dispose, withRoom } from "./memory.js";
 import { answerOf, must, orNone, orThrow, place, upTo, whole } from "./numbers.js";
 import { bitsToStore } from "./words.js";
 
 const KIND = { name: "WaveletMatrix", what: "a wavelet matrix", open: "bitm_matrix_open", check: "bitm_matrix_check", layout: BITM_MATRIX };
+/** How many numbers of a range a call writes. */
+const PAGE = 512, MOST = 2n ** 64n - 1n;
 
 /** Numbers in any order: where and how often each of them is, and which of a range are the least. */
 export class WaveletMatrix {
@@ -84,8 +86,49 @@ export class WaveletMatrix {
     }
 
     #ofRange(name, begin, end, number) {
+        return answerOf(name, this.#held.at, ...this.#range(begin, end), number);
+    }
+
+    #range(begin, end) {
         const to = upTo(end, this.#length, "end");
-        return answerOf(name, this.#held.at, upTo(begin, to, "begin"), to, number);
+        return [upTo(begin, to, "begin"), to];
+    }
+
+    /** The distinct numbers of a range, rising, each as `[number, count]`: how often the range has it. */
+    distinct(begin = 0, end = this.#length) {
+        const range = this.#range(begin, end);
+        return this.#pages((from, numbers, counts) => answerOf("bitm_matrix_distinct", this.#held.at, ...range, from, numbers, PAGE, counts, PAGE), paired);
+    }
+
+    /** The k most frequent numbers of a range, or all, as distinct() has them: the most frequent first, of equally frequent ones the least. */
+    top(k, begin = 0, end = this.#length) {
+        const [from, to] = this.#range(begin, end), room = Math.min(place(k, "k"), to - from, 2 ** this.#width);
+        return withRoom(16 * room, numbers => {
+            const counts = numbers + 8 * room;
+            return paired(numbers, counts, orThrow(calls.bitm_matrix_top(this.#held.at, from, to, numbers, room, counts, room), "k", k));
+        });
+    }
+
+    /** The numbers that are in both of two ranges, rising and each once. The first is best the shorter one. */
+    intersect(begin, end, otherBegin, otherEnd) {
+        const ranges = [...this.#range(begin, end), ...this.#range(otherBegin, otherEnd)];
+        return this.#pages((from, numbers) => answerOf("bitm_matrix_intersect", this.#held.at, ...ranges, from, numbers, PAGE),
+            (numbers, _, n) => copyOut(numbers, n, "plain", false));
+    }
+
+    /** All numbers of a call that writes a page of them from a number on: fetch(from, numbers, counts) says how many. */
+    #pages(fetch, taken) {
+        const all = [];
+        return withRoom(16 * PAGE, numbers => {
+            const counts = numbers + 8 * PAGE;
+            for (let from = 0, n = PAGE; n === PAGE && from <= MOST;) {
+                n = orThrow(fetch(from, numbers, counts), "the range", from);
+                const last = n === 0 ? 0n : wordsAt(numbers, n)[n - 1];
+                for (const it of taken(numbers, counts, n)) all.push(it);
+                from = last < 2n ** 53n - 1n ? Number(last) + 1 : last + 1n;
+            }
+            return all;
+        });
     }
 
     /** Lists: an array of the same kind as the first list, see README.md. */
@@ -116,6 +159,12 @@ export class WaveletMatrix {
     /** Gives the memory back at once. */
     free() { this.#held.free(); }
     [dispose]() { this.free(); }
+}
+
+/** n numbers in memory, each with its count. */
+function paired(numbers, counts, n) {
+    const often = copyOut(counts, n, "plain", false);
+    return copyOut(numbers, n, "plain", false).map((it, k) => [it, often[k]]);
 }
 
 /** How many bits the largest has; 1 where there is none. */

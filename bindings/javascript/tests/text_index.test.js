@@ -113,6 +113,15 @@ test("arguments that are wrong", () => {
     for (const it of [BLOCK, VERSE, undefined]) assert.throws(() => new TextIndex(it), TypeError);
 });
 
+test("a pattern is read once, and before the text", () => {
+    const numbers = TextIndex.ofLetters([1, 0, 2, 0], 3), text = TextIndex.ofLetters([1, 0, 2, 0], 3), bytes = TextIndex.open(BLOCK);
+    function* once() { yield 0; }
+    assert.deepEqual([numbers.count(once()), numbers.has(once()), numbers.locate(once()), numbers.findAll(once())], [2, true, [3, 1], [1, 3]]);
+    const freeing = { *[Symbol.iterator]() { text.free(); yield 0; } };
+    for (const name of ["count", "has", "locate", "findAll"]) assert.throws(() => text[name](freeing), /was freed/);
+    assert.throws(() => bytes.locate("s", { get from() { bytes.free(); return 0; } }), /was freed/);
+});
+
 test("each changed byte is seen, and each prefix; unchecked blocks answer within their range", () => {
     const r = random(9);
     spoil(TextIndex, BLOCK, 1 / 2, text => {

@@ -17,6 +17,16 @@ function drawn(n, limit, seed) {
 
 const sorted = items => [...items].sort((a, b) => (a < b ? -1 : a > b ? 1 : 0));
 
+/** What a range has: each number and how often, the most frequent, and what another range has too. */
+function ofRanges(matrix, items, begin, end, r) {
+    const n = items.length, counts = new Map(), from = r() % (n + 1), to = from + (r() % (n - from + 1)), other = new Set(items.slice(from, to));
+    for (const it of sorted(items.slice(begin, end))) counts.set(it, (counts.get(it) ?? 0) + 1);
+    const most = [...counts].sort((a, b) => b[1] - a[1]);
+    tally.list(matrix.distinct(begin, end).flat(), [...counts].flat(), "distinct");
+    for (const k of [0, 1, r() % 9, n, 2 ** 53 - 1, 2n ** 64n - 1n]) tally.list(matrix.top(k, begin, end).flat(), most.slice(0, Number(k)).flat(), `top ${k}`);
+    tally.list(matrix.intersect(begin, end, BigInt(from), to), [...counts.keys()].filter(it => other.has(it)), "intersect");
+}
+
 /** The queries of one number, over all numbers and over a range. */
 function ofNumber(matrix, items, x, begin, end) {
     const range = items.slice(begin, end), less = range.filter(it => it < x), more = range.filter(it => it >= x);
@@ -40,6 +50,7 @@ function compare(items, width, seed, absent) {
             if (k >= 0) tally.same(matrix.quantile(k, begin, end), inOrder[k], () => `quantile ${k} of ${begin} to ${end}`);
         if (n > 0) ofNumber(matrix, items, items[r() % n], begin, end);
         for (const x of absent) ofNumber(matrix, items, x, begin, end);
+        ofRanges(matrix, items, begin, end, r);
     }
     tally.list([...matrix], items, "iterator");
     lists(matrix, items, r);
@@ -78,6 +89,24 @@ test("matrices of each width", () => {
     tally.atLeast(20000);
 });
 
+test("lists of ranges that are longer than a page, and end with one", () => {
+    const top = 2n ** 64n - 1n;
+    for (const n of [511, 512, 513, 1024, 3000]) {
+        const items = Array.from({ length: n }, (_, k) => 2 * k), more = [...items, top, top], matrix = new WaveletMatrix([...more, ...more]);
+        const kinds = [...items.map(it => [it, 2]), [top, 4]];
+        assert.deepEqual(matrix.distinct(), kinds);
+        assert.deepEqual(matrix.top(n), [[top, 4], ...kinds.slice(0, n - 1)]);
+        assert.deepEqual(matrix.intersect(0, n + 2, n + 2, 2 * n + 4), [...items, top]);
+        assert.deepEqual(matrix.intersect(0, n, n + 2, 2 * n + 4), items);
+    }
+    const pages = Array.from({ length: 512 }, (_, k) => top - BigInt(511 - k)), last = new WaveletMatrix(pages), wide = new WaveletMatrix([2 ** 53 - 1, 2n ** 53n]);
+    assert.deepEqual([last.distinct().map(it => it[0]), last.intersect(0, 512, 0, 512)], [pages, pages]);
+    assert.deepEqual(wide.distinct(), [[2 ** 53 - 1, 1], [2n ** 53n, 1]]);
+    const round = new WaveletMatrix(Array.from({ length: 1100 }, (_, k) => 2n ** 53n - 600n + BigInt(k)));
+    assert.equal(round.distinct().length + round.intersect(0, 1100, 0, 1100).length, 2200);
+    assert.deepEqual([new WaveletMatrix([]).distinct(), new WaveletMatrix([]).top(9), new WaveletMatrix([]).intersect(0, 0, 0, 0)], [[], [], []]);
+});
+
 test("arguments that are wrong", () => {
     const matrix = new WaveletMatrix([3, 1, 4, 1, 5]);
     for (const it of [-1, 0.5, NaN, 2 ** 53, -1n, 2n ** 64n]) {
@@ -86,6 +115,8 @@ test("arguments that are wrong", () => {
             assert.throws(() => matrix[name](1, it), RangeError, `${name}(1, ${it})`);
             assert.throws(() => matrix[name](1, 0, it), RangeError, `${name}(1, 0, ${it})`);
         }
+        for (const call of [() => matrix.distinct(it), () => matrix.distinct(0, it), () => matrix.top(it), () => matrix.top(1, it), () => matrix.top(1, 0, it), () => matrix.intersect(it, 5, 0, 5),
+            () => matrix.intersect(0, it, 0, 5), () => matrix.intersect(0, 5, it, 5), () => matrix.intersect(0, 5, 0, it)]) assert.throws(call, RangeError, `${call} of ${it}`);
         assert.throws(() => matrix.rank(1, it), RangeError);
         assert.throws(() => matrix.select(1, it), RangeError);
         assert.throws(() => matrix.select(it, 0), RangeError);
@@ -95,13 +126,16 @@ test("arguments that are wrong", () => {
     }
     for (const it of ["1", null, {}, [1], true, Symbol("1")]) {
         for (const name of ["get", "rank", "countLess", "quantile", "nextValue", "previousValue"]) assert.throws(() => matrix[name](it), TypeError);
-        for (const name of ["countLess", "quantile"]) assert.throws(() => matrix[name](1, 0, it), TypeError);
+        for (const name of ["countLess", "quantile", "top"]) assert.throws(() => matrix[name](1, 0, it), TypeError);
+        for (const call of [() => matrix.distinct(it), () => matrix.distinct(0, it), () => matrix.top(it), () => matrix.intersect(0, 5, 0, it)]) assert.throws(call, TypeError, `${call}`);
         assert.throws(() => matrix.select(1, it), TypeError);
         assert.throws(() => new WaveletMatrix([it]), TypeError);
     }
     for (const [begin, end] of [[0, 6], [3, 2], [6, 6], [0, 2n ** 64n - 1n]]) {
-        for (const name of ["countLess", "quantile", "nextValue", "previousValue"]) assert.throws(() => matrix[name](1, begin, end), RangeError);
+        for (const name of ["countLess", "quantile", "nextValue", "previousValue", "top"]) assert.throws(() => matrix[name](1, begin, end), RangeError);
+        for (const call of [() => matrix.distinct(begin, end), () => matrix.intersect(begin, end, 0, 5), () => matrix.intersect(0, 5, begin, end)]) assert.throws(call, RangeError);
     }
+    for (const call of [() => matrix.top(), () => matrix.intersect(), () => matrix.intersect(0, 5), () => matrix.intersect(0, 5, 0)]) assert.throws(call, TypeError);
     assert.equal(matrix.rank(1, 5), 2);
     for (const it of [5, 6, 2n ** 64n - 1n]) assert.throws(() => matrix.get(it), RangeError);
     for (const it of [6, 2n ** 64n - 1n]) assert.throws(() => matrix.rank(1, it), RangeError);
@@ -127,6 +161,9 @@ test("each changed byte is seen, and each prefix; unchecked blocks answer within
             const answer = unlessWrong(() => ask(x));
             assert.ok(answer === undefined || (answer >= 0 && answer <= most[k]), `${ask}: ${answer}`);
         });
+        const kinds = unlessWrong(() => matrix.distinct(3, 20)) ?? [], frequent = unlessWrong(() => matrix.top(4, 3, 20)) ?? [], shared = unlessWrong(() => matrix.intersect(0, 9, 3, 20)) ?? [];
+        for (const [it, count] of [...kinds, ...frequent]) assert.ok(it <= 63 && count >= 1 && count <= 17);
+        for (const them of [kinds.map(it => it[0]), shared]) assert.ok(them.every((it, k) => k === 0 || it > them[k - 1]));
     });
     assert.throws(() => WaveletMatrix.open("block"), TypeError);
     assert.throws(() => bitm.Tree.open(bytes), WrongTables);
@@ -140,7 +177,8 @@ test("a matrix that was freed, and memory", () => {
     matrix.free();
     assert.equal(matrix.byteLength, 0);
     const asks = [() => matrix.get(1), () => matrix.rank(1), () => matrix.select(1, 0), () => matrix.quantile(0), () => matrix.nextValue(0), () => matrix.countLess(0),
-        () => matrix.previousValue(2), () => matrix.getList([0]), () => matrix.rankList([0], [0]), () => matrix.selectList([0], [0]), () => [...matrix], () => matrix.check(), () => matrix.toBytes()];
+        () => matrix.previousValue(2), () => matrix.getList([0]), () => matrix.rankList([0], [0]), () => matrix.selectList([0], [0]), () => [...matrix], () => matrix.distinct(), () => matrix.top(1),
+        () => matrix.intersect(0, 1, 0, 1), () => matrix.check(), () => matrix.toBytes()];
     for (const ask of asks) assert.throws(ask, /was freed/);
     assert.throws(() => new WaveletMatrix([1, 2], { width: 1 }));
     assert.throws(() => WaveletMatrix.open(new Uint8Array(800)), WrongTables);

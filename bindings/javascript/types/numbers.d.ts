@@ -106,6 +106,12 @@ export class WaveletMatrix implements Iterable<number | bigint> {
     /** The least that is at least bound; the greatest that is less than bound. */
     nextValue(bound: Whole, begin?: Whole, end?: Whole): number | bigint | undefined;
     previousValue(bound: Whole, begin?: Whole, end?: Whole): number | bigint | undefined;
+    /** The distinct numbers, rising, each with how often it is there. */
+    distinct(begin?: Whole, end?: Whole): [number: number | bigint, count: number][];
+    /** The k most frequent of these: the most frequent first, of equally frequent ones the least. */
+    top(k: Whole, begin?: Whole, end?: Whole): [number: number | bigint, count: number][];
+    /** The numbers that two ranges share, rising, each once. */
+    intersect(begin: Whole, end: Whole, otherBegin: Whole, otherEnd: Whole): (number | bigint)[];
 
     /** RangeError if an index is past the end, or an answer in doubles is 2^53 or more. */
     getList(indices: NumberArray): Float64Array;

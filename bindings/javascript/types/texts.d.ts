@@ -1,6 +1,7 @@
-// Texts and trees.
+// Texts, trees and tries.
 
 import type { Whole, Wholes, NumberArray, Bytes, OpenOptions } from "./common.js";
+import type { BitVector } from "./bits.js";
 
 /** A string (as UTF-8), bytes, or letters. */
 export type Pattern = string | Uint8Array | Wholes;
@@ -84,6 +85,49 @@ export class Tree {
     childList(nodes: Iterable<Whole>, ks: Wholes): (number | undefined)[];
 
     /** Whether the block is as it was written and holds a tree, by going over all of it. */
+    check(): boolean;
+    /** The bytes of the block. */
+    toBytes(): Uint8Array;
+    free(): void;
+    [Symbol.dispose](): void;
+}
+
+export interface TrieOptions {
+    /** 1 to 63, else 8: how many bits a label has at most. */
+    width?: number;
+    /** A bit for each node that says whether a word ends there. */
+    ends?: BitVector;
+}
+
+/** A set of words: a tree in which each node but the root has a label, and the labels of a node's children rise. A word is a
+ *  string (as UTF-8), bytes, or a list of labels. */
+export class Trie {
+    /** The degree of each node, level by level, and the labels of the nodes from 1 on. RangeError if these are those of no trie. */
+    constructor(degrees: Wholes, labels: Pattern, options?: TrieOptions);
+    /** The trie in the bytes of a block, which are copied once. */
+    static open(bytes: Bytes, options?: OpenOptions): Trie;
+
+    readonly length: number;
+    readonly width: number;
+    readonly hasEnds: boolean;
+    readonly byteLength: number;
+    /** The node to which a word leads from the root. */
+    find(word: Pattern): number | undefined;
+    /** The deepest node to which a beginning of a word leads, and how many labels lead there. */
+    longest(word: Pattern): { node: number; count: number };
+    /** The word that leads from the root to a node: bytes where a label has at most 8 bits. */
+    word(node: Whole): Uint8Array | (number | bigint)[] | undefined;
+    /** undefined at the root, and where there is no such node. */
+    label(node: Whole): number | bigint | undefined;
+    parent(node: Whole): number | undefined;
+    /** undefined where there is no such node, or the trie has no ends. */
+    isEnd(node: Whole): boolean | undefined;
+    /** The child of a node with a label; and all of them, by rising labels. */
+    childByLabel(node: Whole, label: Whole): number | undefined;
+    children(node: Whole): IterableIterator<number>;
+    degree(node: Whole): number | undefined;
+
+    /** Whether the block is as it was written and holds a trie, by going over all of it. */
     check(): boolean;
     /** The bytes of the block. */
     toBytes(): Uint8Array;

@@ -58,13 +58,16 @@ def union(sequences: Any, start: Any = 0, limit: Any = None, *, to_numpy: bool =
 
 
 def _intersection(self: Any, *others: Any) -> "_core.EliasFano":
-    """The numbers that are in this sequence and in each other one, each once, in a new one. Each number of the shortest is
-    looked up in the others.
+    """The numbers that are in this sequence and in each other one, each once, in a new one: those of `intersect`, but that
+    the shortest one is checked.
 
     >>> list(EliasFano([2, 3, 5]).intersection(EliasFano([3, 4, 5]), EliasFano([5, 5, 6])))
     [5]
     """
-    return _core.EliasFano(_core.sequence_common(self, *others))
+    window = _core.cursors_merged(True, (self, *others), 0, None)
+    if not min((self, *others), key=len).check():
+        raise _core.WrongTables("the parts are not those of a sequence")
+    return _core.EliasFano(window)
 
 
 def _union(self: Any, *others: Any) -> "_core.EliasFano":

@@ -351,7 +351,6 @@ PyObject *numbers_from(PyObject *sequence, PyObject *const *args, Py_ssize_t cou
 PyObject *numbers_compare(PyObject *self, PyObject *other, int how);
 PyObject *sequence_slice(PyObject *self, PyObject *slice);
 PyObject *sequence_window(PyObject *module, PyObject *self);
-PyObject *sequence_common(PyObject *module, PyObject *args);
 PyObject *sequence_merged(PyObject *module, PyObject *args);
 PyObject *cursor_new(PyObject *sequence, PyObject *none);
 PyObject *cursors_merged(PyObject *module, PyObject *args);

@@ -11,7 +11,6 @@ static PyMethodDef functions[] = {{"stored_load", stored_load, METH_O, NULL},
                                   {"parts", parts_of, METH_O, NULL},
                                   {"over", parts_over, METH_VARARGS, NULL},
                                   {"sequence_window", sequence_window, METH_O, NULL},
-                                  {"sequence_common", sequence_common, METH_VARARGS, NULL},
                                   {"sequence_merged", sequence_merged, METH_VARARGS, NULL},
                                   {"cursors_merged", cursors_merged, METH_VARARGS, NULL},
                                   {NULL, NULL, 0, NULL}};

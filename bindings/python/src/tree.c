@@ -1,5 +1,5 @@
 /* bitm.Tree: a tree in one block of memory. */
-#include "values.h"
+#include "nodes.h"
 
 int tree_opened(Memory *it)
 {
@@ -35,38 +35,12 @@ static int tree_init(PyObject *self, PyObject *args, PyObject *keywords)
 
 /* ---- queries of one node */
 
-#define NODE(name)                                                                                                     \
-    QUERY_OF(name##_of, bitm_tree_##name, tree)                                                                        \
-    static PyObject *tree_##name(PyObject *self, PyObject *node) { return ask(self, node, name##_of, true, "a node"); }
-NODE(parent)
-NODE(degree)
-NODE(next_sibling)
-NODE(previous_sibling)
-NODE(child_rank)
-
-static PyObject *tree_is_leaf(PyObject *self, PyObject *value)
-{
-    uint64_t node, out;
-    if (number(value, "a node", &node))
-        return NULL;
-    Memory *it = memory_of(self);
-    if (it == NULL)
-        return NULL;
-    uint32_t status = bitm_tree_is_leaf(&it->tree, (size_t)node, &out);
-    return status == BITM_OK ? boxed_bit(out) : answer_or_none(status, &out);
-}
-
-static PyObject *tree_child(PyObject *self, PyObject *const *args, Py_ssize_t count, PyObject *keywords)
-{
-    static const char *const names[] = {"node", "k"};
-    PyObject *given[2];
-    uint64_t node, k, out;
-    if (pick("child", names, 2, 2, args, count, keywords, given) || number(given[0], "a node", &node) ||
-        number(given[1], "k", &k))
-        return NULL;
-    Memory *it = memory_of(self);
-    return it == NULL ? NULL : answer_or_none(bitm_tree_child(&it->tree, (size_t)node, (size_t)k, &out), &out);
-}
+NODES(tree, "Tree", tree)
+NODE(tree, next_sibling, bitm_tree_next_sibling, tree)
+NODE(tree, previous_sibling, bitm_tree_previous_sibling, tree)
+NODE(tree, child_rank, bitm_tree_child_rank, tree)
+NODE_BIT(tree, is_leaf, bitm_tree_is_leaf, tree)
+NODE_AND(tree, child, "k", "k", bitm_tree_child, tree)
 
 PyObject *children_of(const struct bitm_tree *tree, uint64_t node)
 {
@@ -80,15 +54,6 @@ PyObject *children_of(const struct bitm_tree *tree, uint64_t node)
         return wrong();
     return PyObject_CallFunction((PyObject *)&PyRange_Type, "KK", (unsigned long long)first,
                                  (unsigned long long)(first + degree));
-}
-
-static PyObject *tree_children(PyObject *self, PyObject *value)
-{
-    uint64_t node;
-    if (number(value, "a node", &node))
-        return NULL;
-    Memory *it = memory_of(self);
-    return it == NULL ? NULL : children_of(&it->tree, node);
 }
 
 /* ---- lists */
@@ -113,16 +78,6 @@ static PyObject *tree_child_list(PyObject *self, PyObject *const *args, Py_ssize
 /* ---- the rest */
 
 BLOCK_CHECK(tree)
-
-static uint64_t length(const Memory *it) { return it->tree.len; } /* below 2^60 */
-static Py_ssize_t tree_len(PyObject *self) { return value_len(self, length); }
-
-static PyObject *tree_repr(PyObject *self)
-{
-    Memory *it = ((Value *)self)->memory;
-    return it == NULL ? PyUnicode_FromString("<Tree, closed>")
-                      : PyUnicode_FromFormat("<Tree of %zu nodes>", it->tree.len);
-}
 
 #define PLAIN(name, text) METHOD(#name, tree_##name, METH_O, "($self, node, /)", text)
 #define NAMED(name, arguments, text) KEYWORDS(#name, tree_##name, arguments, text)

@@ -1,5 +1,5 @@
 /* bitm.Trie: a set of words, in one block of memory. */
-#include "values.h"
+#include "nodes.h"
 
 int trie_opened(Memory *it)
 {
@@ -146,45 +146,10 @@ static PyObject *trie_word(PyObject *self, PyObject *value)
 
 /* ---- queries of one node */
 
-#define NODE(name, call, member)                                                                                       \
-    QUERY_OF(name##_of, call, member)                                                                                  \
-    static PyObject *trie_##name(PyObject *self, PyObject *node) { return ask(self, node, name##_of, true, "a node"); }
-NODE(label, bitm_trie_label, trie)
-NODE(parent, bitm_tree_parent, trie.tree)
-NODE(degree, bitm_tree_degree, trie.tree)
-
-static PyObject *trie_is_end(PyObject *self, PyObject *value)
-{
-    uint64_t node, out;
-    if (number(value, "a node", &node))
-        return NULL;
-    Memory *it = memory_of(self);
-    if (it == NULL)
-        return NULL;
-    uint32_t status = bitm_trie_is_end(&it->trie, (size_t)node, &out);
-    return status == BITM_OK ? boxed_bit(out) : answer_or_none(status, &out);
-}
-
-static PyObject *trie_child_by_label(PyObject *self, PyObject *const *args, Py_ssize_t count, PyObject *keywords)
-{
-    static const char *const names[] = {"node", "label"};
-    PyObject *given[2];
-    uint64_t node, label, out;
-    if (pick("child_by_label", names, 2, 2, args, count, keywords, given) || number(given[0], "a node", &node) ||
-        number(given[1], "a label", &label))
-        return NULL;
-    Memory *it = memory_of(self);
-    return it == NULL ? NULL : answer_or_none(bitm_trie_child(&it->trie, (size_t)node, label, &out), &out);
-}
-
-static PyObject *trie_children(PyObject *self, PyObject *value)
-{
-    uint64_t node;
-    if (number(value, "a node", &node))
-        return NULL;
-    Memory *it = memory_of(self);
-    return it == NULL ? NULL : children_of(&it->trie.tree, node);
-}
+NODES(trie, "Trie", trie.tree)
+NODE(trie, label, bitm_trie_label, trie)
+NODE_BIT(trie, is_end, bitm_trie_is_end, trie)
+NODE_AND(trie, child_by_label, "label", "a label", bitm_trie_child, trie)
 
 /* ---- the rest */
 
@@ -197,16 +162,6 @@ static PyObject *trie_has_ends(PyObject *self, void *none)
     const Memory *it = memory_of(self);
     (void)none;
     return it == NULL ? NULL : boxed_bit(it->trie.ends_len > 0);
-}
-
-static uint64_t length(const Memory *it) { return it->trie.tree.len; } /* below 2^57 */
-static Py_ssize_t trie_len(PyObject *self) { return value_len(self, length); }
-
-static PyObject *trie_repr(PyObject *self)
-{
-    Memory *it = ((Value *)self)->memory;
-    return it == NULL ? PyUnicode_FromString("<Trie, closed>")
-                      : PyUnicode_FromFormat("<Trie of %zu nodes>", it->trie.tree.len);
 }
 
 #define OF(rest) EXAMPLE("trie = Trie([2, 0, 1, 0], b'abe', ends=BitVector.from_bits('0111'))") THEN("trie" rest)

@@ -162,11 +162,6 @@ typedef struct {
 int pattern_take(Pattern *it, PyObject *from, const char *what, const char *no_text);
 void pattern_drop(Pattern *it);
 
-/* ---- tree.c */
-
-/* The children of a node, which follow one another: a range of them. */
-PyObject *children_of(const struct bitm_tree *tree, uint64_t node);
-
 /* ---- numbers of keys */
 
 /* The number of a key: 1, 0 where it has none, -1 and an error. */

@@ -1,0 +1,33 @@
+// Patterns of a text, and words of a trie: strings and bytes, or numbers.
+import { bytesAt } from "./core.js";
+import { bytesOf, copyIn, numbersOf } from "./lists.js";
+import { withRoom } from "./memory.js";
+
+/** The bytes of a string in UTF-8, or those of a Uint8Array; of anything else undefined. */
+export function encoded(given, name) {
+    const bytes = typeof given === "string" ? new TextEncoder().encode(given) : given;
+    return bytes instanceof Uint8Array ? bytesOf(bytes, name) : undefined;
+}
+
+/** Copies bytes into memory and runs body(at, n). */
+export function withBytes(bytes, body) {
+    const n = bytes.length;
+    return withRoom(n, at => {
+        bytesAt(at, n).set(bytes);
+        return body(at, n);
+    });
+}
+
+/**
+ * Reads a pattern once, copies it into memory, and runs body(form, at, n): form is "bytes" of a string or of bytes, else
+ * "numbers". The pattern may run code of the user's, and body runs after it.
+ */
+export function withPattern(pattern, name, body) {
+    const bytes = encoded(pattern, name);
+    if (bytes) return withBytes(bytes, (at, n) => body("bytes", at, n));
+    const { items } = numbersOf(pattern, name), n = items.length;
+    return withRoom(8 * n, at => {
+        copyIn(items, at, name);
+        return body("numbers", at, n);
+    });
+}
