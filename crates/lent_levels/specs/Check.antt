@@ -1,6 +1,7 @@
 -- What says that the tables of levels are those of the words.
-use Rattle.std.specs.Prelude.{◌≡◌, ℕ, ◌+◌, ◌*◌, ◌<◌, Bool, List, slice_index}
+use Rattle.std.specs.Prelude.{◌≡◌, ℕ, ◌+◌, ◌*◌, ◌<◌, Bool, false, List, slice_index}
 use Rattle.bit_lists.specs.Count.{ones_before, zeros_before}
+use Rattle.bitm_tables.specs.Quarters.{AreQuartersOf}
 use Rattle.matrix_levels.specs.Matrix.{LevelTables}
 
 -- the entries of level d are the 1 bits before it and its 0 bits
@@ -11,3 +12,7 @@ pub record AreCountsAt (l : LevelTables) (b : List Bool) (d : ℕ) : Type 0 wher
 -- those of each level are
 abbrev pub AreCounts : LevelTables → List Bool → Type 0
 AreCounts l b = (d : ℕ) → d < l.width → AreCountsAt l b d
+
+-- the quarters are those of the bits, where there are any
+abbrev pub HasQuarters : LevelTables → List Bool → Type 0
+HasQuarters l b = l.compact ≡ false → AreQuartersOf b l.quarters

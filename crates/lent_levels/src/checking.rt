@@ -2,9 +2,10 @@
 ghost use Rattle.std.specs.Prelude.{◌≡◌, ◌+◌, ◌*◌, ◌<◌, ◌≤◌, ◌↔◌, IsTrue, length};
 ghost use Rattle.bit_lists.specs.Count.{ones_before, zeros_before};
 ghost use Rattle.bitm_tables.specs.Tables.{IsIndexed, bits_in};
-ghost use Rattle.lent_levels.specs.Check.{AreCounts, AreCountsAt};
+ghost use Rattle.lent_levels.specs.Check.{AreCounts, AreCountsAt, HasQuarters};
 
 use crate::levels::LevelsView;
+use crate::quarters::are_quarters;
 use bitm_tables::ranking::rank_on;
 use bitm_tables::source::TableSource;
 
@@ -65,7 +66,8 @@ fn are_counts_at<T: TableSource>(levels: &LevelsView<'_>, source: &mut T, depth:
 pub fn are_counts<T: TableSource>(levels: &LevelsView<'_>, source: &mut T) -> bool
     requires indexed { IsIndexed (T.lists source.old) }
     requires room { levels.now.width * levels.now.len ≤ length (bits_in (T.lists source.old)) }
-    ensures { IsTrue result ↔ AreCounts levels.now (bits_in (T.lists source.old)) }
+    ensures answer { IsTrue result ↔ AreCounts levels.now (bits_in (T.lists source.old)) }
+    ensures same { T.lists source.new ≡ T.lists source.old }
 {
     for depth in 0..levels.width() {
         if !are_counts_at(levels, source, depth) {
@@ -73,4 +75,18 @@ pub fn are_counts<T: TableSource>(levels: &LevelsView<'_>, source: &mut T) -> bo
         }
     }
     true
+}
+
+/// Whether the quarters of levels, where there are any, are those of the words of a source.
+///
+/// # Conditions
+/// The source's tables are those of its words.
+/// # Cost
+/// That of `are_quarters`, and nothing where there are none.
+pub fn has_quarters<T: TableSource>(levels: &LevelsView<'_>, source: &mut T) -> bool
+    requires { IsIndexed (T.lists source.old) }
+    ensures { IsTrue result ↔ HasQuarters levels.now (bits_in (T.lists source.old)) }
+{
+    let quarters = levels.quarters();
+    quarters.is_empty() || are_quarters(source, quarters)
 }

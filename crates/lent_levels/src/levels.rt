@@ -1,6 +1,6 @@
 //! The tables of the levels of a matrix, which may hold anything.
-ghost use Rattle.std.specs.Prelude.{◌≡◌, ◌<◌, ◌↔◌, IsTrue, SomeIff, slice_index};
-ghost use Rattle.lent_levels.specs.Levels.{levels_of, AreNumbers, HasLevels};
+ghost use Rattle.std.specs.Prelude.{◌≡◌, ◌<◌, ◌↔◌, ◌==◌, IsTrue, SomeIff, length, slice_index};
+ghost use Rattle.lent_levels.specs.Levels.{levels_with, AreNumbers, HasLevels};
 
 use std::marker::Model;
 
@@ -24,13 +24,15 @@ pub fn are_numbers(len: usize, width: usize) -> bool
 }
 
 /// The tables of the levels of a matrix: how many 1 bits stand before each level, and how many of its items have a 0
-/// bit. They may hold anything.
+/// bit; and perhaps the quarters of the words (`fill_quarters`), by which ranks read fewer words. They may hold
+/// anything.
 ///
-/// Contracts see the levels as those of `matrix_levels`, compact and with no bits known from a table of starts.
+/// Contracts see the levels as those of `matrix_levels`, with no bits known from a table of starts, and compact where
+/// there are no quarters.
 ///
 /// ```
-/// let Some(levels) = LevelsView::over(6, 3, ones, zeros) else { .. };   // of three words each
-/// levels.total_get_on(&mut source, 4);                                  // Found(5), Absent or Wrong
+/// let Some(levels) = LevelsView::over(6, 3, ones, zeros, &[]) else { .. };   // of three words each
+/// levels.total_get_on(&mut source, 4);                                       // Found(5), Absent or Wrong
 /// ```
 #[derive(Drop)]
 pub struct LevelsView<'a> {
@@ -38,30 +40,38 @@ pub struct LevelsView<'a> {
     width: u8,
     ones: &'a [u64],
     zeros: &'a [u64],
+    quarters: &'a [u64],
 }
 
 impl<'a> Model for LevelsView<'a> {
     ghost use Rattle.matrix_levels.specs.Matrix.{LevelTables};
-    ghost use Rattle.lent_levels.specs.Levels.{levels_of, HasLevels};
+    ghost use Rattle.lent_levels.specs.Levels.{levels_with, HasLevels};
 
     ghost Value = { LevelTables };
 
-    ghost view = { λ l. levels_of l.len l.width l.ones.now l.zeros.now };
+    ghost view = { λ l. levels_with l.len l.width l.ones.now l.zeros.now l.quarters.now };
 
-    ghost invariant = { λ l. HasLevels (levels_of l.len l.width l.ones.now l.zeros.now) };
+    ghost invariant = { λ l. HasLevels (levels_with l.len l.width l.ones.now l.zeros.now l.quarters.now) };
 }
 
 impl<'a> LevelsView<'a> {
-    /// The tables of the levels of `len` numbers of `width` bits; `None` exactly where a matrix cannot have these
-    /// (`are_numbers`), or a table has not one entry for each level.
+    /// The tables of the levels of `len` numbers of `width` bits, and the quarters of their words, or an empty slice to
+    /// do without; `None` exactly where a matrix cannot have these numbers (`are_numbers`), or a table has not one entry
+    /// for each level. The quarters may be of any length.
     ///
     /// ```
-    /// LevelsView::over(6, 3, ones, zeros);   // Some(..) of three words each
+    /// LevelsView::over(6, 3, ones, zeros, &[]);   // Some(..) of three words each
     /// ```
     #[inline]
-    pub fn over(len: usize, width: u8, ones: &'a [u64], zeros: &'a [u64]) -> Option<LevelsView<'a>>
-        ensures { SomeIff result (HasLevels (levels_of len width ones.now zeros.now))
-            (levels_of len width ones.now zeros.now) }
+    pub fn over(
+        len: usize,
+        width: u8,
+        ones: &'a [u64],
+        zeros: &'a [u64],
+        quarters: &'a [u64],
+    ) -> Option<LevelsView<'a>>
+        ensures { SomeIff result (HasLevels (levels_with len width ones.now zeros.now quarters.now))
+            (levels_with len width ones.now zeros.now quarters.now) }
     {
         if !are_numbers(len, width as usize) {
             return None;
@@ -74,6 +84,7 @@ impl<'a> LevelsView<'a> {
             width,
             ones,
             zeros,
+            quarters,
         })
     }
 
@@ -125,6 +136,19 @@ impl<'a> LevelsView<'a> {
         ensures { result.now ≡ self.now.zeros }
     {
         self.zeros
+    }
+
+    /// The quarters, none where the levels are compact.
+    ///
+    /// ```
+    /// levels.quarters().len();   // 0 of compact levels
+    /// ```
+    #[inline(always)]
+    pub fn quarters(&self) -> &'a [u64]
+        ensures quarters { result.now ≡ self.now.quarters }
+        ensures compact { self.now.compact ≡ (length result.now == 0) }
+    {
+        self.quarters
     }
 
     /// How many 1 bits stand before a level, as the table says.

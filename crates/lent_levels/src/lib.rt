@@ -18,6 +18,7 @@
 // - `many_ranks`: many ranks of numbers at once
 // - `pairs`: two answers of one walk
 // - `quantiles`: the numbers of a range in order
+// - `quarters`: quarters of the words: written, checked, and ranked by
 // - `queries`: a number by its index, and ranks
 // - `ranges`: queries of ranges
 // - `selecting`: the indices of a number
@@ -29,10 +30,12 @@ mod many;
 mod many_ranks;
 mod pairs;
 mod quantiles;
+mod quarters;
 mod queries;
 mod ranges;
 mod selecting;
 mod stepping;
 
-pub use checking::{are_counts, counts_of};
+pub use checking::{are_counts, counts_of, has_quarters};
 pub use levels::{LevelsView, are_numbers};
+pub use quarters::{are_quarters, fill_quarters};

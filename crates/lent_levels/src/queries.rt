@@ -1,5 +1,5 @@
 //! A number by its index, and a number's ranks, over any source: words and tables may hold anything.
-ghost use Rattle.std.specs.Prelude.{◌≡◌, ◌*◌, ◌^◌, ◌<◌, ◌≤◌, Some, IfSome, IsSomeAnd, length};
+ghost use Rattle.std.specs.Prelude.{◌≡◌, ◌*◌, ◌^◌, ◌<◌, ◌≤◌, false, Some, IfSome, IsSomeAnd, length};
 ghost use Rattle.bitm_tables.specs.Reads.{OnlyReads};
 ghost use Rattle.bitm_tables.specs.Tables.{HasSizes, bits_in};
 ghost use Rattle.matrix_levels.specs.Levels.{level_place};
@@ -23,7 +23,8 @@ impl<'a> LevelsView<'a> {
     /// There are fewer than 2^58 words, enough for all numbers, and the two tables have the right lengths. They may
     /// hold anything.
     /// # Cost
-    /// For each level at most one upper entry, one lower entry and nine words are read, whatever they hold.
+    /// For each level at most one upper entry, one lower entry and nine words are read, whatever they hold; with
+    /// quarters one upper entry, no lower entry, three words and (evident from the code) one number of the quarters.
     ///
     /// ```
     /// levels.total_get_on(&mut source, 4);   // Found(5), Absent or Wrong
@@ -36,6 +37,8 @@ impl<'a> LevelsView<'a> {
             → IsNumberOf (numbers_in self.now (T.lists source.old)) i result }
         ensures reads { OnlyReads T.lists T.reads source.old source.new
             self.now.width self.now.width (9 * self.now.width) }
+        ensures quick { self.now.compact ≡ false → OnlyReads T.lists T.reads source.old source.new
+            self.now.width 0 (3 * self.now.width) }
     {
         if i >= self.len() {
             return Answer::Absent;
@@ -73,6 +76,8 @@ impl<'a> LevelsView<'a> {
             × (places.1 ≡ level_place numbers width number width end)) }
         ensures reads { OnlyReads T.lists T.reads source.old source.new
             (2 * self.now.width) (2 * self.now.width) (16 * self.now.width) }
+        ensures quick { self.now.compact ≡ false → OnlyReads T.lists T.reads source.old source.new
+            (2 * self.now.width) 0 (4 * self.now.width) }
     {
         let width = self.width();
         let (mut first, mut last) = (start, end);
@@ -104,6 +109,8 @@ impl<'a> LevelsView<'a> {
             → result ≡ Some (count_before (numbers_in self.now (T.lists source.old)) number end) }
         ensures reads { OnlyReads T.lists T.reads source.old source.new
             (2 * self.now.width) (2 * self.now.width) (16 * self.now.width) }
+        ensures quick { self.now.compact ≡ false → OnlyReads T.lists T.reads source.old source.new
+            (2 * self.now.width) 0 (4 * self.now.width) }
     {
         let (first, last) = self.total_places_on(source, number, 0, end)?;
         difference(first, last, end)
@@ -117,7 +124,8 @@ impl<'a> LevelsView<'a> {
     /// # Conditions
     /// Those of `total_get_on`.
     /// # Cost
-    /// For each level at most two upper entries, two lower entries and sixteen words are read, whatever they hold.
+    /// For each level at most two upper entries, two lower entries and sixteen words are read, whatever they hold; with
+    /// quarters two upper entries, no lower entry, four words and (evident from the code) two numbers of the quarters.
     ///
     /// ```
     /// levels.total_rank_on(&mut source, 1, 4);   // Found(2), Absent or Wrong
@@ -135,6 +143,8 @@ impl<'a> LevelsView<'a> {
             → IsRankOf (numbers_in self.now (T.lists source.old)) number i result }
         ensures reads { OnlyReads T.lists T.reads source.old source.new
             (2 * self.now.width) (2 * self.now.width) (16 * self.now.width) }
+        ensures quick { self.now.compact ≡ false → OnlyReads T.lists T.reads source.old source.new
+            (2 * self.now.width) 0 (4 * self.now.width) }
     {
         if i > self.len() {
             return Answer::Absent;

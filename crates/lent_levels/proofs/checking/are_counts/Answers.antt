@@ -25,8 +25,8 @@ are_counts_at-requires-clause-inside g c =
       ap (λ (s : Lists). length (bits_in s)) c.loop-depth.invariant.same,
     )
 
-pub returns-then-not-are_counts_at : goal.returns-then-not-are_counts_at
-returns-then-not-are_counts_at g c =
+pub returns-then-not-are_counts_at-clause-answer : goal.returns-then-not-are_counts_at-clause-answer
+returns-then-not-are_counts_at-clause-answer g c =
     let l = c.args.levels.now in
     let d = c.loop-depth.depth in (
       search rules,
@@ -53,8 +53,8 @@ loop-depth-preserved g c =
       same = c.are_counts_at.ensures.same ∙ i.same;
     }
 
-pub returns : goal.returns
-returns g c = (
+pub returns-clause-answer : goal.returns-clause-answer
+returns-clause-answer g c = (
   λ _ d less.
       c.loop-depth.invariant.right d (omega (arith, less, c.loop-depth-test.false, c.loop-depth.auto.depth-end, c.width-depth-end.ensures.width)),
   search rules,

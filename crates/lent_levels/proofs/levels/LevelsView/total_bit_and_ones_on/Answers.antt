@@ -7,6 +7,7 @@ use Rattle.bitm_tables.specs.Tables.{bits_in, HasTables, Lists}
 use Rattle.matrix_levels.specs.Levels.{has_digit, level}
 use Rattle.matrix_levels.specs.Matrix.{digit_place, level_in, numbers_in, IsMatrix}
 use Rattle.matrix_levels.proofs.lemmas.MatrixLemmas.{ones-are}
+use Rattle.lent_levels.specs.Check.{HasQuarters}
 use Rattle.lent_levels.proofs.StepLemmas.{ones-few, ones-with-bit}
 use Rattle.lent_levels.proofs.levels.LevelsView.total_bit_and_ones_on.Goals as goal
 use Rattle.lent_levels.proofs.levels.LevelsView.total_bit_and_ones_on.Goals.{After-difference}
@@ -25,7 +26,8 @@ answer g c h =
     let v = c.in_ok-digit.digit in
     let bit : v ≡ item b (d * l.len + p) = c.in_ok-digit.ensures.answer.1 ∙ ap (λ n. item b (d * n + p)) c.len.ensures.len in
     let through : c.in_ok-through.through ≡ ones_before b (d * l.len + p + 1) =
-    (c.in_ok-through.ensures.answer (subst (λ (s : Lists). HasTables s) (sym same) h.indexed.tables)).1
+    (c.in_ok-through.ensures.answer (subst (λ (s : Lists). HasTables s) (sym same) h.indexed.tables)
+    (subst (λ (s : Lists). HasQuarters l (bits_in s)) (sym same) h.numbers.quarters_are)).1
     ∙ ap (λ (s : Lists). ones_before (bits_in s) (d * c.len.result + p + 1)) same
     ∙ ap (λ n. ones_before b (d * n + p + 1)) c.len.ensures.len in
     let within : d * l.len + p < length b = subst (λ n. d * n + p < length b) c.len.ensures.len c.in_ok-digit.ensures.answer.0 in

@@ -15,6 +15,7 @@ loop-depth-init g c = record {
       level-first (numbers_in c.args.self.now (g.T.TableSource.lists c.args.source.now)) c.args.self.now.width m.fit m.most c.args.i
       (omega (arith, c.if-i-len.false, c.len.ensures.len, m.count));
   reads = reads-none g.T.TableSource.lists g.T.TableSource.reads c.args.source.now 0 0 (9 * 0);
+  quick = λ _. reads-none g.T.TableSource.lists g.T.TableSource.reads c.args.source.now 0 0 (3 * 0);
 }
 
 pub loop-depth-preserved : goal.loop-depth-preserved
@@ -36,4 +37,6 @@ loop-depth-preserved g c =
           (ap (λ (s : Lists). level_in l s d) i.reads.same) step.0 step.1;
       reads = reads-more T.lists T.reads c.args.source.now c.loop-depth.source _ d d (9 * d) 1 1 9 (d + 1) (d + 1) (9 * (d + 1)) i.reads
           c.in-Some.ensures.reads (omega arith) (omega arith) (omega arith);
+      quick = λ e. reads-more T.lists T.reads c.args.source.now c.loop-depth.source _ d 0 (3 * d) 1 0 3 (d + 1) 0 (3 * (d + 1)) (i.quick e)
+          (c.in-Some.ensures.quick e) (omega arith) (omega arith) (omega arith);
     }

@@ -1,4 +1,4 @@
-use Rattle.std.proofs.Common.{◌*◌, ◌^◌, ◌<◌}
+use Rattle.std.proofs.Common.{◌≡◌, false, ◌*◌, ◌^◌, ◌<◌}
 use Rattle.bitm_tables.specs.Reads.{OnlyReads}
 use Rattle.matrix_levels.specs.Matrix.{IsMatrix, numbers_in}
 use Rattle.matrix_levels.proofs.lemmas.ManyLemmas.{IsAtLevel}
@@ -13,4 +13,5 @@ invariant-loop-depth g l =
       small : l.number < 2 ^ l.depth;
       number : IsMatrix l.self (T.lists l.fn.source) → IsAtLevel (numbers_in l.self (T.lists l.fn.source)) l.self.width l.depth l.i l.place l.number;
       reads : OnlyReads T.lists T.reads l.fn.source l.source l.depth l.depth (9 * l.depth);
+      quick : l.self.compact ≡ false → OnlyReads T.lists T.reads l.fn.source l.source l.depth 0 (3 * l.depth);
     }

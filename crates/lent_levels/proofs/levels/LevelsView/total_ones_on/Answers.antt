@@ -17,7 +17,7 @@ returns-clause-answer g c = λ h.
     let d = c.args.depth in
     let p = c.args.place in
     let rank : c.in_ok-rank.rank ≡ ones_before b (d * l.len + p) =
-    (c.in_ok-rank.ensures.answer h.indexed.tables).1 ∙ ap (λ n. ones_before b (d * n + p)) c.len.ensures.len in
+    (c.in_ok-rank.ensures.answer h.indexed.tables h.numbers.quarters_are).1 ∙ ap (λ n. ones_before b (d * n + p)) c.len.ensures.len in
     c.difference.ensures.answer (count_by (has_digit (digit_place l d) true) (take p (level xs l.width d)))
     (omega (arith, rank, c.ones_before_level.ensures, ones-are xs l b h.numbers d p c.requires.depth c.requires.inside))
     (ones-few xs l b h.numbers d p c.requires.inside)

@@ -19,6 +19,7 @@ loop-depth-init g c =
       first_is = λ h. level_place-first xs l.width c.args.number c.args.start;
       last_is = λ h. level_place-first xs l.width c.args.number c.args.end;
       reads = reads-none g.T.TableSource.lists g.T.TableSource.reads c.args.source.now (2 * 0) (2 * 0) (16 * 0);
+      quick = λ _. reads-none g.T.TableSource.lists g.T.TableSource.reads c.args.source.now (2 * 0) 0 (4 * 0);
     }
 
 pub loop-depth-preserved : goal.loop-depth-preserved
@@ -51,6 +52,11 @@ loop-depth-preserved g c =
           (reads-more T.lists T.reads c.args.source.now c.loop-depth.source c.total_next_on.new.source (2 * d) (2 * d) (16 * d) 1 1 8 (2 * d + 1)
           (2 * d + 1) (16 * d + 8) i.reads near (omega arith) (omega arith) (omega arith))
           far (omega arith) (omega arith) (omega arith);
+      quick = λ e.
+          reads-more T.lists T.reads c.args.source.now c.total_next_on.new.source _ (2 * d + 1) 0 (4 * d + 2) 1 0 2 (2 * (d + 1)) 0 (4 * (d + 1))
+          (reads-more T.lists T.reads c.args.source.now c.loop-depth.source c.total_next_on.new.source (2 * d) 0 (4 * d) 1 0 2 (2 * d + 1) 0
+          (4 * d + 2) (i.quick e) (c.in_ok-next.ensures.quick e) (omega arith) (omega arith) (omega arith))
+          (c.in_ok-after.ensures.quick e) (omega arith) (omega arith) (omega arith);
     }
 
 pub returns-clause-places : goal.returns-clause-places

@@ -1,4 +1,4 @@
-use Rattle.std.proofs.Common.{◌≡◌, ◌*◌, ◌≤◌}
+use Rattle.std.proofs.Common.{◌≡◌, false, ◌*◌, ◌≤◌}
 use Rattle.bitm_tables.specs.Reads.{OnlyReads}
 use Rattle.matrix_levels.specs.Levels.{level_place}
 use Rattle.matrix_levels.specs.Matrix.{IsMatrix, numbers_in}
@@ -15,4 +15,5 @@ invariant-loop-depth g l =
       first_is : IsMatrix l.self lists → l.first ≡ level_place (numbers_in l.self lists) l.self.width l.number l.depth l.start;
       last_is : IsMatrix l.self lists → l.last ≡ level_place (numbers_in l.self lists) l.self.width l.number l.depth l.end;
       reads : OnlyReads T.lists T.reads l.fn.source l.source (2 * l.depth) (2 * l.depth) (16 * l.depth);
+      quick : l.self.compact ≡ false → OnlyReads T.lists T.reads l.fn.source l.source (2 * l.depth) 0 (4 * l.depth);
     }
