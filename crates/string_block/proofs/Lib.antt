@@ -1,0 +1,6 @@
+pub mod ArrangeLemmas
+pub mod BlockLemmas
+pub mod ByteLemmas
+pub mod GivenLemmas
+pub mod PlaceLemmas
+pub mod ViewLemmas

@@ -1,0 +1,63 @@
+-- What is found among strings.
+use Rattle.std.proofs.Common.{◌≡◌, ℕ, ◌+◌, ◌-◌, ◌<◌, Some, None, sym, ap, ◌∙◌, subst, arith}
+use Rattle.bitm_tables.specs.Tables.{bits_in}
+use Rattle.bitm_tables.specs.declared.answer.Answer.{Answer}
+use Rattle.bitm_tables.specs.declared.answer.Answer.TheVariants.{Found, Absent, Wrong}
+use Rattle.hash_levels.specs.Numbers.{number_by}
+use Rattle.perfect_hash.specs.Asking.{IsNumbered}
+use Rattle.string_block.specs.Bytes.{hash_of, stored_from}
+use Rattle.string_block.specs.Parts.{start_of, string_number, AreStrings, IsFound, IsHeld, IsInside, IsKept, IsNotWrong, IsPiece, IsString, StringParts}
+use Rattle.string_block.proofs.ByteLemmas.{same_hash}
+
+-- equal bytes have one number
+pub same_number : (parts : StringParts) (string other : ℕ → ℕ) (len n : ℕ) → len ≡ n → ((j : ℕ) → j < len → string j ≡ other j)
+    → string_number parts.hash string len ≡ string_number parts.hash other n
+same_number parts string other len n len_is same =
+    ap (number_by parts.hash.sizes (bits_in parts.hash.lists)) (same_hash parts.hash.seed string other len same ∙ ap (hash_of parts.hash.seed other) len_is)
+
+-- a string that stands at a number has it
+pub own_number : (parts : StringParts) (v : ℕ) (string : ℕ → ℕ) (len : ℕ) → AreStrings parts → IsString parts v string len
+    → string_number parts.hash string len ≡ Some v
+own_number parts v string len are is =
+    same_number parts string (stored_from parts.bytes (start_of parts v)) len (start_of parts (v + 1) - start_of parts v)
+    (omega (arith, is.len_is)) (λ j less. sym (is.same j less))
+    ∙ (are.each v is.below).own
+
+one_number : (v w : ℕ) → Some v ≡ Some w → v ≡ w
+one_number v w same = cc
+
+no_number : (v : ℕ) → Some v ≡ None → ⊥
+no_number v same = cc
+
+-- what is kept is held
+pub held_of : (parts : StringParts) (string : ℕ → ℕ) (len : ℕ) (number answer : Answer ℕ) → IsKept parts string len number answer
+    → IsHeld parts string len answer
+held_of parts string len (Found v) (Found w) kept = subst (λ (x : ℕ). IsString parts x string len) kept.0 kept.1
+held_of parts string len (Found v) Absent kept = tt
+held_of parts string len (Found v) Wrong kept = tt
+held_of parts string len Absent answer kept = subst (λ (a : Answer ℕ). IsHeld parts string len a) (sym kept) tt
+held_of parts string len Wrong answer kept = subst (λ (a : Answer ℕ). IsHeld parts string len a) (sym kept) tt
+
+-- and found, where the number is that of the hash
+pub found_of : (parts : StringParts) (string : ℕ → ℕ) (len : ℕ) (number answer : Answer ℕ) → AreStrings parts
+    → IsNumbered (string_number parts.hash string len) number → IsKept parts string len number answer → IsFound parts string len answer
+found_of parts string len (Found v) (Found w) are is kept = subst (λ (x : ℕ). IsString parts x string len) kept.0 kept.1
+found_of parts string len (Found v) Absent are is kept = λ u other.
+    let same = one_number u v (sym (own_number parts u string len are other) ∙ is) in
+    kept (subst (λ (x : ℕ). IsString parts x string len) same other)
+found_of parts string len (Found v) Wrong are is kept = absurd kept
+found_of parts string len Absent answer are is kept =
+    subst (λ (a : Answer ℕ). IsFound parts string len a) (sym kept)
+    (λ u other. no_number u (sym (own_number parts u string len are other) ∙ is))
+found_of parts string len Wrong answer are is kept = absurd is
+
+-- each string stands in the words
+pub are_inside : (parts : StringParts) (v : ℕ) → AreStrings parts → v < parts.hash.keys → IsInside parts v
+are_inside parts v are less =
+    let own = are.each v less in
+    (own.rise, omega (arith, own.within, are.full.tight))
+
+pub not_wrong : (parts : StringParts) (v : ℕ) (answer : Answer (ℕ × ℕ)) → AreStrings parts → IsPiece parts v answer → IsNotWrong answer
+not_wrong parts v (Found piece) are is = tt
+not_wrong parts v Absent are is = tt
+not_wrong parts v Wrong are is = is.1 (are_inside parts v are is.0)
