@@ -170,6 +170,34 @@ pub fn split_level(hashes: &mut [u64], level: u32, ones: &mut [u64], again: &mut
         ≡ left_of place_in hashes.old (bits_of ones.new) level 0 (length ones.old) }
     ensures few { result ≤ length hashes.old }
 {
-    fill(&Plain, 0, &*hashes, level, &mut *ones, again);
-    keep_left(&Plain, 0, hashes, level, &*ones)
+    split_level_by(&Plain, 0, hashes, level, ones, again)
+}
+
+/// As `split_level`, where `placing` says on which bits hashes fall, of a level that has `begin` words before it.
+///
+/// # Conditions
+/// Those of `split_level`; the level ends before word 2^58.
+/// # Cost
+/// As `split_level`.
+pub fn split_level_by<P: Placing>(
+    placing: &P,
+    begin: usize,
+    hashes: &mut [u64],
+    level: u32,
+    ones: &mut [u64],
+    again: &mut [u64],
+) -> usize
+    requires same { length again.old ≡ length ones.old }
+    requires some { 0 < length ones.old }
+    requires short { begin + length ones.old < 2 ^ 58 }
+    requires clear { (i : ℕ) → item (bits_of ones.old) i ≡ false }
+    requires clear_again { (i : ℕ) → item (bits_of again.old) i ≡ false }
+    ensures level { IsLevel (P.fall placing.now begin) hashes.old (bits_of ones.new) level 0
+        (length ones.old) }
+    ensures left { take result hashes.new ≡ left_of (P.fall placing.now begin) hashes.old
+        (bits_of ones.new) level 0 (length ones.old) }
+    ensures few { result ≤ length hashes.old }
+{
+    fill(placing, begin, &*hashes, level, &mut *ones, again);
+    keep_left(placing, begin, hashes, level, &*ones)
 }

@@ -25,9 +25,9 @@ mod placing;
 
 pub use building::Levels;
 pub use error::BuildError;
-pub use grouped::Grouped;
+pub use grouped::{Grouped, choose_in, place_seeded};
 pub use hashing::{KeyHash, Seeded, SeededBytes};
 pub use in_place::{Made, build_in_place, level_len};
-pub use level::split_level;
+pub use level::{split_level, split_level_by};
 pub use places::spread_at;
 pub use placing::{Placing, Plain, no_reads};

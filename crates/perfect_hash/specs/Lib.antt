@@ -1,8 +1,10 @@
 pub mod Asking
 pub mod Dictionary
+pub mod Listed
 pub mod Many
 pub mod Parts
 pub mod Placed
+pub mod Seeded
 pub use Rattle.hash_levels.specs.Collisions
 pub use Rattle.hash_levels.specs.Hashing
 pub use Rattle.hash_levels.specs.InPlace

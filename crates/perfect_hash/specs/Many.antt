@@ -1,5 +1,5 @@
 -- Many look-ups side by side. 2^64 - 1 stands where a hash has no number, or has no place yet.
-use Rattle.std.specs.Prelude.{◌≡◌, ◌≢◌, ℕ, ◌-◌, ◌^◌, ◌<◌, ◌≤◌, Bool, List, length, slice_get, slice_index, Option, Some, None}
+use Rattle.std.specs.Prelude.{◌≡◌, ◌≢◌, ℕ, ◌-◌, ◌*◌, ◌^◌, ◌<◌, ◌≤◌, All, Bool, List, length, slice_get, slice_index, sum, Option, Some, None}
 use Rattle.bit_lists.specs.Count.{ones_before}
 use Rattle.hash_levels.specs.Levels.{place_from, GoesOn}
 
@@ -19,6 +19,13 @@ AreHashes {K} hash keys hashes = (k : ℕ) (key : K) → slice_get keys k ≡ So
 -- number k is that of key k
 abbrev pub AreNumbersOfKeys : {K : Type 0} → (K → Option ℕ) → List K → List ℕ → Type 0
 AreNumbersOfKeys {K} number keys numbers = (k : ℕ) (key : K) → slice_get keys k ≡ Some key → slice_index numbers k ≡ told (number key)
+
+-- levels of these sizes, each of at least one word, are inside the bits, and there are few enough of both
+pub record AreInside (sizes : List ℕ) (bits : List Bool) : Type 0 where
+  pub some : All (λ size. 0 < size) sizes
+  pub within : 64 * sum sizes ≤ length bits
+  pub few : length sizes ≤ 256
+  pub short : length bits < 2 ^ 64
 
 -- before a level, a look-up has found its place, or goes on there
 pub record IsLookedUp (fall : ℕ → ℕ → ℕ) (b : List Bool) (sizes : List ℕ) (level begin place : ℕ) : Type 0 where

@@ -107,7 +107,30 @@ pub fn total_number_on<T: TableSource>(
         (number_by sizes.now (bits_in (T.lists source.old)) hash ≡ None) }
     ensures reads { OnlyReads T.lists T.reads source.old source.new 1 1 (length sizes.now + 8) }
 {
-    match place_on(source, &Plain, sizes, hash, &mut no_reads()) {
+    total_number_by_on(source, &Plain, sizes, count, hash)
+}
+
+/// As `total_number_on`, where `placing` says where hashes fall: at most one seed a level is read too.
+#[inline]
+pub fn total_number_by_on<T: TableSource, P: Placing>(
+    source: &mut T,
+    placing: &P,
+    sizes: &[usize],
+    count: usize,
+    hash: u64,
+) -> Answer<usize>
+    requires sized { HasSizes (T.lists source.old) }
+    requires few { length sizes.now ≤ 256 }
+    ensures below { IsBelow count result }
+    ensures number { let b = bits_in (T.lists source.old) in
+        HasTables (T.lists source.old) → AreSizes sizes.now b → ones_of b ≤ count
+        → IsNumbered (number_in (fall_in (P.fall placing.now) sizes.now) sizes.now b hash) result }
+    ensures fit { IfAbsent result (FitIn (length (T.lists source.old).words) sizes.now) }
+    ensures none { IfAbsent result (number_in (fall_in (P.fall placing.now) sizes.now) sizes.now
+        (bits_in (T.lists source.old)) hash ≡ None) }
+    ensures reads { OnlyReads T.lists T.reads source.old source.new 1 1 (length sizes.now + 8) }
+{
+    match place_on(source, placing, sizes, hash, &mut no_reads()) {
         Answer::Found(place) => match total_rank_on(source, place) {
             Some(number) if number < count => Answer::Found(number),
             _ => Answer::Wrong,

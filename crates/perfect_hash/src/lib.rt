@@ -14,21 +14,27 @@
 // - `asking`: the number of a hash over any source of words and tables
 // - `building`: levels, and an index over their words
 // - `dictionary`: numbers with fingerprints, so that almost all values that are no keys have none
+// - `listed`: the numbers of a list of hashes over what may hold anything
 // - `many`: many look-ups, side by side
 // - `querying`: how bits are queried: of a source, or of an index
+// - `seeds`: levels with a seed for each word, in the caller's memory
 // - `table`: the levels, and their queries
 mod asking;
 mod building;
 mod dictionary;
+mod listed;
 mod many;
 mod querying;
+mod seeds;
 mod table;
 
-pub use asking::{number_on, total_number_on};
+pub use asking::{number_on, total_number_by_on, total_number_on};
 pub use building::{Refused, build, build_by};
 pub use dictionary::Dictionary;
 pub use hash_levels::{
     BuildError, Grouped, KeyHash, Levels, Made, Placing, Plain, Seeded, SeededBytes,
     build_in_place, level_len, split_level,
 };
+pub use listed::total_numbers_on;
+pub use seeds::{SeedsView, build_seeded_in_place};
 pub use table::PerfectHash;

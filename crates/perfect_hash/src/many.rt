@@ -1,38 +1,43 @@
 //! Many look-ups at once: they go from level to level side by side, so that each waits for memory while the others do.
-ghost use Rattle.std.specs.Prelude.{◌≡◌, ◌≢◌, ◌+◌, ◌^◌, ◌-◌, ◌<◌, ◌≤◌, ℕ, length, slice_index};
+ghost use Rattle.std.specs.Prelude.{◌≡◌, ◌≢◌, ◌+◌, ◌*◌, ◌^◌, ◌-◌, ◌<◌, ◌≤◌, ℕ, length, slice_index};
 ghost use Rattle.bit_lists.specs.Count.{ones_before};
 ghost use Rattle.hash_levels.specs.Levels.{fall_in, place_from, GoesOn};
-ghost use Rattle.perfect_hash.specs.Many.{told, AreHashes, AreLookedUp, AreNumbersOf};
+ghost use Rattle.perfect_hash.specs.Many.{told, AreHashes, AreInside, AreLookedUp, AreNumbersOf};
 ghost use Rattle.perfect_hash.specs.Many.{AreNumbersOfKeys, AreRanks, IsLookedUp};
 ghost use Rattle.perfect_hash.specs.Parts.{number_at, number_from};
-ghost use Rattle.hash_levels.specs.Numbers.{AreSizes};
+ghost use Rattle.bitm_tables.specs.Reads.{OnlyReads};
 
+use crate::querying::{ByIndex, Query, no_source};
 use crate::table::PerfectHash;
 use bitm::Access;
 use bitm_select::search::selected::NO_ANSWER;
+use bitm_tables::source::TableSource;
 use hash_levels::{KeyHash, Placing, no_reads};
 use tuning::LOOK_UPS_SIDE_BY_SIDE;
 
 /// The position of the 1 bit that a hash falls on at this level; `NO_ANSWER` where it falls on none.
 #[inline(always)]
-fn look<I: Access, P: Placing>(
+fn look<Q: Query, T: TableSource, P: Placing>(
+    query: &Q,
+    source: &mut T,
     placing: &P,
-    index: &I,
     sizes: &[usize],
     level: usize,
     begin: usize,
     hash: u64,
 ) -> usize
-    requires sizes { AreSizes sizes.now (I.bits index.now) }
+    requires sizes { AreInside sizes.now (Q.bits query.now (T.lists source.old)) }
     requires level { level < length sizes.now }
-    requires goes_on { GoesOn (fall_in (P.fall placing.now) sizes.now hash) (I.bits index.now)
-        sizes.now level begin }
-    ensures { IsLookedUp (fall_in (P.fall placing.now) sizes.now hash) (I.bits index.now) sizes.now
+    requires goes_on { GoesOn (fall_in (P.fall placing.now) sizes.now hash)
+        (Q.bits query.now (T.lists source.old)) sizes.now level begin }
+    ensures looked { IsLookedUp (fall_in (P.fall placing.now) sizes.now hash)
+        (Q.bits query.now (T.lists source.old)) sizes.now
         (level + 1) (begin + slice_index sizes.now level) result }
+    ensures reads { OnlyReads T.lists T.reads source.old source.new 0 0 1 }
 {
     let reads = &mut no_reads();
     let place = 64 * begin + placing.place(begin, hash, level as u32, sizes[level], reads);
-    if index.get_bit(place) {
+    if query.is_one(source, place) {
         place
     } else {
         NO_ANSWER
@@ -42,9 +47,10 @@ fn look<I: Access, P: Placing>(
 /// Looks at one level for those of the hashes that wait, the first `count` of the list. Those that go on come to its
 /// start, without a branch that the processor would have to guess, and the answer is how many they are.
 #[inline(always)]
-fn look_at_level<I: Access, P: Placing>(
+fn look_at_level<Q: Query, T: TableSource, P: Placing>(
+    query: &Q,
+    source: &mut T,
     placing: &P,
-    index: &I,
     sizes: &[usize],
     level: usize,
     begin: usize,
@@ -53,18 +59,22 @@ fn look_at_level<I: Access, P: Placing>(
     waiting: &mut [usize],
     count: usize,
 ) -> usize
-    requires sizes { AreSizes sizes.now (I.bits index.now) }
+    requires sizes { AreInside sizes.now (Q.bits query.now (T.lists source.old)) }
     requires level { level < length sizes.now }
     requires same_length { length places.old ≡ length hashes.now }
-    requires before { AreLookedUp (fall_in (P.fall placing.now) sizes.now) (I.bits index.now)
+    requires before { AreLookedUp (fall_in (P.fall placing.now) sizes.now)
+        (Q.bits query.now (T.lists source.old))
         sizes.now level begin hashes.now places.old waiting.old count }
-    ensures after { AreLookedUp (fall_in (P.fall placing.now) sizes.now) (I.bits index.now)
+    ensures after { AreLookedUp (fall_in (P.fall placing.now) sizes.now)
+        (Q.bits query.now (T.lists source.old))
         sizes.now (level + 1) (begin + slice_index sizes.now level) hashes.now places.new waiting.new result }
+    ensures fewer { result ≤ count }
+    ensures reads { OnlyReads T.lists T.reads source.old source.new 0 0 count }
 {
     let mut kept = 0;
     for i in 0..count {
         let k = waiting[i];
-        let place = look(placing, index, sizes, level, begin, hashes[k]);
+        let place = look(query, source, placing, sizes, level, begin, hashes[k]);
         places[k] = place;
         waiting[kept] = k;
         if place == NO_ANSWER {
@@ -74,23 +84,27 @@ fn look_at_level<I: Access, P: Placing>(
     kept
 }
 
-/// The position of each hash, or `NO_ANSWER`.
+/// The position of each hash, or `NO_ANSWER`. What `waiting`, which is as long as the hashes at least, holds afterwards
+/// means nothing.
 #[inline(always)]
-fn find_places<I: Access, P: Placing>(
+pub(crate) fn find_places<Q: Query, T: TableSource, P: Placing>(
+    query: &Q,
+    source: &mut T,
     placing: &P,
-    index: &I,
     sizes: &[usize],
     hashes: &[u64],
     places: &mut [usize],
+    waiting: &mut [usize],
 )
-    requires sizes { AreSizes sizes.now (I.bits index.now) }
+    requires sizes { AreInside sizes.now (Q.bits query.now (T.lists source.old)) }
     requires same_length { length places.old ≡ length hashes.now }
-    requires few { length hashes.now ≤ 256 }
-    ensures { (k : ℕ) → k < length hashes.now → slice_index places.new k
+    requires room { length hashes.now ≤ length waiting.old }
+    ensures told { (k : ℕ) → k < length hashes.now → slice_index places.new k
         ≡ told (place_from (fall_in (P.fall placing.now) sizes.now (slice_index hashes.now k))
-        (I.bits index.now) 0 0 sizes.now) }
+        (Q.bits query.now (T.lists source.old)) 0 0 sizes.now) }
+    ensures reads { OnlyReads T.lists T.reads source.old source.new 0 0
+        (length hashes.now * length sizes.now) }
 {
-    let mut waiting = [0; LOOK_UPS_SIDE_BY_SIDE];
     for k in 0..hashes.len() {
         places[k] = NO_ANSWER;
         waiting[k] = k;
@@ -102,14 +116,15 @@ fn find_places<I: Access, P: Placing>(
             return;
         }
         count = look_at_level(
+            query,
+            source,
             placing,
-            index,
             sizes,
             level,
             begin,
             hashes,
             &mut *places,
-            &mut waiting,
+            &mut *waiting,
             count,
         );
         begin += sizes[level];
@@ -138,7 +153,20 @@ impl<H, I: Access, P: Placing> PerfectHash<H, I, P> {
         requires few { length hashes.now ≤ 256 }
         ensures { AreNumbersOf (number_from P.fall self.now) hashes.now numbers.new }
     {
-        find_places(self.placing(), self.index(), self.sizes(), hashes, numbers);
+        let query = ByIndex {
+            index: self.index(),
+        };
+        let waiting = &mut [0; LOOK_UPS_SIDE_BY_SIDE];
+        let (source, placing, sizes) = (&mut no_source(), self.placing(), self.sizes());
+        find_places(
+            &query,
+            source,
+            placing,
+            sizes,
+            hashes,
+            &mut *numbers,
+            waiting,
+        );
         rank_places(self.index(), numbers);
     }
 

@@ -1,10 +1,14 @@
 -- Look-ups side by side, and lists that are written block after block.
 use Rattle.std.proofs.Common.{◌≡◌, ◌≢◌, ℕ, ◌+◌, ◌-◌, ◌*◌, ◌^◌, ◌<◌, ◌≤◌, ◌⊎◌, Bool, List, length, slice_index, slice_set, Option, Some, None, refl, sym, ap, ◌∙◌, subst, arith, inl, inr}
+use Rattle.std.proofs.Math.Nat.{mul-le-mul_left}
 use Rattle.std.proofs.lemmas.Bool.{cases_eq, cases_lt}
 use Rattle.std.proofs.lemmas.List.{drop_all, get_or-set_other, get_or-set_same, length-set}
 use Rattle.std.specs.List.{sum}
 use Rattle.std.specs.Option.{option_map, IfSome}
 use Rattle.bit_lists.specs.Count.{ones_before}
+use Rattle.bitm_tables.specs.Reads.{OnlyReads}
+use Rattle.bitm_tables.specs.Tables.{Lists}
+use Rattle.bitm_tables.specs.declared.source.counts.ReadCounts.{ReadCounts}
 use Rattle.hash_levels.specs.Levels.{place_from, GoesOn}
 use Rattle.perfect_hash.specs.Many.{told, AreLookedUp, IsLookedUp, IsRanked}
 use Rattle.hash_levels.specs.Numbers.{number_in, AreSizes}
@@ -175,6 +179,21 @@ last_is_told fall b sizes level begin hashes places waiting count h end k less =
           ]
       | inr some ↦ sym (ap told (h.found k less some))
     ]
+
+-- a word for each of n hashes at each level so far is one at each level at most
+pub reads_fewer : {S : Type 0} (n all level : ℕ) (lists_of : S → Lists) (reads_of : S → ReadCounts) (old new : S) → level ≤ all
+    → OnlyReads lists_of reads_of old new 0 0 (n * level) → OnlyReads lists_of reads_of old new 0 0 (n * all)
+reads_fewer n all level lists_of reads_of old new inside reads = record {
+  at_most = record {
+    upper = reads.at_most.upper;
+    lower = reads.at_most.lower;
+    words = omega (arith, reads.at_most.words, mul-le-mul_left n inside);
+    upper_kept = reads.at_most.upper_kept;
+    lower_kept = reads.at_most.lower_kept;
+    words_kept = reads.at_most.words_kept;
+  };
+  same = reads.same;
+}
 
 -- a place that was told is inside, and its rank tells the number
 told_inside : (b : List Bool) (o : Option ℕ) (end old : ℕ) → end ≤ length b → IfSome o (IsOneBefore b end)

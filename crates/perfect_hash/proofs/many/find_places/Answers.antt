@@ -1,7 +1,7 @@
 -- All wait at first; what was found tells the places once none waits, or after the last level.
-use Rattle.std.proofs.Common.{inl, inr, arith}
+use Rattle.std.proofs.Common.{inl, inr, length, refl, arith}
 use Rattle.hash_levels.specs.Levels.{fall_in}
-use Rattle.perfect_hash.proofs.lemmas.ManyLemmas.{last_is_told, looked_up-first}
+use Rattle.perfect_hash.proofs.lemmas.ManyLemmas.{last_is_told, looked_up-first, reads_fewer}
 use Rattle.perfect_hash.proofs.many.find_places.Goals as goal
 
 pub loop-level-init : goal.loop-level-init
@@ -10,17 +10,38 @@ loop-level-init g c =
     record {
       long = i.long;
       begins = omega arith;
-      each = looked_up-first (fall_in (g.P.Placing.fall c.args.placing.now) c.args.sizes.now) (g.I.HasBits.bits c.args.index.now) c.args.sizes.now c.args.hashes.now c.loop-k.places c.loop-k.waiting
-          (omega (arith, i.room, c.requires.few))
+      fewer = omega arith;
+      inside = omega arith;
+      reads = record {
+        at_most = record {
+          upper = omega arith;
+          lower = omega arith;
+          words = omega arith;
+          upper_kept = omega arith;
+          lower_kept = omega arith;
+          words_kept = omega arith;
+        };
+        same = refl;
+      };
+      each = looked_up-first (fall_in (g.P.Placing.fall c.args.placing.now) c.args.sizes.now) (g.Q.Query.bits c.args.query.now (g.T.TableSource.lists c.args.source.now)) c.args.sizes.now c.args.hashes.now c.loop-k.places c.loop-k.waiting
+          i.room
           (λ k less. i.none k (omega (arith, less, c.loop-k-test.false))) (λ k less. i.own k (omega (arith, less, c.loop-k-test.false)));
     }
 
 pub returns-then-count-eq0 : goal.returns-then-count-eq0
-returns-then-count-eq0 g c =
-    last_is_told (fall_in (g.P.Placing.fall c.args.placing.now) c.args.sizes.now) (g.I.HasBits.bits c.args.index.now) c.args.sizes.now c.loop-level.level c.loop-level.begin c.args.hashes.now
-    c.loop-level.places c.loop-level.waiting c.loop-level.count c.loop-level.invariant.each (inr c.if-count-eq0.true)
+returns-then-count-eq0 g c = record {
+  told = last_is_told (fall_in (g.P.Placing.fall c.args.placing.now) c.args.sizes.now) (g.Q.Query.bits c.args.query.now (g.T.TableSource.lists c.args.source.now))
+      c.args.sizes.now c.loop-level.level c.loop-level.begin c.args.hashes.now c.loop-level.places c.loop-level.waiting c.loop-level.count
+      c.loop-level.invariant.each (inr c.if-count-eq0.true);
+  reads = reads_fewer (length c.args.hashes.now) (length c.args.sizes.now) c.loop-level.level g.T.TableSource.lists g.T.TableSource.reads c.args.source.now c.loop-level.source
+      c.loop-level.invariant.inside c.loop-level.invariant.reads;
+}
 
 pub returns : goal.returns
-returns g c =
-    last_is_told (fall_in (g.P.Placing.fall c.args.placing.now) c.args.sizes.now) (g.I.HasBits.bits c.args.index.now) c.args.sizes.now c.loop-level.level c.loop-level.begin c.args.hashes.now
-    c.loop-level.places c.loop-level.waiting c.loop-level.count c.loop-level.invariant.each (inl c.loop-level-test.false)
+returns g c = record {
+  told = last_is_told (fall_in (g.P.Placing.fall c.args.placing.now) c.args.sizes.now) (g.Q.Query.bits c.args.query.now (g.T.TableSource.lists c.args.source.now))
+      c.args.sizes.now c.loop-level.level c.loop-level.begin c.args.hashes.now c.loop-level.places c.loop-level.waiting c.loop-level.count
+      c.loop-level.invariant.each (inl c.loop-level-test.false);
+  reads = reads_fewer (length c.args.hashes.now) (length c.args.sizes.now) c.loop-level.level g.T.TableSource.lists g.T.TableSource.reads c.args.source.now c.loop-level.source
+      c.loop-level.invariant.inside c.loop-level.invariant.reads;
+}

@@ -1,7 +1,9 @@
 -- The one that was looked up goes on, or was found.
-use Rattle.std.proofs.Common.{ℕ, ◌+◌, ◌∙◌, slice_index, slice_set, subst, sym}
+use Rattle.std.proofs.Common.{ℕ, ◌+◌, ◌∙◌, slice_index, slice_set, subst, sym, arith}
 use Rattle.std.proofs.lemmas.List.{length-set}
+use Rattle.bitm_tables.specs.Tables.{Lists}
 use Rattle.hash_levels.specs.Levels.{fall_in}
+use Rattle.perfect_hash.specs.Many.{IsLookedUp}
 use Rattle.perfect_hash.proofs.lemmas.ManyLemmas.{Midway, Midway-found, Midway-on}
 use Rattle.perfect_hash.proofs.many.look_at_level.Goals as goal
 use Rattle.perfect_hash.proofs.many.look_at_level.Goals.{then-place, else-place}
@@ -9,7 +11,7 @@ use Rattle.perfect_hash.proofs.many.look_at_level.Goals.{then-place, else-place}
 pub loop-i-preserved : goal.loop-i-preserved
 loop-i-preserved g c =
     let fall = fall_in (g.P.Placing.fall c.args.placing.now) c.args.sizes.now in
-    let b = g.I.HasBits.bits c.args.index.now in
+    let b = g.Q.Query.bits c.args.query.now (g.T.TableSource.lists c.args.source.now) in
     let sizes = c.args.sizes.now in
     let next = c.args.begin + slice_index sizes c.args.level in
     let hashes = c.args.hashes.now in
@@ -17,20 +19,38 @@ loop-i-preserved g c =
     let waiting = c.loop-i.waiting in
     let i = c.loop-i.i in
     let place = c.look-place.result in
+    let before = c.loop-i.invariant.reads in
+    let one = c.look-place.ensures.reads in
+    let looked =
+    subst
+    (λ (l : Lists).
+    IsLookedUp (fall (slice_index hashes (slice_index waiting i))) (g.Q.Query.bits c.args.query.now l) sizes (c.args.level + 1) next place)
+    before.same c.look-place.ensures.looked in
     let P : ℕ → Type 0 = λ kept.
     Midway fall b sizes c.args.level c.args.begin next hashes (slice_set places (slice_index waiting i) place)
     (slice_set waiting c.loop-i.kept (slice_index waiting i)) kept (i + 1) c.args.count in
     record {
       long = length-set places (slice_index waiting i) place ∙ c.loop-i.invariant.long;
+      reads = record {
+        at_most = record {
+          upper = omega (arith, before.at_most.upper, one.at_most.upper);
+          lower = omega (arith, before.at_most.lower, one.at_most.lower);
+          words = omega (arith, before.at_most.words, one.at_most.words);
+          upper_kept = omega (arith, before.at_most.upper_kept, one.at_most.upper_kept);
+          lower_kept = omega (arith, before.at_most.lower_kept, one.at_most.lower_kept);
+          words_kept = omega (arith, before.at_most.words_kept, one.at_most.words_kept);
+        };
+        same = one.same ∙ before.same;
+      };
       midway =
           elim c.if-place.branch [
             | then-place w ↦
                 subst P (sym w.kept-is)
                 (Midway-on fall b sizes c.args.level c.args.begin next hashes places waiting c.loop-i.kept i c.args.count place
-                c.loop-i.invariant.midway c.loop-i-test.true c.loop-i.invariant.long c.look-place.ensures w.if-place.true)
+                c.loop-i.invariant.midway c.loop-i-test.true c.loop-i.invariant.long looked w.if-place.true)
             | else-place w ↦
                 subst P (sym w.kept-is)
                 (Midway-found fall b sizes c.args.level c.args.begin next hashes places waiting c.loop-i.kept i c.args.count place
-                c.loop-i.invariant.midway c.loop-i-test.true c.loop-i.invariant.long c.look-place.ensures w.if-place.false)
+                c.loop-i.invariant.midway c.loop-i-test.true c.loop-i.invariant.long looked w.if-place.false)
           ];
     }

@@ -8,26 +8,26 @@ use Rattle.perfect_hash.proofs.table.PerfectHash.number_block.Goals as goal
 
 pub rank_places-requires : goal.rank_places-requires
 rank_places-requires g c k less some =
-    let placing = c.placing.result.now in
-    let sizes = c.sizes.result.now in
+    let placing = c.placing-placing.result.now in
+    let sizes = c.sizes-sizes.result.now in
     place_inside (fall_in (g.P.Placing.fall placing) sizes)
     (λ hash level words some. g.met.P.Placing.inside placing (sum (take level sizes)) hash level words some)
     c.args.self.now.sizes sizes c.args.self.now.bits _ (slice_index c.args.hashes.now k) _
-    c.sizes.ensures.sizes c.index.ensures.bits
-    (c.find_places.ensures k (omega (arith, less, c.find_places.auto.places, c.requires.same_length)))
+    c.sizes-sizes.ensures.sizes c.index.ensures.bits
+    (c.find_places.ensures.told k (omega (arith, less, c.find_places.auto.places, c.requires.same_length)))
     _ c.index-2.ensures.bits some
 
 pub returns : goal.returns
 returns g c k less =
     let self = c.args.self.now in
     let by = g.P.Placing.fall in
-    let placing = c.placing.result.now in
-    let sizes = c.sizes.result.now in
+    let placing = c.placing-placing.result.now in
+    let sizes = c.sizes-sizes.result.now in
     let hash = slice_index c.args.hashes.now k in
     number_is_told (fall_in (by placing) sizes)
     (λ h level words some. g.met.P.Placing.inside placing (sum (take level sizes)) h level words some)
     self.sizes sizes self.bits _ hash _
-    c.sizes.ensures.sizes c.index.ensures.bits (c.find_places.ensures k less) _ _ c.index-2.ensures.bits c.sizes.ensures.value
+    c.sizes-sizes.ensures.sizes c.index.ensures.bits (c.find_places.ensures.told k less) _ _ c.index-2.ensures.bits c.sizes-sizes.ensures.value
     (c.rank_places.ensures k (omega (arith, less, c.find_places.auto.places, c.requires.same_length)))
-    ∙ ap (λ (s : List ℕ). told (number_in (fall_in (by placing) s) self.sizes self.bits hash)) c.sizes.ensures.value
-    ∙ ap (λ p. told (number_in (fall_in (by p) self.sizes) self.sizes self.bits hash)) c.placing.ensures
+    ∙ ap (λ (s : List ℕ). told (number_in (fall_in (by placing) s) self.sizes self.bits hash)) c.sizes-sizes.ensures.value
+    ∙ ap (λ p. told (number_in (fall_in (by p) self.sizes) self.sizes self.bits hash)) c.placing-placing.ensures

@@ -3,7 +3,7 @@ use Rattle.std.proofs.Common.{◌≡◌, ◌≤◌, length, subst, arith}
 use Rattle.bit_lists.specs.Count.{ones_before}
 use Rattle.bitm_tables.specs.Tables.{bits_in, HasTables, Lists}
 use Rattle.perfect_hash.proofs.lemmas.GetLemmas.{one_counted}
-use Rattle.perfect_hash.proofs.asking.total_number_on.Goals as goal
+use Rattle.perfect_hash.proofs.asking.total_number_by_on.Goals as goal
 
 pub returns-in_default-clause-number : goal.returns-in_default-clause-number
 returns-in_default-clause-number g c tables sizes most =

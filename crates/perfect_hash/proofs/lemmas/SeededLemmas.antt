@@ -1,0 +1,150 @@
+-- Levels with seeds, which are made one after another in the first words of a slice.
+use Rattle.std.proofs.Common.{◌≡◌, ℕ, ◌+◌, ◌*◌, ◌/◌, ◌%◌, ◌^◌, ◌<◌, ◌≤◌, List, [], ◌++◌, length, length-drop, min, slice_index, take, drop, set, refl, sym, ap, subst, ◌∙◌, true, arith}
+use Rattle.std.proofs.Math.Seq.{take-add}
+use Rattle.std.proofs.lemmas.List.{get_or-take, length-take-le, take-take, take_more_set}
+use Rattle.std.specs.List.{sum}
+use Rattle.bit_lists.specs.Bits.{bits_of, IsShort}
+use Rattle.bit_lists.specs.Count.{ones_before, ones_of}
+use Rattle.bit_lists.proofs.BitLaws.{bits_are_counted, none_before_the_first}
+use Rattle.hash_levels.specs.Inside.{fraction_below, places_inside}
+use Rattle.hash_levels.specs.Levels.{fall_in, left_of, AddsLevel, AreChosen, AreSized, IsLevel, Leave}
+use Rattle.hash_levels.specs.Numbers.{AreLevels}
+use Rattle.hash_levels.specs.Places.{bit_by, place_by, spread, words_for}
+use Rattle.hash_levels.specs.Seeds.{AreBest, HasBest}
+use Rattle.hash_levels.proofs.lemmas.BuildLemmas.{adds_level, are_sizes, perfect}
+use Rattle.hash_levels.proofs.lemmas.LevelLemmas.{FallsInside}
+use Rattle.hash_levels.proofs.lemmas.NumberLemmas.{numbered}
+use Rattle.hash_levels.proofs.lemmas.PlacingLemmas.{AreChosen-next, AreSized-next, Leave-next}
+use Rattle.perfect_hash.specs.Seeded.{seeds_with}
+
+-- hashes fall alike in levels whose seeds are the same
+pub place_by-alike : (old new : List ℕ) (n first hash level words : ℕ) → take n new ≡ take n old → 0 < words → first + words ≤ n
+    → place_by new first hash level words ≡ place_by old first hash level words
+unfolding place_by
+place_by-alike old new n first hash level words same some before =
+    let x = spread hash level in
+    let word = x % 2 ^ 64 * words / 2 ^ 64 in
+    let inside : first + word < n = omega (arith, fraction_below (x % 2 ^ 64) words (omega arith) some) in
+    ap (λ (seed : ℕ). 64 * word + bit_by seed x)
+    (sym (get_or-take n new (first + word) 0 inside) ∙ ap (λ (s : List ℕ). slice_index s (first + word)) same
+    ∙ get_or-take n old (first + word) 0 inside)
+
+-- where hashes fall by the first seeds, in levels of the first sizes
+abbrev pub fall_with : List ℕ → List ℕ → ℕ → ℕ → ℕ → ℕ
+fall_with seeds sizes = fall_in (place_by seeds) sizes
+
+pub falls_with : (seeds sizes : List ℕ) → FallsInside (fall_with seeds sizes)
+falls_with seeds sizes = λ hash level words some. places_inside seeds (sum (take level sizes)) hash level words some
+
+-- the first levels, words and seeds of slices, and the hashes that they leave in front
+pub record IsBuilt (percent tries : ℕ) (keys sizes words seeds hashes : List ℕ) (levels used left : ℕ) : Type 0 where
+  pub leave : Leave (fall_with (take used seeds) (take levels sizes)) keys (take levels sizes) (take used words) (take left hashes)
+  pub sized : AreSized (words_for percent) (fall_with (take used seeds) (take levels sizes)) keys (bits_of (take used words)) 0 0 (take levels sizes)
+  pub chosen : AreChosen HasBest (fall_with (take used seeds) (take levels sizes)) keys (bits_of (take used words)) 0 0 0 (take levels sizes)
+      (seeds_with [] tries) (seeds_with (take used seeds) tries)
+
+module _ (percent tries : ℕ) (keys hashes hashes' words words' seeds seeds' sizes : List ℕ) (level used size left left' : ℕ)
+    (before : IsBuilt percent tries keys sizes words seeds hashes level used left)
+    (room : level < length sizes) (was : used ≤ length words) (inside : used + size ≤ length words') (enough : used + size ≤ length seeds')
+    (same : take used words' ≡ take used words) (seeds_same : take used seeds' ≡ take used seeds)
+    (some : 0 < size) (is : size ≡ words_for percent left) (few : left ≤ length hashes)
+    (made : IsLevel (place_by (take (used + size) seeds') used) (take left hashes) (bits_of (take size (drop used words'))) level 0 size)
+    (after : take left' hashes' ≡ left_of (place_by (take (used + size) seeds') used) (take left hashes) (bits_of (take size (drop used words'))) level 0 size)
+    (best : AreBest level (take left hashes) (min tries 256) (drop used (take (used + size) seeds'))) where
+  ones : List ℕ
+  ones = take size (drop used words')
+
+  new_seeds : List ℕ
+  new_seeds = take (used + size) seeds'
+
+  ones_len : length ones ≡ size
+  unfolding ones
+  ones_len = length-take-le size (drop used words') (omega (arith, length-drop used words'))
+
+  begin_is : length (take used words) ≡ used
+  begin_is = length-take-le used words was
+
+  adds_here : AddsLevel (place_by new_seeds used) (take left hashes) (take level sizes) (take used words) (take (level + 1) (set sizes level size))
+      (take (used + size) words') (take left' hashes')
+  unfolding ones new_seeds
+  adds_here = adds_level (place_by new_seeds used) (places_inside new_seeds used) (take left hashes) (take left' hashes') (take level sizes) (take used words)
+      (take (level + 1) (set sizes level size)) (take (used + size) words') ones size level some
+      (length-take-le level sizes (omega (arith, room))) ones_len (take_more_set sizes level size room)
+      (take-add used size words' ∙ ap (λ (ws : List ℕ). ws ++ ones) same) made
+      (after ∙ ap (λ (n : ℕ). left_of (place_by new_seeds used) (take left hashes) (bits_of ones) level 0 n) (sym ones_len))
+
+  adds : AddsLevel (place_by new_seeds (length (take used words))) (take left hashes) (take level sizes) (take used words)
+      (take (level + 1) (set sizes level size)) (take (used + size) words') (take left' hashes')
+  adds =
+      let P : ℕ → Type 0 = λ n. AddsLevel (place_by new_seeds n) (take left hashes) (take level sizes) (take used words)
+      (take (level + 1) (set sizes level size)) (take (used + size) words') (take left' hashes') in
+      subst P (sym begin_is) adds_here
+
+  size_same : adds.size ≡ size
+  size_same = omega (arith, adds.len, begin_is, length-take-le (used + size) words' inside)
+
+  size_is : adds.size ≡ words_for percent (length (take left hashes))
+  size_is = size_same ∙ is ∙ ap (words_for percent) (sym (length-take-le left hashes few))
+
+  -- hashes fall in the levels before as they did
+  kept : (begin hash number w : ℕ) → 0 < w → begin + w ≤ length (take used words)
+      → place_by new_seeds begin hash number w ≡ place_by (take used seeds) begin hash number w
+  unfolding new_seeds
+  kept begin hash number w more within =
+      place_by-alike (take used seeds) (take (used + size) seeds') used begin hash number w
+      (take-take used (used + size) seeds' (omega arith) ∙ seeds_same ∙ sym (take-take used used seeds (omega arith)))
+      more (omega (arith, within, begin_is))
+
+  choice : HasBest (seeds_with (take used seeds) tries) (seeds_with new_seeds tries) (length (take used words)) (take left hashes) level adds.size
+  unfolding new_seeds
+  choice =
+      let P : ℕ → ℕ → Type 0 = λ n m.
+      HasBest (seeds_with (take used seeds) tries) (seeds_with (take (used + size) seeds') tries) n (take left hashes) level m in
+      let here : P used size =
+      record {
+        tries = refl;
+        len = length-take-le (used + size) seeds' enough;
+        best = best;
+      } in
+      subst (λ (n : ℕ). P n adds.size) (sym begin_is) (subst (λ (m : ℕ). P used m) (sym size_same) here)
+
+  pub built_more : IsBuilt percent tries keys (set sizes level size) words' seeds' hashes' (level + 1) (used + size) left'
+  unfolding new_seeds
+  built_more = record {
+    leave = Leave-next (place_by (take used seeds)) (place_by new_seeds) (places_inside new_seeds) keys (take left hashes) (take left' hashes')
+        (take level sizes) (take used words) (take (level + 1) (set sizes level size)) (take (used + size) words') kept before.leave adds;
+    sized = AreSized-next (place_by (take used seeds)) (place_by new_seeds) (places_inside new_seeds) keys (take left hashes) (take left' hashes')
+        (take level sizes) (take used words) (take (level + 1) (set sizes level size)) (take (used + size) words') kept before.leave adds
+        (words_for percent) before.sized size_is;
+    chosen = AreChosen-next (place_by (take used seeds)) (place_by new_seeds) (places_inside new_seeds) keys (take left hashes) (take left' hashes')
+        (take level sizes) (take used words) (take (level + 1) (set sizes level size)) (take (used + size) words') kept before.leave adds
+        HasBest (seeds_with [] tries) (seeds_with (take used seeds) tries) (seeds_with new_seeds tries) level before.chosen
+        (length-take-le level sizes (omega (arith, room))) choice;
+  }
+
+-- where no hash is left, they are numbered
+module _ (percent tries : ℕ) (keys sizes words seeds hashes : List ℕ) (levels used left : ℕ)
+    (built : IsBuilt percent tries keys sizes words seeds hashes levels used left) (none : left ≡ 0) where
+  fall : ℕ → ℕ → ℕ → ℕ
+  fall = fall_with (take used seeds) (take levels sizes)
+
+  all : Leave fall keys (take levels sizes) (take used words) []
+  unfolding fall
+  all = subst (λ (n : ℕ). Leave fall keys (take levels sizes) (take used words) (take n hashes)) none built.leave
+
+  pub built_levels : length (take levels sizes) ≤ 256 → IsShort (take used words)
+      → AreLevels (fall_with (take used seeds) (take levels sizes)) (λ (hash : ℕ). hash) keys (take levels sizes) (take used words)
+  unfolding fall
+  built_levels few short = record {
+    perfect = perfect fall (falls_with (take used seeds) (take levels sizes)) keys (take levels sizes) (take used words) all;
+    sizes_are = are_sizes fall keys (take levels sizes) (take used words) all few short;
+    short = short;
+  }
+
+  pub built_ones : ones_of (bits_of (take used words)) ≡ length keys
+  unfolding fall
+  built_ones =
+      let b = bits_of (take used words) in
+      let end : 0 + 64 * sum (take levels sizes) ≡ length b = omega (arith, all.all, bits_are_counted (take used words)) in
+      let total = (numbered fall (falls_with (take used seeds) (take levels sizes)) keys b 0 0 (take levels sizes) (omega (arith, end)) all.lead).total in
+      omega (arith, total, ap (ones_before b) end, none_before_the_first b true)
