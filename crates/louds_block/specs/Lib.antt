@@ -2,3 +2,4 @@ pub mod Answers
 pub mod Block
 pub mod Check
 pub mod Error
+pub mod Told

@@ -23,6 +23,7 @@
 // - `checking`: whether words hold a tree
 // - `children`: the children of a node, side by side, over any source
 // - `error`: why no block was written
+// - `lists`: lists of parents, degrees and children over any source
 // - `queries`: parents, children and degrees over any source
 // - `sections`: the sections of the block of a tree
 // - `siblings`: leaves, siblings and ranks among siblings over any source
@@ -32,6 +33,7 @@ mod building;
 mod checking;
 mod children;
 mod error;
+mod lists;
 mod queries;
 mod sections;
 mod siblings;
@@ -42,6 +44,7 @@ pub use bitm_tables::answer::Answer;
 pub use building::{build, write_tree};
 pub use children::total_children_on;
 pub use error::BuildError;
+pub use lists::{total_child_list_on, total_degree_list_on, total_parent_list_on};
 pub use queries::{total_child_on, total_degree_on, total_parent_on};
 pub use sections::{LOUDS, Lens, size};
 pub use siblings::{

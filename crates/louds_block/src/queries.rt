@@ -9,6 +9,7 @@ ghost use Rattle.louds.specs.Tree.{IsTree};
 ghost use Rattle.louds_block.specs.Answers.{IsChildOf, IsChildWithin, IsDegreeOf, IsDegreeWithin};
 ghost use Rattle.louds_block.specs.Answers.{IsParentOf, IsParentWithin};
 
+use bitm::near_zero_on;
 use bitm_select::search::selecting::total_select_on;
 use bitm_tables::answer::Answer;
 use bitm_tables::source::TableSource;
@@ -168,6 +169,34 @@ fn near_child_on<T: TableSource>(
     }
 }
 
+/// Child `k` of a node, of which the 0 bit before its 1 bits stands at `start`; `Wrong` only where it does not, or the
+/// source holds no tree.
+#[inline(always)]
+pub(crate) fn child_after_on<T: TableSource>(
+    source: &mut T,
+    len: usize,
+    node: usize,
+    start: usize,
+    k: usize,
+) -> Answer<usize>
+    requires sized { HasSizes (T.lists source.old) }
+    requires node { node < len }
+    ensures inside { IsChildWithin len node result }
+    ensures answer { IsLouds len (T.lists source.old)
+        → start ≡ zero_place (degrees_in len (T.lists source.old)) node
+        → IsChildOf (degrees_in len (T.lists source.old)) node k result }
+    ensures near { k < 64 → OnlyReads T.lists T.reads source.old source.new 0 0 2 }
+    ensures reads { OnlySelects T.lists T.reads source.old source.new 1 0 }
+{
+    if k < NEAR {
+        return near_child_on(source, len, node, start, k);
+    }
+    match total_zero_on(source, len, node + 1) {
+        Some(end) => child_between(start, end, len, node, k),
+        None => Answer::Wrong,
+    }
+}
+
 /// Child `k` of a node, by its number.
 ///
 /// Whatever the source holds, a child is more than the node and less than the number of nodes. Where it holds a tree,
@@ -198,14 +227,8 @@ pub fn total_child_on<T: TableSource>(
     if node >= len {
         return Answer::Absent;
     }
-    let Some(start) = total_zero_on(source, len, node) else {
-        return Answer::Wrong;
-    };
-    if k < NEAR {
-        return near_child_on(source, len, node, start, k);
-    }
-    match total_zero_on(source, len, node + 1) {
-        Some(end) => child_between(start, end, len, node, k),
+    match total_zero_on(source, len, node) {
+        Some(start) => child_after_on(source, len, node, start, k),
         None => Answer::Wrong,
     }
 }
@@ -227,6 +250,51 @@ fn degree_between(start: usize, end: usize, len: usize, node: usize) -> Answer<u
         return Answer::Found(degree);
     }
     Answer::Wrong
+}
+
+/// The position of the 0 bit after the 1 bits of a node, of which that before them stands at `start`; `None` only where
+/// it does not, or the source holds no tree.
+#[inline(always)]
+fn total_end_on<T: TableSource>(
+    source: &mut T,
+    len: usize,
+    node: usize,
+    start: usize,
+) -> Option<usize>
+    requires sized { HasSizes (T.lists source.old) }
+    requires node { node < len }
+    ensures place { IsLouds len (T.lists source.old)
+        → start ≡ zero_place (degrees_in len (T.lists source.old)) node
+        → result ≡ Some (zero_place (degrees_in len (T.lists source.old)) (node + 1)) }
+    ensures reads { OnlySelects T.lists T.reads source.old source.new 1 2 }
+{
+    match near_zero_on::<NEAR_WORDS, T>(source, start.saturating_add(1)) {
+        Some(end) => Some(end),
+        None => total_zero_on(source, len, node + 1),
+    }
+}
+
+/// The degree of a node, of which the 0 bit before its 1 bits stands at `start`; `Wrong` only where it does not, or the
+/// source holds no tree.
+#[inline(always)]
+pub(crate) fn degree_after_on<T: TableSource>(
+    source: &mut T,
+    len: usize,
+    node: usize,
+    start: usize,
+) -> Answer<usize>
+    requires sized { HasSizes (T.lists source.old) }
+    requires node { node < len }
+    ensures inside { IsDegreeWithin len node result }
+    ensures answer { IsLouds len (T.lists source.old)
+        → start ≡ zero_place (degrees_in len (T.lists source.old)) node
+        → IsDegreeOf (degrees_in len (T.lists source.old)) node result }
+    ensures reads { OnlySelects T.lists T.reads source.old source.new 1 2 }
+{
+    match total_end_on(source, len, node, start) {
+        Some(end) => degree_between(start, end, len, node),
+        None => Answer::Wrong,
+    }
 }
 
 /// How many children a node has, by its number.

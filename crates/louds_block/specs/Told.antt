@@ -1,0 +1,33 @@
+-- What lists of queries of a tree write: each answer by its code.
+use Rattle.std.specs.Prelude.{◌≡◌, ℕ}
+use Rattle.bitm_select.specs.Answers.{told_in}
+use Rattle.bitm_tables.specs.Tables.{Lists}
+use Rattle.bitm_tables.specs.declared.answer.Answer.{Answer}
+use Rattle.louds.specs.Counted.{degrees_in, IsLouds}
+use Rattle.louds_block.specs.Answers.{IsChildOf, IsChildWithin, IsDegreeOf, IsDegreeWithin, IsParentOf, IsParentWithin}
+use Rattle.louds_block.specs.Block.{TreeParts}
+
+-- n codes an answer of which P holds
+pub record IsCodeOf (P : Answer ℕ → Type 0) (n : ℕ) : Type 0 where
+  pub answer : Answer ℕ
+  pub holds : P answer
+  pub code : n ≡ told_in answer
+
+-- the given number of nodes, in these words and tables
+abbrev pub in_lists : ℕ → Lists → TreeParts
+in_lists n lists = record { len = n; lists = lists }
+
+-- the parent of a node: less than the node, whatever the words and tables hold, and that of the tree where they hold one
+pub record IsParent (node : ℕ) (parts : TreeParts) (answer : Answer ℕ) : Type 0 where
+  pub inside : IsParentWithin parts.len node answer
+  pub right : IsLouds parts.len parts.lists → IsParentOf (degrees_in parts.len parts.lists) node answer
+
+-- child k of a node, likewise: more than the node
+pub record IsChild (node k : ℕ) (parts : TreeParts) (answer : Answer ℕ) : Type 0 where
+  pub inside : IsChildWithin parts.len node answer
+  pub right : IsLouds parts.len parts.lists → IsChildOf (degrees_in parts.len parts.lists) node k answer
+
+-- how many children a node has, likewise: fewer than there are nodes
+pub record IsDegree (node : ℕ) (parts : TreeParts) (answer : Answer ℕ) : Type 0 where
+  pub inside : IsDegreeWithin parts.len node answer
+  pub right : IsLouds parts.len parts.lists → IsDegreeOf (degrees_in parts.len parts.lists) node answer
