@@ -7,7 +7,7 @@
 // What is in each file:
 // - `answer`: statuses, and how an answer is reported by one
 // - `counts`: how a list of answers is reported, the number of its codes, and an answer as a code
-// - `hash`: a perfect hash, and the numbers of a list of hashes
+// - `hash`: a perfect hash, and the numbers of hashes
 // - `header`: the header of a stored file: which lengths it can have, and how it is read
 // - `index`: an index
 // - `layout`: where each part of a file is
@@ -36,7 +36,7 @@ mod tree;
 
 pub use answer::{BAD_SIZE, NONE, OK, UNSORTED, WRONG, as_number, done, report, tell};
 pub use counts::{ListCounts, code_of, report_list};
-pub use hash::{Hash, number_list};
+pub use hash::{Hash, LentHash, SeededHash};
 pub use header::{HEADER_WORDS, header_at, index_of, sequence_of};
 pub use index::Index;
 pub use layout::{Span, Stored};

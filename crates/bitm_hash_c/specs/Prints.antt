@@ -1,23 +1,21 @@
 -- Fingerprints of keys, each at the number of its key, and what a look-up by them answers.
-use Rattle.std.specs.Prelude.{◌≡◌, ⊤, ℕ, ◌+◌, ◌*◌, ◌%◌, ◌^◌, ◌<◌, ◌≤◌, Bool, false, List, Option, Some, length, slice_index, IsSomeAnd, IsTrue, MatchOption}
+use Rattle.std.specs.Prelude.{◌≡◌, ◌↔◌, ⊤, ℕ, ◌+◌, ◌*◌, ◌%◌, ◌^◌, ◌<◌, ◌≤◌, Bool, false, List, Option, Some, length, slice_index, IsSomeAnd, IsTrue, MatchOption}
 use Rattle.bit_lists.specs.Bits.{bits_of}
-use Rattle.bit_lists.specs.Count.{ones_of}
 use Rattle.bit_lists.specs.Number.{with_number}
-use Rattle.bitm_tables.specs.Tables.{HasSizes, HasTables, Lists, bits_in}
+use Rattle.bitm_select.specs.Answers.{place_in}
 use Rattle.bitm_tables.specs.declared.answer.Answer.{Answer}
 use Rattle.bitm_tables.specs.declared.answer.Answer.TheVariants.{Found, Absent, Wrong}
-use Rattle.hash_levels.specs.Numbers.{number_by, AreSizes}
 use Rattle.perfect_hash.specs.Dictionary.{print_at}
-use Rattle.bitm_abi.specs.Hash.{hash_lists, IsHashNumber}
-use Rattle.bitm_abi.specs.declared.hash.Hash.{Hash}
+use Rattle.bitm_abi.specs.Status.{Exported}
+use Rattle.bitm_abi.specs.Hash.{number_of, CanBeHash, HashParts, IsHashNumber}
 
 -- the lengths that fingerprints have
 abbrev pub ArePrintsSized : List ℕ → ℕ → Type 0
 ArePrintsSized prints width = (length prints < 2 ^ 58) × (width ≤ 64)
 
 -- the lengths that a look-up takes
-abbrev pub CanBeFound : Hash → List ℕ → ℕ → Type 0
-CanBeFound h prints width = ArePrintsSized prints width × HasSizes (hash_lists h) × (length h.sizes.now ≤ 256)
+abbrev pub CanBeFound : HashParts → List ℕ → ℕ → Type 0
+CanBeFound h prints width = ArePrintsSized prints width × CanBeHash h
 
 -- there is room for fingerprint n, of width bits
 abbrev pub HasPrint : List ℕ → ℕ → ℕ → Type 0
@@ -37,38 +35,46 @@ IsChecked prints width print Absent answer = answer ≡ Absent
 IsChecked prints width print Wrong answer = answer ≡ Wrong
 
 -- what is answered of a key, by its hash and its fingerprint
-pub record IsKey (sizes : List ℕ) (keys : ℕ) (lists : Lists) (prints : List ℕ) (width hash print : ℕ) (answer : Answer ℕ) : Type 0 where
+pub record IsKey (h : HashParts) (prints : List ℕ) (width hash print : ℕ) (answer : Answer ℕ) : Type 0 where
   pub number : Answer ℕ
-  pub hashed : IsHashNumber sizes keys hash lists number
+  pub hashed : IsHashNumber h hash number
   pub checked : IsChecked prints width print number answer
 
--- the levels and tables of at most this many keys
-pub record IsHashOf (sizes : List ℕ) (keys : ℕ) (lists : Lists) : Type 0 where
-  pub tables : HasTables lists
-  pub sized : AreSizes sizes (bits_in lists)
-  pub enough : ones_of (bits_in lists) ≤ keys
+-- the status, and the number before and after the call
+abbrev pub KeyAnswered : HashParts → List ℕ → ℕ → ℕ → ℕ → ℕ → ℕ → ℕ → Type 0
+KeyAnswered h prints width hash print = Exported (CanBeFound h prints width) (IsKey h prints width hash print)
 
 -- the number of key j
-abbrev pub number_of : List ℕ → Lists → List ℕ → ℕ → Option ℕ
-number_of sizes lists hashes j = number_by sizes (bits_in lists) (slice_index hashes j)
+abbrev pub key_number : HashParts → List ℕ → ℕ → Option ℕ
+key_number h hashes j = number_of h (slice_index hashes j)
 
 -- one of the keys from key j to before key m has this number
-abbrev pub HaveNumber : List ℕ → Lists → List ℕ → ℕ → ℕ → ℕ → Type 0
-HaveNumber sizes lists hashes j m n = (i : ℕ) × (j ≤ i) × (i < m) × (number_of sizes lists hashes i ≡ Some n)
+abbrev pub HaveNumber : (ℕ → Option ℕ) → ℕ → ℕ → ℕ → Type 0
+HaveNumber number j m n = (i : ℕ) × (j ≤ i) × (i < m) × (number i ≡ Some n)
 
 -- of the first m keys, each number has the fingerprint of the last key with that number
-abbrev pub AreWritten : List ℕ → Lists → List ℕ → List ℕ → List ℕ → ℕ → ℕ → Type 0
-AreWritten sizes lists hashes key_prints prints width m = (j n : ℕ) → j < m → number_of sizes lists hashes j ≡ Some n
-    → ¬ HaveNumber sizes lists hashes (j + 1) m n → HasPrint prints width n → IsPrint prints width n (slice_index key_prints j)
+abbrev pub AreWritten : (ℕ → Option ℕ) → List ℕ → List ℕ → ℕ → ℕ → Type 0
+AreWritten number key_prints prints width m = (j n : ℕ) → j < m → number j ≡ Some n
+    → ¬ HaveNumber number (j + 1) m n → HasPrint prints width n → IsPrint prints width n (slice_index key_prints j)
 
 -- a number that none of the first m keys has kept its fingerprint
-abbrev pub AreKept : List ℕ → Lists → List ℕ → List ℕ → List ℕ → ℕ → ℕ → Type 0
-AreKept sizes lists hashes old new width m = (n : ℕ) → ¬ HaveNumber sizes lists hashes 0 m n
+abbrev pub AreKept : (ℕ → Option ℕ) → List ℕ → List ℕ → ℕ → ℕ → Type 0
+AreKept number old new width m = (n : ℕ) → ¬ HaveNumber number 0 m n
     → HasPrint new width n → print_at new width n ≡ print_at old width n
 
 -- each of the first m keys has a number, and there is room for its fingerprint
-abbrev pub HaveRoom : List ℕ → Lists → List ℕ → List ℕ → ℕ → ℕ → Type 0
-HaveRoom sizes lists hashes prints width m = (j : ℕ) → j < m → MatchOption (number_of sizes lists hashes j) ⊥ (HasPrint prints width)
+abbrev pub HaveRoom : (ℕ → Option ℕ) → List ℕ → ℕ → ℕ → Type 0
+HaveRoom number prints width m = (j : ℕ) → j < m → MatchOption (number j) ⊥ (HasPrint prints width)
+
+-- the fingerprints of the first m keys are set, whatever the tables hold: each key has an answer that a look-up of it
+-- may give, and by the numbers in these each fingerprint is written, or kept; it is good where each key has a number,
+-- and room for its fingerprint
+pub record AreSet (h : HashParts) (hashes key_prints old new : List ℕ) (width m : ℕ) (good : Type 0) : Type 0 where
+  pub answer : ℕ → Answer ℕ
+  pub hashed : (j : ℕ) → j < m → IsHashNumber h (slice_index hashes j) (answer j)
+  pub written : AreWritten (λ j. place_in (answer j)) key_prints new width m
+  pub kept : AreKept (λ j. place_in (answer j)) old new width m
+  pub room : good ↔ HaveRoom (λ j. place_in (answer j)) old width m
 
 -- what the write of a key's fingerprint leaves, and whether it was written
 pub record WritesPrint (number : Option ℕ) (width print : ℕ) (old new : List ℕ) (is : Bool) : Type 0 where
@@ -76,3 +82,9 @@ pub record WritesPrint (number : Option ℕ) (width print : ℕ) (old new : List
   pub written : IsTrue is → IsSomeAnd number (λ n. HasPrint old width n
       × (bits_of new ≡ with_number (bits_of old) (n * width) width (print % 2 ^ width)))
   pub kept : is ≡ false → (new ≡ old) × MatchOption number ⊤ (λ n. ¬ HasPrint old width n)
+
+-- a key has an answer that a look-up of it may give, by whose number its fingerprint is written
+pub record SetsPrint (h : HashParts) (hash width print : ℕ) (old new : List ℕ) (is : Bool) : Type 0 where
+  pub answer : Answer ℕ
+  pub hashed : IsHashNumber h hash answer
+  pub writes : WritesPrint (place_in answer) width print old new is

@@ -3,20 +3,18 @@
 ghost use Rattle.std.specs.Prelude.{◌≡◌, ◌≢◌, ℕ, ◌-◌, ◌<◌, ◌≤◌, ◌^◌, ◌↔◌, length, min, slice_index, take};
 ghost use Rattle.bit_lists.specs.Bits.{bits_of, IsShort};
 ghost use Rattle.bit_lists.specs.Count.{ones_of};
-ghost use Rattle.bitm_tables.specs.Tables.{HasSizes};
 ghost use Rattle.bitm_view.specs.Queries.{ranked_by};
 ghost use Rattle.hash_levels.specs.InPlace.{IsMade};
 ghost use Rattle.hash_levels.specs.Levels.{left_of, AreSized, IsLevel, Leave};
 ghost use Rattle.hash_levels.specs.Numbers.{AreLevels};
 ghost use Rattle.hash_levels.specs.Places.{place_in, words_for};
 ghost use Rattle.bitm_hash_c.specs.Hash.{made_of, CanBeLevel, HashAnswered};
-ghost use Rattle.bitm_abi.specs.Hash.{hash_lists, IsHashNumber};
+ghost use Rattle.bitm_abi.specs.Hash.{parts_of, CanBeHash, IsHashNumber};
 ghost use Rattle.bitm_abi.specs.Lists.{AreCounted};
 
-use bitm_abi::{BAD_SIZE, Hash, ListCounts, OK, number_list, report, report_list};
+use bitm_abi::{BAD_SIZE, Hash, ListCounts, OK, report, report_list};
 use hash_levels::{build_in_place, level_len, split_level};
 use lent_tables::clear;
-use perfect_hash::total_number_on;
 
 /// The number of words of the next level for `left` hashes: `percent` bits for each 100 hashes, where less than 50
 /// counts as 50; at least one word and at most 2^64 - 1.
@@ -97,13 +95,10 @@ pub extern "C" fn bitm_hash_build(
 /// The number of a hash, below the number of keys.
 #[unsafe(no_mangle)]
 pub extern "C" fn bitm_hash_get(hash: &Hash<'_>, key_hash: u64, out: &mut usize) -> u32
-    ensures { HashAnswered hash.now key_hash result out.old out.new }
+    ensures { HashAnswered (parts_of hash.now) key_hash result out.old out.new }
 {
-    match hash.lent() {
-        Some(lent) => {
-            let number = total_number_on(&mut lent.probe(), hash.sizes, hash.keys, key_hash);
-            report(number, out)
-        }
+    match hash.view() {
+        Some(lent) => report(lent.number(key_hash), out),
         None => BAD_SIZE,
     }
 }
@@ -116,18 +111,18 @@ pub extern "C" fn bitm_hash_get_list(
     out: &mut [usize],
     counts: &mut ListCounts,
 ) -> u32
-    ensures ok { (result ≡ 0) ↔ HasSizes (hash_lists hash.now)
-        × (length hash.now.sizes.now ≤ 256) × (length out.old ≡ length key_hashes.now) }
+    ensures ok { (result ≡ 0) ↔ CanBeHash (parts_of hash.now)
+        × (length out.old ≡ length key_hashes.now) }
     ensures unchanged { result ≢ 0 → (result ≡ 2) × (out.new ≡ out.old)
         × (counts.new ≡ counts.old) }
     ensures numbers { result ≡ 0 → (j : ℕ) → j < length key_hashes.now
-        → IsHashNumber hash.now.sizes.now hash.now.keys (slice_index key_hashes.now j)
-        (hash_lists hash.now) (ranked_by (slice_index out.new j)) }
+        → IsHashNumber (parts_of hash.now) (slice_index key_hashes.now j)
+        (ranked_by (slice_index out.new j)) }
     ensures counts { result ≡ 0 → AreCounted out.new counts.new }
 {
-    let Some(lent) = hash.lent() else {
+    let Some(lent) = hash.view() else {
         return BAD_SIZE;
     };
-    let done = number_list(&lent, hash.sizes, hash.keys, key_hashes, &mut *out);
+    let done = lent.number_list(key_hashes, &mut *out);
     report_list(done, &*out, counts)
 }

@@ -2,18 +2,16 @@
 //! says the fingerprint of each.
 ghost use Rattle.std.specs.Prelude.{◌≡◌, ◌≢◌, ℕ, ◌<◌, ◌≤◌, ◌^◌, ◌↔◌, IsTrue, false, length, slice_index};
 ghost use Rattle.bitm_view.specs.Queries.{ranked_by};
-ghost use Rattle.bitm_hash_c.specs.Prints.{CanBeFound, IsChecked, IsKey};
-ghost use Rattle.bitm_abi.specs.Hash.{hash_lists};
+ghost use Rattle.bitm_hash_c.specs.Prints.{CanBeFound, IsChecked, IsKey, KeyAnswered};
+ghost use Rattle.bitm_abi.specs.Hash.{parts_of};
 ghost use Rattle.bitm_tables.specs.declared.answer.Answer.TheVariants.{Found};
 ghost use Rattle.bitm_abi.specs.Lists.{AreCounted};
-ghost use Rattle.bitm_abi.specs.Status.{Exported};
 
 use crate::prints::{can_be_prints, lowest_bits};
 use bit_slices::fragment_in;
-use bitm_abi::{BAD_SIZE, Hash, ListCounts, number_list, report, report_list};
+use bitm_abi::{BAD_SIZE, Hash, LentHash, ListCounts, report, report_list};
 use bitm_select::search::selected::{NO_ANSWER, WRONG_TABLES};
 use bitm_tables::answer::Answer;
-use perfect_hash::total_number_on;
 
 /// The number, if its fingerprint is the lowest bits of `print`; `Wrong` if there is no room for a fingerprint.
 #[inline(always)]
@@ -34,7 +32,12 @@ fn checked(prints: &[u64], width: u32, print: u64, number: usize) -> Answer<usiz
 
 /// The answer of a look-up: that of `checked` for a number that was found.
 #[inline(always)]
-fn checked_answer(prints: &[u64], width: u32, print: u64, number: Answer<usize>) -> Answer<usize>
+pub(crate) fn checked_answer(
+    prints: &[u64],
+    width: u32,
+    print: u64,
+    number: Answer<usize>,
+) -> Answer<usize>
     requires few { length prints.now < 2 ^ 58 }
     requires width { width ≤ 64 }
     ensures { IsChecked prints.now width print number result }
@@ -56,15 +59,15 @@ pub extern "C" fn bitm_hash_find(
     key_print: u64,
     out: &mut usize,
 ) -> u32
-    ensures { Exported (CanBeFound hash.now prints.now width) (IsKey hash.now.sizes.now hash.now.keys
-        (hash_lists hash.now) prints.now width key_hash key_print) result out.old out.new }
+    ensures { KeyAnswered (parts_of hash.now) prints.now width key_hash key_print
+        result out.old out.new }
 {
     if !can_be_prints(prints, width) {
         return BAD_SIZE;
     }
-    match hash.lent() {
+    match hash.view() {
         Some(lent) => {
-            let number = total_number_on(&mut lent.probe(), hash.sizes, hash.keys, key_hash);
+            let number = lent.number(key_hash);
             report(checked_answer(prints, width, key_print, number), out)
         }
         None => BAD_SIZE,
@@ -103,6 +106,31 @@ fn check_each(prints: &[u64], width: u32, key_prints: &[u64], numbers: &mut [usi
     }
 }
 
+/// Writes the number of each key. Returns false, and writes nothing, exactly where `out` is not as long as the hashes.
+pub(crate) fn find_each(
+    hash: &LentHash<'_>,
+    prints: &[u64],
+    width: u32,
+    key_hashes: &[u64],
+    key_prints: &[u64],
+    out: &mut [usize],
+) -> bool
+    requires few { length prints.now < 2 ^ 58 }
+    requires width { width ≤ 64 }
+    requires same_length { length key_prints.now ≡ length key_hashes.now }
+    ensures room { IsTrue result ↔ length out.old ≡ length key_hashes.now }
+    ensures numbers { IsTrue result → (j : ℕ) → j < length key_hashes.now → IsKey hash.now
+        prints.now width (slice_index key_hashes.now j)
+        (slice_index key_prints.now j) (ranked_by (slice_index out.new j)) }
+    ensures kept { result ≡ false → out.new ≡ out.old }
+{
+    let done = hash.number_list(key_hashes, &mut *out);
+    if done {
+        check_each(prints, width, key_prints, out);
+    }
+    done
+}
+
 /// The numbers of a list of keys, and how many of these are codes.
 #[unsafe(no_mangle)]
 pub extern "C" fn bitm_hash_find_list(
@@ -114,24 +142,21 @@ pub extern "C" fn bitm_hash_find_list(
     out: &mut [usize],
     counts: &mut ListCounts,
 ) -> u32
-    ensures ok { (result ≡ 0) ↔ CanBeFound hash.now prints.now width
+    ensures ok { (result ≡ 0) ↔ CanBeFound (parts_of hash.now) prints.now width
         × (length out.old ≡ length key_hashes.now) × (length key_prints.now ≡ length key_hashes.now) }
     ensures unchanged { result ≢ 0 → (result ≡ 2) × (out.new ≡ out.old)
         × (counts.new ≡ counts.old) }
-    ensures numbers { result ≡ 0 → (j : ℕ) → j < length key_hashes.now → IsKey hash.now.sizes.now
-        hash.now.keys (hash_lists hash.now) prints.now width (slice_index key_hashes.now j)
+    ensures numbers { result ≡ 0 → (j : ℕ) → j < length key_hashes.now → IsKey (parts_of hash.now)
+        prints.now width (slice_index key_hashes.now j)
         (slice_index key_prints.now j) (ranked_by (slice_index out.new j)) }
     ensures counts { result ≡ 0 → AreCounted out.new counts.new }
 {
     if !can_be_prints(prints, width) || key_prints.len() != key_hashes.len() {
         return BAD_SIZE;
     }
-    let Some(lent) = hash.lent() else {
+    let Some(lent) = hash.view() else {
         return BAD_SIZE;
     };
-    let done = number_list(&lent, hash.sizes, hash.keys, key_hashes, &mut *out);
-    if done {
-        check_each(prints, width, key_prints, &mut *out);
-    }
+    let done = find_each(&lent, prints, width, key_hashes, key_prints, &mut *out);
     report_list(done, &*out, counts)
 }

@@ -9,6 +9,8 @@
 // - `hash`: levels, built, and the numbers of hashes
 // - `keys`: the numbers of keys whose fingerprint is there
 // - `prints`: the fingerprints of keys, written
+// - `seeded`: hashes with a seed for each word
 mod hash;
 mod keys;
 mod prints;
+mod seeded;

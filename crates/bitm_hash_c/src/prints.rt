@@ -1,17 +1,13 @@
 //! The fingerprints of keys, each at the number of its key, written into the caller's words.
 ghost use Rattle.std.specs.Prelude.{◌≡◌, ◌≢◌, ℕ, ◌%◌, ◌≤◌, ◌^◌, ◌↔◌, ◌⊎◌, IsTrue, length};
-ghost use Rattle.bitm_hash_c.specs.Prints.{AreKept, ArePrintsSized, AreWritten, CanBeFound, HaveRoom};
-ghost use Rattle.bitm_hash_c.specs.Prints.{IsHashOf, WritesPrint};
-ghost use Rattle.bitm_tables.specs.Tables.{bits_in};
-ghost use Rattle.hash_levels.specs.Numbers.{number_by};
-ghost use Rattle.bitm_abi.specs.Hash.{hash_lists};
+ghost use Rattle.bitm_hash_c.specs.Prints.{key_number, AreKept, ArePrintsSized, AreSet, AreWritten};
+ghost use Rattle.bitm_hash_c.specs.Prints.{CanBeFound, HaveRoom, SetsPrint};
+ghost use Rattle.bitm_abi.specs.Hash.{parts_of, IsHashOf};
 
 use bit_slices::set_fragment_in;
 use bit_words::n_lowest_bits_0_64;
-use bitm_abi::{BAD_SIZE, Hash, OK, WRONG};
+use bitm_abi::{BAD_SIZE, Hash, LentHash, OK, WRONG};
 use bitm_tables::answer::Answer;
-use lent_tables::Lent;
-use perfect_hash::total_number_on;
 
 /// Whether these words can be fingerprints of `width` bits.
 #[inline(always)]
@@ -33,21 +29,17 @@ pub(crate) fn lowest_bits(number: u64, width: u32) -> u64
 /// Writes the fingerprint of a key at its number. Answers whether the key has a number for which there is room.
 #[inline(always)]
 fn write_print(
-    lent: &Lent<'_>,
-    sizes: &[usize],
-    keys: usize,
+    hash: &LentHash<'_>,
     key_hash: u64,
     key_print: u64,
     prints: &mut [u64],
     width: u32,
 ) -> bool
-    requires levels { length sizes.now ≤ 256 }
-    requires sized { ArePrintsSized prints.old width }
-    ensures print { IsHashOf sizes.now keys lent.now → WritesPrint
-        (number_by sizes.now (bits_in lent.now) key_hash) width key_print prints.old prints.new result }
+    requires { ArePrintsSized prints.old width }
+    ensures print { SetsPrint hash.now key_hash width key_print prints.old prints.new result }
     ensures len { length prints.new ≡ length prints.old }
 {
-    match total_number_on(&mut lent.probe(), sizes, keys, key_hash) {
+    match hash.number(key_hash) {
         Answer::Found(number) => {
             let len = 64 * prints.len();
             set_fragment_in(prints, len, number, width, key_print)
@@ -57,37 +49,22 @@ fn write_print(
 }
 
 /// Writes the fingerprint of each key at its number. Answers whether each key has a number for which there is room.
-fn write_each(
-    lent: &Lent<'_>,
-    sizes: &[usize],
-    keys: usize,
+pub(crate) fn write_each(
+    hash: &LentHash<'_>,
     key_hashes: &[u64],
     key_prints: &[u64],
     prints: &mut [u64],
     width: u32,
 ) -> bool
-    requires levels { length sizes.now ≤ 256 }
     requires sized { ArePrintsSized prints.old width }
     requires same_length { length key_prints.now ≡ length key_hashes.now }
-    ensures written { IsHashOf sizes.now keys lent.now → AreWritten sizes.now lent.now
-        key_hashes.now key_prints.now prints.new width (length key_hashes.now) }
-    ensures kept { IsHashOf sizes.now keys lent.now → AreKept sizes.now lent.now
-        key_hashes.now prints.old prints.new width (length key_hashes.now) }
-    ensures room { IsHashOf sizes.now keys lent.now → IsTrue result ↔ HaveRoom sizes.now lent.now
-        key_hashes.now prints.old width (length key_hashes.now) }
+    ensures set { AreSet hash.now key_hashes.now key_prints.now prints.old prints.new width
+        (length key_hashes.now) (IsTrue result) }
     ensures len { length prints.new ≡ length prints.old }
 {
     let mut all = true;
     for at in 0..key_hashes.len() {
-        all &= write_print(
-            lent,
-            sizes,
-            keys,
-            key_hashes[at],
-            key_prints[at],
-            &mut *prints,
-            width,
-        );
+        all &= write_print(hash, key_hashes[at], key_prints[at], &mut *prints, width);
     }
     all
 }
@@ -101,28 +78,28 @@ pub extern "C" fn bitm_hash_set_prints(
     prints: &mut [u64],
     width: u32,
 ) -> u32
-    ensures sized { (result ≡ 2) ↔ ¬ (CanBeFound hash.now prints.old width
+    ensures sized { (result ≡ 2) ↔ ¬ (CanBeFound (parts_of hash.now) prints.old width
         × (length key_prints.now ≡ length key_hashes.now)) }
     ensures bad { result ≡ 2 → prints.new ≡ prints.old }
     ensures good { (result ≡ 0) ⊎ (result ≡ 2) ⊎ (result ≡ 3) }
-    ensures written { result ≢ 2 → IsHashOf hash.now.sizes.now hash.now.keys (hash_lists hash.now)
-        → AreWritten hash.now.sizes.now (hash_lists hash.now) key_hashes.now key_prints.now
+    ensures set { result ≢ 2 → AreSet (parts_of hash.now) key_hashes.now key_prints.now
+        prints.old prints.new width (length key_hashes.now) (result ≡ 0) }
+    ensures written { result ≢ 2 → IsHashOf (parts_of hash.now)
+        → AreWritten (key_number (parts_of hash.now) key_hashes.now) key_prints.now
         prints.new width (length key_hashes.now) }
-    ensures kept { result ≢ 2 → IsHashOf hash.now.sizes.now hash.now.keys (hash_lists hash.now)
-        → AreKept hash.now.sizes.now (hash_lists hash.now) key_hashes.now
+    ensures kept { result ≢ 2 → IsHashOf (parts_of hash.now)
+        → AreKept (key_number (parts_of hash.now) key_hashes.now)
         prints.old prints.new width (length key_hashes.now) }
-    ensures room { result ≢ 2 → IsHashOf hash.now.sizes.now hash.now.keys (hash_lists hash.now)
-        → (result ≡ 0) ↔ HaveRoom hash.now.sizes.now (hash_lists hash.now) key_hashes.now
+    ensures room { result ≢ 2 → IsHashOf (parts_of hash.now)
+        → (result ≡ 0) ↔ HaveRoom (key_number (parts_of hash.now) key_hashes.now)
         prints.old width (length key_hashes.now) }
 {
     if !can_be_prints(&*prints, width) || key_prints.len() != key_hashes.len() {
         return BAD_SIZE;
     }
-    let Some(lent) = hash.lent() else {
+    let Some(lent) = hash.view() else {
         return BAD_SIZE;
     };
-    let all = write_each(
-        &lent, hash.sizes, hash.keys, key_hashes, key_prints, prints, width,
-    );
+    let all = write_each(&lent, key_hashes, key_prints, prints, width);
     if all { OK } else { WRONG }
 }
