@@ -21,8 +21,8 @@ static struct bitm_matrix drawn(size_t len, uint32_t width, uint64_t kinds)
     struct bitm_matrix matrix = {0};
     const uint64_t first = draw();
     for (size_t i = 0; i < len; i++) numbers[i] = (kinds == 0 ? draw() : first * (1 + draw() % kinds)) & largest(width);
-    MUST(bitm_matrix_size(len, width, &words) == BITM_OK && words <= WORDS);
-    MUST(bitm_matrix_build(numbers, len, width, scratch, 2 * len, block, words) == BITM_OK);
+    MUST(bitm_matrix_size(len, width, false, &words) == BITM_OK && words <= WORDS);
+    MUST(bitm_matrix_build(numbers, len, width, false, scratch, 2 * len, block, words) == BITM_OK);
     MUST(bitm_matrix_open(block, words, &matrix) == BITM_OK);
     return matrix;
 }
