@@ -1,5 +1,5 @@
 -- What was opened, verified and checked is sound, and nothing else is.
-use Rattle.std.proofs.Common.{◌≡◌, List, ℕ, refl, sym, subst, ◌∙◌}
+use Rattle.std.proofs.Common.{List, ℕ, refl, sym, subst, ◌∙◌}
 use Rattle.std.proofs.lemmas.Bool.{true≢false}
 use Rattle.bitm_block.specs.Header.{IsVerified}
 use Rattle.matrix_block.specs.Block.{HoldsMatrix, MatrixParts}
