@@ -91,18 +91,84 @@ template <class Rival> Form built(const char *by, const sdsl::int_vector<> &numb
             }};
 }
 
+// A matrix in a block of its own.
+struct InBlock {
+    InBlock(const Numbers &numbers, int width, bool quarters)
+        : width(width), quarters(quarters), words(size(numbers.size(), width, quarters)), block(words)
+    {
+    }
+    static uint64_t size(uint64_t count, int width, bool quarters)
+    {
+        uint64_t words = 0;
+        have(bitm_matrix_size(count, width, quarters, &words), "bitm_matrix_size");
+        return words;
+    }
+    const char *by() const { return quarters ? "C with quarters" : "C"; }
+    Form built(const Numbers &numbers, Block &scratch)
+    {
+        return {"build_a_number", by(), [this, &numbers, &scratch] {
+                    have(bitm_matrix_build(numbers.data(), numbers.size(), width, quarters, scratch.words, scratch.len,
+                                           block.words, words),
+                         "bitm_matrix_build");
+                    have(bitm_matrix_open(block.words, words, &matrix), "bitm_matrix_open");
+                    return matrix.len;
+                }};
+    }
+    int width;
+    bool quarters;
+    uint64_t words;
+    Block block;
+    bitm_matrix matrix{};
+    uint64_t got = 0;
+    bitm_list_counts counts{};
+};
+
+// One query after the other, and lists of them.
+Form getting(InBlock &it, const Numbers &places)
+{
+    return {"get", it.by(), [&] {
+                return each(places, [&](uint64_t at) { return bitm_matrix_get(&it.matrix, at, &it.got), it.got; });
+            }};
+}
+Form getting_lists(InBlock &it, const Numbers &places)
+{
+    return {"get_list", it.by(), [&] {
+                return lists([&](size_t from) {
+                    return bitm_matrix_get_list(&it.matrix, &places[from], LIST, answers, LIST, &it.got), 0;
+                });
+            }};
+}
+
+using Call = decltype(bitm_matrix_rank);
+using ListCall = decltype(bitm_matrix_rank_list);
+Form asking(const char *row, InBlock &it, Call *call, const Numbers &numbers, const Numbers &others)
+{
+    return {row, it.by(), [&, call] {
+                return each(numbers, others, [&](uint64_t number, uint64_t other) {
+                    return call(&it.matrix, number, other, &it.got), it.got;
+                });
+            }};
+}
+Form asking_lists(const char *row, InBlock &it, ListCall *call, const Numbers &numbers, const Numbers &others)
+{
+    return {row, it.by(), [&, call] {
+                return lists([&](size_t from) {
+                    call(&it.matrix, &numbers[from], LIST, &others[from], LIST, answers, LIST, &it.counts);
+                    return it.counts.missing;
+                });
+            }};
+}
+
 // Rows of numbers of `width` bits.
 void matrices(const Bench &bench, int width)
 {
     const uint64_t count = bench.count();
     sdsl::int_vector<> numbers(count, 0, width);
     Numbers same(count);
-    uint64_t state = 88172645463325252, words = 0;
+    uint64_t state = 88172645463325252;
     for (uint64_t k = 0; k < count; k++) same[k] = numbers[k] = draw(&state) & ((uint64_t(1) << width) - 1);
 
-    have(bitm_matrix_size(count, width, &words), "bitm_matrix_size");
-    Block block(words);
-    bitm_matrix matrix{};
+    InBlock compact(same, width, false), quick(same, width, true);
     sdsl::wm_int<> wm;
     sdsl::wt_int<sdsl::bit_vector, sdsl::rank_support_v5<>> wt;
     {
@@ -110,18 +176,13 @@ void matrices(const Bench &bench, int width)
         bench.build({
             built("sdsl wm_int", numbers, wm),
             built("sdsl wt_int", numbers, wt),
-            {"build_a_number", "C",
-             [&] {
-                 have(bitm_matrix_build(same.data(), count, width, scratch.words, scratch.len, block.words, words),
-                      "bitm_matrix_build");
-                 have(bitm_matrix_open(block.words, words, &matrix), "bitm_matrix_open");
-                 return matrix.len;
-             }},
+            compact.built(same, scratch),
+            quick.built(same, scratch),
         });
     }
     bench.space("space_a_number", "sdsl wm_int", sdsl::size_in_bytes(wm));
     if (bench.has_wt_int()) bench.space("space_a_number", "sdsl wt_int", sdsl::size_in_bytes(wt));
-    bench.space("space_a_number", "C", words * 8.0);
+    for (const InBlock *it : {&compact, &quick}) bench.space("space_a_number", it->by(), it->words * 8.0);
 
     const Numbers places = queries(count);
     Numbers others(QUERIES), own(QUERIES), ranks(QUERIES);
@@ -130,55 +191,33 @@ void matrices(const Bench &bench, int width)
         own[i] = same[places[i]];
         ranks[i] = wm.rank(places[i], own[i]);
     }
-    uint64_t got = 0;
-    bitm_list_counts counts{};
     bench.answer({
         {"get", "sdsl wm_int", [&] { return each(places, [&](uint64_t at) { return wm[at]; }); }},
         {"get", "sdsl wt_int", [&] { return each(places, [&](uint64_t at) { return wt[at]; }); }},
-        {"get", "C",
-         [&] { return each(places, [&](uint64_t at) { return bitm_matrix_get(&matrix, at, &got), got; }); }},
-        {"get_list", "C",
-         [&] {
-             return lists([&](size_t from) {
-                 return bitm_matrix_get_list(&matrix, &places[from], LIST, answers, LIST, &got), 0;
-             });
-         }},
+        getting(compact, places),
+        getting(quick, places),
+        getting_lists(compact, places),
+        getting_lists(quick, places),
     });
     bench.answer({
         {"rank", "sdsl wm_int",
          [&] { return each(others, places, [&](uint64_t it, uint64_t at) { return wm.rank(at, it); }); }},
         {"rank", "sdsl wt_int",
          [&] { return each(others, places, [&](uint64_t it, uint64_t at) { return wt.rank(at, it); }); }},
-        {"rank", "C",
-         [&] {
-             return each(others, places,
-                         [&](uint64_t it, uint64_t at) { return bitm_matrix_rank(&matrix, it, at, &got), got; });
-         }},
-        {"rank_list", "C",
-         [&] {
-             return lists([&](size_t from) {
-                 bitm_matrix_rank_list(&matrix, &others[from], LIST, &places[from], LIST, answers, LIST, &counts);
-                 return counts.missing;
-             });
-         }},
+        asking("rank", compact, bitm_matrix_rank, others, places),
+        asking("rank", quick, bitm_matrix_rank, others, places),
+        asking_lists("rank_list", compact, bitm_matrix_rank_list, others, places),
+        asking_lists("rank_list", quick, bitm_matrix_rank_list, others, places),
     });
     bench.answer({
         {"select", "sdsl wm_int",
          [&] { return each(own, ranks, [&](uint64_t it, uint64_t rank) { return wm.select(rank + 1, it); }); }},
         {"select", "sdsl wt_int",
          [&] { return each(own, ranks, [&](uint64_t it, uint64_t rank) { return wt.select(rank + 1, it); }); }},
-        {"select", "C",
-         [&] {
-             return each(own, ranks,
-                         [&](uint64_t it, uint64_t rank) { return bitm_matrix_select(&matrix, it, rank, &got), got; });
-         }},
-        {"select_list", "C",
-         [&] {
-             return lists([&](size_t from) {
-                 bitm_matrix_select_list(&matrix, &own[from], LIST, &ranks[from], LIST, answers, LIST, &counts);
-                 return counts.missing;
-             });
-         }},
+        asking("select", compact, bitm_matrix_select, own, ranks),
+        asking("select", quick, bitm_matrix_select, own, ranks),
+        asking_lists("select_list", compact, bitm_matrix_select_list, own, ranks),
+        asking_lists("select_list", quick, bitm_matrix_select_list, own, ranks),
     });
 }
 

@@ -1498,14 +1498,16 @@ BITM_MUST_USE uint32_t bitm_trie_word(const struct bitm_trie *trie, size_t node,
  *
  * A wavelet matrix (Claude, Navarro and Ordonez, Information Systems 47, 2015) holds n numbers of at most `width` bits
  * each in about 1.03 * width bits a number, and answers where and how often a number is in the list, and which numbers
- * of a range are the least. A block of numbers is written and opened as that of a tree:
+ * of a range are the least. With quarters it takes about 1.16 * width bits, and most queries read fewer words. A block
+ * of numbers is written and opened as that of a tree:
  *
  *     const uint64_t any_order[6] = {3, 1, 4, 1, 5, 1};
  *     uint64_t matrix_len, scratch[12]; // two words for each number
- *     if (bitm_matrix_size(6, 3, &matrix_len) != BITM_OK) return 1;
+ *     if (bitm_matrix_size(6, 3, false, &matrix_len) != BITM_OK) return 1;
  *     uint64_t *of_numbers = malloc(8 * matrix_len); // or a mapped file
  *     struct bitm_matrix matrix = {0};
- *     if (!of_numbers || bitm_matrix_build(any_order, 6, 3, scratch, 12, of_numbers, matrix_len) != BITM_OK ||
+ *     if (!of_numbers ||
+ *         bitm_matrix_build(any_order, 6, 3, false, scratch, 12, of_numbers, matrix_len) != BITM_OK ||
  *         bitm_matrix_open(of_numbers, matrix_len, &matrix) != BITM_OK || matrix.len != 6 ||
  *         bitm_matrix_rank(&matrix, 1, 4, &value) != BITM_OK || value != 2) return 1; // 1 is among 3, 1, 4, 1 twice
  *
@@ -1526,23 +1528,24 @@ struct bitm_matrix {
     size_t ones_len;
     const uint64_t *zeros; /* and how many of the numbers have a 0 bit at that level */
     size_t zeros_len;
-    uint64_t reserved[2]; /* 0: not read */
+    const uint64_t *quarters; /* counts of 1 bits for every eight words, none of a compact block */
+    size_t quarters_len;
 };
 
-/* How many words the block of `len` numbers of `width` bits takes. BITM_BAD_SIZE if width is not 1 to 64, or len *
- * width is 2^63 or more. */
-BITM_MUST_USE uint32_t bitm_matrix_size(size_t len, uint32_t width, uint64_t *out);
+/* How many words the block of `len` numbers of `width` bits takes, with quarters or without. BITM_BAD_SIZE if width is
+ * not 1 to 64, or len * width is 2^63 or more. */
+BITM_MUST_USE uint32_t bitm_matrix_size(size_t len, uint32_t width, bool quarters, uint64_t *out);
 
-/* Writes the block of these numbers of `width` bits. BITM_WRONG exactly if a length and width that bitm_matrix_size
- * takes are given, and a number has more bits. Else BITM_BAD_SIZE if bitm_matrix_size does not take them, block_len is
- * not what it says, or scratch_len is not 2 * numbers_len. What scratch holds is overwritten. Allocates nothing.
- * Numbers, scratch and block may not overlap one another. For each bit of the width two passes over the numbers, then
- * three over the block (evident from the code).
+/* Writes the block of these numbers of `width` bits, with quarters or without. BITM_WRONG exactly if a length and width
+ * that bitm_matrix_size takes are given, and a number has more bits. Else BITM_BAD_SIZE if bitm_matrix_size does not
+ * take them, block_len is not what it says, or scratch_len is not 2 * numbers_len. What scratch holds is overwritten.
+ * Allocates nothing. Numbers, scratch and block may not overlap one another. For each bit of the width two passes over
+ * the numbers, then three over the block, and with quarters five ranks for every eight words (evident from the code).
  *
  *     // 4 has 3 bits:
- *     if (bitm_matrix_build(any_order, 6, 2, scratch, 12, of_numbers, matrix_len) != BITM_WRONG) return 1; */
-BITM_MUST_USE uint32_t bitm_matrix_build(const uint64_t *numbers, size_t numbers_len, uint32_t width, uint64_t *scratch,
-                                         size_t scratch_len, uint64_t *block, size_t block_len);
+ *     if (bitm_matrix_build(any_order, 6, 2, false, scratch, 12, of_numbers, matrix_len) != BITM_WRONG) return 1; */
+BITM_MUST_USE uint32_t bitm_matrix_build(const uint64_t *numbers, size_t numbers_len, uint32_t width, bool quarters,
+                                         uint64_t *scratch, size_t scratch_len, uint64_t *block, size_t block_len);
 
 /* Opens a block: writes the matrix that queries take, which points into the block. *matrix has to be zeros, or a matrix
  * whose block is still there. BITM_WRONG exactly if the header or the directory of the block is not right, or is that
@@ -1554,7 +1557,7 @@ BITM_MUST_USE uint32_t bitm_matrix_open(const uint64_t *block, size_t block_len,
 
 /* Whether a block is as it was written and holds a matrix: BITM_OK, or BITM_WRONG as bitm_matrix_open, if a checksum is
  * not that of its words, or if words and tables are not those of a matrix. So a block in which one word was changed is
- * refused. Two passes over the block (evident from the code).
+ * refused. Two passes over the block, and with quarters two ranks for every two words (evident from the code).
  *
  *     of_numbers[40] ^= 1;
  *     if (bitm_matrix_check(of_numbers, matrix_len) != BITM_WRONG) return 1;
@@ -1566,13 +1569,15 @@ BITM_MUST_USE uint32_t bitm_matrix_check(const uint64_t *block, size_t block_len
  * BITM_WRONG only where the block is not that of a matrix.
  *
  * The number at an index. BITM_NONE exactly if index is len or more. Reads for each bit of the width at most one upper
- * entry, one lower entry and nine words.
+ * entry, one lower entry and nine words; with quarters no lower entry and three words, and one number of the quarters
+ * (evident from the code).
  *
  *     if (bitm_matrix_get(&matrix, 4, &value) != BITM_OK || value != 5) return 1; */
 BITM_MUST_USE uint32_t bitm_matrix_get(const struct bitm_matrix *matrix, size_t index, uint64_t *out);
 
 /* How many of the numbers before an index are this one: for index len, of all. At most index. BITM_NONE exactly if
- * index is above len. Reads for each bit of the width at most two upper entries, two lower entries and 16 words.
+ * index is above len. Reads for each bit of the width at most two upper entries, two lower entries and 16 words; with
+ * quarters no lower entries and four words, and two numbers of the quarters (evident from the code).
  *
  *     if (bitm_matrix_rank(&matrix, 1, 6, &value) != BITM_OK || value != 3) return 1; */
 BITM_MUST_USE uint32_t bitm_matrix_rank(const struct bitm_matrix *matrix, uint64_t number, size_t index, uint64_t *out);

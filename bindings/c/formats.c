@@ -57,9 +57,9 @@ static void of_matrix(size_t len, uint32_t width)
 {
     uint64_t words;
     for (size_t i = 0; i < len; i++) given[i] = draw() >> (64 - width);
-    MUST(bitm_matrix_size(len, width, &words) == BITM_OK && words <= sizeof block / 8);
+    MUST(bitm_matrix_size(len, width, false, &words) == BITM_OK && words <= sizeof block / 8);
     memset(block, UNTOUCHED, sizeof block);
-    MUST(bitm_matrix_build(given, len, width, scratch, 2 * len, block, words) == BITM_OK);
+    MUST(bitm_matrix_build(given, len, width, false, scratch, 2 * len, block, words) == BITM_OK);
     put_block(6, len, width, len, words);
 }
 

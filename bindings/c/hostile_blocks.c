@@ -204,13 +204,23 @@ static void trie_queried(uint64_t node, uint64_t other)
 
 static struct bitm_matrix matrix;
 
-static uint64_t matrix_built(uint64_t *block, size_t len)
+static uint64_t matrix_with(uint64_t *block, size_t len, bool quarters)
 {
     uint64_t words;
     for (size_t i = 0; i < len; i++) numbers[i] = draw() >> (64 - WIDTH) & draw();
-    MUST(bitm_matrix_size(len, WIDTH, &words) == BITM_OK && 8 * words <= ROOM);
-    MUST(bitm_matrix_build(numbers, len, WIDTH, scratch, 2 * len, block, words) == BITM_OK);
+    MUST(bitm_matrix_size(len, WIDTH, quarters, &words) == BITM_OK && 8 * words <= ROOM);
+    MUST(bitm_matrix_build(numbers, len, WIDTH, quarters, scratch, 2 * len, block, words) == BITM_OK);
     return words;
+}
+
+static uint64_t matrix_built(uint64_t *block, size_t len)
+{
+    return matrix_with(block, len, false);
+}
+
+static uint64_t quarters_built(uint64_t *block, size_t len)
+{
+    return matrix_with(block, len, true);
 }
 
 static bool matrix_opens(const uint64_t *block, size_t words)
@@ -238,6 +248,7 @@ static const struct kind kinds[] = {
     {"tree", tree_built, 32, tree_opens, tree_queried},
     {"trie", trie_built, 40, trie_opens, trie_queried},
     {"matrix", matrix_built, 40, matrix_opens, matrix_queried},
+    {"matrix with quarters", quarters_built, 40, matrix_opens, matrix_queried},
 };
 enum { KINDS = sizeof kinds / sizeof *kinds };
 

@@ -23,14 +23,15 @@ static void draw_plain(struct plain *plain, size_t len, uint32_t width, uint64_t
 }
 
 /* The block of the numbers, which ends at the guard, as they and the scratch do. */
-static uint64_t *built(const struct plain *plain, uint64_t *words)
+static uint64_t *built(const struct plain *plain, bool quarters, uint64_t *words)
 {
-    MUST(bitm_matrix_size(plain->len, plain->width, words) == BITM_OK && *words % 8 == 0);
+    MUST(bitm_matrix_size(plain->len, plain->width, quarters, words) == BITM_OK && *words % 8 == 0);
     uint64_t *block = untouched_at(OF_BLOCK, 8 * *words); /* memory that is written may hold anything */
     uint64_t *numbers = placed(OF_NUMBERS, 8 * plain->len);
     uint64_t *scratch = placed(OF_SCRATCH, 16 * plain->len);
     memcpy(numbers, plain->numbers, 8 * plain->len);
-    MUST(bitm_matrix_build(numbers, plain->len, plain->width, scratch, 2 * plain->len, block, *words) == BITM_OK);
+    MUST(bitm_matrix_build(numbers, plain->len, plain->width, quarters, scratch, 2 * plain->len, block, *words) ==
+         BITM_OK);
     return block;
 }
 
@@ -170,10 +171,12 @@ static void drawn_matrices(void)
     for (uint32_t i = 0; i < 96; i++) {
         uint64_t words;
         draw_plain(&plain, i < 12 ? i : draw() % NUMBERS, 1 + i % 64, i % 3 == 2 ? 0 : 1 + 3 * (i % 3));
-        uint64_t *block = built(&plain, &words);
+        const bool quarters = i % 2 == 1;
+        uint64_t *block = built(&plain, quarters, &words);
         struct bitm_matrix matrix = {0};
         MUST(bitm_matrix_open(block, words, &matrix) == BITM_OK);
         MUST(bitm_matrix_check(block, words) == BITM_OK);
+        MUST(matrix.quarters_len == (quarters ? (matrix.words_len + 7) / 8 : 0));
         answers_as(&plain, &matrix);
         lists_as_single_calls(&matrix);
     }
@@ -185,25 +188,31 @@ static void no_matrices(void)
     static const uint64_t numbers[SMALL] = {3, 1, 4, 1, 5, 9, 2, 6, 5};
     static const uint32_t bad[] = {0, 65, 256, 257, UINT32_MAX};
     uint64_t words, room[100], scratch[2 * SMALL + 2];
-    MUST(bitm_matrix_size(SMALL, 4, &words) == BITM_OK && words < 100);
+    MUST(bitm_matrix_size(SMALL, 4, true, &words) == BITM_OK && words == 88);
+    MUST(bitm_matrix_size(SMALL, 4, false, &words) == BITM_OK && words == 80);
     memset(room, UNTOUCHED, sizeof room), memset(scratch, UNTOUCHED, sizeof scratch);
-    MUST(bitm_matrix_build(numbers, SMALL, 3, scratch, 2 * SMALL, room, words) == BITM_WRONG);
-    MUST(bitm_matrix_build(numbers, SMALL, 3, scratch, 0, room, 0) == BITM_WRONG); /* 9 has 4 bits */
+    MUST(bitm_matrix_build(numbers, SMALL, 3, false, scratch, 2 * SMALL, room, words) == BITM_WRONG);
+    MUST(bitm_matrix_build(numbers, SMALL, 3, false, scratch, 0, room, 0) == BITM_WRONG); /* 9 has 4 bits */
     for (size_t len = 0; len < 100; len++)
-        if (len != words) MUST(bitm_matrix_build(numbers, SMALL, 4, scratch, 2 * SMALL, room, len) == BITM_BAD_SIZE);
+        if (len != words)
+            MUST(bitm_matrix_build(numbers, SMALL, 4, false, scratch, 2 * SMALL, room, len) == BITM_BAD_SIZE);
+    for (size_t len = 0; len < 100; len++)
+        if (len != words + 8)
+            MUST(bitm_matrix_build(numbers, SMALL, 4, true, scratch, 2 * SMALL, room, len) == BITM_BAD_SIZE);
     for (size_t len = 0; len <= 2 * SMALL + 2; len++)
-        if (len != 2 * SMALL) MUST(bitm_matrix_build(numbers, SMALL, 4, scratch, len, room, words) == BITM_BAD_SIZE);
+        if (len != 2 * SMALL)
+            MUST(bitm_matrix_build(numbers, SMALL, 4, false, scratch, len, room, words) == BITM_BAD_SIZE);
     for (size_t i = 0; i < sizeof bad / sizeof *bad; i++) {
         uint64_t out = UNTOUCHED;
-        MUST(bitm_matrix_size(SMALL, bad[i], &out) == BITM_BAD_SIZE && out == UNTOUCHED);
-        MUST(bitm_matrix_build(numbers, SMALL, bad[i], scratch, 2 * SMALL, room, words) == BITM_BAD_SIZE);
+        MUST(bitm_matrix_size(SMALL, bad[i], false, &out) == BITM_BAD_SIZE && out == UNTOUCHED);
+        MUST(bitm_matrix_build(numbers, SMALL, bad[i], false, scratch, 2 * SMALL, room, words) == BITM_BAD_SIZE);
     }
     MUST(is_untouched(room, sizeof room) && is_untouched(scratch, sizeof scratch));
     words = UNTOUCHED;
-    MUST(bitm_matrix_size((size_t)1 << 63, 1, &words) == BITM_BAD_SIZE && words == UNTOUCHED);
-    MUST(bitm_matrix_size((size_t)1 << 57, 64, &words) == BITM_BAD_SIZE && words == UNTOUCHED);
-    MUST(bitm_matrix_size(SIZE_MAX, 64, &words) == BITM_BAD_SIZE && words == UNTOUCHED);
-    MUST(bitm_matrix_size(((size_t)1 << 63) - 1, 1, &words) == BITM_OK && words < (uint64_t)1 << 59);
+    MUST(bitm_matrix_size((size_t)1 << 63, 1, false, &words) == BITM_BAD_SIZE && words == UNTOUCHED);
+    MUST(bitm_matrix_size((size_t)1 << 57, 64, false, &words) == BITM_BAD_SIZE && words == UNTOUCHED);
+    MUST(bitm_matrix_size(SIZE_MAX, 64, false, &words) == BITM_BAD_SIZE && words == UNTOUCHED);
+    MUST(bitm_matrix_size(((size_t)1 << 63) - 1, 1, false, &words) == BITM_OK && words < (uint64_t)1 << 59);
 }
 
 static uint32_t open_block(const uint64_t *block, size_t words, void *opened)
@@ -218,9 +227,28 @@ static void changed_blocks(void)
     static struct plain plain;
     uint64_t words;
     draw_plain(&plain, SMALL, 3, 0);
-    uint64_t *const block = built(&plain, &words);
-    changed_bytes(&of_matrix, block, words, 1);
-    cut_off(&of_matrix, block, words);
+    for (int quarters = 0; quarters < 2; quarters++) {
+        uint64_t *const block = built(&plain, quarters == 1, &words);
+        changed_bytes(&of_matrix, block, words, 1);
+        cut_off(&of_matrix, block, words);
+    }
+}
+
+/* Other numbers in the quarters: the checksums may be right, the quarters are not. */
+static void other_quarters(void)
+{
+    static struct plain plain;
+    uint64_t words;
+    draw_plain(&plain, 600, 9, 5);
+    uint64_t *const block = built(&plain, true, &words);
+    struct bitm_matrix matrix = {0};
+    MUST(bitm_matrix_open(block, words, &matrix) == BITM_OK && matrix.quarters_len == 11);
+    uint64_t *const quarters = block + (matrix.quarters - block);
+    for (size_t i = 0; i < matrix.quarters_len; i++) {
+        quarters[i] = draw();
+        answers_within(&matrix);
+        MUST(bitm_matrix_check(block, words) == BITM_WRONG);
+    }
 }
 
 /* Random words after a right header, and random words alone. */
@@ -231,7 +259,7 @@ static void random_blocks(void)
     for (size_t turn = 0; turn < 400; turn++) {
         uint64_t words;
         draw_plain(&plain, 1 + draw() % 300, 1 + (uint32_t)(draw() % 64), draw() % 9);
-        uint64_t *const block = built(&plain, &words);
+        uint64_t *const block = built(&plain, turn % 2 == 1, &words);
         spoil(block, of_matrix.head, words, turn);
         MUST(opens(&of_matrix, block, words, &matrix));
         answers_within(&matrix);
@@ -249,10 +277,10 @@ static void wrong_lengths(void)
     uint64_t words, *out;
     uint32_t status;
     draw_plain(&plain, 200, 5, 4);
-    uint64_t *const block = built(&plain, &words);
+    uint64_t *const block = built(&plain, true, &words);
     struct bitm_matrix matrix = {0};
     MUST(bitm_matrix_open(block, words, &matrix) == BITM_OK);
-    for (size_t i = 0; i < 14; i++) {
+    for (size_t i = 0; i < 16; i++) {
         struct bitm_matrix bad = matrix;
         if (i == 0) bad.len = 0;
         if (i == 1) bad.len = SIZE_MAX;
@@ -268,6 +296,8 @@ static void wrong_lengths(void)
         if (i == 11) bad.width = 6;
         if (i == 12) bad.width = 256 + 5;
         if (i == 13) bad.width = UINT64_MAX;
+        if (i == 14) bad.quarters_len--;
+        if (i == 15) bad.quarters_len++;
         ANSWER(bitm_matrix_get(&bad, 1, out));
         MUST(status == BITM_BAD_SIZE);
         ANSWER(bitm_matrix_rank(&bad, 1, 1, out));
@@ -290,6 +320,7 @@ static void tests(void)
     drawn_matrices();
     no_matrices();
     changed_blocks();
+    other_quarters();
     random_blocks();
     wrong_lengths();
 }

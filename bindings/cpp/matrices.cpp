@@ -152,6 +152,8 @@ static void owners(const Words &plain)
     const Matrix a(plain), b(plain.begin(), plain.end(), 64);
     const std::list<u64> listed(plain.begin(), plain.end());
     MUST(a == Matrix(listed.begin(), listed.end()) && b.width() == 64), same(b, plain);
+    const Matrix c(listed.begin(), listed.end(), 64, bitm::quarters::yes);
+    MUST(c.block().size() > b.block().size()), same(c, plain);
     copies_and_moves(a, [&](const auto &it) { same(it, plain); }, [](const auto &it) { same(it, {}); });
 }
 
@@ -202,8 +204,10 @@ int main(int, char **argv)
     for (u64 count = 1; count < 20; count++) all.push_back(drawn(count * count, 1 + static_cast<unsigned>(count * 3)));
     all.push_back(drawn(3000, 12));
     for (const Words &plain : all) {
-        const Matrix m(plain);
-        same(m, plain), files_of(m, path, [&](const auto &it) { same(it, plain); });
+        for (const bitm::quarters kept : {bitm::quarters::no, bitm::quarters::yes}) {
+            const Matrix m(plain, 0, kept);
+            same(m, plain), files_of(m, path, [&](const auto &it) { same(it, plain); });
+        }
     }
     owners(all[3]), owners(all.back());
     std::puts("matrices: ok");

@@ -209,6 +209,8 @@ export const BITM_MATRIX = {
     ones_len: 72,
     zeros: 80,
     zeros_len: 88,
+    quarters: 96,
+    quarters_len: 104,
 };
 export const BITM_SPARSE = {
     bytes: 120,

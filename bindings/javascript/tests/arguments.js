@@ -120,9 +120,9 @@ const ofBlock = () => ({ block: slot(24), block_len: tree(r() % 3 === 0) - (r() 
 function matrix(spoilt) {
     const block = slot(42);
     for (let i = 0; i < N; i++) words(slot(40), N)[i] = BigInt(r() % 128);
-    assert.equal(library.bitm_matrix_size(BigInt(N), 7, BigInt(ANSWER)), 0);
+    assert.equal(library.bitm_matrix_size(BigInt(N), 7, 0, BigInt(ANSWER)), 0);
     const size = words(ANSWER, 1)[0];
-    assert.equal(library.bitm_matrix_build(BigInt(slot(40)), BigInt(N), 7, BigInt(slot(41)), BigInt(2 * N), BigInt(block), size), 0);
+    assert.equal(library.bitm_matrix_build(BigInt(slot(40)), BigInt(N), 7, 0, BigInt(slot(41)), BigInt(2 * N), BigInt(block), size), 0);
     assert.equal(library.bitm_matrix_open(BigInt(block), size, BigInt(slot(43))), 0);
     if (spoilt) words(block, Number(size))[32 + (r() % (Number(size) - 32))] ^= BigInt(r());
     return Number(size);
@@ -336,7 +336,7 @@ const FITTING = {
     bitm_tree_degree_list: ofTrees,
     bitm_tree_child_list: ofTrees,
     bitm_matrix_build: () => ({
-        numbers: slot(40), numbers_len: N, width: r() % 7 ? 7 : 6 + (r() % 60), scratch: slot(41), scratch_len: 2 * N, block: slot(50), block_len: matrix(false) - (r() % 7 ? 0 : 1),
+        numbers: slot(40), numbers_len: N, width: r() % 7 ? 7 : 6 + (r() % 60), quarters: 0, scratch: slot(41), scratch_len: 2 * N, block: slot(50), block_len: matrix(false) - (r() % 7 ? 0 : 1),
     }),
     bitm_matrix_open: ofMatrixBlock,
     bitm_matrix_check: ofMatrixBlock,

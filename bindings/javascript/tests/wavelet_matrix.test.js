@@ -40,7 +40,11 @@ function ofNumber(matrix, items, x, begin, end) {
 }
 
 function compare(items, width, seed, absent) {
-    const matrix = new WaveletMatrix(items, width && { width }), n = items.length, r = random(seed);
+    for (const quarters of [false, true]) compareWith(items, { width, quarters }, seed, absent);
+}
+
+function compareWith(items, options, seed, absent) {
+    const matrix = new WaveletMatrix(items, options), n = items.length, r = random(seed);
     assert.equal(matrix.length, n);
     assert.ok(matrix.check());
     items.forEach((it, k) => tally.same(matrix.get(k), it, () => `get ${k} of ${n}`));

@@ -58,6 +58,9 @@ def test_answers_are_those_of_plain_lists(plain):
     assert matrix.width == max(1, max(plain, default=0).bit_length())
     as_plain_lists(matrix, plain)
     as_plain_lists(WaveletMatrix(plain, width=64), plain)
+    quick = WaveletMatrix(plain, quarters=True)
+    assert (len(quick.block) > len(matrix.block)) is (len(plain) > 0)
+    as_plain_lists(quick, plain)
 
 
 @settings(max_examples=60, deadline=None)

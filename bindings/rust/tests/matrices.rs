@@ -135,8 +135,11 @@ fn answers_are_those_of_plain_lists() {
         as_a_plain_list(least.view(), &plain, &mut random);
         as_a_plain_list(most.view(), &plain, &mut random);
         as_a_plain_list(least.clone().view(), &plain, &mut random);
+        let quick = WaveletMatrix::build_with_quarters(&plain, bits.max(1)).expect("any");
+        as_a_plain_list(quick.view(), &plain, &mut random);
         if !plain.is_empty() {
             lists(&least, &plain, &mut random);
+            lists(&quick, &plain, &mut random);
         }
     }
 }

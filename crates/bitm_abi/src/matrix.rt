@@ -7,7 +7,7 @@ use lent_levels::LevelsView;
 use matrix_block::MatrixView;
 
 /// A matrix in the caller's memory: how many numbers it holds and of how many bits, and the words and tables of its
-/// block, for C five pairs of a pointer and a length.
+/// block, for C six pairs of a pointer and a length.
 #[repr(C)]
 #[derive(Clone, Copy)]
 pub struct Matrix<'a> {
@@ -25,8 +25,8 @@ pub struct Matrix<'a> {
     pub ones: &'a [u64],
     /// The 0 bits of each level.
     pub zeros: &'a [u64],
-    /// Room for later versions; this one does not read it.
-    pub reserved: [u64; 2],
+    /// The quarters of the words, none where the block is compact.
+    pub quarters: &'a [u64],
 }
 
 impl<'a> Matrix<'a> {
@@ -44,7 +44,7 @@ impl<'a> Matrix<'a> {
             lower: view.lower(),
             ones: levels.ones(),
             zeros: levels.zeros(),
-            reserved: [0; 2],
+            quarters: levels.quarters(),
         }
     }
 
@@ -56,7 +56,8 @@ impl<'a> Matrix<'a> {
         if self.width > 64 {
             return None;
         }
-        let levels = LevelsView::over(self.len, self.width as u8, self.ones, self.zeros)?;
+        let width = self.width as u8;
+        let levels = LevelsView::over(self.len, width, self.ones, self.zeros, self.quarters)?;
         MatrixView::over(levels, self.words, self.upper, self.lower)
     }
 }

@@ -2,23 +2,24 @@
 ghost use Rattle.std.specs.Prelude.{◌≡◌, ◌≢◌, ◌*◌, ◌^◌, ◌<◌, ◌↔◌, ◌⊎◌, All, length};
 ghost use Rattle.bitm_block.specs.Layout.{end_of};
 ghost use Rattle.lent_levels.specs.Levels.{AreNumbers};
-ghost use Rattle.matrix_block.specs.Block.{matrix_in, matrix_sections, CanHold, IsBlockOf, IsMatrixBlock, IsSoundBlock};
+ghost use Rattle.matrix_block.specs.Block.{has_quarters, matrix_in, sections_with};
+ghost use Rattle.matrix_block.specs.Block.{CanHold, IsBlockOf, IsMatrixBlock, IsSoundBlock};
 ghost use Rattle.bitm_abi.specs.Matrix.{matrix_parts};
 
 use bitm_abi::{BAD_SIZE, Matrix, OK, WRONG};
 use matrix_block::{BuildError, MatrixView, build, size};
 
-/// Writes how many words the block of the given number of numbers of `width` bits takes.
+/// Writes how many words the block of the given number of numbers of `width` bits takes, with quarters or without.
 #[unsafe(no_mangle)]
-pub extern "C" fn bitm_matrix_size(len: usize, width: u32, out: &mut usize) -> u32
+pub extern "C" fn bitm_matrix_size(len: usize, width: u32, quarters: bool, out: &mut usize) -> u32
     ensures ok { (result ≡ 0) ↔ AreNumbers len width }
-    ensures size { result ≡ 0 → out.new ≡ end_of (matrix_sections len width) }
+    ensures size { result ≡ 0 → out.new ≡ end_of (sections_with len width quarters) }
     ensures kept { result ≢ 0 → (result ≡ 2) × (out.new ≡ out.old) }
 {
     if width > 64 {
         return BAD_SIZE;
     }
-    match size(len, width as u8) {
+    match size(len, width as u8, quarters) {
         Some(words) => {
             *out = words;
             OK
@@ -27,27 +28,29 @@ pub extern "C" fn bitm_matrix_size(len: usize, width: u32, out: &mut usize) -> u
     }
 }
 
-/// Writes the block of these numbers of `width` bits; what the scratch has is overwritten.
+/// Writes the block of these numbers of `width` bits, with quarters or without; what the scratch has is overwritten.
 #[unsafe(no_mangle)]
 pub extern "C" fn bitm_matrix_build(
     numbers: &[u64],
     width: u32,
+    quarters: bool,
     scratch: &mut [u64],
     block: &mut [u64],
 ) -> u32
     ensures ok { (result ≡ 0) ↔ (CanHold numbers.now width
-        × (length block.old ≡ end_of (matrix_sections (length numbers.now) width))
+        × (length block.old ≡ end_of (sections_with (length numbers.now) width quarters))
         × (length scratch.old ≡ 2 * length numbers.now)) }
     ensures wrong { (result ≡ 3)
         ↔ (AreNumbers (length numbers.now) width × (¬ (All (λ x. x < 2 ^ width) numbers.now))) }
     ensures status { (result ≡ 0) ⊎ (result ≡ 2) ⊎ (result ≡ 3) }
     ensures block { result ≡ 0 → IsBlockOf numbers.now width block.new }
+    ensures quarters { result ≡ 0 → has_quarters block.new ≡ quarters }
     ensures kept { result ≢ 0 → (block.new ≡ block.old) × (scratch.new ≡ scratch.old) }
 {
     if width > 64 {
         return BAD_SIZE;
     }
-    match build(numbers, width as u8, scratch, block) {
+    match build(numbers, width as u8, quarters, scratch, block) {
         Ok(()) => OK,
         Err(BuildError::TooWide) => WRONG,
         Err(BuildError::WrongWidth) => BAD_SIZE,

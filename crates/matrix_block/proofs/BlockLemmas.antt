@@ -1,22 +1,27 @@
 -- Sections that stand one after another are those of the block.
-use Rattle.std.proofs.Common.{◌≡◌, ℕ, ◌+◌, ◌*◌, ◌≤◌, List, ◌++◌, length, take, slice_index, append_assoc, length-append, refl, sym, ap, ◌∙◌, subst, arith}
-use Rattle.std.proofs.lemmas.Bool.{true≢false}
+use Rattle.std.proofs.Common.{◌≡◌, ℕ, ◌+◌, ◌-◌, ◌*◌, ◌<◌, ◌≤◌, ◌==◌, ◌&&◌, nat_le, Bool, true, false, if◌then◌else◌, IsTrue, List, [], ◌++◌, length, take, drop, slice_index, append_assoc, length-append, refl, sym, ap, ⊎_elim, ◌∙◌, subst, arith}
+use Rattle.std.proofs.lemmas.Bool.{true≢false, eqb-true}
+use Rattle.std.proofs.lemmas.Bool.Decides.{eqb_tells}
+use Rattle.std.proofs.lemmas.List.{drop-append-le, length-drop, take-append-le}
+use Rattle.std.specs.Int.{div_ceil}
 use Rattle.std.specs.List.{slice_range}
 use Rattle.bit_lists.specs.Bits.{bits_of}
-use Rattle.bitm_tables.specs.Tables.{IsIndexed}
+use Rattle.bitm_tables.specs.Quarters.{AreQuartersOf}
+use Rattle.bitm_tables.specs.Tables.{IsIndexed, Lists, bits_in}
+use Rattle.bitm_tables.proofs.lemmas.QuarterLemmas.{records_of}
 use Rattle.bit_lists.proofs.BitLaws.{bits_are_counted}
 use Rattle.bitm_block.proofs.PartsLemmas.{count_is, cut, entry_is, section_is}
-use Rattle.bitm_block.specs.Header.{section_in}
-use Rattle.bitm_block.specs.Layout.{begin_of}
+use Rattle.bitm_block.specs.Header.{section_in, IsBlock, IsVerified}
+use Rattle.bitm_block.specs.Layout.{begin_of, part_in}
 use Rattle.bitm_block.specs.Written.{IsSealed}
 use Rattle.bitm_block.specs.declared.head.Head.{Head}
 use Rattle.bitm_block.specs.declared.layout.Section.{Section}
 use Rattle.lent_tables.specs.Sizes.{lists_of}
 use Rattle.matrix_levels.specs.Levels.{columns}
-use Rattle.matrix_levels.specs.Matrix.{words_of, IsMatrixOf}
+use Rattle.matrix_levels.specs.Matrix.{quarters_for, words_of, IsMatrix, IsMatrixOf}
 use Rattle.matrix_levels.proofs.lemmas.MatrixLemmas.{is-matrix, items_of-is, made-matrix}
-use Rattle.lent_levels.specs.Levels.{levels_of}
-use Rattle.matrix_block.specs.Block.{items_in, lower_at, lower_of_numbers, matrix_head, matrix_in, matrix_sections, ones_at, parts_of, upper_at, upper_of_numbers, zeros_at, AreParts, CanHold, HasLengths, HoldsMatrix, IsBlockOf, MatrixParts, StandsIn}
+use Rattle.lent_levels.specs.Levels.{levels_of, levels_with}
+use Rattle.matrix_block.specs.Block.{end_at, has_quarters, items_in, lists_in, lower_at, lower_of_numbers, matrix_head, matrix_in, sections_with, ones_at, parts_of, quarters_in, quarters_of_numbers, upper_at, upper_of_numbers, zeros_at, AreParts, CanHold, HasLengths, HasMatrixSections, HaveQuarters, HoldsMatrix, IsBlockOf, MatrixParts, StandsIn}
 use Rattle.lent_levels.specs.Check.{AreCounts}
 
 -- a part between two others, in a block that is these
@@ -107,40 +112,178 @@ parts-are xs w k words upper lower ones zeros can words_len upper_len lower_len 
       items = items_of-is xs w (length xs) b refl room levels can.fit;
     }
 
--- a sealed block whose sections hold a matrix is its block
-pub block_is : (xs : List ℕ) (w : ℕ) (old new : List ℕ) → CanHold xs w → IsSealed (matrix_head (length xs) w) (matrix_sections (length xs) w) old new
-    → StandsIn xs w old → IsBlockOf xs w new
-block_is xs w old new can sealed parts =
+-- a part of the front of a list is part of the list
+pub in-front : (front back : List ℕ) (i j : ℕ) → i ≤ j → j ≤ length front → slice_range (front ++ back) i j ≡ slice_range front i j
+in-front front back i j order inside =
+    ap (take (j - i)) (drop-append-le i front back (omega (arith, order, inside)))
+    ∙ take-append-le (j - i) (drop i front) back (omega (arith, length-drop i front, inside))
+
+-- what stands in the front of a block stands in the block
+pub stands-on : (xs : List ℕ) (w : ℕ) (front back : List ℕ) → length front ≡ end_at (length xs) w → StandsIn xs w front → StandsIn xs w (front ++ back)
+stands-on xs w front back whole stands =
     let n = length xs in
+    let block = front ++ back in
+    let at : (i k : ℕ) → i + k ≤ end_at n w → slice_range front i (i + k) ≡ slice_range block i (i + k) = λ i k less.
+    sym (in-front front back i (i + k) (omega arith) (omega (arith, whole, less))) in
+    let u = slice_range front (upper_at n w) (upper_at n w + upper_of_numbers n w) in
+    let l = slice_range front (lower_at n w) (lower_at n w + lower_of_numbers n w) in
+    let o = slice_range front (ones_at n w) (ones_at n w + w) in
+    let z = slice_range front (zeros_at n w) (zeros_at n w + w) in
+    let words = slice_range block 40 (40 + words_of n w) in
+    let upper = slice_range block (upper_at n w) (upper_at n w + upper_of_numbers n w) in
+    let lower = slice_range block (lower_at n w) (lower_at n w + lower_of_numbers n w) in
+    let ones = slice_range block (ones_at n w) (ones_at n w + w) in
+    subst (AreParts xs w words upper lower ones) (at (zeros_at n w) w (omega arith))
+    (subst (λ (x : List ℕ). AreParts xs w words upper lower x z) (at (ones_at n w) w (omega arith))
+    (subst (λ (x : List ℕ). AreParts xs w words upper x o z) (at (lower_at n w) (lower_of_numbers n w) (omega arith))
+    (subst (λ (x : List ℕ). AreParts xs w words x l o z) (at (upper_at n w) (upper_of_numbers n w) (omega arith))
+    (subst (λ (x : List ℕ). AreParts xs w x u l o z) (at 40 (words_of n w) (omega arith)) stands))))
+
+-- quarters after a front that holds a matrix are those of the block
+pub quarters-on : (n w : ℕ) (front quarters gap : List ℕ) → length front ≡ end_at n w → length quarters ≡ quarters_of_numbers n w
+    → AreQuartersOf (bits_in (lists_in front n w)) quarters → HaveQuarters n w (front ++ (quarters ++ gap))
+quarters-on n w front quarters gap whole len right =
+    let block = front ++ (quarters ++ gap) in
+    let words : slice_range front 40 (40 + words_of n w) ≡ slice_range block 40 (40 + words_of n w) =
+    sym (in-front front (quarters ++ gap) 40 (40 + words_of n w) (omega arith) (omega (arith, whole))) in
+    let own : quarters ≡ slice_range block (end_at n w) (end_at n w + quarters_of_numbers n w) =
+    sym (cut front quarters gap (end_at n w) (end_at n w + quarters_of_numbers n w) (sym whole) (omega (arith, len))) in
+    subst (λ (qs : List ℕ). AreQuartersOf (bits_of (slice_range block 40 (40 + words_of n w))) qs) own
+    (subst (λ (ws : List ℕ). AreQuartersOf (bits_of ws) quarters) words right)
+
+-- what a sealed block has: the sections of a matrix, and these quarters
+pub record HasParts (n w : ℕ) (old new quarters : List ℕ) : Type 0 where
+  pub is_block : IsBlock new
+  pub verified : IsVerified new
+  pub len_is : slice_index new 3 ≡ n
+  pub width_is : slice_index new 4 ≡ w
+  pub sections : HasMatrixSections new
+  pub words_are : section_in new 0 ≡ slice_range old 40 (40 + words_of n w)
+  pub upper_are : section_in new 1 ≡ slice_range old (upper_at n w) (upper_at n w + upper_of_numbers n w)
+  pub lower_are : section_in new 2 ≡ slice_range old (lower_at n w) (lower_at n w + lower_of_numbers n w)
+  pub ones_are : section_in new 3 ≡ slice_range old (ones_at n w) (ones_at n w + w)
+  pub zeros_are : section_in new 4 ≡ slice_range old (zeros_at n w) (zeros_at n w + w)
+  pub quarters_are : quarters_in new ≡ quarters
+
+-- of the quarters that are asked for
+abbrev pub asked_quarters : ℕ → ℕ → Bool → List ℕ → List ℕ
+asked_quarters n w q old = if q then slice_range old (end_at n w) (end_at n w + quarters_of_numbers n w) else []
+
+-- more than these five sections there is at most one
+few-more : (n w : ℕ) (q : Bool) → length (sections_with n w q) ≤ 6
+few-more n w true = omega arith
+few-more n w false = omega arith
+
+module _ (n w : ℕ) (q : Bool) (old new : List ℕ) (sealed : IsSealed (matrix_head n w) (sections_with n w q) old new) where
+  abbrev head : Head
+  head = matrix_head n w
+
+  abbrev sections : List Section
+  sections = sections_with n w q
+
+  few : length sections ≤ 6
+  few = few-more n w q
+
+  five-sections : HasMatrixSections new
+  five-sections = record {
+    kind = ap (λ (h : Head). h.kind) sealed.head_is;
+    five = omega (arith, count_is head sections old new sealed);
+    words = ap (λ (s : Section). s.role) (entry_is head sections old new sealed 0 (omega arith));
+    upper = ap (λ (s : Section). s.role) (entry_is head sections old new sealed 1 (omega arith));
+    lower = ap (λ (s : Section). s.role) (entry_is head sections old new sealed 2 (omega arith));
+    ones = ap (λ (s : Section). s.role) (entry_is head sections old new sealed 3 (omega arith));
+    zeros = ap (λ (s : Section). s.role) (entry_is head sections old new sealed 4 (omega arith));
+  }
+
+  section-at : (i p k : ℕ) → i < length sections → begin_of sections i ≡ p → part_in sections old i ≡ slice_range old (begin_of sections i) (begin_of sections i + k)
+      → section_in new i ≡ slice_range old p (p + k)
+  section-at i p k less here part =
+      section_is head sections old new sealed i less ∙ part ∙ ap (λ a. slice_range old a (a + k)) here
+
+  has-parts : (quarters : List ℕ) → quarters_in new ≡ quarters → HasParts n w old new quarters
+  has-parts quarters quarters_are = record {
+    is_block = sealed.is_block;
+    verified = sealed.verified;
+    len_is = ap (λ (h : Head). h.len) sealed.head_is;
+    width_is = ap (λ (h : Head). h.width) sealed.head_is;
+    sections = five-sections;
+    words_are = section-at 0 40 (words_of n w) (omega arith) (omega (arith, few)) refl;
+    upper_are = section-at 1 (upper_at n w) (upper_of_numbers n w) (omega arith) (omega (arith, few)) refl;
+    lower_are = section-at 2 (lower_at n w) (lower_of_numbers n w) (omega arith) (omega (arith, few)) refl;
+    ones_are = section-at 3 (ones_at n w) w (omega arith) (omega (arith, few)) refl;
+    zeros_are = section-at 4 (zeros_at n w) w (omega arith) (omega (arith, few)) refl;
+    quarters_are = quarters_are;
+  }
+
+-- whether a sealed block has quarters
+pub marked : (n w : ℕ) (q : Bool) (old new : List ℕ) → IsSealed (matrix_head n w) (sections_with n w q) old new → has_quarters new ≡ q
+marked n w true old new sealed =
     let head = matrix_head n w in
-    let sections = matrix_sections n w in
-    let words = slice_range old 40 (40 + words_of n w) in
-    let upper = slice_range old (upper_at n w) (upper_at n w + upper_of_numbers n w) in
-    let lower = slice_range old (lower_at n w) (lower_at n w + lower_of_numbers n w) in
+    let sections = sections_with n w true in
+    ap (λ k. nat_le 6 k && (slice_index new 36 == 6)) (count_is head sections old new sealed)
+    ∙ ap (λ r. nat_le 6 6 && (r == 6)) (ap (λ (s : Section). s.role) (entry_is head sections old new sealed 5 (omega arith)))
+marked n w false old new sealed =
+    ap (λ k. nat_le 6 k && (slice_index new 36 == 6)) (count_is (matrix_head n w) (sections_with n w false) old new sealed)
+
+-- those that were asked for
+own-quarters : (n w : ℕ) (q : Bool) (old new : List ℕ) → IsSealed (matrix_head n w) (sections_with n w q) old new
+    → quarters_in new ≡ asked_quarters n w q old
+own-quarters n w true old new sealed =
+    let sections = sections_with n w true in
+    let sixth : begin_of sections 5 ≡ end_at n w = omega arith in
+    ap (λ (v : Bool). if v then section_in new 5 else []) (marked n w true old new sealed)
+    ∙ section_is (matrix_head n w) sections old new sealed 5 (omega arith)
+    ∙ ap (λ a. slice_range old a (a + quarters_of_numbers n w)) sixth
+own-quarters n w false old new sealed = ap (λ (v : Bool). if v then section_in new 5 else []) (marked n w false old new sealed)
+
+-- words with tables that hold compact levels hold them with quarters too
+pub with-quarters : (n w : ℕ) (ones zeros quarters : List ℕ) (lists : Lists) → IsMatrix (levels_of n w ones zeros) lists
+    → (length quarters == 0 ≡ false → AreQuartersOf (bits_in lists) quarters) → IsMatrix (levels_with n w ones zeros quarters) lists
+with-quarters n w ones zeros quarters lists is right =
+    let m = is.numbers in
+    record {
+      indexed = is.indexed;
+      numbers = record {
+        count = m.count;
+        some = m.some;
+        most = m.most;
+        short = m.short;
+        fit = m.fit;
+        room = m.room;
+        levels = m.levels;
+        ones_len = m.ones_len;
+        zeros_len = m.zeros_len;
+        ones_are = m.ones_are;
+        zeros_are = m.zeros_are;
+        known_most = m.known_most;
+        starts_len = m.starts_len;
+        starts_are = m.starts_are;
+        quarters_are = right;
+        no_quarters = λ e. eqb-true (length quarters) 0 e;
+      };
+    }
+
+-- a block with these parts is that of its numbers
+parts-hold : (xs : List ℕ) (w : ℕ) (old new quarters : List ℕ) → CanHold xs w → HasParts (length xs) w old new quarters → StandsIn xs w old
+    → length quarters ≡ quarters_for (length quarters == 0) (words_of (length xs) w)
+    → (length quarters == 0 ≡ false → AreQuartersOf (bits_in (lists_in old (length xs) w)) quarters) → IsBlockOf xs w new
+parts-hold xs w old new quarters can has parts quarters_len right =
+    let n = length xs in
+    let lists = lists_in old n w in
     let ones = slice_range old (ones_at n w) (ones_at n w + w) in
     let zeros = slice_range old (zeros_at n w) (zeros_at n w + w) in
-    let second : begin_of sections 1 ≡ upper_at n w = omega arith in
-    let third : begin_of sections 2 ≡ lower_at n w = omega arith in
-    let fourth : begin_of sections 3 ≡ ones_at n w = omega arith in
-    let fifth : begin_of sections 4 ≡ zeros_at n w = omega arith in
-    let a : section_in new 0 ≡ words = section_is head sections old new sealed 0 (omega arith) in
-    let u : section_in new 1 ≡ upper =
-    section_is head sections old new sealed 1 (omega arith) ∙ ap (λ p. slice_range old p (p + upper_of_numbers n w)) second in
-    let l : section_in new 2 ≡ lower =
-    section_is head sections old new sealed 2 (omega arith) ∙ ap (λ p. slice_range old p (p + lower_of_numbers n w)) third in
-    let o : section_in new 3 ≡ ones = section_is head sections old new sealed 3 (omega arith) ∙ ap (λ p. slice_range old p (p + w)) fourth in
-    let z : section_in new 4 ≡ zeros = section_is head sections old new sealed 4 (omega arith) ∙ ap (λ p. slice_range old p (p + w)) fifth in
-    let len : slice_index new 3 ≡ n = ap (λ (h : Head). h.len) sealed.head_is in
-    let width : slice_index new 4 ≡ w = ap (λ (h : Head). h.width) sealed.head_is in
-    let parts_are : matrix_in new ≡ parts_of (levels_of n w ones zeros) words upper lower =
-    ap (λ m. parts_of (levels_of m (slice_index new 4) (section_in new 3) (section_in new 4)) (section_in new 0) (section_in new 1) (section_in new 2)) len
-    ∙ ap (λ v. parts_of (levels_of n v (section_in new 3) (section_in new 4)) (section_in new 0) (section_in new 1) (section_in new 2)) width
-    ∙ ap (λ x. parts_of (levels_of n w x (section_in new 4)) (section_in new 0) (section_in new 1) (section_in new 2)) o
-    ∙ ap (λ x. parts_of (levels_of n w ones x) (section_in new 0) (section_in new 1) (section_in new 2)) z
-    ∙ ap (λ x. parts_of (levels_of n w ones zeros) x (section_in new 1) (section_in new 2)) a
-    ∙ ap (λ x. parts_of (levels_of n w ones zeros) words x (section_in new 2)) u
-    ∙ ap (parts_of (levels_of n w ones zeros) words upper) l in
-    let lengths : HasLengths (parts_of (levels_of n w ones zeros) words upper lower) = record {
+    let l = levels_with n w ones zeros quarters in
+    let whole : MatrixParts = record { levels = l; lists = lists } in
+    let parts_are : matrix_in new ≡ whole =
+    ap (λ m. parts_of (levels_with m (slice_index new 4) (section_in new 3) (section_in new 4) (quarters_in new)) (section_in new 0) (section_in new 1) (section_in new 2)) has.len_is
+    ∙ ap (λ v. parts_of (levels_with n v (section_in new 3) (section_in new 4) (quarters_in new)) (section_in new 0) (section_in new 1) (section_in new 2)) has.width_is
+    ∙ ap (λ x. parts_of (levels_with n w x (section_in new 4) (quarters_in new)) (section_in new 0) (section_in new 1) (section_in new 2)) has.ones_are
+    ∙ ap (λ x. parts_of (levels_with n w ones x (quarters_in new)) (section_in new 0) (section_in new 1) (section_in new 2)) has.zeros_are
+    ∙ ap (λ x. parts_of (levels_with n w ones zeros x) (section_in new 0) (section_in new 1) (section_in new 2)) has.quarters_are
+    ∙ ap (λ x. parts_of l x (section_in new 1) (section_in new 2)) has.words_are
+    ∙ ap (λ x. parts_of l lists.words x (section_in new 2)) has.upper_are
+    ∙ ap (parts_of l lists.words lists.upper) has.lower_are in
+    let lengths : HasLengths whole = record {
       levels = record { plain = refl; numbers = can.numbers; ones_len = parts.ones_len; zeros_len = parts.zeros_len };
       words_len = parts.words_len;
       sized = record {
@@ -148,25 +291,41 @@ block_is xs w old new can sealed parts =
         upper_len = omega (arith, parts.upper_len, parts.words_len);
         lower_len = omega (arith, parts.lower_len, parts.words_len);
       };
+      quarters_len = quarters_len ∙ ap (quarters_for (length quarters == 0)) (sym parts.words_len);
     } in
     record {
       sound = record {
         matrix_block = record {
-          is_block = sealed.is_block;
-          sections = record {
-            kind = ap (λ (h : Head). h.kind) sealed.head_is;
-            five = omega (arith, count_is head sections old new sealed);
-            words = ap (λ (s : Section). s.role) (entry_is head sections old new sealed 0 (omega arith));
-            upper = ap (λ (s : Section). s.role) (entry_is head sections old new sealed 1 (omega arith));
-            lower = ap (λ (s : Section). s.role) (entry_is head sections old new sealed 2 (omega arith));
-            ones = ap (λ (s : Section). s.role) (entry_is head sections old new sealed 3 (omega arith));
-            zeros = ap (λ (s : Section). s.role) (entry_is head sections old new sealed 4 (omega arith));
-          };
+          is_block = has.is_block;
+          sections = has.sections;
           lengths = subst (λ (p : MatrixParts). HasLengths p) (sym parts_are) lengths;
         };
-        verified = sealed.verified;
-        matrix = subst (λ (p : MatrixParts). HoldsMatrix p) (sym parts_are) parts.matrix;
+        verified = has.verified;
+        matrix = subst (λ (p : MatrixParts). HoldsMatrix p) (sym parts_are) (with-quarters n w ones zeros quarters lists parts.matrix right);
       };
-      width = width;
+      width = has.width_is;
       items = ap (λ (p : MatrixParts). items_in p) parts_are ∙ parts.items;
     }
+
+-- where there are as many, none where there is none
+as-many : (k m : ℕ) → k ≡ m → k ≡ (if k == 0 then 0 else m)
+as-many k m same =
+    let P : Bool → ℕ = λ v. (if v then 0 else m) in
+    ⊎_elim (λ none. none.1 ∙ sym (ap P none.0)) (λ some. same ∙ sym (ap P some.0)) (eqb_tells k 0)
+
+-- a sealed block whose sections hold a matrix is its block
+pub block_is : (xs : List ℕ) (w : ℕ) (q : Bool) (old new : List ℕ) → CanHold xs w
+    → IsSealed (matrix_head (length xs) w) (sections_with (length xs) w q) old new → StandsIn xs w old
+    → (IsTrue q → HaveQuarters (length xs) w old) → IsBlockOf xs w new
+block_is xs w false old new can sealed parts right =
+    let n = length xs in
+    parts-hold xs w old new [] can (has-parts n w false old new sealed [] (own-quarters n w false old new sealed)) parts refl
+    (λ e. absurd (true≢false e))
+block_is xs w true old new can sealed parts right =
+    let n = length xs in
+    let quarters = asked_quarters n w true old in
+    let h = right refl in
+    let len : length quarters ≡ quarters_of_numbers n w =
+    h.len ∙ ap (λ k. div_ceil k 512) (bits_are_counted (lists_in old n w).words ∙ ap (λ k. 64 * k) parts.words_len) ∙ sym (records_of (words_of n w)) in
+    parts-hold xs w old new quarters can (has-parts n w true old new sealed quarters (own-quarters n w true old new sealed)) parts
+    (as-many (length quarters) (quarters_of_numbers n w) len) (λ _. h)

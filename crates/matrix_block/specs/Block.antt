@@ -1,14 +1,15 @@
 -- A block that holds a wavelet matrix.
-use Rattle.std.specs.Prelude.{◌≡◌, ℕ, ◌+◌, ◌^◌, ◌<◌, ◌≤◌, List, [], ◌∷◌, length, slice_index, slice_range, All}
+use Rattle.std.specs.Prelude.{◌≡◌, ℕ, ◌+◌, ◌^◌, ◌<◌, ◌≤◌, ◌==◌, ◌&&◌, nat_le, Bool, if◌then◌else◌, List, [], ◌∷◌, ◌++◌, length, slice_index, slice_range, All}
 use Rattle.std.specs.Int.{div_ceil}
-use Rattle.bitm_tables.specs.Tables.{HasSizes, Lists}
+use Rattle.bitm_tables.specs.Quarters.{AreQuartersOf}
+use Rattle.bitm_tables.specs.Tables.{HasSizes, Lists, bits_in}
 use Rattle.bitm_block.specs.Header.{count_in, section_in, IsBlock, IsVerified}
 use Rattle.bitm_block.specs.Layout.{aligned}
 use Rattle.bitm_block.specs.declared.head.Head.{Head}
 use Rattle.bitm_block.specs.declared.layout.Section.{Section}
 use Rattle.lent_tables.specs.Sizes.{lists_of}
-use Rattle.lent_levels.specs.Levels.{levels_of, AreNumbers, HasLevels}
-use Rattle.matrix_levels.specs.Matrix.{numbers_in, words_of, IsMatrix, LevelTables}
+use Rattle.lent_levels.specs.Levels.{levels_of, levels_with, AreNumbers, HasLevels}
+use Rattle.matrix_levels.specs.Matrix.{numbers_in, quarters_for, words_of, IsMatrix, LevelTables}
 
 -- how many entries the upper and the lower table of n numbers of w bits have
 abbrev pub upper_of_numbers : ℕ → ℕ → ℕ
@@ -25,14 +26,23 @@ IsWidth w = (1 ≤ w) × (w ≤ 64)
 abbrev pub matrix_head : ℕ → ℕ → Head
 matrix_head n w = record { kind = 6; len = n; width = w; ones_log2 = 0; zeros_log2 = 0; a = 0; b = 0; c = 0 }
 
--- the sections of a matrix of n numbers of w bits: words, upper and lower table, and for each level the 1 bits before it
--- and how many of its items have a 0 bit
+-- how many numbers the quarters of n numbers of w bits have
+abbrev pub quarters_of_numbers : ℕ → ℕ → ℕ
+quarters_of_numbers n w = div_ceil (words_of n w) 8
+
+-- the sections of a compact matrix of n numbers of w bits: words, upper and lower table, and for each level the 1 bits
+-- before it and how many of its items have a 0 bit
 abbrev pub matrix_sections : ℕ → ℕ → List Section
 matrix_sections n w =
     record { role = 1; count = words_of n w } ∷ record { role = 2; count = upper_of_numbers n w }
     ∷ record { role = 3; count = lower_of_numbers n w } ∷ record { role = 11; count = w } ∷ record { role = 12; count = w } ∷ []
 
--- where the sections after the first begin, and where the block ends
+-- these, and quarters or none
+abbrev pub sections_with : ℕ → ℕ → Bool → List Section
+sections_with n w quarters =
+    matrix_sections n w ++ (if quarters then record { role = 6; count = quarters_of_numbers n w } ∷ [] else [])
+
+-- where the sections after the first begin, and where the block ends, without quarters and with these or none
 abbrev pub upper_at : ℕ → ℕ → ℕ
 upper_at n w = 40 + aligned (words_of n w)
 
@@ -48,6 +58,9 @@ zeros_at n w = ones_at n w + aligned w
 abbrev pub end_at : ℕ → ℕ → ℕ
 end_at n w = zeros_at n w + aligned w
 
+abbrev pub end_with : ℕ → ℕ → Bool → ℕ
+end_with n w quarters = end_at n w + (if quarters then aligned (quarters_of_numbers n w) else 0)
+
 -- the tables of levels, and words with two tables
 pub record MatrixParts : Type 0 where
   pub levels : LevelTables
@@ -57,17 +70,28 @@ pub record MatrixParts : Type 0 where
 abbrev pub parts_of : LevelTables → List ℕ → List ℕ → List ℕ → MatrixParts
 parts_of levels words upper lower = record { levels = levels; lists = lists_of words upper lower }
 
--- the matrix whose parts are the first five sections
+-- whether a block's sixth section is that of quarters
+abbrev pub has_quarters : List ℕ → Bool
+has_quarters block = nat_le 6 (count_in block) && (slice_index block 36 == 6)
+
+-- the quarters, none where there is no such section
+abbrev pub quarters_in : List ℕ → List ℕ
+quarters_in block = if has_quarters block then section_in block 5 else []
+
+-- the matrix whose parts are the first five sections, and the quarters
 abbrev pub matrix_in : List ℕ → MatrixParts
 matrix_in block =
-    parts_of (levels_of (slice_index block 3) (slice_index block 4) (section_in block 3) (section_in block 4))
+    parts_of
+    (levels_with (slice_index block 3) (slice_index block 4) (section_in block 3) (section_in block 4) (quarters_in block))
     (section_in block 0) (section_in block 1) (section_in block 2)
 
--- the parts are as long as those of the numbers: nothing is said of what they hold
+-- the parts are as long as those of the numbers, and there are no quarters or as many numbers as these take: nothing is
+-- said of what they hold
 pub record HasLengths (parts : MatrixParts) : Type 0 where
   pub levels : HasLevels parts.levels
   pub words_len : length parts.lists.words ≡ words_of parts.levels.len parts.levels.width
   pub sized : HasSizes parts.lists
+  pub quarters_len : length parts.levels.quarters ≡ quarters_for parts.levels.compact (length parts.lists.words)
 
 -- the block is of the kind of a matrix, and its first five sections are those of one
 pub record HasMatrixSections (block : List ℕ) : Type 0 where
@@ -108,6 +132,12 @@ pub record AreParts (numbers : List ℕ) (w : ℕ) (words upper lower ones zeros
   pub matrix : IsMatrix (levels_of (length numbers) w ones zeros) (lists_of words upper lower)
   pub items : numbers_in (levels_of (length numbers) w ones zeros) (lists_of words upper lower) ≡ numbers
 
+-- the words with their tables that stand in a block of n numbers of w bits
+abbrev pub lists_in : List ℕ → ℕ → ℕ → Lists
+lists_in block n w =
+    lists_of (slice_range block 40 (40 + words_of n w)) (slice_range block (upper_at n w) (upper_at n w + upper_of_numbers n w))
+    (slice_range block (lower_at n w) (lower_at n w + lower_of_numbers n w))
+
 -- they stand in a block where its sections are
 abbrev pub StandsIn : List ℕ → ℕ → List ℕ → Type 0
 StandsIn numbers w block =
@@ -117,13 +147,19 @@ StandsIn numbers w block =
     (slice_range block (lower_at n w) (lower_at n w + lower_of_numbers n w)) (slice_range block (ones_at n w) (ones_at n w + w))
     (slice_range block (zeros_at n w) (zeros_at n w + w))
 
+-- the quarters of these words stand in a block after its other sections
+abbrev pub HaveQuarters : ℕ → ℕ → List ℕ → Type 0
+HaveQuarters n w block =
+    AreQuartersOf (bits_in (lists_in block n w))
+    (slice_range block (end_at n w) (end_at n w + quarters_of_numbers n w))
+
 -- the block is as it was written, and holds a matrix
 pub record IsSoundBlock (block : List ℕ) : Type 0 where
   pub matrix_block : IsMatrixBlock block
   pub verified : IsVerified block
   pub matrix : HoldsMatrix (matrix_in block)
 
--- the block is that of these numbers of w bits
+-- the block is that of these numbers of w bits, compact or with quarters
 pub record IsBlockOf (numbers : List ℕ) (w : ℕ) (block : List ℕ) : Type 0 where
   pub sound : IsSoundBlock block
   pub width : slice_index block 4 ≡ w

@@ -7,9 +7,9 @@
 //!
 //! ```
 //! let numbers = [3u64, 1, 4, 1, 5, 1];
-//! let mut block = [0u64; 80];                                   // size(6, 3) words
+//! let mut block = [0u64; 80];                                   // size(6, 3, false) words
 //! let mut scratch = [0u64; 12];                                 // two words for each number
-//! build(numbers.as_slice(), 3, scratch.as_mut_slice(), block.as_mut_slice());   // Ok(())
+//! build(numbers.as_slice(), 3, false, scratch.as_mut_slice(), block.as_mut_slice());   // Ok(())
 //! let Some(matrix) = MatrixView::open(block.as_slice()) else { .. };
 //! matrix.check();       // true
 //! matrix.get(4);        // Found(5), Absent or Wrong

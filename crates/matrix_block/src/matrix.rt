@@ -4,14 +4,14 @@ ghost use Rattle.bitm_tables.specs.Reads.{none_read};
 ghost use Rattle.bitm_tables.specs.Tables.{bits_in};
 ghost use Rattle.lent_levels.specs.Answers.{IsIndexOf, IsIndexWithin, IsNumberOf, IsNumberWithin};
 ghost use Rattle.lent_levels.specs.Answers.{IsRankOf, IsRankWithin};
-ghost use Rattle.matrix_block.specs.Block.{items_in, matrix_in, parts_of};
+ghost use Rattle.matrix_block.specs.Block.{items_in, matrix_in, parts_of, quarters_in};
 ghost use Rattle.matrix_block.specs.Block.{HasLengths, HasMatrixSections, HoldsMatrix, IsMatrixBlock, IsSoundBlock};
 
-use crate::sections::{Lens, MATRIX};
+use crate::sections::{Lens, MATRIX, QUARTERS};
 use bitm_block::Block;
 use bitm_tables::answer::Answer;
 use block_tables::{BlockProbe, are_tables};
-use lent_levels::{LevelsView, are_counts};
+use lent_levels::{LevelsView, are_counts, has_quarters};
 use std::marker::Model;
 
 /// Whether header and directory are those of a matrix.
@@ -27,6 +27,21 @@ fn is_matrix_block(block: &Block<'_>) -> bool
         && words[24] == 3
         && words[28] == 11
         && words[32] == 12
+}
+
+/// The quarters in a block, none where it has no such section.
+#[inline(always)]
+fn quarters_of<'a>(block: &Block<'a>) -> &'a [u64]
+    ensures { result.now ≡ quarters_in block.now }
+{
+    let words = block.words();
+    if words[11] < 6 || words[36] != QUARTERS {
+        return &[];
+    }
+    match block.section(5) {
+        Some(quarters) => quarters,
+        None => unreachable!(),
+    }
 }
 
 /// A view of a wavelet matrix in a block, of which header and directory are right.
@@ -59,8 +74,9 @@ impl<'a> Model for MatrixView<'a> {
 }
 
 impl<'a> MatrixView<'a> {
-    /// The matrix in a block; `None` exactly where the words are no block (`Block::open` says why), the block is of
-    /// another kind, or a section is not as long as that of the given numbers. What the sections hold is not looked at.
+    /// The matrix in a block, by its quarters where it has these; `None` exactly where the words are no block
+    /// (`Block::open` says why), the block is of another kind, or a section is not as long as that of the given
+    /// numbers. What the sections hold is not looked at.
     ///
     /// # Cost
     /// Header and directory are read, at most 80 words (evident from the code).
@@ -79,7 +95,8 @@ impl<'a> MatrixView<'a> {
         }
         let levels = match (block.section(3), block.section(4)) {
             (Some(ones), Some(zeros)) => {
-                LevelsView::over(words[3] as usize, words[4] as u8, ones, zeros)?
+                let quarters = quarters_of(&block);
+                LevelsView::over(words[3] as usize, words[4] as u8, ones, zeros, quarters)?
             }
             _ => return None,
         };
@@ -94,7 +111,8 @@ impl<'a> MatrixView<'a> {
     /// in which one word was changed is refused, and every answer is that of the numbers.
     ///
     /// # Cost
-    /// Two passes over the words, and two ranks for each level (evident from the code).
+    /// Two passes over the words, two ranks for each level, and with quarters two for every two words (evident from the
+    /// code).
     ///
     /// ```
     /// MatrixView::open_checked(block.as_slice());   // Some(..) of a block that `build` wrote
@@ -130,6 +148,10 @@ impl<'a> MatrixView<'a> {
     {
         let lens = Lens::of(levels.len(), levels.width() as usize);
         if words.len() != lens.words || upper.len() != lens.upper || lower.len() != lens.lower {
+            return None;
+        }
+        let quarters = levels.quarters().len();
+        if quarters != 0 && quarters != lens.quarters {
             return None;
         }
         Some(MatrixView {
@@ -223,7 +245,8 @@ impl<'a> MatrixView<'a> {
     /// Whether the block holds a matrix: then the answers are those of its numbers.
     ///
     /// # Cost
-    /// One pass over the words, and two ranks for each level (evident from the code).
+    /// One pass over the words, two ranks for each level, and with quarters two for every two words (evident from the
+    /// code).
     ///
     /// ```
     /// matrix.check();   // true
@@ -235,7 +258,7 @@ impl<'a> MatrixView<'a> {
             return false;
         }
         let (levels, mut source) = self.parts();
-        are_counts(levels, &mut source)
+        are_counts(levels, &mut source) && has_quarters(levels, &mut source)
     }
 
     /// Number `i`. Whatever the block holds, it has no more bits than the width, and the answer is `Absent` exactly

@@ -32,14 +32,15 @@ pub(crate) fn block_of_matrix(alloc: Global, numbers: &[u64]) -> Result<Vec<u64>
     ensures failure { IfErr result (IsBlockFailure Kind.Matrix numbers.now) }
 {
     let width = least_width(numbers);
-    let Some(words) = size(numbers.len(), width) else {
+    let Some(words) = size(numbers.len(), width, false) else {
         return Err(Failure::TooLarge);
     };
     let mut scratch = Vec::new(alloc);
     scratch.resize(2 * numbers.len(), 0)?;
     let mut block = Vec::new(alloc);
     block.resize(words, 0)?;
-    match build(numbers, width, scratch.as_mut_slice(), block.as_mut_slice()) {
+    let (room, words) = (scratch.as_mut_slice(), block.as_mut_slice());
+    match build(numbers, width, false, room, words) {
         Ok(()) => Ok(block),
         Err(_) => Err(Failure::TooLarge),
     }

@@ -7,10 +7,13 @@
 // What is in each file:
 // - `lists`: what ranges have, worked out by hand
 // - `matrices`: the block of a small matrix
+// - `quarters`: a matrix with quarters
 // - `ranges`: the ranges of a matrix in a block, beside plain loops
 #[cfg(test)]
 mod lists;
 #[cfg(test)]
 mod matrices;
+#[cfg(test)]
+mod quarters;
 #[cfg(test)]
 mod ranges;

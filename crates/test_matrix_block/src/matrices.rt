@@ -177,12 +177,13 @@ fn opened(words: &mut [u64]) -> usize {
 
 #[test]
 fn a_matrix_is_written_and_answers(rt: HostRuntime) -> Result<(), Fail> {
-    assert!(rt; size(6, 3) == Some(80));
+    assert!(rt; size(6, 3, false) == Some(80));
     let mut block = [0x5555_5555_5555_5555u64; 80];
     let mut scratch = [0u64; 12];
     let made = build(
         NUMBERS.as_slice(),
         3,
+        false,
         scratch.as_mut_slice(),
         block.as_mut_slice(),
     );
@@ -207,7 +208,7 @@ fn a_matrix_is_written_and_answers(rt: HostRuntime) -> Result<(), Fail> {
 }
 
 /// Numbers below 1000.
-fn mixed_numbers() -> [u64; 300] {
+pub(crate) fn mixed_numbers() -> [u64; 300] {
     let mut all = [0u64; 300];
     for i in 0..300usize {
         all[i] = (i * 7919 + 13) as u64 % 37 * 27;
@@ -216,7 +217,7 @@ fn mixed_numbers() -> [u64; 300] {
 }
 
 /// How many numbers, and ranks of these before their indices, are not those of the list.
-fn wrong_answers(matrix: &MatrixView<'_>, numbers: &[u64]) -> usize {
+pub(crate) fn wrong_answers(matrix: &MatrixView<'_>, numbers: &[u64]) -> usize {
     let mut wrong = 0usize;
     for i in 0..numbers.len() {
         let mut before = 0usize;
@@ -233,12 +234,13 @@ fn wrong_answers(matrix: &MatrixView<'_>, numbers: &[u64]) -> usize {
 #[test]
 fn numbers_of_many_words_come_back(rt: HostRuntime) -> Result<(), Fail> {
     let numbers = mixed_numbers();
-    assert!(rt; size(300, 10) == Some(136));
+    assert!(rt; size(300, 10, false) == Some(136));
     let mut block = [0u64; 136];
     let mut scratch = [0u64; 600];
     let made = build(
         numbers.as_slice(),
         10,
+        false,
         scratch.as_mut_slice(),
         block.as_mut_slice(),
     );
@@ -288,12 +290,19 @@ fn no_matrix_is_written_where_there_is_none(rt: HostRuntime) -> Result<(), Fail>
     let mut scratch = [0u64; 12];
     let room = scratch.as_mut_slice();
     let block = words.as_mut_slice();
-    assert!(rt; build(numbers, 0, &mut *room, &mut *block) == Err(BuildError::WrongWidth));
-    assert!(rt; build(numbers, 65, &mut *room, &mut *block) == Err(BuildError::WrongWidth));
-    assert!(rt; build(numbers, 2, &mut *room, &mut *block) == Err(BuildError::TooWide));
-    assert!(rt; build(numbers, 3, &mut *room, &mut block[..72]) == Err(BuildError::WrongLength));
-    assert!(rt; build(numbers, 3, &mut room[..11], &mut *block) == Err(BuildError::WrongScratch));
+    let wrong = build(numbers, 0, false, &mut *room, &mut *block);
+    assert!(rt; wrong == Err(BuildError::WrongWidth));
+    let wrong = build(numbers, 65, true, &mut *room, &mut *block);
+    assert!(rt; wrong == Err(BuildError::WrongWidth));
+    let wrong = build(numbers, 2, false, &mut *room, &mut *block);
+    assert!(rt; wrong == Err(BuildError::TooWide));
+    let wrong = build(numbers, 3, false, &mut *room, &mut block[..72]);
+    assert!(rt; wrong == Err(BuildError::WrongLength));
+    let wrong = build(numbers, 3, true, &mut *room, &mut *block);
+    assert!(rt; wrong == Err(BuildError::WrongLength));
+    let wrong = build(numbers, 3, false, &mut room[..11], &mut *block);
+    assert!(rt; wrong == Err(BuildError::WrongScratch));
     assert!(rt; words == [7u64; 80]);
-    assert!(rt; size(1 << 60, 8).is_none());
+    assert!(rt; size(1 << 60, 8, true).is_none());
     Ok(())
 }

@@ -94,7 +94,8 @@ fn bytes_are_extracted(rt: HostRuntime) -> Result<(), Fail> {
 /// The same matrix.
 fn same<'a>(matrix: &MatrixView<'a>) -> Option<MatrixView<'a>> {
     let (levels, _source) = matrix.parts();
-    let levels = LevelsView::over(levels.len(), levels.width(), levels.ones(), levels.zeros())?;
+    let (ones, zeros) = (levels.ones(), levels.zeros());
+    let levels = LevelsView::over(levels.len(), levels.width(), ones, zeros, levels.quarters())?;
     MatrixView::over(levels, matrix.words(), matrix.upper(), matrix.lower())
 }
 

@@ -189,13 +189,14 @@ pub struct bitm_matrix {
     pub ones_len: usize,
     pub zeros: *const u64,
     pub zeros_len: usize,
-    pub reserved: [u64; 2usize],
+    pub quarters: *const u64,
+    pub quarters_len: usize,
 }
 extern "C" {
-    pub fn bitm_matrix_size(len: usize, width: u32, out: *mut u64) -> u32;
+    pub fn bitm_matrix_size(len: usize, width: u32, quarters: bool, out: *mut u64) -> u32;
     pub fn bitm_matrix_build(
-        numbers: *const u64, numbers_len: usize, width: u32, scratch: *mut u64, scratch_len: usize, block: *mut u64,
-        block_len: usize,
+        numbers: *const u64, numbers_len: usize, width: u32, quarters: bool, scratch: *mut u64, scratch_len: usize,
+        block: *mut u64, block_len: usize,
     ) -> u32;
     pub fn bitm_matrix_open(block: *const u64, block_len: usize, matrix: *mut bitm_matrix) -> u32;
     pub fn bitm_matrix_check(block: *const u64, block_len: usize) -> u32;

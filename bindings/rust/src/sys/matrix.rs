@@ -300,21 +300,21 @@ impl fmt::Debug for WaveletMatrixView<'_> {
     }
 }
 
-/// The block of numbers of `width` bits at most.
-pub(crate) fn build(numbers: &[u64], width: u32) -> Result<Vec<u64>, BuildError> {
+/// The block of numbers of `width` bits at most, with quarters or without.
+pub(crate) fn build(numbers: &[u64], width: u32, quarters: bool) -> Result<Vec<u64>, BuildError> {
     let (len, mut words) = (numbers.len(), 0);
     if !(1..=64).contains(&width) {
         return Err(BuildError::WrongWidth { width });
     }
     // SAFETY: numbers are passed, and room for one.
-    if unsafe { bitm_matrix_size(len, width, &mut words) } != OK {
+    if unsafe { bitm_matrix_size(len, width, quarters, &mut words) } != OK {
         return Err(BuildError::TooLong { len });
     }
     let (mut scratch, mut block) = (zeroed::<u64>(2 * len)?, zeroed::<u64>(words as usize)?);
     // SAFETY: a shared and two mutable slices, which do not overlap.
     let status = unsafe {
         let (from, room, to) = (numbers.as_ptr(), scratch.as_mut_ptr(), block.as_mut_ptr());
-        bitm_matrix_build(from, len, width, room, scratch.len(), to, block.len())
+        bitm_matrix_build(from, len, width, quarters, room, scratch.len(), to, block.len())
     };
     match status {
         OK => Ok(block),

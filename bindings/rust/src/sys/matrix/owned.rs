@@ -48,7 +48,20 @@ impl WaveletMatrix {
     /// # Ok::<(), BuildError>(())
     /// ```
     pub fn build_with(numbers: &[u64], width: u32) -> Result<Self, BuildError> {
-        Self::of_block(build(numbers, width)?, BuildError::TooLong { len: numbers.len() })
+        Self::of_block(build(numbers, width, false)?, BuildError::TooLong { len: numbers.len() })
+    }
+
+    /// Of numbers of at most `width` bits, with quarters: counts of 1 bits for every eight words. The block takes an
+    /// eighth more, and most queries read fewer words.
+    ///
+    /// ```
+    /// use bitm_proved::WaveletMatrix;
+    /// let numbers = WaveletMatrix::build_with_quarters(&[3, 1, 4], 3)?;
+    /// assert_eq!((numbers.get(2), numbers.rank(1, 3), numbers.block().len()), (Some(4), Some(1), 88));
+    /// # Ok::<(), bitm_proved::BuildError>(())
+    /// ```
+    pub fn build_with_quarters(numbers: &[u64], width: u32) -> Result<Self, BuildError> {
+        Self::of_block(build(numbers, width, true)?, BuildError::TooLong { len: numbers.len() })
     }
 }
 
