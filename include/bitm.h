@@ -14,8 +14,8 @@
  *     if (bitm_index_select(&index, true, 4, &position) != BITM_OK || position != 64) return 1;
  *
  * NAMES. The prefix says what is queried: bitm_bits_ (words without tables), bitm_index_ (words with tables),
- * bitm_sequence_, bitm_cursor_, bitm_sparse_, bitm_hash_, bitm_dictionary_, bitm_tree_, bitm_trie_, bitm_matrix_,
- * bitm_text_, bitm_stored_.
+ * bitm_sequence_, bitm_cursor_, bitm_sparse_, bitm_hash_, bitm_dictionary_, bitm_strings_, bitm_tree_, bitm_trie_,
+ * bitm_matrix_, bitm_text_, bitm_stored_.
  * `bool one` says which bits are meant: true the 1 bits, false the 0 bits. A position counts from 0; the rank of a bit
  * is how many bits of its kind there are before it.
  *
@@ -26,7 +26,7 @@
  *   - it returns, and reads and writes only the memory that it is passed, WHATEVER the tables hold;
  *   - a status other than BITM_OK leaves all that the call could have written unchanged, but for cursors, which may have
  *     moved, and for the lists of positions or letters of a text, of ranges of a matrix and of cursors, the word of a
- *     node of a trie, and the fingerprints of keys, where it is BITM_WRONG;
+ *     node of a trie, the fingerprints of keys, and the block of strings, where it is BITM_WRONG;
  *   - over any tables, stale and hostile ones too, a rank is at most its position and a selection finds a position that
  *     is inside and holds the requested bit; BITM_WRONG says that the tables are not those of the words, but BITM_OK
  *     does not say that they are;
@@ -1971,6 +1971,141 @@ BITM_MUST_USE uint32_t bitm_dictionary_find(const struct bitm_dictionary *dictio
 BITM_MUST_USE uint32_t bitm_dictionary_find_list(const struct bitm_dictionary *dictionary, const uint64_t *keys,
                                                  size_t keys_len, uint64_t *out, size_t out_len,
                                                  struct bitm_list_counts *counts);
+
+/* ---- strings: in one block of memory
+ *
+ * A dictionary of strings of bytes is the block of a minimal perfect hash of their hashes, and the strings themselves, one
+ * after another in the order of their numbers: so what is none of the strings has no number. The hash of a string is
+ * FNV-1a of 64 bits with a seed. Strings are passed one after another, with where each of them ends:
+ *
+ *     const uint8_t *spelled = (const uint8_t *)"adabobeve";
+ *     const uint64_t ends_of[3] = {3, 6, 9}, seed_of = 7; // take another seed if hashes are left or build refuses
+ *     uint64_t codes[3], letters_begin, letters_len, len_of_names;
+ *     if (bitm_strings_hashes(spelled, 9, ends_of, 3, seed_of, codes, 3) != BITM_OK ||
+ *         bitm_hash_build(codes, 3, 100, of_levels, 64, marks, 64, widths, 256, &height, &taken, &lost) != BITM_OK ||
+ *         lost > 0) return 1;
+ *     lower_of = bitm_index_lower_len(taken);
+ *     if (bitm_index_build(of_levels, taken, tables_of, 1, tables_of + 1, lower_of, &ones) != BITM_OK) return 1;
+ *     struct bitm_hash of_codes = {.index = {.words = of_levels, .words_len = taken, .upper = tables_of, .upper_len = 1,
+ *                                            .lower = tables_of + 1, .lower_len = lower_of, .bits_len = 64 * taken},
+ *                                  .sizes = widths, .sizes_len = height, .keys = 3};
+ *     if (bitm_strings_size(taken, height, 3, 9, &len_of_names) != BITM_OK) return 1;
+ *     uint64_t *of_names = malloc(8 * len_of_names); // or a mapped file
+ *     struct bitm_strings names = {0};
+ *     if (!of_names ||
+ *         bitm_strings_build(&of_codes, seed_of, spelled, 9, ends_of, 3, of_names, len_of_names) != BITM_OK ||
+ *         bitm_strings_open(of_names, len_of_names, &names) != BITM_OK ||
+ *         bitm_strings_find(&names, (const uint8_t *)"bob", 3, &number) != BITM_OK || number > 2 ||
+ *         bitm_strings_find(&names, (const uint8_t *)"bo", 2, &value) != BITM_NONE) return 1;
+ *
+ * Over any block that bitm_strings_open takes, a stale or hostile one too, a query returns, and the string stands at the
+ * number that is found. If bitm_strings_build wrote the block or bitm_strings_check passes it, and it did not change
+ * afterwards, what is BITM_NONE is none of the strings, and no query returns BITM_WRONG. */
+struct bitm_strings {
+    struct bitm_hash hash;  /* of the hash of each string */
+    const uint64_t *starts; /* where the string of each number begins, and where the last one ends: hash.keys + 1 */
+    size_t starts_len;
+    const uint64_t *bytes;  /* the bytes of all strings, as words: the first byte is the lowest of the first word */
+    size_t bytes_len;       /* how many words */
+    uint64_t seed;          /* that of the hashes */
+    uint64_t reserved[2];   /* 0: not read */
+};
+
+/* Faults of strings: see bitm_bits_fault.
+ *
+ *     if (bitm_strings_fault(&names) != NULL) return 1; */
+static inline const char *bitm_strings_fault(const struct bitm_strings *strings)
+{
+    if (strings->starts_len == 0 || strings->starts_len - 1 != strings->hash.keys) return "starts_len is not hash.keys + 1";
+    if (strings->bytes_len >= (size_t)1 << 58) return "bytes_len is 2^58 or more";
+    return bitm_hash_fault(&strings->hash);
+}
+
+/* The hash of a string by a seed: BITM_OK. Without a seed, which is seed 0, it is FNV-1a of 64 bits; a seed changes what
+ * that begins with by exclusive or. Reads each byte once (evident from the code).
+ *
+ *     if (bitm_strings_hash((const uint8_t *)"foobar", 6, 0, &value) != BITM_OK || value != 0x85944171f73967e8) return 1; */
+BITM_MUST_USE uint32_t bitm_strings_hash(const uint8_t *string, size_t string_len, uint64_t seed, uint64_t *out);
+
+/* out[i] is the hash of string i, of those that stand one after another in bytes, string i up to ends[i].
+ * BITM_BAD_SIZE if an end is less than the one before it, the last one is not bytes_len (0 if there are none), or
+ * out_len is not ends_len. out may overlap nothing that is read.
+ *
+ *     if (bitm_strings_hashes(spelled, 8, ends_of, 3, seed_of, codes, 3) != BITM_BAD_SIZE) return 1; */
+BITM_MUST_USE uint32_t bitm_strings_hashes(const uint8_t *bytes, size_t bytes_len, const uint64_t *ends, size_t ends_len,
+                                           uint64_t seed, uint64_t *out, size_t out_len);
+
+/* How many words the block of that many strings takes, which have that many bytes together, and the levels of whose hash
+ * have that many words together. BITM_BAD_SIZE if there are 2^57 words or strings or more, more than 256 levels, or 2^60
+ * bytes or more. */
+BITM_MUST_USE uint32_t bitm_strings_size(size_t words, size_t levels, size_t strings, size_t bytes, uint64_t *out);
+
+/* Writes the block of the strings that stand one after another in bytes, string i up to ends[i], by a hash of their
+ * hashes, as bitm_hash_build makes it of what bitm_strings_hashes writes. BITM_BAD_SIZE if bitm_hash_fault names a fault,
+ * the ends are not as that call takes them, or block_len is not what bitm_strings_size says; else BITM_WRONG if the parts
+ * of the hash are not those of one, or it does not give each string a number of its own: two strings are equal, or have
+ * one hash, which they may not have with another seed. The block may hold anything after BITM_WRONG. It may overlap
+ * nothing that is read. Three passes over the words of the levels, two over the bytes, one over the block, and a look-up
+ * for each string (evident from the code).
+ *
+ *     if (bitm_strings_build(&of_codes, seed_of, (const uint8_t *)"adabobada", 9, ends_of, 3, of_names, len_of_names) !=
+ *             BITM_WRONG ||
+ *         bitm_strings_build(&of_codes, seed_of, spelled, 9, ends_of, 3, of_names, len_of_names) != BITM_OK) return 1; */
+BITM_MUST_USE uint32_t bitm_strings_build(const struct bitm_hash *hash, uint64_t seed, const uint8_t *bytes,
+                                          size_t bytes_len, const uint64_t *ends, size_t ends_len, uint64_t *block,
+                                          size_t block_len);
+
+/* Opens a block: writes the strings that queries take, which point into the block. *strings has to be zeros, or strings
+ * whose memory is still there. BITM_WRONG exactly if the header or the directory of the block is not right, or is that of
+ * no strings, the first section is not the block of a hash of as many keys as the header says, there is not a start more,
+ * or block_len is not as they say. Reads at most 160 words, however long the block is (evident from the code); what its
+ * other words hold is not looked at.
+ *
+ *     if (bitm_strings_open(of_names, len_of_names - 1, &names) != BITM_WRONG) return 1; */
+BITM_MUST_USE uint32_t bitm_strings_open(const uint64_t *block, size_t block_len, struct bitm_strings *strings);
+
+/* Whether a block is as it was written and holds strings: BITM_OK, or BITM_WRONG as bitm_strings_open, if a checksum is
+ * not that of its words, if the parts of the hash are not those of one, if a string does not have its number, if strings
+ * do not stand one after another, or if a byte after the last one is not 0. So a block in which one word was changed is
+ * refused. Two passes over the words of the block, one more over the bytes, and one look-up for each string (evident from
+ * the code).
+ *
+ *     of_names[32] ^= 1;
+ *     if (bitm_strings_check(of_names, len_of_names) != BITM_WRONG) return 1;
+ *     of_names[32] ^= 1;
+ *     if (bitm_strings_check(of_names, len_of_names) != BITM_OK) return 1; */
+BITM_MUST_USE uint32_t bitm_strings_check(const uint64_t *block, size_t block_len);
+
+/* The number of a string: BITM_OK, and the string stands at that number, WHATEVER hash, starts and bytes hold; BITM_NONE
+ * if it is none of the strings; BITM_WRONG only where the parts are not those of strings; BITM_BAD_SIZE exactly if
+ * bitm_strings_fault names a fault. Reads what bitm_hash_get reads, at most two starts, and at most as many bytes as the
+ * string has (evident from the code).
+ *
+ *     if (bitm_strings_find(&names, (const uint8_t *)"eve", 3, &number) != BITM_OK || number > 2) return 1; */
+BITM_MUST_USE uint32_t bitm_strings_find(const struct bitm_strings *strings, const uint8_t *string, size_t string_len,
+                                         uint64_t *out);
+
+/* out[i] is the number of string i, of those that stand one after another in bytes, string i up to ends[i], or
+ * BITM_NO_ANSWER for BITM_NONE and BITM_WRONG_TABLES for BITM_WRONG; counts says how many of each there are.
+ * BITM_BAD_SIZE also if the ends are not as bitm_strings_hashes takes them, or out_len is not ends_len. out and counts may
+ * overlap neither each other nor what the call reads.
+ *
+ *     if (bitm_strings_find_list(&names, spelled, 9, ends_of, 3, answers, 3, &counts) != BITM_OK ||
+ *         counts.missing > 0 || answers[2] != number) return 1; */
+BITM_MUST_USE uint32_t bitm_strings_find_list(const struct bitm_strings *strings, const uint8_t *bytes, size_t bytes_len,
+                                              const uint64_t *ends, size_t ends_len, uint64_t *out, size_t out_len,
+                                              struct bitm_list_counts *counts);
+
+/* Where the string of a number begins among the bytes, and how many it has: they are those from
+ * (const uint8_t *)strings->bytes + *begin on, which stand there WHATEVER the starts hold. BITM_NONE exactly if there is
+ * no such number; BITM_WRONG exactly if the starts there are those of no string in the bytes; BITM_BAD_SIZE exactly if
+ * bitm_strings_fault names a fault. begin and len may not overlap.
+ *
+ *     if (bitm_strings_get(&names, number, &letters_begin, &letters_len) != BITM_OK || letters_len != 3 ||
+ *         ((const uint8_t *)names.bytes)[letters_begin] != 'e') return 1;
+ *     free(of_names); */
+BITM_MUST_USE uint32_t bitm_strings_get(const struct bitm_strings *strings, size_t number, uint64_t *begin,
+                                        uint64_t *len);
 
 /* ---- hashes in blocks, without the keys */
 

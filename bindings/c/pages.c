@@ -219,6 +219,7 @@ static void query_everything(void)
     build_a_text(one);
     query_a_text(one);
     query_a_dictionary(one);
+    query_strings(one);
     query_a_file();
 }
 
@@ -226,7 +227,7 @@ int main(int argc, char **argv)
 {
     take_seed(argc, argv);
     page = (size_t)sysconf(_SC_PAGESIZE);
-    for (size_t i = 0; i < BLOCKS; i++) blocks[i] = guard((i == OF_WORDS ? 16 : 8) * WORDS); /* of a dictionary too */
+    for (size_t i = 0; i < BLOCKS; i++) blocks[i] = guard((i == OF_WORDS ? 24 : 8) * WORDS); /* of strings too */
     struct sigaction action = {.sa_sigaction = open_page, .sa_flags = SA_SIGINFO};
     MUST(sigaction(SIGSEGV, &action, NULL) == 0);
     for (int end = 0; end < 2; end++) {

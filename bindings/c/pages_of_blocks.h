@@ -1,5 +1,5 @@
 /* Structures in blocks of many pages, of which those are counted that a query touches: sparse bits, a matrix, a text
- * and a dictionary. */
+ * a dictionary and strings. */
 #ifndef PAGES_OF_BLOCKS_H
 #define PAGES_OF_BLOCKS_H
 
@@ -196,6 +196,50 @@ static void query_a_dictionary(uint64_t *one)
     *hash = (struct bitm_hash){0};
     TOUCHES(2, 0, 0, bitm_hash_block_open(block, words, hash, one));
     MUST(*one == 7);
+}
+
+/* Strings of eight bytes, the numbers that such steps reach, and a hash of their hashes, in memory of their own. */
+static uint64_t spelled[ITEMS], ends_of[ITEMS];
+
+static struct bitm_hash strings_hashed(void)
+{
+    enum { MOST = ITEMS, SIZES = 256, STEP = 977 };
+    uint64_t *hashes = malloc(8 * ITEMS), *words = malloc(8 * MOST), *again = malloc(8 * MOST),
+             *sizes = malloc(8 * SIZES), *upper = malloc(8), *lower = malloc(8 * MOST / 32), levels, len, left, number;
+    MUST(hashes && words && again && sizes && upper && lower);
+    for (size_t i = 0; i < ITEMS; i++) spelled[i] = STEP * i, ends_of[i] = 8 * i + 8;
+    MUST(bitm_strings_hashes((const uint8_t *)spelled, 8 * ITEMS, ends_of, ITEMS, 0, hashes, ITEMS) == BITM_OK);
+    MUST(bitm_hash_build(hashes, ITEMS, 100, words, MOST, again, MOST, sizes, SIZES, &levels, &len, &left) == BITM_OK);
+    MUST(left == 0 && bitm_index_build(words, len, upper, 1, lower, bitm_index_lower_len(len), &number) == BITM_OK);
+    free(hashes), free(again);
+    return (struct bitm_hash){index_over(words, len, upper, 1, lower, bitm_index_lower_len(len)), sizes, levels, ITEMS};
+}
+
+/* Strings in a block: one touches what a hash touches, its starts, which may be of two pages, and as its bytes. */
+static void query_strings(uint64_t *one)
+{
+    enum { OTHERS = 12 };
+    static struct bitm_hash made;
+    if (made.keys == 0) made = strings_hashed();
+    const size_t height = made.sizes_len;
+    const uint8_t *const bytes = (const uint8_t *)spelled;
+    uint64_t *out = placed(OF_OUT, 8 * LIST), *ends = placed(OF_QUERIES, 8 * LIST);
+    TOUCHES_ANY(bitm_strings_size(made.index.words_len, height, ITEMS, 8 * ITEMS, one));
+    const uint64_t words = *one;
+    uint64_t *block = placed(OF_WORDS, 8 * words);
+    TOUCHES_ANY(bitm_strings_build(&made, 0, bytes, 8 * ITEMS, ends_of, ITEMS, block, words));
+    TOUCHES_ANY(bitm_strings_check(block, words));
+    struct bitm_strings *strings = placed(OF_STARTS, sizeof *strings);
+    *strings = (struct bitm_strings){0};
+    TOUCHES(2, 0, 0, bitm_strings_open(block, words, strings));
+    for (size_t i = 0; i < LIST; i++) ends[i] = 8 * i + 8;
+    for (unsigned turn = 0; turn < 20; turn++) {
+        const uint64_t at = draw() % (ITEMS - LIST), key = spelled[at];
+        TOUCHES(height + OTHERS, 0, 0, bitm_strings_find(strings, (const uint8_t *)&key, 8, one));
+        TOUCHES(4, 0, 0, bitm_strings_get(strings, at, one, out));
+        TOUCHES(LIST * (height + OTHERS), 0, 0,
+                bitm_strings_find_list(strings, bytes + 8 * at, 8 * LIST, ends, LIST, out, LIST, counts_placed()));
+    }
 }
 
 #endif

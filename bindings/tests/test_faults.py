@@ -19,7 +19,7 @@ from test_c import PROGRAMS as IN_C
 # The exports, by their statuses besides BITM_OK (None, Bad size, Wrong, Unsorted) and the arrays of which they read a part.
 EXPORTS = {
     "": "version bits_words_len bits_to_store index_upper_len index_lower_len index_samples_len optimal_log2"
-        " hash_level_len",
+        " hash_level_len strings_hash",
     "NB words": "bits_get bits_set bits_get_number bits_set_number bits_xor_number bits_get_fragment"
         " bits_set_fragment bits_swap_fragments bits_fill_fragments bits_count_range bits_next bits_previous"
         " bits_fill_range bits_flip_range",
@@ -29,13 +29,13 @@ EXPORTS = {
         " stored_index stored_index_room stored_build stored_sequence prefix_sums tree_size matrix_size"
         " matrix_get_list matrix_rank_list matrix_select_list index_block_size index_block_build sequence_block_size"
         " sparse_size text_size text_size_letters text_size_bytes text_build_bytes text_len"
-        " hash_block_size hash_block_build dictionary_size trie_size",
+        " hash_block_size hash_block_build dictionary_size trie_size strings_size strings_hashes",
     "- words": "bits_clear_from",
     "N": "bits_copy_range bits_equal_range bits_select_in_word",
     "B words other": "bits_intersects bits_is_subset",
     "N bytes": "bytes_get57 bytes_init57 bytes_set57 bytes_get25 bytes_init25 bytes_set25",
     "BW": "hash_set_prints index_check sequence_check tree_build matrix_build text_build cursor_start cursors_intersect"
-        " dictionary_build trie_build",
+        " dictionary_build trie_build strings_build",
     "BW words": "index_check_samples",
     "NBW words lower": "index_rank hash_get hash_find tree_parent tree_child tree_degree tree_is_leaf tree_next_sibling"
         " tree_previous_sibling tree_child_rank",
@@ -53,15 +53,17 @@ EXPORTS = {
     "W file": "stored_read",
     "W": "cursors_union prefix_sums_check tree_check matrix_check index_block_check sequence_block_check"
         " sparse_check text_check text_open"
-        " hash_block_check dictionary_check trie_check",
+        " hash_block_check dictionary_check trie_check strings_check",
     "NBW bits ones": "shards_find",
     "NBW bits ones shards": "shards_rank shards_select shards_next shards_previous",
     "B bits ones shards": "shards_rank_list shards_select_list",
     "W block": "tree_open matrix_open index_block_open sequence_block_open sparse_open"
-        " hash_block_open dictionary_open trie_open",
+        " hash_block_open dictionary_open trie_open strings_open",
     "NBW words": "matrix_get matrix_rank matrix_select matrix_count_less matrix_quantile"
         " matrix_distinct matrix_top matrix_intersect"
         " dictionary_find",
+    "NBW words starts bytes": "strings_find strings_get",
+    "B words starts": "strings_find_list",
     "NB labels ends words": "trie_label trie_is_end",
     "NBW labels words lower": "trie_child trie_find trie_find_bytes trie_longest trie_longest_bytes trie_word",
     "NBW": "matrix_next_value matrix_previous_value cursor_next",
@@ -81,7 +83,7 @@ BESIDE = {
 SCRATCH, LEFT = ("again", "room", "scratch", "cursors"), ("hashes",)
 # The statuses with which a list may hold anything.
 SPOILS = {"W": "text_locate text_locate_bytes text_extract text_extract_bytes cursors_union hash_set_prints"
-          " matrix_distinct matrix_top matrix_intersect trie_word", "BW": "cursors_intersect"}
+          " matrix_distinct matrix_top matrix_intersect trie_word strings_build", "BW": "cursors_intersect"}
 # What no answer of these may be, whatever the tables hold, where they would say that the tables are wrong; a list's i-th answer.
 OUTSIDE = {
     "position + 1": "index_rank shards_rank sparse_rank",
@@ -106,10 +108,11 @@ OUTSIDE = {
     "text->letters.len + 2": "text_count text_locate",
     "hash->keys": "hash_get hash_get_list hash_find hash_find_list",
     "dictionary->keys_len": "dictionary_find dictionary_find_list",
+    "strings->hash.keys": "strings_find strings_find_list",
     "shards->counts.bits[shards->shards_len]": "shards_select shards_next shards_previous shards_select_list",
 }
 # The programs that have to see such an answer by themselves, before any other is run.
-HOSTILE = ["hostile", "cursors", "guarded", "hashes", "fingerprints", "shards", "trees", "tries", "matrices", "matrix_ranges", "matrix_tallies", "sparse", "texts", "dictionaries"]
+HOSTILE = ["hostile", "cursors", "guarded", "hashes", "fingerprints", "shards", "trees", "tries", "matrices", "matrix_ranges", "matrix_tallies", "sparse", "texts", "dictionaries", "strings"]
 PROGRAMS = list(dict.fromkeys(["statuses", "pages", *IN_C]))
 for one in ("walks", "lengths", "careless"):
     PROGRAMS.remove(one)

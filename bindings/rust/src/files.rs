@@ -6,6 +6,7 @@ use crate::sys::mapped::Mapped;
 use crate::sys::matrix::owned::WaveletMatrix;
 use crate::sys::owned::Sequence;
 use crate::sys::sparse::owned::SparseBits;
+use crate::sys::strings::owned::Strings;
 use crate::sys::text::owned::TextIndex;
 use crate::sys::tree::owned::Tree;
 use crate::sys::trie::owned::Trie;
@@ -79,4 +80,7 @@ files! { TextIndexFile: TextIndex;
 }
 files! { DictionaryFile: Dictionary;
     "A dictionary", "Dictionary::build(&[4, 9, 49])?.block()", "contains(49)", "Dictionary"
+}
+files! { StringsFile: Strings;
+    "Strings", "Strings::build(&[\"ada\", \"bob\"])?.block()", "contains(b\"bob\")", "Strings"
 }

@@ -5,6 +5,7 @@ use crate::sys::index::Index;
 use crate::sys::matrix::owned::WaveletMatrix;
 use crate::sys::owned::{EliasFano, Sequence};
 use crate::sys::sparse::owned::SparseBits;
+use crate::sys::strings::owned::Strings;
 use crate::sys::tree::owned::Tree;
 use crate::sys::trie::owned::Trie;
 use alloc::vec::Vec;
@@ -33,7 +34,7 @@ macro_rules! serializes_its_block {
         }
     )* };
 }
-serializes_its_block!(Tree, Trie, WaveletMatrix, SparseBits, Dictionary);
+serializes_its_block!(Tree, Trie, WaveletMatrix, SparseBits, Dictionary, Strings);
 
 macro_rules! deserializes_what_is_right {
     ($($kind:ty),*) => { $(
@@ -46,4 +47,4 @@ macro_rules! deserializes_what_is_right {
         }
     )* };
 }
-deserializes_what_is_right!(Index<Vec<u64>>, EliasFano, Tree, Trie, WaveletMatrix, SparseBits, Dictionary);
+deserializes_what_is_right!(Index<Vec<u64>>, EliasFano, Tree, Trie, WaveletMatrix, SparseBits, Dictionary, Strings);

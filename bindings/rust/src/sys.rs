@@ -21,6 +21,7 @@ pub(crate) mod sequence;
 pub(crate) mod shards;
 pub(crate) mod sparse;
 pub(crate) mod stored;
+pub(crate) mod strings;
 pub(crate) mod tables;
 pub(crate) mod text;
 pub(crate) mod tree;

@@ -22,14 +22,6 @@ total_placed bytes ends order v i are inside free less long so_far =
     omega (arith, more, piece, so_far, begin_next ends i, are.rise i inside)
 
 module _ (number : ℕ → Option ℕ) (n : ℕ) (order : List ℕ) (placed : ArePlaced number n n order) where
-  -- an item of the order is 0, or 1 more than an index
-  pub item_few : (v : ℕ) → v < n → slice_index order v ≤ n
-  item_few v less =
-      ⊎_elim
-      (λ none. omega (arith, none))
-      (λ some. let h = placed.back v less (λ e. omega (arith, e, some)) in omega (arith, h.1, h.3))
-      (cases_lt (slice_index order v) 1)
-
   value : (v w : ℕ) → Some v ≡ Some w → v ≡ w
   value v w same = cc
 
@@ -48,9 +40,6 @@ module _ (number : ℕ → Option ℕ) (n : ℕ) (order : List ℕ) (placed : Ar
       let h = placed.each at.0 at.1 in
       let same = value h.0 v (sym h.1 ∙ at.2) in
       omega (arith, none, h.3, ap (slice_index order) same)
-
-pub apart_of_numbers : (number : ℕ → Option ℕ) (n : ℕ) → HaveNumbers number n → AreApart number n
-apart_of_numbers number n numbers = record { some = numbers.some; apart = numbers.apart }
 
 -- strings that are arranged in this order are stored
 pub stored_of_order : (number : ℕ → Option ℕ) (bytes ends order starts words : List ℕ) → ArePlaced number (length ends) (length ends) order

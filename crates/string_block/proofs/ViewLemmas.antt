@@ -50,14 +50,3 @@ found_of parts string len Absent answer are is kept =
     subst (λ (a : Answer ℕ). IsFound parts string len a) (sym kept)
     (λ u other. no_number u (sym (own_number parts u string len are other) ∙ is))
 found_of parts string len Wrong answer are is kept = absurd is
-
--- each string stands in the words
-pub are_inside : (parts : StringParts) (v : ℕ) → AreStrings parts → v < parts.hash.keys → IsInside parts v
-are_inside parts v are less =
-    let own = are.each v less in
-    (own.rise, omega (arith, own.within, are.full.tight))
-
-pub not_wrong : (parts : StringParts) (v : ℕ) (answer : Answer (ℕ × ℕ)) → AreStrings parts → IsPiece parts v answer → IsNotWrong answer
-not_wrong parts v (Found piece) are is = tt
-not_wrong parts v Absent are is = tt
-not_wrong parts v Wrong are is = is.1 (are_inside parts v are is.0)

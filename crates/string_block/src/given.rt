@@ -12,8 +12,8 @@ pub(crate) fn begin_at(ends: &[usize], i: usize) -> usize
     if i == 0 { 0 } else { ends[i - 1] }
 }
 
-/// Whether strings stand one after another in `bytes`, each up to its end, and take all of them: no end is less than the
-/// one before, and the last is the number of the bytes.
+/// Whether strings stand one after another in `bytes`, each up to its end, and take all of them: no end is less than
+/// the one before, and the last is the number of the bytes.
 ///
 /// # Cost
 /// Each end is read twice at most (evident from the code).

@@ -2,8 +2,9 @@
 //! hashes, and the strings one after another in the order of their numbers. Nothing is allocated or copied, and no
 //! query has a condition on what the memory holds.
 //!
-//! With the block of strings `find` answers the number of a string exactly where it is one of them. If the block is stale
-//! or hostile, every call still returns within its read bound, and the string of the number that is found is that one.
+//! With the block of strings `find` answers the number of a string exactly where it is one of them. If the block is
+//! stale or hostile, every call still returns within its read bound, and the string of the number that is found is that
+//! one.
 //!
 //! ```
 //! // `hash` is a `hash_block::HashView` of a perfect hash of what `hashes` writes, with its seed
@@ -17,8 +18,8 @@
 //! ```
 //!
 //! # Source
-//! Fowler, Noll and Vo, 'The FNV Non-Cryptographic Hash Algorithm' (Internet-Draft draft-eastlake-fnv); Müller, Sanders,
-//! Schulze and Zhou, 'Retrieval and perfect hashing using fingerprinting' (SEA 2014).
+//! Fowler, Noll and Vo, 'The FNV Non-Cryptographic Hash Algorithm' (Internet-Draft draft-eastlake-fnv); Müller,
+//! Sanders, Schulze and Zhou, 'Retrieval and perfect hashing using fingerprinting' (SEA 2014).
 #![tactic(auto)]
 
 // What is in each file:

@@ -19,10 +19,10 @@ fn has_strings(block: &Block<'_>) -> bool
     words[16] == HASH_BLOCK && words[20] == STARTS && words[24] == BYTES
 }
 
-/// The strings in a block; `None` exactly where the words are no block (`Block::open` says why), the block is of another
-/// kind, its first section is no block of a hash (`hash_block::open`), this has not as many keys as the header says, or
-/// there are not as many starts. What the sections hold is not looked at: the queries of the view have no condition on
-/// it.
+/// The strings in a block; `None` exactly where the words are no block (`Block::open` says why), the block is of
+/// another kind, its first section is no block of a hash (`hash_block::open`), this has not as many keys as the header
+/// says, or there is not one start more. What the sections hold is not looked at: the queries of the view have no
+/// condition on it.
 ///
 /// # Cost
 /// Headers and directories are read, at most 160 words (evident from the code).

@@ -292,6 +292,35 @@ extern "C" {
         dictionary: *const bitm_dictionary, keys: *const u64, keys_len: usize, out: *mut u64, out_len: usize,
         counts: *mut bitm_list_counts,
     ) -> u32;
+}
+#[repr(C)]
+pub struct bitm_strings {
+    pub hash: bitm_hash,
+    pub starts: *const u64,
+    pub starts_len: usize,
+    pub bytes: *const u64,
+    pub bytes_len: usize,
+    pub seed: u64,
+    pub reserved: [u64; 2usize],
+}
+extern "C" {
+    pub fn bitm_strings_hash(string: *const u8, string_len: usize, seed: u64, out: *mut u64) -> u32;
+    pub fn bitm_strings_hashes(
+        bytes: *const u8, bytes_len: usize, ends: *const u64, ends_len: usize, seed: u64, out: *mut u64, out_len: usize,
+    ) -> u32;
+    pub fn bitm_strings_size(words: usize, levels: usize, strings: usize, bytes: usize, out: *mut u64) -> u32;
+    pub fn bitm_strings_build(
+        hash: *const bitm_hash, seed: u64, bytes: *const u8, bytes_len: usize, ends: *const u64, ends_len: usize,
+        block: *mut u64, block_len: usize,
+    ) -> u32;
+    pub fn bitm_strings_open(block: *const u64, block_len: usize, strings: *mut bitm_strings) -> u32;
+    pub fn bitm_strings_check(block: *const u64, block_len: usize) -> u32;
+    pub fn bitm_strings_find(strings: *const bitm_strings, string: *const u8, string_len: usize, out: *mut u64) -> u32;
+    pub fn bitm_strings_find_list(
+        strings: *const bitm_strings, bytes: *const u8, bytes_len: usize, ends: *const u64, ends_len: usize,
+        out: *mut u64, out_len: usize, counts: *mut bitm_list_counts,
+    ) -> u32;
+    pub fn bitm_strings_get(strings: *const bitm_strings, number: usize, begin: *mut u64, len: *mut u64) -> u32;
     pub fn bitm_hash_block_size(words: usize, levels: usize, out: *mut u64) -> u32;
     pub fn bitm_hash_block_build(
         words: *const u64, words_len: usize, sizes: *const u64, sizes_len: usize, seed: u64, block: *mut u64,

@@ -19,6 +19,8 @@ unsafe impl Number for u64 {}
 // SAFETY: zero bytes are the number 0.
 unsafe impl Number for u32 {}
 // SAFETY: zero bytes are the number 0.
+unsafe impl Number for u8 {}
+// SAFETY: zero bytes are the number 0.
 unsafe impl Number for usize {}
 
 /// `len` zeros; on Linux many of them lie in huge pages where the system has these.

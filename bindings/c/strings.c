@@ -1,0 +1,468 @@
+/* Strings in blocks: the hashes that FNV's authors published; the answers beside a plain list of strings; strings of
+ * which no block is made; blocks of which each byte is changed, each prefix, and blocks whose hash, starts and bytes hold
+ * random numbers. All is beside pages that may not be touched (places.h). */
+#define _DEFAULT_SOURCE
+#include "changed.h"
+
+enum { STRINGS = 300, MOST = 300, SMALL = 7, LEVELS = 256, ROOM = 1000, BYTES = 40000 };
+
+enum { OF_STRUCT = OF_MORE, OF_WORDS, OF_UPPER, OF_LOWER, OF_SIZES, OF_BYTES, OF_ENDS, OF_ASKED, OF_LEN };
+
+/* ---- strings one after another, and a hash of them */
+
+struct plain {
+    size_t count;
+    uint64_t ends[STRINGS];
+    uint8_t bytes[BYTES];
+};
+
+static size_t begin_of(const struct plain *plain, size_t i) { return i ? plain->ends[i - 1] : 0; }
+
+static size_t all_of(const struct plain *plain) { return begin_of(plain, plain->count); }
+
+static bool is_string(const struct plain *plain, size_t i, const uint8_t *string, size_t len)
+{
+    const size_t begin = begin_of(plain, i);
+    return plain->ends[i] - begin == len && (len == 0 || memcmp(plain->bytes + begin, string, len) == 0);
+}
+
+static bool is_one_of(const struct plain *plain, size_t count, const uint8_t *string, size_t len)
+{
+    for (size_t i = 0; i < count; i++)
+        if (is_string(plain, i, string, len)) return true;
+    return false;
+}
+
+/* Drawn strings of up to `longest` bytes, some of them 0, of which no two are equal. */
+static void draw_strings(struct plain *plain, size_t count, size_t longest)
+{
+    plain->count = 0;
+    while (plain->count < count) {
+        const size_t begin = all_of(plain), len = draw() % (longest + 1);
+        for (size_t i = 0; i < len; i++) plain->bytes[begin + i] = (uint8_t)(draw() % 8 ? draw() : 0);
+        if (is_one_of(plain, plain->count, plain->bytes + begin, len)) continue;
+        plain->ends[plain->count++] = begin + len;
+    }
+}
+
+/* FNV-1a as its authors wrote it. */
+static uint64_t plain_hash(const uint8_t *string, size_t len, uint64_t seed)
+{
+    uint64_t hash = UINT64_C(0xcbf29ce484222325) ^ seed;
+    for (size_t i = 0; i < len; i++) hash ^= string[i], hash *= UINT64_C(0x100000001b3);
+    return hash;
+}
+
+static uint8_t *bytes_placed(unsigned place, const uint8_t *bytes, size_t len)
+{
+    uint8_t *const to = placed(place, len);
+    return len ? memcpy(to, bytes, len) : to;
+}
+
+/* A hash of the strings by a seed, whose parts end at the guard. */
+static struct bitm_hash hash_of(const struct plain *plain, uint64_t with_seed)
+{
+    static uint64_t room[ROOM], again[ROOM], each[LEVELS];
+    uint64_t levels, words_len, left, ones, *out;
+    uint32_t status;
+    const size_t count = plain->count, all = all_of(plain);
+    const uint8_t *const bytes = bytes_placed(OF_BYTES, plain->bytes, all);
+    const uint64_t *const ends = copied(OF_ENDS, plain->ends, count);
+    uint64_t *const hashes = untouched_at(OF_LIST, 8 * count);
+    MUST(bitm_strings_hashes(bytes, all, ends, count, with_seed, hashes, count) == BITM_OK);
+    for (size_t i = 0; i < count; i++) {
+        const uint8_t *const string = plain->bytes + begin_of(plain, i);
+        const size_t len = plain->ends[i] - begin_of(plain, i);
+        MUST(hashes[i] == plain_hash(string, len, with_seed));
+        ANSWER(bitm_strings_hash(bytes_placed(OF_ASKED, string, len), len, with_seed, out));
+        MUST(status == BITM_OK && *out == hashes[i]);
+    }
+    MUST(bitm_hash_build(hashes, count, 100, room, ROOM, again, ROOM, each, LEVELS, &levels, &words_len, &left) ==
+         BITM_OK && left == 0);
+    const size_t uppers = bitm_index_upper_len(words_len), lowers = bitm_index_lower_len(words_len);
+    uint64_t *words = placed(OF_WORDS, 8 * words_len), *upper = placed(OF_UPPER, 8 * uppers),
+             *lower = placed(OF_LOWER, 8 * lowers), *sizes = placed(OF_SIZES, 8 * levels);
+    memcpy(words, room, 8 * words_len), memcpy(sizes, each, 8 * levels);
+    MUST(bitm_index_build(words, words_len, upper, uppers, lower, lowers, &ones) == BITM_OK && ones == count);
+    return (struct bitm_hash){index_over(words, words_len, upper, uppers, lower, lowers), sizes, levels, count};
+}
+
+static uint64_t words_of(const struct plain *plain, const struct bitm_hash *hash)
+{
+    uint64_t *out;
+    uint32_t status;
+    ANSWER(bitm_strings_size(hash->index.words_len, hash->sizes_len, plain->count, all_of(plain), out));
+    MUST(status == BITM_OK && *out % 8 == 0);
+    return *out;
+}
+
+static uint32_t build(const struct plain *plain, const struct bitm_hash *hash, uint64_t with_seed, uint64_t *block,
+                      size_t words)
+{
+    const size_t all = all_of(plain);
+    const uint8_t *const bytes = bytes_placed(OF_BYTES, plain->bytes, all);
+    const uint64_t *const ends = copied(OF_ENDS, plain->ends, plain->count);
+    return bitm_strings_build(hash, with_seed, bytes, all, ends, plain->count, block, words);
+}
+
+/* The block of the strings, which ends at the guard. */
+static uint64_t *built(const struct plain *plain, uint64_t with_seed, uint64_t *words)
+{
+    const struct bitm_hash hash = hash_of(plain, with_seed);
+    *words = words_of(plain, &hash);
+    uint64_t *const block = untouched_at(OF_BLOCK, 8 * *words);
+    MUST(build(plain, &hash, with_seed, block, *words) == BITM_OK);
+    return block;
+}
+
+/* ---- answers */
+
+static uint32_t found(const struct bitm_strings *strings, const uint8_t *string, size_t len, uint64_t *number)
+{
+    uint64_t *out;
+    uint32_t status;
+    const uint8_t *const asked = bytes_placed(OF_ASKED, string, len);
+    ANSWER(bitm_strings_find(strings, asked, len, out));
+    *number = *out;
+    return status;
+}
+
+static uint32_t string_at(const struct bitm_strings *strings, size_t number, uint64_t *begin, uint64_t *len)
+{
+    uint64_t *out, *const size = placed(OF_LEN, sizeof *size);
+    uint32_t status;
+    *size = UNTOUCHED;
+    ANSWER(bitm_strings_get(strings, number, out, size));
+    MUST(status == BITM_OK || *size == UNTOUCHED);
+    *begin = *out, *len = *size;
+    MUST(status != BITM_OK || (*begin <= 8 * strings->bytes_len && *len <= 8 * strings->bytes_len - *begin));
+    return status;
+}
+
+static bool stands_at(const struct bitm_strings *strings, uint64_t number, const uint8_t *string, size_t len)
+{
+    uint64_t begin, size;
+    return string_at(strings, number, &begin, &size) == BITM_OK && size == len &&
+           (len == 0 || memcmp((const uint8_t *)strings->bytes + begin, string, len) == 0);
+}
+
+static void number_as(const struct plain *plain, const struct bitm_strings *strings, const uint8_t *string, size_t len)
+{
+    uint64_t number;
+    const uint32_t status = found(strings, string, len, &number);
+    MUST(status == (is_one_of(plain, plain->count, string, len) ? BITM_OK : BITM_NONE));
+    MUST(status != BITM_OK || (number < plain->count && stands_at(strings, number, string, len)));
+}
+
+static void answers_as(const struct plain *plain, const struct bitm_strings *strings)
+{
+    static uint8_t other[64];
+    uint64_t begin, len;
+    MUST(strings->hash.keys == plain->count && strings->starts_len == plain->count + 1);
+    MUST(bitm_strings_fault(strings) == NULL && strings->starts[plain->count] == all_of(plain));
+    MUST(strings->bytes_len == (all_of(plain) + 7) / 8 && strings->starts[0] == 0);
+    for (size_t i = 0; i < plain->count; i++) {
+        const size_t from = begin_of(plain, i), size = plain->ends[i] - from;
+        number_as(plain, strings, plain->bytes + from, size);
+        if (size) number_as(plain, strings, plain->bytes + from, size - 1);
+        if (size < sizeof other) {
+            memcpy(other, plain->bytes + from, size), other[size] = 0;
+            number_as(plain, strings, other, size + 1);
+            if (size) other[draw() % size] ^= (uint8_t)(1 + draw() % 255), number_as(plain, strings, other, size);
+        }
+        MUST(string_at(strings, i, &begin, &len) == BITM_OK);
+        MUST(is_one_of(plain, plain->count, (const uint8_t *)strings->bytes + begin, len));
+    }
+    MUST(string_at(strings, plain->count, &begin, &len) == BITM_NONE);
+    MUST(string_at(strings, SIZE_MAX, &begin, &len) == BITM_NONE);
+}
+
+/* A list of strings beside the call of one; ends that are none, and a list of nothing. */
+static void list_as_single_calls(const struct plain *plain, const struct bitm_strings *strings)
+{
+    const size_t all = all_of(plain), count = plain->count;
+    const uint8_t *const bytes = bytes_placed(OF_BYTES, plain->bytes, all);
+    uint64_t *const ends = copied(OF_ENDS, plain->ends, count), *list = untouched_at(OF_LIST, 8 * count), number;
+    struct bitm_list_counts *counts = counts_at_the_guard();
+    MUST(bitm_strings_find_list(strings, bytes, all, ends, count, list, count - 1, counts) == BITM_BAD_SIZE);
+    MUST(bitm_strings_find_list(strings, bytes, all + 1, ends, count, list, count, counts) == BITM_BAD_SIZE);
+    ends[0] += all + 1;
+    MUST(bitm_strings_find_list(strings, bytes, all, ends, count, list, count, counts) == BITM_BAD_SIZE);
+    ends[0] -= all + 1;
+    MUST(counts->missing == UNTOUCHED && counts->wrong == UNTOUCHED && is_untouched(list, 8 * count));
+    MUST(bitm_strings_find_list(strings, NULL, 0, NULL, 0, NULL, 0, counts) == BITM_OK && counts->missing == 0);
+    counts = counts_at_the_guard();
+    const uint32_t status = bitm_strings_find_list(strings, bytes, all, ends, count, list, count, counts);
+    MUST(counted(status, list, count, *counts) == BITM_OK);
+    for (size_t i = 0; i < count; i++) {
+        const size_t begin = begin_of(plain, i);
+        const uint32_t one = found(strings, plain->bytes + begin, plain->ends[i] - begin, &number);
+        MUST(list[i] == item_of(one, number));
+    }
+}
+
+/* Whatever the block holds: every call returns, and the string stands at the number that is found. */
+static struct plain asked;
+
+static void answers_within(const struct bitm_strings *strings)
+{
+    uint64_t number, begin, len;
+    for (size_t i = 0; i < 20 && asked.count; i++) {
+        const size_t at = draw() % asked.count, from = begin_of(&asked, at), size = asked.ends[at] - from;
+        const uint32_t status = found(strings, asked.bytes + from, size, &number);
+        MUST(status == BITM_OK ? number < strings->hash.keys && stands_at(strings, number, asked.bytes + from, size)
+                               : status == BITM_NONE || status == BITM_WRONG);
+        (void)string_at(strings, draw() % (strings->hash.keys + 2), &begin, &len);
+    }
+    if (asked.count) list_as_single_calls(&asked, strings);
+}
+
+/* ---- blocks */
+
+static uint32_t open_strings(const uint64_t *block, size_t words, void *opened)
+{
+    return bitm_strings_open(block, words, opened);
+}
+
+static void some_within(const void *opened)
+{
+    if (draw() % 64 == 0) answers_within(opened);
+}
+
+/* Opening looks at the heads of the block and of that of its hash, which take 64 words together. */
+static const struct kind of_strings = {32, sizeof(struct bitm_strings), bitm_strings_check, open_strings, some_within};
+
+/* The hash is that of the block of a hash in the block, and the starts and the bytes lie where the directory says. */
+static void is_over(const uint64_t *block, const struct bitm_strings *strings)
+{
+    struct bitm_hash hash = {0};
+    uint64_t with_seed;
+    MUST(bitm_hash_block_open(block + 32, block[34] / 8, &hash, &with_seed) == BITM_OK && with_seed == strings->seed);
+    MUST(bitm_hash_block_check(block + 32, block[34] / 8) == BITM_OK);
+    MUST(memcmp(&hash, &strings->hash, sizeof hash) == 0);
+    MUST(strings->starts == block + block[21] / 8 && strings->starts_len == block[22]);
+    MUST(strings->bytes == block + block[25] / 8 && strings->bytes_len == block[26]);
+    MUST(strings->reserved[0] == 0 && strings->reserved[1] == 0);
+}
+
+static void drawn_strings(void)
+{
+    static struct plain plain;
+    for (unsigned i = 0; i < 40; i++) {
+        uint64_t words;
+        draw_strings(&plain, i < 10 ? i : draw() % MOST, 2 + i % 20);
+        const uint64_t with_seed = i % 3 ? draw() : i;
+        uint64_t *const block = built(&plain, with_seed, &words);
+        struct bitm_strings *const strings = placed(OF_STRUCT, sizeof *strings);
+        MUST(opens(&of_strings, block, words, strings) && bitm_strings_check(block, words) == BITM_OK);
+        MUST(strings->seed == with_seed);
+        is_over(block, strings);
+        answers_as(&plain, strings);
+        if (plain.count) list_as_single_calls(&plain, strings);
+    }
+}
+
+static void builds_none(const struct plain *plain, const struct bitm_hash *hash, uint64_t words, uint32_t expected)
+{
+    uint64_t *const block = untouched_at(OF_BLOCK, 8 * words);
+    MUST(build(plain, hash, 3, block, words) == expected);
+    MUST(expected == BITM_WRONG || is_untouched(block, 8 * words));
+}
+
+/* Strings and hashes of which no block is made, and blocks that are too long or too short. */
+static void no_strings(void)
+{
+    static struct plain plain, other;
+    draw_strings(&plain, 40, 9);
+    const struct bitm_hash hash = hash_of(&plain, 3);
+    const uint64_t words = words_of(&plain, &hash);
+    for (size_t len = 0; len < words + 9; len++)
+        if (len != words) builds_none(&plain, &hash, len, BITM_BAD_SIZE);
+    for (size_t i = 0; i < plain.count; i++) {
+        const size_t begin = begin_of(&plain, i), size = plain.ends[i] - begin;
+        other = plain;
+        if (size == 0) continue;
+        other.bytes[begin] ^= 1;
+        uint64_t *const block = untouched_at(OF_BLOCK, 8 * words);
+        const uint32_t status = build(&other, &hash, 3, block, words);
+        MUST(status == BITM_WRONG || (status == BITM_OK && bitm_strings_check(block, words) == BITM_OK));
+        other = plain;
+        other.ends[i] = all_of(&plain) + 1;
+        builds_none(&other, &hash, words, BITM_BAD_SIZE);
+    }
+    other = plain;
+    for (size_t i = 0; i < all_of(&other); i++) other.bytes[i] ^= 0x55;
+    builds_none(&other, &hash, words, BITM_WRONG);
+    uint64_t *sizes = (uint64_t *)hash.sizes, *lower = (uint64_t *)hash.index.lower;
+    sizes[0]++, builds_none(&plain, &hash, words, BITM_WRONG), sizes[0]--;
+    lower[0] ^= 1, builds_none(&plain, &hash, words, BITM_WRONG), lower[0] ^= 1;
+    for (size_t i = 0; i < 3; i++) {
+        struct bitm_hash bad = hash;
+        if (i == 0) bad.index.upper_len = 0;
+        if (i == 1) bad.index.lower_len++;
+        if (i == 2) bad.sizes_len = 257;
+        builds_none(&plain, &bad, words, BITM_BAD_SIZE);
+    }
+    struct bitm_hash more = hash;
+    more.keys++;
+    builds_none(&plain, &more, words, BITM_WRONG);
+    uint64_t *const block = untouched_at(OF_BLOCK, 8 * words);
+    MUST(build(&plain, &hash, 4, block, words) == BITM_WRONG);
+    MUST(build(&plain, &hash, 3, block, words) == BITM_OK);
+}
+
+/* Two equal strings have no block by any seed. */
+static void equal_strings(void)
+{
+    static struct plain plain, twice;
+    draw_strings(&plain, 9, 9);
+    const struct bitm_hash hash = hash_of(&plain, 3);
+    twice = plain;
+    for (size_t i = 1; i < plain.count; i++) {
+        const size_t size = plain.ends[0], begin = begin_of(&plain, i);
+        if (plain.ends[i] - begin != size || size == 0) continue;
+        memcpy(twice.bytes + begin, twice.bytes, size);
+        builds_none(&twice, &hash, words_of(&twice, &hash), BITM_WRONG);
+        memcpy(twice.bytes + begin, plain.bytes + begin, size);
+    }
+    const uint8_t two[6] = "adaada";
+    const uint64_t ends[2] = {3, 6};
+    uint64_t hashes[2];
+    MUST(bitm_strings_hashes(two, 6, ends, 2, 5, hashes, 2) == BITM_OK && hashes[0] == hashes[1]);
+}
+
+/* The hashes that FNV's authors published, and lists that are none. */
+static void hashes_of_fnv(void)
+{
+    static const struct {
+        const char *string;
+        size_t len;
+        uint64_t hash;
+    } known[] = {{"", 0, UINT64_C(0xcbf29ce484222325)},
+                 {"a", 1, UINT64_C(0xaf63dc4c8601ec8c)},
+                 {"foobar", 6, UINT64_C(0x85944171f73967e8)}};
+    uint64_t *out, one = UNTOUCHED;
+    uint32_t status;
+    for (size_t i = 0; i < 3; i++) {
+        ANSWER(bitm_strings_hash(bytes_placed(OF_BYTES, (const uint8_t *)known[i].string, known[i].len), known[i].len, 0,
+                                 out));
+        MUST(status == BITM_OK && *out == known[i].hash);
+    }
+    const uint64_t ends[2] = {2, 1};
+    MUST(bitm_strings_hashes((const uint8_t *)"ab", 2, ends, 1, 0, &one, 1) == BITM_OK && one != UNTOUCHED);
+    one = UNTOUCHED;
+    MUST(bitm_strings_hashes((const uint8_t *)"ab", 2, ends, 2, 0, &one, 1) == BITM_BAD_SIZE);
+    MUST(bitm_strings_hashes((const uint8_t *)"ab", 1, ends, 1, 0, &one, 1) == BITM_BAD_SIZE);
+    MUST(bitm_strings_hashes((const uint8_t *)"ab", 2, NULL, 0, 0, NULL, 0) == BITM_BAD_SIZE && one == UNTOUCHED);
+    MUST(bitm_strings_hashes(NULL, 0, NULL, 0, 0, NULL, 0) == BITM_OK);
+}
+
+/* Lengths that no block has, and the most that one has. */
+static void no_sizes(void)
+{
+    const size_t most = ((size_t)1 << 57) - 1, bytes = ((size_t)1 << 60) - 1;
+    uint64_t *out;
+    uint32_t status;
+    for (size_t i = 0; i < 16; i++) {
+        ANSWER(bitm_strings_size(i & 1 ? most + 1 : most, i & 2 ? 257 : 256, i & 4 ? most + 1 : most,
+                                 i & 8 ? bytes + 1 : bytes, out));
+        MUST(status == (i ? BITM_BAD_SIZE : BITM_OK));
+    }
+    ANSWER(bitm_strings_size(1, 1, 5, 22, out));
+    MUST(status == BITM_OK && *out == 112); /* docs/FORMAT.md */
+}
+
+static void changed_blocks(void)
+{
+    static struct plain plain;
+    uint64_t words;
+    draw_strings(&plain, SMALL, 5);
+    asked = plain;
+    uint64_t *const block = built(&plain, 9, &words);
+    unsigned char *const bytes = (unsigned char *)block;
+    for (size_t at = 0; at < 8 * words; at++)
+        for (unsigned change = 1; change < 256; change++) {
+            bytes[at] ^= (unsigned char)change;
+            MUST(bitm_strings_check(block, words) == BITM_WRONG);
+            MUST(opens_to_queries(&of_strings, block, words) == (at >= 8 * 64));
+            bytes[at] ^= (unsigned char)change;
+        }
+    cut_off(&of_strings, block, words);
+}
+
+/* Random words after right heads, and random words alone. */
+static void random_blocks(void)
+{
+    static struct plain plain;
+    struct bitm_strings strings;
+    for (size_t turn = 0; turn < 300; turn++) {
+        uint64_t words;
+        draw_strings(&plain, 1 + draw() % 60, 8);
+        asked = plain;
+        uint64_t *const block = built(&plain, draw(), &words);
+        spoil(block, 64, words, turn);
+        MUST(opens(&of_strings, block, words, &strings));
+        answers_within(&strings);
+        if (bitm_strings_check(block, words) == BITM_OK) answers_as(&plain, &strings);
+        draw_words(block, words);
+        MUST(refuses(&of_strings, block, words));
+    }
+}
+
+/* Structs whose lengths are not right. */
+static void other_structs(void)
+{
+    static struct plain plain;
+    uint64_t words, number, begin, len;
+    draw_strings(&plain, 200, 9);
+    uint64_t *const block = built(&plain, 5, &words);
+    struct bitm_strings made = {0};
+    MUST(bitm_strings_open(block, words, &made) == BITM_OK);
+    struct bitm_list_counts *const counts = counts_at_the_guard();
+    uint64_t *const list = untouched_at(OF_LIST, 8 * plain.count);
+    for (size_t i = 0; i < 7; i++) {
+        struct bitm_strings bad = made;
+        if (i == 0) bad.starts_len--;
+        if (i == 1) bad.hash.keys++;
+        if (i == 2) bad.hash.sizes_len = 257;
+        if (i == 3) bad.starts_len = 0, bad.hash.keys = SIZE_MAX;
+        if (i == 4) bad.hash.index.upper_len = 0;
+        if (i == 5) bad.hash.index.lower_len++;
+        if (i == 6) bad.bytes_len = (size_t)1 << 58;
+        MUST(bitm_strings_fault(&bad) != NULL);
+        MUST(found(&bad, plain.bytes, plain.ends[0], &number) == BITM_BAD_SIZE);
+        uint64_t *out, *const size = placed(OF_LEN, sizeof *size);
+        uint32_t status;
+        *size = UNTOUCHED;
+        ANSWER(bitm_strings_get(&bad, 0, out, size));
+        MUST(status == BITM_BAD_SIZE && *size == UNTOUCHED);
+        MUST(bitm_strings_find_list(&bad, plain.bytes, all_of(&plain), plain.ends, plain.count, list, plain.count,
+                                    counts) == BITM_BAD_SIZE);
+        MUST(counts->missing == UNTOUCHED && counts->wrong == UNTOUCHED && is_untouched(list, 8 * plain.count));
+    }
+    ((uint64_t *)made.starts)[1] = UINT64_MAX;
+    MUST(string_at(&made, 0, &begin, &len) == BITM_WRONG && string_at(&made, 1, &begin, &len) == BITM_WRONG);
+    ((uint64_t *)made.hash.sizes)[0] = 0;
+    MUST(found(&made, plain.bytes, plain.ends[0], &number) == BITM_WRONG);
+}
+
+static void tests(void)
+{
+    hashes_of_fnv();
+    drawn_strings();
+    no_strings();
+    equal_strings();
+    no_sizes();
+    changed_blocks();
+    random_blocks();
+    other_structs();
+}
+
+int main(int argc, char **argv)
+{
+    take_seed(argc, argv);
+    on_either_side(BYTES, tests);
+    printf("strings: blocks answer as a list of strings, each changed byte and each prefix is refused, and a string stands "
+           "at the number that is found in any words\n");
+    return 0;
+}

@@ -1,0 +1,49 @@
+-- Strings in a block as C passes them, and what the exported calls answer.
+use Rattle.std.specs.Prelude.{◌≡◌, ℕ, ◌-◌, ◌^◌, ◌<◌, List, length, slice_index}
+use Rattle.bitm_tables.specs.declared.answer.Answer.{Answer}
+use Rattle.bitm_abi.specs.Hash.{hash_lists}
+use Rattle.bitm_abi.specs.Status.{Exported}
+use Rattle.bitm_abi.specs.declared.hash.Hash.{Hash}
+use Rattle.hash_block.specs.Parts.{HasLengths, HashParts}
+use Rattle.string_block.specs.Block.{CanHold}
+use Rattle.string_block.specs.Parts.{AreStrings, HasStarts, IsFound, IsHeld, IsNotWrong, IsPiece, StringParts}
+use Rattle.bitm_strings_c.specs.declared.strings.Strings.{Strings}
+
+-- A status is 0 where the answer was written, 1 where there is no such string or number, 2 where a length is wrong, and 3
+-- where the parts are not those of strings.
+
+-- a hash, and the seed of the hashes
+abbrev pub hash_parts : Hash → ℕ → HashParts
+hash_parts hash seed = record { lists = hash_lists hash; sizes = hash.sizes.now; keys = hash.keys; seed = seed }
+
+-- and where strings begin, and their bytes
+abbrev pub string_parts : Strings → StringParts
+string_parts strings = record {
+  hash = hash_parts strings.hash strings.seed;
+  starts = strings.starts.now;
+  bytes = strings.bytes.now;
+}
+
+-- a hash of the right lengths, and strings and a block that can be theirs
+pub record IsWritable (hash : HashParts) (bytes ends block : List ℕ) : Type 0 where
+  pub sized : HasLengths hash
+  pub holds : CanHold hash bytes ends block
+
+-- the number of a string: the string stands there, whatever the parts hold; and where they are those of strings, there is
+-- none exactly for what is no string
+pub record IsNumberOf (string : ℕ → ℕ) (len : ℕ) (parts : StringParts) (answer : Answer ℕ) : Type 0 where
+  pub held : IsHeld parts string len answer
+  pub right : AreStrings parts → IsFound parts string len answer
+
+-- where the string of a number stands, and how many bytes it has: they stand in the words, whatever the parts hold
+pub record IsPieceOf (number : ℕ) (parts : StringParts) (answer : Answer (ℕ × ℕ)) : Type 0 where
+  pub piece : IsPiece parts number answer
+  pub right : AreStrings parts → IsNotWrong answer
+
+-- the status, and the number before and after the call
+abbrev pub FindAnswered : Strings → List ℕ → ℕ → ℕ → ℕ → Type 0
+FindAnswered strings string =
+    Exported (HasStarts (string_parts strings)) (IsNumberOf (slice_index string) (length string) (string_parts strings))
+
+abbrev pub GetAnswered : Strings → ℕ → ℕ → (ℕ × ℕ) → (ℕ × ℕ) → Type 0
+GetAnswered strings number = Exported (HasStarts (string_parts strings)) (IsPieceOf number (string_parts strings))

@@ -1,0 +1,165 @@
+//! The block of strings: how many words it takes, writing it, opening it and checking it.
+ghost use Rattle.std.specs.Prelude.{◌≡◌, ◌≢◌, ◌*◌, ◌≤◌, ◌↔◌, ◌⊎◌, length};
+ghost use Rattle.bitm_tables.specs.Tables.{HasSizes};
+ghost use Rattle.bitm_block.specs.Header.{count_in, section_in};
+ghost use Rattle.bitm_block.specs.Layout.{end_of};
+ghost use Rattle.block_tables.specs.Sections.{tables_in};
+ghost use Rattle.hash_block.specs.Block.{hash_in};
+ghost use Rattle.string_block.specs.Block.{sections_of, strings_in};
+ghost use Rattle.string_block.specs.Block.{AreFew, IsBlockOf, IsSoundBlock, IsStringBlock, NumberStrings};
+ghost use Rattle.string_block.specs.Parts.{string_number};
+ghost use Rattle.bitm_abi.specs.Hash.{hash_lists};
+ghost use Rattle.bitm_strings_c.specs.Strings.{hash_parts, string_parts, IsWritable};
+
+use crate::strings::{Strings, hash_view};
+use bitm_abi::{BAD_SIZE, Hash, Index, OK, Samples, WRONG};
+use bitm_block::Block;
+use block_tables::as_entries;
+use string_block::{BuildError, StringsView, build, check, open, size};
+
+/// Writes how many words the block of that many strings takes, which have that many bytes together, and the levels of
+/// whose hash have that many words together.
+#[unsafe(no_mangle)]
+pub extern "C" fn bitm_strings_size(
+    words: usize,
+    levels: usize,
+    strings: usize,
+    bytes: usize,
+    out: &mut usize,
+) -> u32
+    ensures ok { (result ≡ 0) ↔ AreFew words levels strings bytes }
+    ensures size { result ≡ 0 → out.new ≡ end_of (sections_of words levels strings bytes) }
+    ensures kept { result ≢ 0 → (result ≡ 2) × (out.new ≡ out.old) }
+{
+    match size(words, levels, strings, bytes) {
+        Some(len) => {
+            *out = len;
+            OK
+        }
+        None => BAD_SIZE,
+    }
+}
+
+/// Writes the block of the strings that stand one after another in `bytes`, each up to its end, by a hash of their
+/// hashes.
+#[unsafe(no_mangle)]
+pub extern "C" fn bitm_strings_build(
+    hash: &Hash<'_>,
+    seed: u64,
+    bytes: &[u8],
+    ends: &[usize],
+    block: &mut [u64],
+) -> u32
+    ensures ok { (result ≡ 0)
+        ↔ IsWritable (hash_parts hash.now seed) bytes.now ends.now block.old
+        × NumberStrings (hash_parts hash.now seed) bytes.now ends.now }
+    ensures wrong { (result ≡ 3)
+        ↔ IsWritable (hash_parts hash.now seed) bytes.now ends.now block.old
+        × (¬ (NumberStrings (hash_parts hash.now seed) bytes.now ends.now)) }
+    ensures status { (result ≡ 0) ⊎ (result ≡ 2) ⊎ (result ≡ 3) }
+    ensures block { result ≡ 0 → IsBlockOf (string_number (hash_parts hash.now seed)) bytes.now
+        ends.now block.new }
+    ensures kept { result ≡ 2 → block.new ≡ block.old }
+{
+    let Some(view) = hash_view(hash, seed) else {
+        return BAD_SIZE;
+    };
+    match build(&view, bytes, ends, block) {
+        Ok(()) => OK,
+        Err(BuildError::NotNumbered) => WRONG,
+        Err(BuildError::TooLong) => BAD_SIZE,
+        Err(BuildError::NotGiven) => BAD_SIZE,
+        Err(BuildError::WrongLength) => BAD_SIZE,
+    }
+}
+
+/// No samples.
+#[inline(always)]
+fn no_samples<'a>() -> Samples<'a> {
+    Samples {
+        samples: &[],
+        starts: &[],
+        log2: 0,
+        reserved: 0,
+    }
+}
+
+/// The hash over the first four sections of a block, whose index has no samples.
+#[inline(always)]
+fn hash_at<'a>(block: &Block<'a>) -> Hash<'a>
+    requires four { 4 ≤ count_in block.now }
+    requires sized { HasSizes (tables_in block.now) }
+    ensures lists { hash_lists result ≡ tables_in block.now }
+    ensures bits { result.index.bits_len ≡ 64 * length (section_in block.now 0) }
+    ensures sizes { result.sizes.now ≡ section_in block.now 3 }
+    ensures keys { result.keys ≡ (hash_in block.now).keys }
+{
+    match (
+        block.section(0),
+        block.section(1),
+        block.section(2),
+        block.section(3),
+    ) {
+        (Some(words), Some(upper), Some(lower), Some(sizes)) => Hash {
+            index: Index {
+                words,
+                upper: as_entries(upper),
+                lower,
+                bits_len: 64 * words.len() as u64,
+                ones: no_samples(),
+                zeros: no_samples(),
+                reserved: [0; 2],
+            },
+            sizes: as_entries(sizes),
+            keys: block.head().len as usize,
+        },
+        _ => unreachable!(),
+    }
+}
+
+/// What C is passed for strings whose hash is that of a block.
+#[inline(always)]
+fn strings_of<'a>(view: &StringsView<'a>, hash: Hash<'a>) -> Strings<'a>
+    requires { hash_parts hash view.now.hash.seed ≡ view.now.hash }
+    ensures { string_parts result ≡ view.now }
+{
+    Strings {
+        hash,
+        starts: view.starts(),
+        bytes: view.bytes(),
+        seed: view.hash().seed(),
+        reserved: [0; 2],
+    }
+}
+
+/// Opens a block: writes the strings that queries take. What the sections hold is not looked at.
+#[unsafe(no_mangle)]
+pub extern "C" fn bitm_strings_open<'a>(block: &'a [u64], strings: &mut Strings<'a>) -> u32
+    ensures ok { (result ≡ 0) ↔ IsStringBlock block.now }
+    ensures strings { result ≡ 0 → string_parts strings.new ≡ strings_in block.now }
+    ensures kept { result ≢ 0 → (result ≡ 3) × (strings.new ≡ strings.old) }
+{
+    let Some(view) = open(block) else {
+        return WRONG;
+    };
+    let Ok(opened) = Block::open(block) else {
+        return WRONG;
+    };
+    let Some(first) = opened.section(0) else {
+        return WRONG;
+    };
+    let Ok(nested) = Block::open(first) else {
+        return WRONG;
+    };
+    *strings = strings_of(&view, hash_at(&nested));
+    OK
+}
+
+/// Whether a block is as it was written, and holds strings.
+#[unsafe(no_mangle)]
+pub extern "C" fn bitm_strings_check(block: &[u64]) -> u32
+    ensures ok { (result ≡ 0) ↔ IsSoundBlock block.now }
+    ensures status { (result ≡ 0) ⊎ (result ≡ 3) }
+{
+    if check(block) { OK } else { WRONG }
+}

@@ -1,0 +1,46 @@
+//! Strings in a block as C passes them, and as the library queries them.
+ghost use Rattle.std.specs.Prelude.{SomeIff};
+ghost use Rattle.hash_block.specs.Parts.{HasLengths};
+ghost use Rattle.string_block.specs.Parts.{HasStarts};
+ghost use Rattle.bitm_strings_c.specs.Strings.{hash_parts, string_parts};
+
+use bitm_abi::Hash;
+use hash_block::HashView;
+use string_block::StringsView;
+
+/// Strings of bytes in the caller's memory: a hash, where the string of each number begins and the last one ends, the
+/// words of the bytes, and the seed of their hashes.
+#[repr(C)]
+#[derive(Clone, Copy)]
+pub struct Strings<'a> {
+    /// The hash.
+    pub hash: Hash<'a>,
+    /// Where the string of each number begins, and where the last one ends.
+    pub starts: &'a [u64],
+    /// The words of the bytes.
+    pub bytes: &'a [u64],
+    /// The seed of the hashes.
+    pub seed: u64,
+    /// Room for later versions; this one does not read it.
+    pub reserved: [u64; 2],
+}
+
+/// A hash as the library queries it; `None` exactly where a length is not right.
+#[inline(always)]
+pub(crate) fn hash_view<'a>(hash: &Hash<'a>, seed: u64) -> Option<HashView<'a>>
+    ensures { SomeIff result (HasLengths (hash_parts hash.now seed)) (hash_parts hash.now seed) }
+{
+    let tables = hash.lent()?;
+    HashView::over(tables, hash.sizes, hash.keys, seed)
+}
+
+impl<'a> Strings<'a> {
+    /// The strings as the library queries them; `None` exactly where a length is not right.
+    #[inline(always)]
+    pub(crate) fn view(&self) -> Option<StringsView<'a>>
+        ensures { SomeIff result (HasStarts (string_parts self.now)) (string_parts self.now) }
+    {
+        let hash = hash_view(&self.hash, self.seed)?;
+        StringsView::over(hash, self.starts, self.bytes)
+    }
+}
