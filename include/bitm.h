@@ -870,7 +870,8 @@ BITM_MUST_USE uint32_t bitm_hash_get(const struct bitm_hash *hash, uint64_t key_
 
 /* out[i] is the number of key_hashes[i], or BITM_NO_ANSWER for BITM_NONE and BITM_WRONG_TABLES for BITM_WRONG; counts
  * says how many of each there are. BITM_BAD_SIZE also if out_len is not key_hashes_len. out and counts may overlap
- * neither each other nor the hashes.
+ * neither each other nor the hashes. 256 hashes go from level to level side by side: for each no more is read than for
+ * one alone.
  *
  *     const uint64_t known[2] = {0xa4093822299f31d0, 0x243f6a8885a308d3};
  *     if (bitm_hash_get_list(&hash, known, 2, answers, 2, &counts) != BITM_OK || counts.missing + counts.wrong > 0 ||
@@ -884,9 +885,9 @@ BITM_MUST_USE uint32_t bitm_hash_get_list(const struct bitm_hash *hash, const ui
  * A fingerprint is any number that you compute from the key beside its hash. Over right tables and sizes, as
  * bitm_hash_get says, a number that several keys have gets the fingerprint of the last of them, a number that none has
  * keeps its own, and BITM_WRONG says that a key has no number, or its number no place among the words; the others are
- * written. Over other tables only the words of the fingerprints may change. BITM_BAD_SIZE, and nothing is written, as
- * bitm_hash_get, if prints_len is 2^58 or more, width is above 64, or key_prints_len is not key_hashes_len. The
- * fingerprints may overlap nothing else.
+ * written. Over other tables the same holds by some number that a look-up of each key may answer. BITM_BAD_SIZE, and
+ * nothing is written, as bitm_hash_get, if prints_len is 2^58 or more, width is above 64, or key_prints_len is not
+ * key_hashes_len. The fingerprints may overlap nothing else.
  *
  *     const uint64_t three[3] = {0x243f6a8885a308d3, 0x13198a2e03707344, 0xa4093822299f31d0}, marks3[3] = {7, 11, 13};
  *     uint64_t prints[1] = {0};
@@ -917,6 +918,78 @@ BITM_MUST_USE uint32_t bitm_hash_find_list(const struct bitm_hash *hash, const u
                                            uint32_t width, const uint64_t *key_hashes, size_t key_hashes_len,
                                            const uint64_t *key_prints, size_t key_prints_len, uint64_t *out,
                                            size_t out_len, struct bitm_list_counts *counts);
+
+/* ---- minimal perfect hashes with a seed for each word
+ *
+ * Where each word of the levels has a seed, more of its hashes fall on a bit alone, and all takes fewer bits a key: 2.26
+ * with 64 tries at 100 per cent, seeds and tables included. A seed is a byte. Building takes more time, for each seed
+ * that is tried. Queries take a hash with its seeds, and answer as those above:
+ *
+ *     uint64_t keyed[3] = {0x243f6a8885a308d3, 0x13198a2e03707344, 0xa4093822299f31d0}, in_order[3];
+ *     uint64_t of_hash_words[64], scratch[64], heights[256], beside_words[3];
+ *     uint8_t seeds[64];
+ *     if (bitm_hash_build_seeded(keyed, 3, 100, 64, of_hash_words, 64, seeds, 64, scratch, 64, in_order, 3, heights, 256,
+ *                                &levels, &filled, &left) != BITM_OK || left > 0) return 1;
+ *     lowers = bitm_index_lower_len(filled);
+ *     if (bitm_index_build(of_hash_words, filled, beside_words, 1, beside_words + 1, lowers, &ones) != BITM_OK) return 1;
+ *     struct bitm_seeded_hash seeded = {
+ *         .hash = {.index = {.words = of_hash_words, .words_len = filled, .upper = beside_words, .upper_len = 1,
+ *                            .lower = beside_words + 1, .lower_len = lowers, .bits_len = 64 * filled},
+ *                  .sizes = heights, .sizes_len = levels, .keys = 3},
+ *         .seeds = seeds, .seeds_len = filled};
+ *     if (bitm_hash_get_seeded(&seeded, 0x13198a2e03707344, &number) != BITM_OK || number > 2) return 1;
+ *
+ * A dictionary and a block have no room for seeds: they take hashes without. */
+struct bitm_seeded_hash {
+    struct bitm_hash hash;
+    const uint8_t *seeds; /* of the words of all levels */
+    size_t seeds_len;     /* hash.index.words_len, or 0: the hash is one without seeds */
+};
+
+/* Faults of a hash with seeds: see bitm_bits_fault.
+ *
+ *     if (bitm_seeded_hash_fault(&seeded) != NULL) return 1; */
+static inline const char *bitm_seeded_hash_fault(const struct bitm_seeded_hash *hash)
+{
+    if (hash->seeds_len && hash->seeds_len != hash->hash.index.words_len) return "seeds_len is not words_len";
+    return bitm_hash_fault(&hash->hash);
+}
+
+/* Builds as bitm_hash_build, and writes a seed for each word to the start of seeds: of the first `tries`, at most 256,
+ * the first by which most of the hashes that fall in the word fall on a bit alone. again and sorted hold arbitrary
+ * numbers then, and so do seeds past the levels. BITM_BAD_SIZE also if seeds_len is below words_len, or sorted_len below
+ * hashes_len. Each level is four passes over the hashes that are left, and one for each seed that is tried (evident from
+ * the code). */
+BITM_MUST_USE uint32_t bitm_hash_build_seeded(uint64_t *hashes, size_t hashes_len, uint32_t percent, uint16_t tries,
+                                              uint64_t *words, size_t words_len, uint8_t *seeds, size_t seeds_len,
+                                              uint64_t *again, size_t again_len, uint64_t *sorted, size_t sorted_len,
+                                              uint64_t *sizes, size_t sizes_len, uint64_t *levels,
+                                              uint64_t *used_words, uint64_t *left);
+
+/* As the calls without _seeded; BITM_BAD_SIZE exactly if these return it, or seeds_len is neither 0 nor words_len. For
+ * each level one seed is read too (evident from the code).
+ *
+ *     if (bitm_hash_get_list_seeded(&seeded, three, 3, answers, 3, &counts) != BITM_OK || counts.missing > 0 ||
+ *         bitm_hash_set_prints_seeded(&seeded, three, 3, marks3, 3, prints, 1, 8) != BITM_OK ||
+ *         bitm_hash_find_seeded(&seeded, prints, 1, 8, three[1], 11, &number) != BITM_OK || number != answers[1] ||
+ *         bitm_hash_find_list_seeded(&seeded, prints, 1, 8, three, 3, claimed, 3, answers, 3, &counts) != BITM_OK ||
+ *         counts.missing != 1) return 1; */
+BITM_MUST_USE uint32_t bitm_hash_get_seeded(const struct bitm_seeded_hash *hash, uint64_t key_hash, uint64_t *out);
+BITM_MUST_USE uint32_t bitm_hash_get_list_seeded(const struct bitm_seeded_hash *hash, const uint64_t *key_hashes,
+                                                 size_t key_hashes_len, uint64_t *out, size_t out_len,
+                                                 struct bitm_list_counts *counts);
+BITM_MUST_USE uint32_t bitm_hash_set_prints_seeded(const struct bitm_seeded_hash *hash, const uint64_t *key_hashes,
+                                                   size_t key_hashes_len, const uint64_t *key_prints,
+                                                   size_t key_prints_len, uint64_t *prints, size_t prints_len,
+                                                   uint32_t width);
+BITM_MUST_USE uint32_t bitm_hash_find_seeded(const struct bitm_seeded_hash *hash, const uint64_t *prints,
+                                             size_t prints_len, uint32_t width, uint64_t key_hash,
+                                             uint64_t key_print, uint64_t *out);
+BITM_MUST_USE uint32_t bitm_hash_find_list_seeded(const struct bitm_seeded_hash *hash, const uint64_t *prints,
+                                                  size_t prints_len, uint32_t width, const uint64_t *key_hashes,
+                                                  size_t key_hashes_len, const uint64_t *key_prints,
+                                                  size_t key_prints_len, uint64_t *out, size_t out_len,
+                                                  struct bitm_list_counts *counts);
 
 /* ---- stored
  *

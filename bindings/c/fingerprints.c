@@ -155,12 +155,47 @@ static void hostile(void)
     MUST(wrong > 1000 && found > 100);
 }
 
+/* Over drawn words, tables and sizes too, each fingerprint goes where a look-up of its key says, one after another. */
+static void set_over_any(void)
+{
+    enum { MOST = 40, SOME = 50 };
+    uint64_t some[MOST], table[1], table2[2], widths[9], prints[MOST], right[MOST], hashes[SOME], own[SOME];
+    unsigned wrong = 0, good = 0;
+    for (int turn = 0; turn < 20000; turn++) {
+        const size_t len = 1 + draw() % MOST, levels = draw() % 9, prints_len = draw() % MOST, n = draw() % SOME;
+        const uint32_t width = (uint32_t)(draw() % 65);
+        for (size_t i = 0; i < MOST; i++) some[i] = turn % 2 ? draw() & draw() : UINT64_MAX, right[i] = prints[i] = draw();
+        for (size_t i = 0; i < n; i++) hashes[i] = draw(), own[i] = draw();
+        table[0] = draw() >> (draw() % 64);
+        for (size_t i = 0; i < bitm_index_lower_len(len); i++) table2[i] = draw() >> (draw() % 64);
+        for (size_t i = 0; i < levels; i++) widths[i] = draw() % 50 == 0 ? draw() : draw() % 9;
+        const struct bitm_hash hash = {index_over(some, len, table, 1, table2, bitm_index_lower_len(len)), widths,
+                                       levels, draw() % 3000};
+        bool all = true;
+        for (size_t i = 0; i < n; i++) {
+            uint64_t number;
+            const bool has = bitm_hash_get(&hash, hashes[i], &number) == BITM_OK &&
+                             (number + 1) * width <= 64 * (uint64_t)prints_len;
+            for (uint32_t b = 0; has && b < width; b++) {
+                const uint64_t bit = 1ULL << (number * width + b) % 64, at = (number * width + b) / 64;
+                right[at] = own[i] >> b & 1 ? right[at] | bit : right[at] & ~bit;
+            }
+            all = all && has;
+        }
+        const uint32_t status = bitm_hash_set_prints(&hash, hashes, n, own, n, prints, prints_len, width);
+        MUST(status == (all ? BITM_OK : BITM_WRONG) && memcmp(prints, right, sizeof prints) == 0);
+        wrong += n && !all, good += n && all;
+    }
+    MUST(wrong > 1000 && good > 10);
+}
+
 static void tests(void)
 {
     const struct bitm_hash hash = built();
     for (uint32_t width = 0; width <= 64; width++) of_width(&hash, width);
     refused(&hash);
     hostile();
+    set_over_any();
 }
 
 int main(int argc, char **argv)

@@ -12,6 +12,7 @@ static uint32_t linked;
 uint32_t version_of_the_test(void) { return linked; }
 
 static uint64_t words[WORDS], upper[2], lower[LOWERS + 1], low[8], sizes[260];
+static const uint8_t seeds[WORDS];
 
 /* A right length, or one near it, or a huge one. */
 static size_t near_to(size_t right)
@@ -53,6 +54,10 @@ static void drawn(void)
                     bitm_bits_fault(words_len, index.bits_len), " words_len bits_len "));
         const struct bitm_hash hash = {index, sizes, near_to(256), 7};
         MUST(agrees(bitm_hash_get(&hash, 5, &out), bitm_hash_fault(&hash), " words_len upper_len lower_len sizes_len "));
+        const struct bitm_seeded_hash seeded = {.hash = hash, .seeds = seeds,
+                                                .seeds_len = draw() % 2 ? near_to(words_len) : 0};
+        MUST(agrees(bitm_hash_get_seeded(&seeded, 5, &out), bitm_seeded_hash_fault(&seeded),
+                    " words_len upper_len lower_len sizes_len seeds_len "));
         const uint64_t width = draw() % 66;
         const size_t len = draw() % 8 ? draw() % 8 : ((size_t)1 << 56) - draw() % 2;
         const struct bitm_sequence sequence = {len, width, low, near_to(bitm_bits_words_len(len % 8 * width)), words,

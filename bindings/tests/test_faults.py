@@ -26,6 +26,7 @@ EXPORTS = {
     "B words": "bits_set_list bits_positions index_build_samples"
         " dictionary_find_list",
     "B": "bits_count bits_and bits_or bits_xor bits_and_not index_build sequence_sizes hash_level hash_build"
+        " hash_build_seeded"
         " stored_index stored_index_room stored_build stored_sequence prefix_sums tree_size matrix_size"
         " matrix_get_list matrix_rank_list matrix_select_list index_block_size index_block_build sequence_block_size"
         " sparse_size text_size text_size_letters text_size_bytes text_build_bytes text_len"
@@ -34,13 +35,14 @@ EXPORTS = {
     "N": "bits_copy_range bits_equal_range bits_select_in_word",
     "B words other": "bits_intersects bits_is_subset",
     "N bytes": "bytes_get57 bytes_init57 bytes_set57 bytes_get25 bytes_init25 bytes_set25",
-    "BW": "hash_set_prints index_check sequence_check tree_build matrix_build text_build cursor_start cursors_intersect"
+    "BW": "hash_set_prints hash_set_prints_seeded index_check sequence_check tree_build matrix_build text_build cursor_start cursors_intersect"
         " dictionary_build trie_build strings_build",
     "BW words": "index_check_samples",
-    "NBW words lower": "index_rank hash_get hash_find tree_parent tree_child tree_degree tree_is_leaf tree_next_sibling"
+    "NBW words lower": "index_rank hash_get hash_find hash_get_seeded hash_find_seeded tree_parent tree_child tree_degree tree_is_leaf tree_next_sibling"
         " tree_previous_sibling tree_child_rank",
     "NBW words lower samples": "index_select index_next index_previous",
-    "B words lower": "index_rank_list index_positions hash_get_list hash_find_list tree_parent_list tree_degree_list tree_child_list",
+    "B words lower": "index_rank_list index_positions hash_get_list hash_find_list hash_get_list_seeded"
+        " hash_find_list_seeded tree_parent_list tree_degree_list tree_child_list",
     "B words samples": "index_select_list",
     "B lower": "index_count",
     "BU": "sequence_build sequence_block_build",
@@ -80,9 +82,9 @@ BESIDE = {
     "bitm_bits_flip_range": ("from", "to"),
 }
 # Arrays of which nothing is said after a call: all of them, or what is after those that are left.
-SCRATCH, LEFT = ("again", "room", "scratch", "cursors"), ("hashes",)
+SCRATCH, LEFT = ("again", "room", "scratch", "sorted", "cursors"), ("hashes",)
 # The statuses with which a list may hold anything.
-SPOILS = {"W": "text_locate text_locate_bytes text_extract text_extract_bytes cursors_union hash_set_prints"
+SPOILS = {"W": "text_locate text_locate_bytes text_extract text_extract_bytes cursors_union hash_set_prints hash_set_prints_seeded"
           " matrix_distinct matrix_top matrix_intersect trie_word strings_build", "BW": "cursors_intersect"}
 # What no answer of these may be, whatever the tables hold, where they would say that the tables are wrong; a list's i-th answer.
 OUTSIDE = {
@@ -107,6 +109,7 @@ OUTSIDE = {
     "sparse->bits_len": "sparse_select sparse_next sparse_previous sparse_select_list",
     "text->letters.len + 2": "text_count text_locate",
     "hash->keys": "hash_get hash_get_list hash_find hash_find_list",
+    "hash->hash.keys": "hash_get_seeded hash_get_list_seeded hash_find_seeded hash_find_list_seeded",
     "dictionary->keys_len": "dictionary_find dictionary_find_list",
     "strings->hash.keys": "strings_find strings_find_list",
     "shards->counts.bits[shards->shards_len]": "shards_select shards_next shards_previous shards_select_list",

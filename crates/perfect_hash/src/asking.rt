@@ -131,10 +131,14 @@ pub fn total_number_by_on<T: TableSource, P: Placing>(
     ensures reads { OnlyReads T.lists T.reads source.old source.new 1 1 (length sizes.now + 8) }
 {
     match place_on(source, placing, sizes, hash, &mut no_reads()) {
-        Answer::Found(place) => match total_rank_on(source, place) {
-            Some(number) if number < count => Answer::Found(number),
-            _ => Answer::Wrong,
-        },
+        Answer::Found(place) => {
+            // no rank exceeds its position
+            let most = count.min(place + 1);
+            match total_rank_on(source, place) {
+                Some(number) if number < most => Answer::Found(number),
+                _ => Answer::Wrong,
+            }
+        }
         Answer::Absent => Answer::Absent,
         Answer::Wrong => Answer::Wrong,
     }

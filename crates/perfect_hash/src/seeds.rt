@@ -1,5 +1,5 @@
-//! A seed for each word of a level, in the caller's memory: how hashes fall by the seeds, and levels that are built with
-//! them.
+//! A seed for each word of a level, in the caller's memory: how hashes fall by the seeds, and levels that are built
+//! with them.
 ghost use Rattle.std.specs.Prelude.{◌≡◌, ℕ, ◌+◌, ◌-◌, ◌*◌, ◌^◌, ◌<◌, ◌≤◌, ◌⊎◌, [], drop, length, min, take};
 ghost use Rattle.bit_lists.specs.Bits.{bits_of, IsShort};
 ghost use Rattle.bit_lists.specs.Count.{ones_of};
@@ -110,9 +110,9 @@ fn add_level(
     split_level_by(&placing, used, &mut hashes[..left], level, ones, room)
 }
 
-/// Makes levels as `build_in_place` does, each with the seed for each of its words by which most of the hashes that fall
-/// in it stand alone, of the first `tries`, at most 256. The seeds of all levels go to the start of `seeds`, in the order
-/// of the words.
+/// Makes levels as `build_in_place` does, each with the seed for each of its words by which most of the hashes that
+/// fall in it stand alone, of the first `tries`, at most 256. The seeds of all levels go to the start of `seeds`, in
+/// the order of the words.
 ///
 /// # Conditions
 /// There are fewer than 2^58 words, no fewer seeds than words, and no fewer items of `sorted` than hashes.

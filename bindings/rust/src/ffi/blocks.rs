@@ -104,6 +104,37 @@ extern "C" {
     ) -> u32;
 }
 #[repr(C)]
+pub struct bitm_seeded_hash {
+    pub hash: bitm_hash,
+    pub seeds: *const u8,
+    pub seeds_len: usize,
+}
+extern "C" {
+    pub fn bitm_hash_build_seeded(
+        hashes: *mut u64, hashes_len: usize, percent: u32, tries: u16, words: *mut u64, words_len: usize,
+        seeds: *mut u8, seeds_len: usize, again: *mut u64, again_len: usize, sorted: *mut u64, sorted_len: usize,
+        sizes: *mut u64, sizes_len: usize, levels: *mut u64, used_words: *mut u64, left: *mut u64,
+    ) -> u32;
+    pub fn bitm_hash_get_seeded(hash: *const bitm_seeded_hash, key_hash: u64, out: *mut u64) -> u32;
+    pub fn bitm_hash_get_list_seeded(
+        hash: *const bitm_seeded_hash, key_hashes: *const u64, key_hashes_len: usize, out: *mut u64, out_len: usize,
+        counts: *mut bitm_list_counts,
+    ) -> u32;
+    pub fn bitm_hash_set_prints_seeded(
+        hash: *const bitm_seeded_hash, key_hashes: *const u64, key_hashes_len: usize, key_prints: *const u64,
+        key_prints_len: usize, prints: *mut u64, prints_len: usize, width: u32,
+    ) -> u32;
+    pub fn bitm_hash_find_seeded(
+        hash: *const bitm_seeded_hash, prints: *const u64, prints_len: usize, width: u32, key_hash: u64,
+        key_print: u64, out: *mut u64,
+    ) -> u32;
+    pub fn bitm_hash_find_list_seeded(
+        hash: *const bitm_seeded_hash, prints: *const u64, prints_len: usize, width: u32, key_hashes: *const u64,
+        key_hashes_len: usize, key_prints: *const u64, key_prints_len: usize, out: *mut u64, out_len: usize,
+        counts: *mut bitm_list_counts,
+    ) -> u32;
+}
+#[repr(C)]
 #[derive(Copy, Clone)]
 pub struct bitm_tree {
     pub len: usize,
