@@ -1417,8 +1417,9 @@ BITM_MUST_USE uint32_t bitm_tree_child_rank(const struct bitm_tree *tree, size_t
 
 /* bitm_tree_parent, bitm_tree_degree and bitm_tree_child of each node of a list, the last with child ks[i] of nodes[i]:
  * out[i] is the answer, or BITM_NO_ANSWER for BITM_NONE and BITM_WRONG_TABLES for BITM_WRONG; counts says how many of
- * each there are. BITM_BAD_SIZE also if out_len or ks_len is not nodes_len. out and counts may overlap neither each other
- * nor what the call reads.
+ * each there are. BITM_BAD_SIZE also if out_len or ks_len is not nodes_len. Bits of nodes are selected side by side, so
+ * over words that hold no tree an answer may differ from that of the call for one node. out and counts may overlap neither
+ * each other nor what the call reads.
  *
  *     const uint64_t nodes[3] = {0, 3, 4}, ks[3] = {1, 0, 0};
  *     uint64_t of_each[3];

@@ -66,43 +66,68 @@ static void answers_as(const struct plain_tree *plain, const struct bitm_tree *t
     }
 }
 
-/* Lists of nodes, some of which are none, beside the calls of one query. */
-static void lists_as_single_calls(const struct bitm_tree *tree)
+/* Nodes, some of which are none, and what lists of them answer. */
+struct asked {
+    uint64_t nodes[LIST], ks[LIST], of_list[3][LIST];
+};
+
+static void ask_lists(const struct bitm_tree *tree, struct asked *it)
 {
-    uint64_t nodes[LIST], ks[LIST], of_list[3][LIST], *out;
     struct bitm_list_counts counts = no_counts;
     uint32_t status;
     for (size_t i = 0; i < LIST; i++) {
-        nodes[i] = i % 16 ? draw() % (tree->len + 1) : draw();
-        ks[i] = draw() % 3;
+        it->nodes[i] = i % 16 ? draw() % (tree->len + 1) : draw();
+        it->ks[i] = draw() % 3;
     }
-    status = bitm_tree_parent_list(tree, nodes, LIST, of_list[0], LIST, &counts);
-    MUST(counted(status, of_list[0], LIST, counts) == BITM_OK);
+    status = bitm_tree_parent_list(tree, it->nodes, LIST, it->of_list[0], LIST, &counts);
+    MUST(counted(status, it->of_list[0], LIST, counts) == BITM_OK);
     counts = no_counts;
-    status = bitm_tree_degree_list(tree, nodes, LIST, of_list[1], LIST, &counts);
-    MUST(counted(status, of_list[1], LIST, counts) == BITM_OK);
+    status = bitm_tree_degree_list(tree, it->nodes, LIST, it->of_list[1], LIST, &counts);
+    MUST(counted(status, it->of_list[1], LIST, counts) == BITM_OK);
     counts = no_counts;
-    status = bitm_tree_child_list(tree, nodes, LIST, ks, LIST, of_list[2], LIST, &counts);
-    MUST(counted(status, of_list[2], LIST, counts) == BITM_OK);
+    status = bitm_tree_child_list(tree, it->nodes, LIST, it->ks, LIST, it->of_list[2], LIST, &counts);
+    MUST(counted(status, it->of_list[2], LIST, counts) == BITM_OK);
+}
+
+/* Lists beside the calls of one query. */
+static void lists_as_single_calls(const struct bitm_tree *tree)
+{
+    struct asked it;
+    uint64_t *out, *const nodes = it.nodes, *const ks = it.ks, *const list = it.of_list[0];
+    uint32_t status;
+    ask_lists(tree, &it);
     for (size_t i = 0; i < LIST; i++) {
         ANSWER(bitm_tree_parent(tree, nodes[i], out));
-        MUST(of_list[0][i] == item_of(status, *out));
+        MUST(it.of_list[0][i] == item_of(status, *out));
         ANSWER(bitm_tree_degree(tree, nodes[i], out));
-        MUST(of_list[1][i] == item_of(status, *out));
+        MUST(it.of_list[1][i] == item_of(status, *out));
         ANSWER(bitm_tree_child(tree, nodes[i], ks[i], out));
-        MUST(of_list[2][i] == item_of(status, *out));
+        MUST(it.of_list[2][i] == item_of(status, *out));
     }
-    counts = no_counts;
-    memset(of_list, UNTOUCHED, sizeof of_list);
+    struct bitm_list_counts counts = no_counts;
+    memset(it.of_list, UNTOUCHED, sizeof it.of_list);
     for (size_t less = 1; less < 3; less++) {
-        uint64_t *const list = of_list[0];
         MUST(bitm_tree_parent_list(tree, nodes, LIST, list, LIST - less, &counts) == BITM_BAD_SIZE);
         MUST(bitm_tree_degree_list(tree, nodes, LIST - less, list, LIST, &counts) == BITM_BAD_SIZE);
         MUST(bitm_tree_child_list(tree, nodes, LIST, ks, LIST - less, list, LIST, &counts) == BITM_BAD_SIZE);
         MUST(bitm_tree_child_list(tree, nodes, LIST, ks, LIST, list, LIST - less, &counts) == BITM_BAD_SIZE);
     }
-    MUST(counts.missing == UNTOUCHED && counts.wrong == UNTOUCHED && is_untouched(of_list, sizeof of_list));
+    MUST(counts.missing == UNTOUCHED && counts.wrong == UNTOUCHED && is_untouched(it.of_list, sizeof it.of_list));
     MUST(bitm_tree_parent_list(tree, NULL, 0, NULL, 0, &counts) == BITM_OK && counts.missing == 0 && counts.wrong == 0);
+}
+
+/* Whatever the block holds: lists answer within the range of the calls of one query. */
+static void lists_within(const struct bitm_tree *tree)
+{
+    struct asked it;
+    ask_lists(tree, &it);
+    for (size_t i = 0; i < LIST; i++) {
+        const uint64_t node = it.nodes[i], parent = it.of_list[0][i], degree = it.of_list[1][i], child = it.of_list[2][i];
+        const bool is = node < tree->len;
+        MUST(parent < BITM_WRONG_TABLES ? is && parent < node : (parent == BITM_NO_ANSWER) == (node == 0 || !is));
+        MUST(degree < BITM_WRONG_TABLES ? is && degree < tree->len : (degree == BITM_NO_ANSWER) == !is);
+        MUST(child < BITM_WRONG_TABLES ? node < child && child < tree->len : child == BITM_NO_ANSWER || is);
+    }
 }
 
 /* Whatever the block holds: every call returns, within its range, and each way up ends. */
@@ -131,7 +156,7 @@ static void answers_within(const void *opened)
         ANSWER(bitm_tree_previous_sibling(tree, node, out));
         MUST(status != BITM_OK || (*out + 1 == node && is));
     }
-    lists_as_single_calls(tree);
+    lists_within(tree);
 }
 
 static void drawn_trees(void)
@@ -207,7 +232,7 @@ static void random_blocks(void)
         spoil(block, of_tree.head, words, turn);
         MUST(opens(&of_tree, block, words, &tree));
         answers_within(&tree);
-        if (bitm_tree_check(block, words) == BITM_OK) answers_as(&plain, &tree);
+        if (bitm_tree_check(block, words) == BITM_OK) answers_as(&plain, &tree), lists_as_single_calls(&tree);
         draw_words(block, words);
         MUST(refuses(&of_tree, block, words));
     }

@@ -5,28 +5,14 @@ use Rattle.bitm_abi.specs.Status.{truth_of, Exported, IsFoundBelow}
 use Rattle.bitm_abi.specs.Tree.{tree_parts}
 use Rattle.bitm_abi.specs.declared.tree.Tree.{Tree}
 use Rattle.louds.specs.Counted.{degrees_in, IsLouds}
-use Rattle.louds_block.specs.Answers.{IsChildOf, IsChildWithin, IsChildRankOf, IsChildRankWithin, IsDegreeOf, IsDegreeWithin, IsLeafOf, IsLeafWithin, IsNextSiblingOf, IsNextSiblingWithin, IsParentOf, IsParentWithin, IsPreviousSiblingOf, IsPreviousSiblingWithin}
+use Rattle.louds_block.specs.Answers.{IsChildRankOf, IsChildRankWithin, IsLeafOf, IsLeafWithin, IsNextSiblingOf, IsNextSiblingWithin, IsPreviousSiblingOf, IsPreviousSiblingWithin}
 use Rattle.louds_block.specs.Block.{HasLengths, TreeParts}
+pub use Rattle.louds_block.specs.Told.{IsChild, IsDegree, IsParent}
 use Rattle.bitm_block_c.specs.declared.lists.Asked.{Asked}
 use Rattle.bitm_block_c.specs.declared.lists.Asked.TheVariants.{Parent, Degree}
 
 -- A status is 0 where the answer was written, 1 where there is no such node, 2 where a length is wrong, and 3 where the
 -- words and tables are not those of a tree.
-
--- the parent of a node: less than the node, whatever the words and tables hold, and that of the tree where they hold one
-pub record IsParent (node : ℕ) (parts : TreeParts) (answer : Answer ℕ) : Type 0 where
-  pub inside : IsParentWithin parts.len node answer
-  pub right : IsLouds parts.len parts.lists → IsParentOf (degrees_in parts.len parts.lists) node answer
-
--- child k of a node, likewise: more than the node
-pub record IsChild (node k : ℕ) (parts : TreeParts) (answer : Answer ℕ) : Type 0 where
-  pub inside : IsChildWithin parts.len node answer
-  pub right : IsLouds parts.len parts.lists → IsChildOf (degrees_in parts.len parts.lists) node k answer
-
--- how many children a node has, likewise: fewer than there are nodes
-pub record IsDegree (node : ℕ) (parts : TreeParts) (answer : Answer ℕ) : Type 0 where
-  pub inside : IsDegreeWithin parts.len node answer
-  pub right : IsLouds parts.len parts.lists → IsDegreeOf (degrees_in parts.len parts.lists) node answer
 
 -- whether a node has no children, as 0 or 1
 pub record IsLeaf (node : ℕ) (parts : TreeParts) (answer : Answer ℕ) : Type 0 where

@@ -6,7 +6,7 @@ ghost use Rattle.bitm_view.specs.Queries.{selected_by};
 ghost use Rattle.louds_block.specs.Block.{HasLengths};
 ghost use Rattle.bitm_block_c.specs.Tree.{Answers, IsChild, IsParent, IsDegree};
 
-use bitm_abi::{BAD_SIZE, ListCounts, Tree, code_of, report_list};
+use bitm_abi::{BAD_SIZE, ListCounts, Tree, report_list};
 use louds_block::LoudsView;
 
 /// A query of each node of a list.
@@ -18,26 +18,17 @@ pub enum Asked {
     Degree,
 }
 
-/// The answer to a query of a node, by the codes of lists.
-#[inline(always)]
-fn asked_code(view: &LoudsView<'_>, asked: Asked, node: usize) -> usize
-    ensures { Answers asked node view.now (selected_by result) }
-{
-    let _ = view.len(); // its clause makes the limit of the length known to the proof
-    match asked {
-        Asked::Parent => code_of(view.parent(node)),
-        Asked::Degree => code_of(view.degree(node)),
-    }
-}
-
 /// The answer to a query of each node.
+#[inline(always)]
 fn ask_each(view: &LoudsView<'_>, asked: Asked, nodes: &[usize], out: &mut [usize])
     requires { length out.old ≡ length nodes.now }
     ensures { (j : ℕ) → j < length nodes.now
         → Answers asked (slice_index nodes.now j) view.now (selected_by (slice_index out.new j)) }
 {
-    for at in 0..nodes.len() {
-        out[at] = asked_code(view, asked, nodes[at]);
+    let _ = view.len(); // its clause makes the limit of the length known to the proof
+    match asked {
+        Asked::Parent => view.parent_list(nodes, out),
+        Asked::Degree => view.degree_list(nodes, out),
     }
 }
 
@@ -101,24 +92,15 @@ pub extern "C" fn bitm_tree_degree_list(
 }
 
 /// Child `ks[i]` of each node `nodes[i]`.
+#[inline(always)]
 fn child_each(view: &LoudsView<'_>, nodes: &[usize], ks: &[usize], out: &mut [usize])
     requires room { length out.old ≡ length nodes.now }
     requires ks { length ks.now ≡ length nodes.now }
     ensures { (j : ℕ) → j < length nodes.now → IsChild (slice_index nodes.now j)
         (slice_index ks.now j) view.now (selected_by (slice_index out.new j)) }
 {
-    for at in 0..nodes.len() {
-        out[at] = child_code(view, nodes[at], ks[at]);
-    }
-}
-
-/// Child `k` of a node, by the codes of lists.
-#[inline(always)]
-fn child_code(view: &LoudsView<'_>, node: usize, k: usize) -> usize
-    ensures { IsChild node k view.now (selected_by result) }
-{
     let _ = view.len(); // its clause makes the limit of the length known to the proof
-    code_of(view.child(node, k))
+    view.child_list(nodes, ks, out);
 }
 
 /// Child `ks[i]` of each node `nodes[i]`, and how many of the answers are codes.

@@ -9,7 +9,7 @@ use bitm_tables::answer::Answer;
 use std::iter::{FusedIterator, Iterator};
 use std::marker::Model;
 
-/// A view of a block whose items have places from 0 on. The block may hold anything: contracts say what is answered
+/// A view of a block whose items have indices from 0 on. The block may hold anything: contracts say what is answered
 /// where it holds a list.
 pub trait HasItems {
     /// Whether the parts of the block hold this list.
@@ -23,11 +23,11 @@ pub trait HasItems {
         ensures announced { result ≡ announced self.now }
         ensures all { (xs : List ℕ) → holds xs self.now → length xs ≡ result };
 
-    /// The item at a place. Whatever the block holds, the answer is `Absent` exactly where there is no such item. Where
+    /// The item at an index. Whatever the block holds, the answer is `Absent` exactly where there is no such item. Where
     /// it holds a list, the answer is never `Wrong`.
-    fn item(&self, place: usize) -> Answer<u64>
-        ensures inside { IsOfPlace (announced self.now) place result }
-        ensures answer { (xs : List ℕ) → holds xs self.now → IsItem xs place result };
+    fn item(&self, index: usize) -> Answer<u64>
+        ensures inside { IsOfPlace (announced self.now) index result }
+        ensures answer { (xs : List ℕ) → holds xs self.now → IsItem xs index result };
 
     /// The items in their order: where the block holds a list, all of it; else no more than are announced.
     ///
@@ -45,7 +45,7 @@ pub trait HasItems {
         self.iter_from(0)
     }
 
-    /// The items from a place on, in their order, else as `iter`; none where there are no more than `place`.
+    /// The items from index `index` on, in their order, else as `iter`; none where there are no more than `index`.
     ///
     /// # Cost
     /// For each item that comes that of `item`.
@@ -53,14 +53,14 @@ pub trait HasItems {
     /// ```
     /// for number in sequence.iter_from(1000) { .. }
     /// ```
-    fn iter_from(&self, place: usize) -> Items<'_, Self>
+    fn iter_from(&self, index: usize) -> Items<'_, Self>
     where
         Self: Sized,
-        ensures { result ≡ record { parts = self.now; left = announced self.now - place } }
+        ensures { result ≡ record { parts = self.now; left = announced self.now - index } }
     {
         Items {
             of: self,
-            left: self.announced().saturating_sub(place),
+            left: self.announced().saturating_sub(index),
         }
     }
 }

@@ -1,5 +1,5 @@
-//! The items of a block one after another, as iterators: numbers of a sequence, positions of sparse bits, and numbers of
-//! a matrix, where they lie in memory that may hold anything.
+//! The items of a block one after another, as iterators: numbers of a sequence, positions of sparse bits, and numbers
+//! of a matrix, where they lie in memory that may hold anything.
 //!
 //! Over a block that holds such a structure an iterator gives its items in their order. Over a stale or hostile one it
 //! gives no more items than the block announces, and ends at the first that is not found.

@@ -22,8 +22,8 @@ impl<'a> HasItems for LentSequence<'a> {
     }
 
     #[inline]
-    fn item(&self, place: usize) -> Answer<u64> {
-        self.get(place)
+    fn item(&self, index: usize) -> Answer<u64> {
+        self.get(index)
     }
 }
 
@@ -39,8 +39,8 @@ impl<'a> HasItems for SparseView<'a> {
     }
 
     #[inline]
-    fn item(&self, place: usize) -> Answer<u64> {
-        match self.select(place) {
+    fn item(&self, index: usize) -> Answer<u64> {
+        match self.select(index) {
             Answer::Found(position) => Answer::Found(position as u64),
             Answer::Absent => Answer::Absent,
             Answer::Wrong => Answer::Wrong,
@@ -60,7 +60,7 @@ impl<'a> HasItems for MatrixView<'a> {
     }
 
     #[inline]
-    fn item(&self, place: usize) -> Answer<u64> {
-        self.get(place)
+    fn item(&self, index: usize) -> Answer<u64> {
+        self.get(index)
     }
 }

@@ -1,5 +1,5 @@
-//! Tests of iterators over blocks: the items that were written, from the first and from a place, and what comes of words
-//! that hold no such structure.
+//! Tests of iterators over blocks: the items that were written, from the first and from an index, and what comes of
+//! words that hold no such structure.
 //!
 //! They stand in a crate of their own, since a crate with tests is proved twice.
 #![tactic(auto)]

@@ -1,11 +1,21 @@
--- One more item.
-use Rattle.std.proofs.Common.{slice_index, arith}
-use Rattle.bit_slices.proofs.lemmas.PositionLemmas.{placed_more}
+-- What is answered is no code but where there is no such node, or the words are not those of a tree.
+use Rattle.std.proofs.Common.{◌^◌, ◌<◌, slice_index, sym, subst, arith}
 use Rattle.bitm_view.specs.Queries.{selected_by}
-use Rattle.bitm_block_c.specs.Tree.{Answers}
+use Rattle.bitm_block_c.proofs.CodeLemmas.{coded, degree_code, parent_code}
+use Rattle.bitm_block_c.specs.Tree.{Answers, IsDegree, IsParent}
+use Rattle.bitm_block_c.specs.declared.lists.Asked.{Asked}
 use Rattle.bitm_block_c.proofs.lists.ask_each.Goals as goal
 
-pub loop-at-preserved : goal.loop-at-preserved
-loop-at-preserved c =
-    placed_more (λ j n. Answers c.args.asked (slice_index c.args.nodes.now j) c.args.view.now (selected_by n)) c.loop-at.out c.loop-at.at c.asked_code.result
-    c.loop-at.invariant (omega (arith, c.loop-at-test.true, c.loop-at.auto.at-end, c.loop-at.auto.out, c.requires)) c.asked_code.ensures
+pub returns-in-Parent : goal.returns-in-Parent
+returns-in-Parent c = λ j inside.
+    let node = slice_index c.args.nodes.now j in
+    let short : c.args.view.now.len < 2 ^ 60 = omega (arith, c.len.ensures.len, c.len.ensures.short) in
+    subst (λ (asked : Asked). Answers asked node c.args.view.now (selected_by (slice_index c.parent_list.new.out j))) (sym c.in-Parent.is)
+    (coded (IsParent node c.args.view.now) _ (λ a h. parent_code _ short node a h.inside) (c.parent_list.ensures.each j inside))
+
+pub returns-in-Degree : goal.returns-in-Degree
+returns-in-Degree c = λ j inside.
+    let node = slice_index c.args.nodes.now j in
+    let short : c.args.view.now.len < 2 ^ 60 = omega (arith, c.len.ensures.len, c.len.ensures.short) in
+    subst (λ (asked : Asked). Answers asked node c.args.view.now (selected_by (slice_index c.degree_list.new.out j))) (sym c.in-Degree.is)
+    (coded (IsDegree node c.args.view.now) _ (λ a h. degree_code _ short node a h.inside) (c.degree_list.ensures.each j inside))

@@ -8,8 +8,8 @@ use Rattle.block_items.proofs.views.SparseViewHasItems.item.Goals as goal
 pub returns-in-Found-clause-answer : goal.returns-in-Found-clause-answer
 returns-in-Found-clause-answer c = λ xs h.
     let v = c.args.self.now in
-    let inside : c.args.place < length xs = omega (arith, c.in-Found.ensures.within.0, h.holds.are.count) in (
+    let inside : c.args.index < length xs = omega (arith, c.in-Found.ensures.within.0, h.holds.are.count) in (
       inside,
-      at_most_one_picked (bits_of xs v) true c.args.place c.in-Found.position (slice_index xs c.args.place) (c.in-Found.ensures.counts xs h)
-          (select_some v.len xs h.places c.args.place inside),
+      at_most_one_picked (bits_of xs v) true c.args.index c.in-Found.position (slice_index xs c.args.index) (c.in-Found.ensures.counts xs h)
+          (select_some v.len xs h.places c.args.index inside),
     )
