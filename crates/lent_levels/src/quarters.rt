@@ -1,5 +1,6 @@
 //! Quarters of basic blocks in the caller's memory, which may hold anything: written, checked, and ranked by.
-ghost use Rattle.std.specs.Prelude.{◌≡◌, ◌*◌, ◌+◌, ◌/◌, ◌^◌, ◌<◌, ◌≤◌, ◌↔◌, ℕ, List, IsTrue, IfSome, length, slice_index};
+ghost use Rattle.std.specs.Prelude.{◌≡◌, ◌*◌, ◌+◌, ◌/◌, ◌^◌, ◌<◌, ◌≤◌, ◌↔◌, ℕ, List};
+ghost use Rattle.std.specs.Prelude.{IsTrue, IfSome, length, slice_index};
 ghost use Rattle.std.specs.Int.{div_ceil};
 ghost use Rattle.bit_lists.specs.Count.{ones_before, IsRank};
 ghost use Rattle.bitm_tables.specs.Quarters.{AreQuartersOf, quarter_count, record_count};
@@ -132,7 +133,7 @@ pub fn fill_quarters<T: TableSource>(source: &mut T, quarters: &mut [u64])
     }
 }
 
-/// Whether the number of its basic block counts to a quarter of a source's words, the one with this index among all.
+/// Whether the number of its basic block counts to a quarter of a source's words; `quarter` is its index among all.
 fn counts_to<T: TableSource>(source: &mut T, number: u64, quarter: usize) -> bool
     requires indexed { IsIndexed (T.lists source.old) }
     requires begun { 2 * quarter < length (T.lists source.old).words }
