@@ -195,7 +195,7 @@ static void is_over(const uint64_t *block, const struct bitm_sparse *sparse)
     const size_t lens[4] = {it->words_len, it->upper_len, it->lower_len, it->low_len};
     MUST(it->len == block[3] && it->width == block[4] && sparse->bits_len == block[9]);
     for (size_t i = 0; i < 4; i++) MUST(starts[i] == block + block[17 + 4 * i] / 8 && lens[i] == block[18 + 4 * i]);
-    for (size_t i = 0; i < 2; i++) MUST(it->reserved[i] == 0 && sparse->reserved[i] == 0);
+    MUST(it->samples_len == 0 && sparse->reserved[0] == 0 && sparse->reserved[1] == 0);
 }
 
 static void drawn_bits(void)
