@@ -56,8 +56,8 @@ impl<'a> Model for LevelsView<'a> {
 
 impl<'a> LevelsView<'a> {
     /// The tables of the levels of `len` numbers of `width` bits, and the quarters of their words, or an empty slice to
-    /// do without; `None` exactly where a matrix cannot have these numbers (`are_numbers`), or a table has not one entry
-    /// for each level. The quarters may be of any length.
+    /// do without; `None` exactly where a matrix cannot have these numbers (`are_numbers`), or a table has not one
+    /// entry for each level. The quarters may be of any length.
     ///
     /// ```
     /// LevelsView::over(6, 3, ones, zeros, &[]);   // Some(..) of three words each
