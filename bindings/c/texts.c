@@ -180,7 +180,7 @@ static void is_over(const uint64_t *block, const struct bitm_text *text)
     MUST(text->first == block[8] && text->step == block[9]);
     for (size_t i = 0; i < SECTIONS; i++)
         MUST(starts[i] == block + block[17 + 4 * i] / 8 && lens[i] == block[18 + 4 * i]);
-    for (size_t i = 0; i < 2; i++) MUST(text->reserved[i] == 0 && l->reserved[i] == 0 && m->reserved[i] == 0);
+    MUST(text->reserved[0] == 0 && text->reserved[1] == 0 && l->quarters_len == 0 && m->quarters_len == 0);
 }
 
 static void drawn_texts(void)

@@ -137,7 +137,7 @@ pub fn fill_quarters<T: TableSource>(source: &mut T, quarters: &mut [u64])
     }
 }
 
-/// Whether the number of its basic block counts to a quarter of a source's words, the one with this index among all.
+/// Whether the number of its basic block counts to a quarter of a source's words, which has this index among all.
 fn counts_to<T: TableSource>(source: &mut T, number: u64, quarter: usize) -> bool
     requires indexed { IsIndexed (T.lists source.old) }
     requires begun { 2 * quarter < length (T.lists source.old).words }
