@@ -5,8 +5,8 @@
 //     std::cout << m[4] << ' ' << m.rank(1, 4) << ' ' << m.select(1, 2).value() << '\n';                 // 5 2 5
 //     std::cout << m.quantile(1, 5, 2).value() << ' ' << m.count_less(1, 5, 4) << '\n';                  // 4 2
 //
-// A number of `width` bits takes about 1.03 times as many, and with quarters about 1.16 times. The file of a matrix is its block, the same bytes from each
-// language.
+// A number of `width` bits takes about 1.03 times as many, and with quarters about 1.16 times. The file of a matrix is
+// its block, the same bytes from each language.
 #ifndef BITM_MATRIX_HPP
 #define BITM_MATRIX_HPP
 

@@ -82,7 +82,11 @@ pub fn are_counts<T: TableSource>(levels: &LevelsView<'_>, source: &mut T) -> bo
 /// # Conditions
 /// The source's tables are those of its words.
 /// # Cost
-/// That of `are_quarters`, and nothing where there are none.
+/// That of `are_quarters`, and nothing where there are none (evident from the code).
+///
+/// ```
+/// has_quarters(&levels, &mut source);   // true of compact levels
+/// ```
 pub fn has_quarters<T: TableSource>(levels: &LevelsView<'_>, source: &mut T) -> bool
     requires { IsIndexed (T.lists source.old) }
     ensures { IsTrue result ↔ HasQuarters levels.now (bits_in (T.lists source.old)) }

@@ -123,6 +123,10 @@ fn number_of_record<T: TableSource>(source: &mut T, at: usize) -> u64
 /// The source's tables are those of its words, and there is room for a number for every eight words.
 /// # Cost
 /// Five ranks for every eight words (evident from the code).
+///
+/// ```
+/// fill_quarters(&mut source, &mut quarters);   // of 16 words: two numbers
+/// ```
 pub fn fill_quarters<T: TableSource>(source: &mut T, quarters: &mut [u64])
     requires indexed { IsIndexed (T.lists source.old) }
     requires room { length quarters.old ≡ div_ceil (length (T.lists source.old).words) 8 }
@@ -152,6 +156,10 @@ fn counts_to<T: TableSource>(source: &mut T, number: u64, quarter: usize) -> boo
 /// The source's tables are those of its words.
 /// # Cost
 /// Two ranks for every two words (evident from the code).
+///
+/// ```
+/// are_quarters(&mut source, &quarters);   // true of what `fill_quarters` wrote
+/// ```
 pub fn are_quarters<T: TableSource>(source: &mut T, quarters: &[u64]) -> bool
     requires indexed { IsIndexed (T.lists source.old) }
     ensures { IsTrue result ↔ AreQuartersOf (bits_in (T.lists source.old)) quarters.now }
