@@ -2046,6 +2046,42 @@ BITM_MUST_USE uint32_t bitm_dictionary_find_list(const struct bitm_dictionary *d
                                                  size_t keys_len, uint64_t *out, size_t out_len,
                                                  struct bitm_list_counts *counts);
 
+/* ---- hashes in blocks, without the keys */
+
+/* How many words the block of a hash takes, whose levels have that many words together. BITM_BAD_SIZE if there are 2^58
+ * words or more, or more than 256 levels.
+ *
+ *     uint64_t hash_len, hash_seed;
+ *     if (bitm_hash_block_size(taken, height, &hash_len) != BITM_OK) return 1;
+ *     uint64_t *of_hash = malloc(8 * hash_len); // or a mapped file
+ *     struct bitm_hash hash_in_block = {0};
+ *     if (!of_hash || bitm_hash_block_build(of_levels, taken, widths, height, 7, of_hash, hash_len) != BITM_OK ||
+ *         bitm_hash_block_check(of_hash, hash_len) != BITM_OK ||
+ *         bitm_hash_block_open(of_hash, hash_len, &hash_in_block, &hash_seed) != BITM_OK || hash_seed != 7 ||
+ *         bitm_hash_get(&hash_in_block, 9 + hash_seed, &value) != BITM_OK || value > 2) return 1;
+ *     free(of_hash); */
+BITM_MUST_USE uint32_t bitm_hash_block_size(size_t words, size_t levels, uint64_t *out);
+
+/* Writes the block of the hash whose levels have these words and sizes, as bitm_hash_build writes them: it has as many
+ * keys as there are 1 bits. seed is yours, that by which you hashed the keys, say: it is kept. BITM_BAD_SIZE if
+ * bitm_hash_block_size does not take the lengths, a level has no word, the levels have not words_len words together, or
+ * block_len is not what that call says. No two of the memory may overlap. Two passes over the words and one over the
+ * block (evident from the code). */
+BITM_MUST_USE uint32_t bitm_hash_block_build(const uint64_t *words, size_t words_len, const uint64_t *sizes,
+                                             size_t sizes_len, uint64_t seed, uint64_t *block, size_t block_len);
+
+/* Opens a block, that of a dictionary too: writes the hash that bitm_hash_get takes, which points into the block, and
+ * its seed. *hash has to be zeros, or a hash whose memory is still there. BITM_WRONG exactly if the header or the
+ * directory of the block is not right, or is that of no hash, or block_len is not as they say. Reads at most 80 words,
+ * however long the block is (evident from the code); what its other words hold is not looked at. */
+BITM_MUST_USE uint32_t bitm_hash_block_open(const uint64_t *block, size_t block_len, struct bitm_hash *hash,
+                                            uint64_t *seed);
+
+/* Whether a block is as it was written and holds a hash: BITM_OK, or BITM_WRONG as bitm_hash_block_open, if a checksum
+ * is not that of its words, or if the tables are not those of the words or the sizes not those of levels. Two passes
+ * over the words of the block (evident from the code). */
+BITM_MUST_USE uint32_t bitm_hash_block_check(const uint64_t *block, size_t block_len);
+
 /* ---- strings: in one block of memory
  *
  * A dictionary of strings of bytes is the block of a minimal perfect hash of their hashes, and the strings themselves, one
@@ -2060,14 +2096,14 @@ BITM_MUST_USE uint32_t bitm_dictionary_find_list(const struct bitm_dictionary *d
  *         lost > 0) return 1;
  *     lower_of = bitm_index_lower_len(taken);
  *     if (bitm_index_build(of_levels, taken, tables_of, 1, tables_of + 1, lower_of, &ones) != BITM_OK) return 1;
- *     struct bitm_hash of_codes = {.index = {.words = of_levels, .words_len = taken, .upper = tables_of, .upper_len = 1,
+ *     struct bitm_hash of_sums = {.index = {.words = of_levels, .words_len = taken, .upper = tables_of, .upper_len = 1,
  *                                            .lower = tables_of + 1, .lower_len = lower_of, .bits_len = 64 * taken},
  *                                  .sizes = widths, .sizes_len = height, .keys = 3};
  *     if (bitm_strings_size(taken, height, 3, 9, &len_of_names) != BITM_OK) return 1;
  *     uint64_t *of_names = malloc(8 * len_of_names); // or a mapped file
  *     struct bitm_strings names = {0};
  *     if (!of_names ||
- *         bitm_strings_build(&of_codes, seed_of, spelled, 9, ends_of, 3, of_names, len_of_names) != BITM_OK ||
+ *         bitm_strings_build(&of_sums, seed_of, spelled, 9, ends_of, 3, of_names, len_of_names) != BITM_OK ||
  *         bitm_strings_open(of_names, len_of_names, &names) != BITM_OK ||
  *         bitm_strings_find(&names, (const uint8_t *)"bob", 3, &number) != BITM_OK || number > 2 ||
  *         bitm_strings_find(&names, (const uint8_t *)"bo", 2, &value) != BITM_NONE) return 1;
@@ -2122,9 +2158,9 @@ BITM_MUST_USE uint32_t bitm_strings_size(size_t words, size_t levels, size_t str
  * nothing that is read. Three passes over the words of the levels, two over the bytes, one over the block, and a look-up
  * for each string (evident from the code).
  *
- *     if (bitm_strings_build(&of_codes, seed_of, (const uint8_t *)"adabobada", 9, ends_of, 3, of_names, len_of_names) !=
+ *     if (bitm_strings_build(&of_sums, seed_of, (const uint8_t *)"adabobada", 9, ends_of, 3, of_names, len_of_names) !=
  *             BITM_WRONG ||
- *         bitm_strings_build(&of_codes, seed_of, spelled, 9, ends_of, 3, of_names, len_of_names) != BITM_OK) return 1; */
+ *         bitm_strings_build(&of_sums, seed_of, spelled, 9, ends_of, 3, of_names, len_of_names) != BITM_OK) return 1; */
 BITM_MUST_USE uint32_t bitm_strings_build(const struct bitm_hash *hash, uint64_t seed, const uint8_t *bytes,
                                           size_t bytes_len, const uint64_t *ends, size_t ends_len, uint64_t *block,
                                           size_t block_len);
@@ -2180,42 +2216,6 @@ BITM_MUST_USE uint32_t bitm_strings_find_list(const struct bitm_strings *strings
  *     free(of_names); */
 BITM_MUST_USE uint32_t bitm_strings_get(const struct bitm_strings *strings, size_t number, uint64_t *begin,
                                         uint64_t *len);
-
-/* ---- hashes in blocks, without the keys */
-
-/* How many words the block of a hash takes, whose levels have that many words together. BITM_BAD_SIZE if there are 2^58
- * words or more, or more than 256 levels.
- *
- *     uint64_t hash_len, hash_seed;
- *     if (bitm_hash_block_size(taken, height, &hash_len) != BITM_OK) return 1;
- *     uint64_t *of_hash = malloc(8 * hash_len); // or a mapped file
- *     struct bitm_hash hash_in_block = {0};
- *     if (!of_hash || bitm_hash_block_build(of_levels, taken, widths, height, 7, of_hash, hash_len) != BITM_OK ||
- *         bitm_hash_block_check(of_hash, hash_len) != BITM_OK ||
- *         bitm_hash_block_open(of_hash, hash_len, &hash_in_block, &hash_seed) != BITM_OK || hash_seed != 7 ||
- *         bitm_hash_get(&hash_in_block, 9 + hash_seed, &value) != BITM_OK || value > 2) return 1;
- *     free(of_hash); */
-BITM_MUST_USE uint32_t bitm_hash_block_size(size_t words, size_t levels, uint64_t *out);
-
-/* Writes the block of the hash whose levels have these words and sizes, as bitm_hash_build writes them: it has as many
- * keys as there are 1 bits. seed is yours, that by which you hashed the keys, say: it is kept. BITM_BAD_SIZE if
- * bitm_hash_block_size does not take the lengths, a level has no word, the levels have not words_len words together, or
- * block_len is not what that call says. No two of the memory may overlap. Two passes over the words and one over the
- * block (evident from the code). */
-BITM_MUST_USE uint32_t bitm_hash_block_build(const uint64_t *words, size_t words_len, const uint64_t *sizes,
-                                             size_t sizes_len, uint64_t seed, uint64_t *block, size_t block_len);
-
-/* Opens a block, that of a dictionary too: writes the hash that bitm_hash_get takes, which points into the block, and
- * its seed. *hash has to be zeros, or a hash whose memory is still there. BITM_WRONG exactly if the header or the
- * directory of the block is not right, or is that of no hash, or block_len is not as they say. Reads at most 80 words,
- * however long the block is (evident from the code); what its other words hold is not looked at. */
-BITM_MUST_USE uint32_t bitm_hash_block_open(const uint64_t *block, size_t block_len, struct bitm_hash *hash,
-                                            uint64_t *seed);
-
-/* Whether a block is as it was written and holds a hash: BITM_OK, or BITM_WRONG as bitm_hash_block_open, if a checksum
- * is not that of its words, or if the tables are not those of the words or the sizes not those of levels. Two passes
- * over the words of the block (evident from the code). */
-BITM_MUST_USE uint32_t bitm_hash_block_check(const uint64_t *block, size_t block_len);
 
 /* ---- texts: where a pattern stands, by an index in one block of memory
  *

@@ -2,7 +2,7 @@
 //
 //     const bitm::strings names{"ada", "bob", "eve"};                        // each string has a number below 3
 //     std::cout << names.contains("bob") << ' ' << names.contains("bo") << '\n'; // 1 0
-//     std::cout << names[*names.find("eve")] << '\n';                        // eve
+//     std::cout << (names[*names.find("eve")] == "eve") << '\n';             // 1
 //
 // It is a minimal perfect hash of the hashes of the strings, and the strings one after another: so what is none of them
 // has no number. The file of strings is their block, the same bytes from each language.

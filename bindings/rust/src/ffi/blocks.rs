@@ -323,6 +323,13 @@ extern "C" {
         dictionary: *const bitm_dictionary, keys: *const u64, keys_len: usize, out: *mut u64, out_len: usize,
         counts: *mut bitm_list_counts,
     ) -> u32;
+    pub fn bitm_hash_block_size(words: usize, levels: usize, out: *mut u64) -> u32;
+    pub fn bitm_hash_block_build(
+        words: *const u64, words_len: usize, sizes: *const u64, sizes_len: usize, seed: u64, block: *mut u64,
+        block_len: usize,
+    ) -> u32;
+    pub fn bitm_hash_block_open(block: *const u64, block_len: usize, hash: *mut bitm_hash, seed: *mut u64) -> u32;
+    pub fn bitm_hash_block_check(block: *const u64, block_len: usize) -> u32;
 }
 #[repr(C)]
 pub struct bitm_strings {
@@ -352,13 +359,6 @@ extern "C" {
         out: *mut u64, out_len: usize, counts: *mut bitm_list_counts,
     ) -> u32;
     pub fn bitm_strings_get(strings: *const bitm_strings, number: usize, begin: *mut u64, len: *mut u64) -> u32;
-    pub fn bitm_hash_block_size(words: usize, levels: usize, out: *mut u64) -> u32;
-    pub fn bitm_hash_block_build(
-        words: *const u64, words_len: usize, sizes: *const u64, sizes_len: usize, seed: u64, block: *mut u64,
-        block_len: usize,
-    ) -> u32;
-    pub fn bitm_hash_block_open(block: *const u64, block_len: usize, hash: *mut bitm_hash, seed: *mut u64) -> u32;
-    pub fn bitm_hash_block_check(block: *const u64, block_len: usize) -> u32;
 }
 #[repr(C)]
 #[derive(Copy, Clone)]
