@@ -870,7 +870,7 @@ BITM_MUST_USE uint32_t bitm_hash_get(const struct bitm_hash *hash, uint64_t key_
 
 /* out[i] is the number of key_hashes[i], or BITM_NO_ANSWER for BITM_NONE and BITM_WRONG_TABLES for BITM_WRONG; counts
  * says how many of each there are. BITM_BAD_SIZE also if out_len is not key_hashes_len. out and counts may overlap
- * neither each other nor the hashes. 256 hashes go from level to level side by side: for each no more is read than for
+ * neither each other nor the hashes. 32 hashes go from level to level side by side: for each no more is read than for
  * one alone.
  *
  *     const uint64_t known[2] = {0xa4093822299f31d0, 0x243f6a8885a308d3};

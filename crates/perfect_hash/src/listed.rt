@@ -13,7 +13,7 @@ use bitm_many::lists::total_rank_many_on;
 use bitm_select::search::selected::{NO_ANSWER, WRONG_TABLES};
 use bitm_tables::source::TableSource;
 use hash_levels::Placing;
-use tuning::LOOK_UPS_SIDE_BY_SIDE;
+use tuning::RANKS_SIDE_BY_SIDE;
 
 /// How many levels, from the first on, have words and lie within those that there are.
 fn levels_within(words: usize, sizes: &[usize]) -> usize
@@ -73,15 +73,15 @@ fn number_block_on<T: TableSource, P: Placing>(
     requires sized { HasSizes (T.lists source.old) }
     requires sizes { AreInside sizes.now (bits_in (T.lists source.old)) }
     requires same_length { length numbers.old ≡ length hashes.now }
-    requires few { length hashes.now ≤ 256 }
+    requires few { length hashes.now ≤ 32 }
     ensures coded { AreCoded (P.fall placing.now) sizes.now count absent (T.lists source.old)
         hashes.now numbers.new }
     ensures reads { OnlyReads T.lists T.reads source.old source.new (length hashes.now)
         (length hashes.now) (length hashes.now * (length sizes.now + 8)) }
 {
     // Of ones: the compiler would fill arrays of zeros by `memset`, which the archive for C does without.
-    let waiting = &mut [1; LOOK_UPS_SIDE_BY_SIDE];
-    let mut room = [1; LOOK_UPS_SIDE_BY_SIDE];
+    let waiting = &mut [1usize; RANKS_SIDE_BY_SIDE];
+    let mut room = [1usize; RANKS_SIDE_BY_SIDE];
     let places = &mut room[..hashes.len()];
     find_places(
         &BySource,
@@ -116,7 +116,7 @@ fn number_each_on<T: TableSource, P: Placing>(
 {
     let mut from = 0;
     while from < hashes.len() {
-        let to = from + (hashes.len() - from).min(LOOK_UPS_SIDE_BY_SIDE);
+        let to = from + (hashes.len() - from).min(RANKS_SIDE_BY_SIDE);
         let part = &mut numbers[from..to];
         number_block_on(
             &mut *source,
@@ -132,7 +132,7 @@ fn number_each_on<T: TableSource, P: Placing>(
 }
 
 /// Writes for each hash what `total_number_on` answers where `placing` says where hashes fall: its number,
-/// `NO_ANSWER` for `Absent`, or `WRONG_TABLES` for `Wrong`. 256 hashes go from level to level side by side.
+/// `NO_ANSWER` for `Absent`, or `WRONG_TABLES` for `Wrong`. 32 hashes go from level to level side by side.
 ///
 /// # Conditions
 /// There are fewer than 2^58 words, the tables have the right lengths, and there are no more than 256 sizes; `count` is

@@ -1,5 +1,5 @@
 //! Many look-ups at once: they go from level to level side by side, so that each waits for memory while the others do.
-ghost use Rattle.std.specs.Prelude.{◌≡◌, ◌≢◌, ◌+◌, ◌*◌, ◌^◌, ◌-◌, ◌<◌, ◌≤◌, ℕ, length, slice_index};
+ghost use Rattle.std.specs.Prelude.{◌≡◌, ◌≢◌, ◌+◌, ◌*◌, ◌%◌, ◌^◌, ◌-◌, ◌<◌, ◌≤◌, ℕ, length, slice_index};
 ghost use Rattle.bit_lists.specs.Count.{ones_before};
 ghost use Rattle.hash_levels.specs.Levels.{fall_in, place_from, GoesOn};
 ghost use Rattle.perfect_hash.specs.Many.{told, AreHashes, AreInside, AreLookedUp, AreNumbersOf};
@@ -84,6 +84,21 @@ fn look_at_level<Q: Query, T: TableSource, P: Placing>(
     kept
 }
 
+/// Makes each second place `NO_ANSWER`, from number `first` on.
+#[inline(always)]
+fn none_half(places: &mut [usize], first: usize)
+    ensures none { (j : ℕ) → first ≤ j → j % 2 ≡ first % 2 → j < length places.old
+        → slice_index places.new j ≡ 2 ^ 64 - 1 }
+    ensures kept { (j : ℕ) → slice_index places.old j ≡ 2 ^ 64 - 1
+        → slice_index places.new j ≡ 2 ^ 64 - 1 }
+{
+    let mut at = first;
+    while at < places.len() {
+        places[at] = NO_ANSWER;
+        at += 2;
+    }
+}
+
 /// The position of each hash, or `NO_ANSWER`. What `waiting`, which is as long as the hashes at least, holds afterwards
 /// means nothing.
 #[inline(always)]
@@ -105,8 +120,10 @@ pub(crate) fn find_places<Q: Query, T: TableSource, P: Placing>(
     ensures reads { OnlyReads T.lists T.reads source.old source.new 0 0
         (length hashes.now * length sizes.now) }
 {
+    // A loop over all places would be compiled to a call of C's `memset`, and the archive for C calls nothing.
+    none_half(&mut *places, 0);
+    none_half(&mut *places, 1);
     for k in 0..hashes.len() {
-        places[k] = NO_ANSWER;
         waiting[k] = k;
     }
     let mut count = hashes.len();

@@ -1,5 +1,5 @@
 -- Look-ups side by side, and lists that are written block after block.
-use Rattle.std.proofs.Common.{◌≡◌, ◌≢◌, ℕ, ◌+◌, ◌-◌, ◌*◌, ◌^◌, ◌<◌, ◌≤◌, ◌⊎◌, Bool, List, length, slice_index, slice_set, Option, Some, None, refl, sym, ap, ◌∙◌, subst, arith, inl, inr}
+use Rattle.std.proofs.Common.{◌≡◌, ◌≢◌, ℕ, ◌+◌, ◌-◌, ◌*◌, ◌%◌, ◌^◌, ◌<◌, ◌≤◌, ◌⊎◌, Bool, List, length, slice_index, slice_set, Option, Some, None, refl, sym, ap, ◌∙◌, subst, arith, inl, inr}
 use Rattle.std.proofs.Math.Nat.{mul-le-mul_left}
 use Rattle.std.proofs.lemmas.Bool.{cases_eq, cases_lt}
 use Rattle.std.proofs.lemmas.List.{drop_all, get_or-set_other, get_or-set_same, length-set}
@@ -148,6 +148,18 @@ module _ (fall : ℕ → ℕ → ℕ → ℕ) (b : List Bool) (sizes : List ℕ)
           | inr not ↦ other_wait k kept (omega arith) not (h.wait k low (still k not then))
         ];
   }
+
+-- no answer stands anywhere once it does in each second place from either on
+pub all_none : (first second : List ℕ) (n m : ℕ) → m ≡ n
+    → ((j : ℕ) → 0 ≤ j → j % 2 ≡ 0 % 2 → j < n → slice_index first j ≡ 2 ^ 64 - 1)
+    → ((j : ℕ) → 1 ≤ j → j % 2 ≡ 1 % 2 → j < m → slice_index second j ≡ 2 ^ 64 - 1)
+    → ((j : ℕ) → slice_index first j ≡ 2 ^ 64 - 1 → slice_index second j ≡ 2 ^ 64 - 1)
+    → (k : ℕ) → k < n → slice_index second k ≡ 2 ^ 64 - 1
+all_none first second n m same even odd kept k less =
+    elim (cases_eq (k % 2) 0) [
+      | inl e ↦ kept k (even k (omega arith) (omega (arith, e)) less)
+      | inr not ↦ odd k (omega (arith, not)) (omega (arith, not)) (omega (arith, less, same))
+    ]
 
 -- before the first level all wait
 pub looked_up-first : (fall : ℕ → ℕ → ℕ → ℕ) (b : List Bool) (sizes hashes places waiting : List ℕ) → length hashes ≤ length waiting

@@ -14,8 +14,15 @@ returns-in_default-clause-number g c tables sizes most =
     let P : Lists → Type 0 = λ l. HasTables l → (place ≤ length (bits_in l)) × (c.in-Some.number ≡ ones_before (bits_in l) place) in
     let answer : (place ≤ length (bits_in lists)) × (c.in-Some.number ≡ ones_before (bits_in lists) place) =
     subst P c.place_on.ensures.reads.same c.in-Some.ensures.answer tables in
-    omega (arith, answer.1, one_counted (bits_in lists) place c.in-Found.ensures.one.1, most, c.if-number-most.false, c.min-most.ensures,
-    ones_before-add-zeros_before (bits_in lists) place answer.0)
+    omega (
+      arith,
+      answer.1,
+      one_counted (bits_in lists) place c.in-Found.ensures.one.1,
+      most,
+      c.if-number-most.false,
+      c.min-most.ensures,
+      ones_before-add-zeros_before (bits_in lists) place answer.0,
+    )
 
 pub overflow_add-place : goal.overflow_add-place
 overflow_add-place g c =

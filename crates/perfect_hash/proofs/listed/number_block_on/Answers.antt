@@ -14,7 +14,7 @@ returns-clause-coded g c = λ k less.
     let lists = g.T.TableSource.lists c.args.source.now in
     let place = slice_index c.find_places.new.places k in
     let rank = slice_index c.total_rank_many_on.new.ranks k in
-    let long : length c.find_places.new.places ≡ length c.args.hashes.now = omega (arith, c.find_places.auto.places, length-take-le {A = ℕ} (length c.args.hashes.now) (replicate 256 1) (omega (arith, c.requires.few))) in
+    let long : length c.find_places.new.places ≡ length c.args.hashes.now = omega (arith, c.find_places.auto.places, length-take-le {A = ℕ} (length c.args.hashes.now) (replicate 32 1) (omega (arith, c.requires.few))) in
     coded_hash lists (fall_in (g.P.Placing.fall placing) sizes)
     (λ hash level words some. g.met.P.Placing.inside placing (sum (take level sizes)) hash level words some)
     sizes (slice_index c.args.hashes.now k) c.args.count c.args.absent place rank (slice_index c.code_each.new.numbers k)

@@ -1,14 +1,14 @@
 -- All wait at first; what was found tells the places once none waits, or after the last level.
 use Rattle.std.proofs.Common.{inl, inr, length, refl, arith}
 use Rattle.hash_levels.specs.Levels.{fall_in}
-use Rattle.perfect_hash.proofs.lemmas.ManyLemmas.{last_is_told, looked_up-first, reads_fewer}
+use Rattle.perfect_hash.proofs.lemmas.ManyLemmas.{all_none, last_is_told, looked_up-first, reads_fewer}
 use Rattle.perfect_hash.proofs.many.find_places.Goals as goal
 
 pub loop-level-init : goal.loop-level-init
 loop-level-init g c =
     let i = c.loop-k.invariant in
     record {
-      long = i.long;
+      long = omega (arith, c.none_half.auto.places, c.none_half-2.auto.places, c.requires.same_length);
       begins = omega arith;
       fewer = omega arith;
       inside = omega arith;
@@ -23,9 +23,12 @@ loop-level-init g c =
         };
         same = refl;
       };
-      each = looked_up-first (fall_in (g.P.Placing.fall c.args.placing.now) c.args.sizes.now) (g.Q.Query.bits c.args.query.now (g.T.TableSource.lists c.args.source.now)) c.args.sizes.now c.args.hashes.now c.loop-k.places c.loop-k.waiting
+      each = looked_up-first (fall_in (g.P.Placing.fall c.args.placing.now) c.args.sizes.now) (g.Q.Query.bits c.args.query.now (g.T.TableSource.lists c.args.source.now)) c.args.sizes.now c.args.hashes.now c.none_half-2.new.places c.loop-k.waiting
           i.room
-          (λ k less. i.none k (omega (arith, less, c.loop-k-test.false))) (λ k less. i.own k (omega (arith, less, c.loop-k-test.false)));
+          (λ k less.
+          all_none c.none_half.new.places c.none_half-2.new.places (length c.args.places.now) (length c.none_half.new.places) (omega (arith, c.none_half.auto.places))
+          c.none_half.ensures.none c.none_half-2.ensures.none c.none_half-2.ensures.kept k (omega (arith, less, c.requires.same_length)))
+          (λ k less. i.own k (omega (arith, less, c.loop-k-test.false)));
     }
 
 pub returns-then-count-eq0 : goal.returns-then-count-eq0

@@ -4,12 +4,10 @@ use Rattle.hash_levels.specs.Levels.{fall_in}
 use Rattle.perfect_hash.specs.Many.{AreLookedUp}
 use Rattle.perfect_hash.proofs.many.find_places.Given as goal
 
--- no places yet, and those so far wait
+-- those so far wait
 abbrev pub invariant-loop-k : goal.invariant-loop-k
 invariant-loop-k g l = record {
-  long : length l.places ≡ length l.hashes;
   room : length l.hashes ≤ length l.waiting;
-  none : (k : ℕ) → k < l.k → slice_index l.places k ≡ 2 ^ 64 - 1;
   own : (k : ℕ) → k < l.k → slice_index l.waiting k ≡ k;
 }
 
