@@ -1,6 +1,6 @@
 /* Succinct bit vectors with rank and select: words, and two tables of counts beside them. And monotone integer
- * sequences (Elias-Fano), sparse bits, minimal perfect hashes and dictionaries, trees (LOUDS) and tries, lists of
- * numbers in any order (wavelet matrices) and indexes of texts, in words with such tables.
+ * sequences (Elias-Fano), sparse bits, minimal perfect hashes and dictionaries of numbers and strings, trees (LOUDS) and
+ * tries, lists of numbers in any order (wavelet matrices) and indexes of texts, in words with such tables.
  *
  * Bit i is bit i % 64, lowest first, of words[i / 64]. You own the memory of words and tables, which may be a mapped
  * file. No call allocates, keeps a pointer or has state, so any number of threads may query at once.

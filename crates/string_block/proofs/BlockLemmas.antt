@@ -13,11 +13,11 @@ use Rattle.bitm_block.specs.declared.layout.Section.{Section}
 use Rattle.hash_levels.specs.Numbers.{number_by}
 use Rattle.hash_block.specs.Block.{hash_in, IsHashBlock}
 use Rattle.hash_block.specs.Parts.{HashParts}
-use Rattle.string_block.specs.Block.{sections_with, string_head, strings_in, AreFewOf, ArePartsOf, IsBlockOf, NumberStrings, StandsIn}
+use Rattle.string_block.specs.Block.{sections_with, string_head, strings_in, AreFewOf, ArePartsOf, IsBlockOf, NumberStrings, RoundTrip, StandsIn}
 use Rattle.string_block.specs.Bytes.{hash_of, stored_from, AreZeroFrom}
 use Rattle.string_block.specs.Given.{given, len_of, StandsAtNumber}
 use Rattle.string_block.specs.Parts.{given_number, start_of, string_number, AreStrings, HasStarts, IsOwn, IsString, StringParts}
-use Rattle.string_block.proofs.ViewLemmas.{same_number}
+use Rattle.string_block.proofs.ViewLemmas.{only_found, same_number}
 
 -- the parts of these sections
 abbrev parts_of : List ℕ → List ℕ → List ℕ → StringParts
@@ -153,3 +153,11 @@ block_is hash bytes ends old new few number sealed are =
           (stands_at hash bytes ends hash_block starts words few number are i v less is);
       only = number.numbers.onto;
     }
+
+-- what was written is found again
+pub round_trip : RoundTrip
+round_trip number bytes ends block is = (
+  is.sound,
+  λ i v answer less number_is found.
+      only_found (strings_in block) (given bytes ends i) (len_of ends i) v answer is.sound.strings (is.all i v less number_is) found,
+)

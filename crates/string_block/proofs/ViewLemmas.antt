@@ -50,3 +50,11 @@ found_of parts string len Absent answer are is kept =
     subst (λ (a : Answer ℕ). IsFound parts string len a) (sym kept)
     (λ u other. no_number u (sym (own_number parts u string len are other) ∙ is))
 found_of parts string len Wrong answer are is kept = absurd is
+
+-- of a string that stands at a number no other number is found
+pub only_found : (parts : StringParts) (string : ℕ → ℕ) (len v : ℕ) (answer : Answer ℕ) → AreStrings parts → IsString parts v string len
+    → IsFound parts string len answer → answer ≡ Found v
+only_found parts string len v (Found w) are is found =
+    ap Found (one_number w v (sym (own_number parts w string len are found) ∙ own_number parts v string len are is))
+only_found parts string len v Absent are is found = absurd (found v is)
+only_found parts string len v Wrong are is found = absurd found

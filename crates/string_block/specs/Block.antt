@@ -2,6 +2,8 @@
 use Rattle.std.specs.Prelude.{◌≡◌, ◌≢◌, ℕ, ◌+◌, ◌^◌, ◌<◌, ◌≤◌, List, [], ◌∷◌, length, slice_index, Option, Some}
 use Rattle.std.specs.Int.{div_ceil}
 use Rattle.bitm_tables.specs.Tables.{bits_in}
+use Rattle.bitm_tables.specs.declared.answer.Answer.{Answer}
+use Rattle.bitm_tables.specs.declared.answer.Answer.TheVariants.{Found}
 use Rattle.bitm_block.specs.Header.{count_in, section_in, IsBlock, IsVerified}
 use Rattle.bitm_block.specs.Layout.{end_of, part_in}
 use Rattle.bitm_block.specs.declared.head.Head.{Head}
@@ -10,7 +12,7 @@ use Rattle.block_tables.specs.Sections.{section_of}
 use Rattle.hash_block.specs.Block.{hash_in, hash_sections, IsHashBlock, IsBlockOf as IsHashOf}
 use Rattle.hash_block.specs.Parts.{HashParts, IsHash}
 use Rattle.string_block.specs.Given.{given, len_of, AreGiven, HaveNumbers}
-use Rattle.string_block.specs.Parts.{given_number, string_number, AreStored, AreStrings, HasStarts, IsString, StringParts}
+use Rattle.string_block.specs.Parts.{given_number, string_number, AreStored, AreStrings, HasStarts, IsFound, IsString, StringParts}
 use Rattle.string_block.specs.declared.error.BuildError.{BuildError}
 use Rattle.string_block.specs.declared.error.BuildError.TheVariants.{TooLong, NotGiven, WrongLength, NotNumbered}
 
@@ -116,3 +118,12 @@ pub record IsBlockOf (number : (ℕ → ℕ) → ℕ → Option ℕ) (bytes ends
   pub all : (i v : ℕ) → i < length ends → number (given bytes ends i) (len_of ends i) ≡ Some v
       → IsString (strings_in block) v (given bytes ends i) (len_of ends i)
   pub only : (v : ℕ) → v < length ends → (i : ℕ) × (i < length ends) × (number (given bytes ends i) (len_of ends i) ≡ Some v)
+
+-- a block of strings is sound, and of each of them the only answer that `find` may give is the number that the hash gives
+-- it
+abbrev pub RoundTrip : Type 0
+RoundTrip =
+    (number : (ℕ → ℕ) → ℕ → Option ℕ) (bytes ends block : List ℕ) → IsBlockOf number bytes ends block
+    → IsSoundBlock block
+    × ((i v : ℕ) (answer : Answer ℕ) → i < length ends → number (given bytes ends i) (len_of ends i) ≡ Some v
+    → IsFound (strings_in block) (given bytes ends i) (len_of ends i) answer → answer ≡ Found v)

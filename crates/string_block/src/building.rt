@@ -7,7 +7,7 @@ ghost use Rattle.hash_levels.specs.Numbers.{AreSizes};
 ghost use Rattle.hash_block.specs.Block.{IsBlockOf as IsHashOf};
 ghost use Rattle.hash_block.specs.Parts.{IsHash};
 ghost use Rattle.string_block.specs.Block.{hash_len, sections_of, string_head};
-ghost use Rattle.string_block.specs.Block.{AreFew, CanHold, IsBlockOf, IsReason, NumberStrings, StandsIn};
+ghost use Rattle.string_block.specs.Block.{AreFew, CanHold, IsBlockOf, IsReason, NumberStrings, RoundTrip, StandsIn};
 ghost use Rattle.string_block.specs.Parts.{string_number};
 
 use crate::error::BuildError;
@@ -132,3 +132,13 @@ pub fn build(
     }
     Ok(())
 }
+
+/// What `build` wrote is opened and accepted by `check`, and `find` of each of the strings answers the number that the
+/// hash gives it, and nothing else.
+///
+/// ```
+/// round_trip();   // its clause is the law, over the clauses of `build`, `check` and `find`
+/// ```
+pub fn round_trip()
+    ensures { RoundTrip }
+{}

@@ -47,7 +47,7 @@ mod sections;
 mod view;
 
 pub use bitm_tables::answer::Answer;
-pub use building::build;
+pub use building::{build, round_trip};
 pub use error::BuildError;
 pub use given::are_given;
 pub use hashing::hash;

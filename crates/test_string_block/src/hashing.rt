@@ -23,17 +23,59 @@ fn hashes_are_those_of_fnv(rt: HostRuntime) -> Result<(), Fail> {
 fn strings_of_a_list_have_the_hash_of_each(rt: HostRuntime) -> Result<(), Fail> {
     let bytes = b"foobarafoo";
     let mut out = [1u64; 4];
-    assert!(rt; hashes(0, bytes.as_slice(), [6, 7, 7, 10].as_slice(), out.as_mut_slice()));
+    assert!(rt;
+        hashes(
+            0,
+            bytes.as_slice(),
+            [6, 7, 7, 10].as_slice(),
+            out.as_mut_slice()
+        )
+    );
     assert!(rt; out[0] == 0x8594_4171_f739_67e8 && out[1] == 0xaf63_dc4c_8601_ec8c);
     assert!(rt; out[2] == 0xcbf2_9ce4_8422_2325 && out[3] == 0xdcb2_7518_fed9_d577);
-    assert!(rt; hashes(5, bytes.as_slice(), [6, 7, 7, 10].as_slice(), out.as_mut_slice()));
+    assert!(rt;
+        hashes(
+            5,
+            bytes.as_slice(),
+            [6, 7, 7, 10].as_slice(),
+            out.as_mut_slice()
+        )
+    );
     assert!(rt; out[2] == 0xcbf2_9ce4_8422_2320);
     // ends that fall, too few bytes, too many, and another length
     let before = out;
-    assert!(rt; !hashes(0, bytes.as_slice(), [7, 6, 7, 10].as_slice(), out.as_mut_slice()));
-    assert!(rt; !hashes(0, bytes.as_slice(), [6, 7, 7, 9].as_slice(), out.as_mut_slice()));
-    assert!(rt; !hashes(0, bytes.as_slice(), [6, 7, 7, 11].as_slice(), out.as_mut_slice()));
-    assert!(rt; !hashes(0, bytes.as_slice(), [6, 7, 10].as_slice(), out.as_mut_slice()));
+    assert!(rt;
+        !hashes(
+            0,
+            bytes.as_slice(),
+            [7, 6, 7, 10].as_slice(),
+            out.as_mut_slice()
+        )
+    );
+    assert!(rt;
+        !hashes(
+            0,
+            bytes.as_slice(),
+            [6, 7, 7, 9].as_slice(),
+            out.as_mut_slice()
+        )
+    );
+    assert!(rt;
+        !hashes(
+            0,
+            bytes.as_slice(),
+            [6, 7, 7, 11].as_slice(),
+            out.as_mut_slice()
+        )
+    );
+    assert!(rt;
+        !hashes(
+            0,
+            bytes.as_slice(),
+            [6, 7, 10].as_slice(),
+            out.as_mut_slice()
+        )
+    );
     assert!(rt; out == before);
     Ok(())
 }

@@ -4,9 +4,7 @@ use hash_block::{Added, HashView, build_of};
 use perfect_hash::build as build_hash;
 use std::process::Abort;
 use std::test::Fail;
-use string_block::{
-    Answer, BuildError, StringsView, build, check, hash, hashes, open, size,
-};
+use string_block::{Answer, BuildError, StringsView, build, check, hash, hashes, open, size};
 
 /// Their block, as a program in Python made it from the tables of docs/FORMAT.md: ada, the empty string, bob, a longer
 /// name and eve, hashed with the seed 1, at 100 per cent.
@@ -184,7 +182,12 @@ fn sum_up(words: &mut [u64; 112]) {
 }
 
 /// Whether strings that end at the given places are written, and why not.
-fn built(hash: &HashView<'_>, bytes: &[u8], ends: &[usize], block: &mut [u64]) -> Option<BuildError> {
+fn built(
+    hash: &HashView<'_>,
+    bytes: &[u8],
+    ends: &[usize],
+    block: &mut [u64],
+) -> Option<BuildError> {
     match build(hash, bytes, ends, block) {
         Ok(()) => None,
         Err(error) => Some(error),
@@ -208,7 +211,14 @@ fn strings_are_written_and_found(rt: HostRuntime) -> Result<(), Fail> {
     };
     assert!(rt; size(1, 1, 5, 22) == Some(112));
     let mut block = [0x5555_5555_5555_5555u64; 112];
-    assert!(rt; built(&hash, NAMES.as_slice(), ENDS.as_slice(), block.as_mut_slice()) == None);
+    assert!(rt;
+        built(
+            &hash,
+            NAMES.as_slice(),
+            ENDS.as_slice(),
+            block.as_mut_slice()
+        ) == None
+    );
     assert!(rt; block == BLOCK);
     assert!(rt; check(block.as_slice()));
     let Some(strings) = open(block.as_slice()) else {

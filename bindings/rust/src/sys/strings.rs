@@ -86,8 +86,8 @@ impl<'a> StringsView<'a> {
         // SAFETY: a view, and room for two numbers.
         match unsafe { bitm_strings_get(parts, number, &mut begin, &mut len) } {
             OK if len == 0 => Ok(Some(&[])),
-            // SAFETY: where the call returns OK, these bytes stand in the words, which are borrowed.
             OK => {
+                // SAFETY: where the call returns OK, these bytes stand in the words, which are borrowed.
                 Ok(Some(unsafe { slice::from_raw_parts(parts.bytes.cast::<u8>().add(begin as usize), len as usize) }))
             }
             NONE => Ok(None),
