@@ -120,9 +120,6 @@ module _ (of_key : ℕ → Option ℕ) (key_prints : List ℕ) (width m : ℕ) (
 
 -- what holds by the numbers of the first m keys holds by others that are the same
 module _ (f g : ℕ → Option ℕ) (m : ℕ) (same : (j : ℕ) → j < m → f j ≡ g j) where
-  have_back : (j n : ℕ) → HaveNumber g j m n → HaveNumber f j m n
-  have_back j n h = (h.0, h.1, h.2, same h.0 h.2 ∙ h.3)
-
   have_on : (j n : ℕ) → HaveNumber f j m n → HaveNumber g j m n
   have_on j n h = (h.0, h.1, h.2, sym (same h.0 h.2) ∙ h.3)
 
