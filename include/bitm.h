@@ -926,12 +926,13 @@ BITM_MUST_USE uint32_t bitm_hash_find_list(const struct bitm_hash *hash, const u
  * that is tried. Queries take a hash with its seeds, and answer as those above:
  *
  *     uint64_t keyed[3] = {0x243f6a8885a308d3, 0x13198a2e03707344, 0xa4093822299f31d0}, in_order[3];
- *     uint64_t of_hash_words[64], scratch[64], heights[256], beside_words[3];
+ *     uint64_t of_hash_words[64], hit_twice[64], heights[256], beside_words[3];
  *     uint8_t seeds[64];
- *     if (bitm_hash_build_seeded(keyed, 3, 100, 64, of_hash_words, 64, seeds, 64, scratch, 64, in_order, 3, heights, 256,
- *                                &levels, &filled, &left) != BITM_OK || left > 0) return 1;
+ *     if (bitm_hash_build_seeded(keyed, 3, 100, 64, of_hash_words, 64, seeds, 64, hit_twice, 64, in_order, 3, heights,
+ *                                256, &levels, &filled, &left) != BITM_OK || left > 0) return 1;
  *     lowers = bitm_index_lower_len(filled);
- *     if (bitm_index_build(of_hash_words, filled, beside_words, 1, beside_words + 1, lowers, &ones) != BITM_OK) return 1;
+ *     if (bitm_index_build(of_hash_words, filled, beside_words, 1, beside_words + 1, lowers, &ones) != BITM_OK)
+ *         return 1;
  *     struct bitm_seeded_hash seeded = {
  *         .hash = {.index = {.words = of_hash_words, .words_len = filled, .upper = beside_words, .upper_len = 1,
  *                            .lower = beside_words + 1, .lower_len = lowers, .bits_len = 64 * filled},
