@@ -23,8 +23,8 @@ pub trait HasItems {
         ensures announced { result ≡ announced self.now }
         ensures all { (xs : List ℕ) → holds xs self.now → length xs ≡ result };
 
-    /// The item at an index. Whatever the block holds, the answer is `Absent` exactly where there is no such item. Where
-    /// it holds a list, the answer is never `Wrong`.
+    /// The item at an index. Whatever the block holds, the answer is `Absent` exactly where there is no such item.
+    /// Where it holds a list, the answer is never `Wrong`.
     fn item(&self, index: usize) -> Answer<u64>
         ensures inside { IsOfPlace (announced self.now) index result }
         ensures answer { (xs : List ℕ) → holds xs self.now → IsItem xs index result };

@@ -27,7 +27,7 @@ trait Asks<const BIT: u8, T: TableSource> {
 
     ghost words: { ℕ };
 
-    /// The answer for a node and a number, where a list of selections told the position of the bit by a code.
+    /// The answer for a node and a number, where `code` says the position of the bit as lists of selections do.
     fn answer_on(source: &mut T, len: usize, node: usize, k: usize, code: usize) -> Answer<usize>
         requires sized { HasSizes (T.lists source.old) }
         ensures holds { SelectTold (as_bit BIT) (T.lists source.old) node code
@@ -92,7 +92,7 @@ impl<T: TableSource> Asks<0, T> for Children {
     }
 }
 
-/// Writes the code of the answer for each node and its number, where the positions of the bits are told.
+/// Writes the code of the answer for each node and its number, where `out` has the codes of the positions of the bits.
 #[inline(never)]
 fn answer_each_on<const BIT: u8, T: TableSource, Q: Asks<BIT, T>>(
     source: &mut T,
