@@ -1,8 +1,8 @@
 /* Writes to standard output blocks of drawn bits, sequences, sparse bits, hashes, dictionaries, matrices, trees and
- * tries, each after what it was made of: six words (the kind of the block, or DICTIONARY; how many bits, numbers, 1 bits,
- * keys or nodes; the width of numbers or labels, how many bits, or the percent of a hash; how many words are given; how
- * many words the block has; the seed of a hash), the given words, and the block. bindings/tests/test_formats.py writes
- * the same blocks by docs/FORMAT.md. */
+ * tries, each after what it was made of: six words (the kind of the block, or DICTIONARY; how many bits, numbers, 1
+ * bits, keys or nodes; the width of numbers or labels, how many bits, or the percent of a hash; how many words are
+ * given; how many words the block has; the seed of a hash), the given words, and the block.
+ * bindings/tests/test_formats.py writes the same blocks by docs/FORMAT.md. */
 #include "common.h"
 
 #include <string.h>
@@ -12,10 +12,7 @@ enum { WORDS = 4000, SCRATCH = 2 * WORDS, DICTIONARY = 50 };
 
 static uint64_t given[WORDS], scratch[SCRATCH], block[2 * WORDS + 400];
 
-static void put(const uint64_t *words, size_t len)
-{
-    MUST(fwrite(words, 8, len, stdout) == len);
-}
+static void put(const uint64_t *words, size_t len) { MUST(fwrite(words, 8, len, stdout) == len); }
 
 static void put_seeded(uint64_t kind, uint64_t len, uint64_t width, size_t given_len, size_t block_len, uint64_t with)
 {
@@ -78,11 +75,14 @@ static struct bitm_hash hash_of(size_t keys, uint32_t percent, uint64_t with)
     uint64_t levels, filled, left, ones;
     for (size_t i = 0; i < keys; i++) scratch[i] = given[i] + with;
     MUST(bitm_hash_build(scratch, keys, percent, level_words, SCRATCH, again, SCRATCH, sizes, 256, &levels, &filled,
-                         &left) == BITM_OK && left == 0);
+                         &left) == BITM_OK &&
+         left == 0);
     const size_t lowers = bitm_index_lower_len(filled), uppers = bitm_index_upper_len(filled);
     MUST(bitm_index_build(level_words, filled, upper, uppers, lower, lowers, &ones) == BITM_OK && ones == keys);
     return (struct bitm_hash){.index = index_over(level_words, filled, upper, uppers, lower, lowers),
-                              .sizes = sizes, .sizes_len = levels, .keys = keys};
+                              .sizes = sizes,
+                              .sizes_len = levels,
+                              .keys = keys};
 }
 
 static void of_hash(size_t keys, uint32_t percent)
@@ -93,7 +93,8 @@ static void of_hash(size_t keys, uint32_t percent)
     const struct bitm_hash hash = hash_of(keys, percent, 0);
     MUST(bitm_hash_block_size(hash.index.words_len, hash.sizes_len, &words) == BITM_OK && words <= sizeof block / 8);
     memset(block, UNTOUCHED, sizeof block);
-    MUST(bitm_hash_block_build(level_words, hash.index.words_len, sizes, hash.sizes_len, with, block, words) == BITM_OK);
+    MUST(bitm_hash_block_build(level_words, hash.index.words_len, sizes, hash.sizes_len, with, block, words) ==
+         BITM_OK);
     put_seeded(5, keys, percent, keys, words, with);
 }
 
