@@ -122,7 +122,8 @@ static void lists_within(const struct bitm_tree *tree)
     struct asked it;
     ask_lists(tree, &it);
     for (size_t i = 0; i < LIST; i++) {
-        const uint64_t node = it.nodes[i], parent = it.of_list[0][i], degree = it.of_list[1][i], child = it.of_list[2][i];
+        const uint64_t node = it.nodes[i], parent = it.of_list[0][i], degree = it.of_list[1][i],
+                       child = it.of_list[2][i];
         const bool is = node < tree->len;
         MUST(parent < BITM_WRONG_TABLES ? is && parent < node : (parent == BITM_NO_ANSWER) == (node == 0 || !is));
         MUST(degree < BITM_WRONG_TABLES ? is && degree < tree->len : (degree == BITM_NO_ANSWER) == !is);

@@ -2,12 +2,14 @@
 import struct
 import subprocess
 
-from blocks import as_bytes, of_bits, of_bytes, of_matrix, of_sequence, of_sparse
+from blocks import as_bytes, of_bits, of_bytes, of_dictionary, of_hash, of_matrix, of_sequence, of_sparse, of_tree, of_trie
 from checks import TOP
 from common import compiled
 from shell import needs
 
-WRITERS = {2: of_bits, 3: of_sequence, 4: of_sparse, 6: of_matrix}
+# By the kind of the block; a dictionary is of kind 5, as a hash.
+WRITERS = {2: of_bits, 3: of_sequence, 4: of_sparse, 5: of_hash, 6: of_matrix, 7: of_tree, 9: of_trie, 50: of_dictionary}
+SEEDED = {5, 50}
 
 
 def test_blocks_are_those_of_the_format(tmp_path):
@@ -17,12 +19,13 @@ def test_blocks_are_those_of_the_format(tmp_path):
     words = list(struct.unpack(f"<{len(printed) // 8}Q", printed))
     kinds = []
     while words:
-        kind, length, width, given, size, _ = words[:6]
-        made = WRITERS[kind](length, width, words[6 : 6 + given])
+        kind, length, width, given, size, seed = words[:6]
+        seeds = [seed] if kind in SEEDED else []
+        made = WRITERS[kind](length, width, words[6 : 6 + given], *seeds)
         assert words[6 + given : 6 + given + size] == made, (kind, length, width)
         kinds.append(kind)
         del words[: 6 + given + size]
-    assert {kind: kinds.count(kind) for kind in WRITERS} == {2: 9, 3: 9, 4: 18, 6: 24}
+    assert {kind: kinds.count(kind) for kind in WRITERS} == {2: 9, 3: 9, 4: 18, 5: 9, 6: 24, 7: 18, 9: 36, 50: 9}
 
 
 def test_the_block_that_other_tests_read():

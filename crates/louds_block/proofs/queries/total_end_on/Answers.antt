@@ -1,5 +1,5 @@
 -- The first zero behind that before a node's ones is that after them.
-use Rattle.std.proofs.Common.{◌≡◌, ◌+◌, ◌≤◌, ℕ, false, Some, List, length, take, take_all, sym, ap, ◌∙◌, arith, subst}
+use Rattle.std.proofs.Common.{◌≡◌, ◌+◌, ◌≤◌, ℕ, false, Some, List, length, take, take_all, sym, ap, arith, subst}
 use Rattle.bit_lists.specs.Bits.{bits_of}
 use Rattle.bit_lists.specs.Count.{IsFirstFrom}
 use Rattle.louds.specs.Counted.{degrees_in}
