@@ -218,7 +218,7 @@ static struct bitm_hash strings_hashed(void)
 /* Strings in a block: one touches what a hash touches, its starts, which may be of two pages, and as its bytes. */
 static void query_strings(uint64_t *one)
 {
-    enum { OTHERS = 12 };
+    enum { OTHERS = 8 };
     static struct bitm_hash made;
     if (made.keys == 0) made = strings_hashed();
     const size_t height = made.sizes_len;

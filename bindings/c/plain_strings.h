@@ -7,7 +7,7 @@
 
 enum { STRINGS = 300, MOST = 300, SMALL = 7, LEVELS = 256, ROOM = 1000, BYTES = 40000 };
 
-enum { OF_STRUCT = OF_MORE, OF_WORDS, OF_UPPER, OF_LOWER, OF_SIZES, OF_BYTES, OF_ENDS, OF_ASKED, OF_LEN };
+enum { OF_STRUCT = OF_MORE, OF_WORDS, OF_UPPER, OF_LOWER, OF_SIZES, OF_BYTES, OF_ENDS, OF_ASKED, OF_LEN, OF_STARTS, OF_TEXT };
 
 /* ---- strings one after another, and a hash of them */
 

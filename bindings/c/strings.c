@@ -140,6 +140,16 @@ static void is_over(const uint64_t *block, const struct bitm_strings *strings)
     MUST(strings->reserved[0] == 0 && strings->reserved[1] == 0);
 }
 
+/* The same strings in parts that lie apart, each of which ends at the guard. */
+static struct bitm_strings in_parts(const struct plain *plain, const struct bitm_strings *strings)
+{
+    struct bitm_strings apart = *strings;
+    apart.hash = hash_of(plain, strings->seed);
+    apart.starts = copied(OF_STARTS, strings->starts, strings->starts_len);
+    apart.bytes = copied(OF_TEXT, strings->bytes, strings->bytes_len);
+    return apart;
+}
+
 static void drawn_strings(void)
 {
     static struct plain plain;
@@ -153,6 +163,9 @@ static void drawn_strings(void)
         MUST(strings->seed == with_seed);
         is_over(block, strings);
         answers_as(&plain, strings);
+        const struct bitm_strings apart = in_parts(&plain, strings);
+        answers_as(&plain, &apart);
+        if (plain.count) list_as_single_calls(&plain, &apart);
         if (plain.count) list_as_single_calls(&plain, strings);
     }
 }

@@ -24,7 +24,7 @@ EXPORTS = {
         " bits_set_fragment bits_swap_fragments bits_fill_fragments bits_count_range bits_next bits_previous"
         " bits_fill_range bits_flip_range",
     "B words": "bits_set_list bits_positions index_build_samples"
-        " dictionary_find_list",
+        " dictionary_find_list strings_find_list",
     "B": "bits_count bits_and bits_or bits_xor bits_and_not index_build sequence_sizes hash_level hash_build"
         " hash_build_seeded"
         " stored_index stored_index_room stored_build stored_sequence prefix_sums tree_size matrix_size"
@@ -64,8 +64,7 @@ EXPORTS = {
     "NBW words": "matrix_get matrix_rank matrix_select matrix_count_less matrix_quantile"
         " matrix_distinct matrix_top matrix_intersect"
         " dictionary_find",
-    "NBW words starts bytes": "strings_find strings_get",
-    "B words starts": "strings_find_list",
+    "NBW words bytes": "strings_find strings_get",
     "NB labels ends words": "trie_label trie_is_end",
     "NBW labels words lower": "trie_child trie_find trie_find_bytes trie_longest trie_longest_bytes trie_word",
     "NBW": "matrix_next_value matrix_previous_value cursor_next",
