@@ -17,7 +17,7 @@ failure_text (WrongLine line) = list_error_text (list.WrongLine line)
 failure_text (OutOfOrder line) = codes "line " ++ decimal (line + 1) ++ codes ": out of order"
 failure_text NotATree = codes "the degrees are those of no tree"
 failure_text TooLarge = codes "the numbers are too many for a block"
-failure_text WrongBlock = codes "not a block, or not as it was written"
+failure_text WrongBlock = codes "not a block of a kind that bitm queries, or not as it was written"
 failure_text NoMemory = no_memory_text
 failure_text CannotWrite = cannot_write_text
 

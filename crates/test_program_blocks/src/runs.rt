@@ -193,7 +193,7 @@ fn start_ends_with_the_status_and_text_of_its_file(rt: HostRuntime) -> Result<()
     block[320] ^= 1;
     fs::write(&rt, path, block.as_slice())?;
     expect_start(&rt, ("check", path), 1, "wrong\n", "")?;
-    let wrong = "bitm: not a block, or not as it was written\n";
+    let wrong = "bitm: not a block of a kind that bitm queries, or not as it was written\n";
     expect_start(&rt, ("info", path), 2, "", wrong)?;
     fs::remove_file(&rt, path)?;
     Ok(())
