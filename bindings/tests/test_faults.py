@@ -24,13 +24,13 @@ EXPORTS = {
         " bits_set_fragment bits_swap_fragments bits_fill_fragments bits_count_range bits_next bits_previous"
         " bits_fill_range bits_flip_range",
     "B words": "bits_set_list bits_positions index_build_samples"
-        " dictionary_find_list strings_find_list",
+        " dictionary_find_list",
     "B": "bits_count bits_and bits_or bits_xor bits_and_not index_build sequence_sizes hash_level hash_build"
         " hash_build_seeded"
         " stored_index stored_index_room stored_build stored_sequence prefix_sums tree_size matrix_size"
         " matrix_get_list matrix_rank_list matrix_select_list index_block_size index_block_build sequence_block_size"
         " sparse_size text_size text_size_letters text_size_bytes text_build_bytes text_len"
-        " hash_block_size hash_block_build dictionary_size trie_size strings_size strings_hashes",
+        " hash_block_size hash_block_build dictionary_size trie_size strings_size strings_hashes strings_find_list",
     "- words": "bits_clear_from",
     "N": "bits_copy_range bits_equal_range bits_select_in_word",
     "B words other": "bits_intersects bits_is_subset",
