@@ -73,7 +73,10 @@ impl fmt::Display for Failure {
             Failure::OutOfOrder(line) => write!(f, "line {}: out of order", *line as u128 + 1),
             Failure::NotATree => write!(f, "the degrees are those of no tree"),
             Failure::TooLarge => write!(f, "the numbers are too many for a block"),
-            Failure::WrongBlock => write!(f, "not a block of a kind that bitm queries, or not as it was written"),
+            Failure::WrongBlock => write!(
+                f,
+                "not a block of a kind that bitm queries, or not as it was written"
+            ),
             Failure::NoMemory => write!(f, "{NO_MEMORY}"),
             Failure::CannotWrite => write!(f, "{CANNOT_WRITE}"),
         }
