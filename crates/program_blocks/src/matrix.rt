@@ -39,8 +39,13 @@ pub(crate) fn block_of_matrix(alloc: Global, numbers: &[u64]) -> Result<Vec<u64>
     scratch.resize(2 * numbers.len(), 0)?;
     let mut block = Vec::new(alloc);
     block.resize(words, 0)?;
-    let (room, words) = (scratch.as_mut_slice(), block.as_mut_slice());
-    match build(numbers, width, false, room, words) {
+    match build(
+        numbers,
+        width,
+        false,
+        scratch.as_mut_slice(),
+        block.as_mut_slice(),
+    ) {
         Ok(()) => Ok(block),
         Err(_) => Err(Failure::TooLarge),
     }
