@@ -82,7 +82,8 @@ pub fn check(block: &[u64]) -> bool
 pub fn check_as(kind: u64, block: &[u64]) -> bool
     ensures { IsTrue result ↔ IsSoundOfKind kind block.now }
 {
-    match (open_as(kind, block), Block::open(block)) {
+    // By reference: a view that moves would be copied by a call of C's `memcpy`, and the archive for C calls nothing.
+    match (&open_as(kind, block), Block::open(block)) {
         (Some(sequence), Ok(opened)) => opened.verify() && sequence.check(),
         _ => false,
     }
