@@ -42,6 +42,7 @@ pub fn open(block: &[u64]) -> Option<LentSequence<'_>>
 /// ```
 /// open_as(SEQUENCE, block.as_slice());   // as open(block.as_slice())
 /// ```
+#[inline(always)]
 pub fn open_as(kind: u64, block: &[u64]) -> Option<LentSequence<'_>>
     ensures { SomeIff result (IsBlockOfKind kind block.now) (sequence_in block.now) }
 {
@@ -82,7 +83,7 @@ pub fn check(block: &[u64]) -> bool
 pub fn check_as(kind: u64, block: &[u64]) -> bool
     ensures { IsTrue result ↔ IsSoundOfKind kind block.now }
 {
-    // By reference: a view that moves would be copied by a call of C's `memcpy`, and the archive for C calls nothing.
+    // By reference, and opened inline: a view that moves would be copied by C's `memcpy`, and the archive calls nothing.
     match (&open_as(kind, block), Block::open(block)) {
         (Some(sequence), Ok(opened)) => opened.verify() && sequence.check(),
         _ => false,
