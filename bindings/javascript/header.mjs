@@ -52,5 +52,5 @@ function withoutComments(text) {
     return text.replace(/\/\*[\s\S]*?\*\//g, " ").replace(/^#.*$/gm, " ");
 }
 
-/** How a parameter crosses into WebAssembly: an address or 64 bits as i64, a bool or 32 bits as i32. */
-export const wasmType = type => (type === "bool" || type === "uint32_t" ? "i32" : "i64");
+/** How a parameter crosses into WebAssembly: an address or 64 bits as i64, a bool or fewer bits as i32. */
+export const wasmType = type => (/^(bool|uint32_t|uint16_t)$/.test(type) ? "i32" : "i64");

@@ -3,7 +3,8 @@
   ;; The whole number that a double is; for any other double, some number that is not equal to it.
   (func $whole (param $x f64) (result i64) (i64.trunc_sat_f64_s (local.get $x)))
 
-  ;; Whether x, of which $whole made i, is no whole number of 32 or 53 bits.
+  ;; Whether x, of which $whole made i, is no whole number of 16, 32 or 53 bits.
+  (func $bad16 (param $x f64) (param $i i64) (result i32) (call $bad (local.get $x) (local.get $i) (i64.const 65535)))
   (func $bad32 (param $x f64) (param $i i64) (result i32) (call $bad (local.get $x) (local.get $i) (i64.const 4294967295)))
   (func $bad53 (param $x f64) (param $i i64) (result i32) (call $bad (local.get $x) (local.get $i) (i64.const 9007199254740991)))
   (func $bad (param $x f64) (param $i i64) (param $most i64) (result i32)

@@ -226,17 +226,24 @@ const ofCursors = () => ({ cursors: cursors(), cursors_len: r() % 7 ? 1 + (r() %
 
 const ofTextBlock = () => ({ block: slot(62), block_len: text(r() % 3 === 0) - (r() % 7 ? 0 : 1), text: slot(67) });
 
-/** A dictionary of 40 numbers: its parts with the struct in slot 76; its block in slot 78, of which a word may be wrong, with
- * the struct in slot 79. The numbers are in slot 68, the words and the sizes of the levels in slots 70 and 72. */
-function dictionary(spoilt) {
-    const B = BigInt, at = k => B(slot(k)), keys = words(slot(68), N), hashes = words(slot(69), N), seed = 7n;
-    for (let i = 0; i < N; i++) hashes[i] = (keys[i] = B(977 * i + (r() % 977))) + seed;
-    const outs = [0n, 8n, 16n].map(it => at(73) + it);
+/** The struct of a hash in slot 76 over the hashes in slot 69, which it moves: how many words and levels it has. The words and
+ * the sizes of the levels are in slots 70 and 72. */
+function hashed() {
+    const B = BigInt, at = k => B(slot(k)), outs = [0n, 8n, 16n].map(it => at(73) + it);
     assert.equal(library.bitm_hash_build(at(69), B(N), 100, at(70), 64n, at(71), 64n, at(72), 64n, ...outs), 0);
     const [levels, len] = Array.from(words(slot(73), 2), Number), lower = library.bitm_index_lower_len(B(len));
     assert.equal(library.bitm_index_build(at(70), B(len), at(74), 1n, at(75), lower, B(ANSWER)), 0);
     put(slot(76), "bitm_index", { words: slot(70), words_len: len, upper: slot(74), upper_len: 1, lower: slot(75), lower_len: lower, bits_len: 64 * len });
     words(slot(76) + structs.get("bitm_index").size, 3).set([at(72), B(levels), B(N)]);
+    return { len, levels };
+}
+
+/** A dictionary of 40 numbers: its parts with the struct in slot 76; its block in slot 78, of which a word may be wrong, with
+ * the struct in slot 79. The numbers are in slot 68. */
+function dictionary(spoilt) {
+    const B = BigInt, at = k => B(slot(k)), keys = words(slot(68), N), hashes = words(slot(69), N), seed = 7n;
+    for (let i = 0; i < N; i++) hashes[i] = (keys[i] = B(977 * i + (r() % 977))) + seed;
+    const { len, levels } = hashed();
     put(slot(76), "bitm_dictionary", { keys: slot(77), keys_len: N, seed });
     for (const key of keys) {
         assert.equal(library.bitm_hash_get(at(76), key + seed, B(ANSWER)), 0);
@@ -269,6 +276,39 @@ function ofPrints() {
     const key_hash = Number(words(slot(81), N)[r() % N]), prints_len = r() % 7 ? N : r() % N;
     return { hash: slot(76), key_hash, key_hashes: slot(81), key_prints: slot(10), key_print: r() % 9, prints: slot(85), prints_len, width: r() % 5 ? r() % 4 : r() % 70 };
 }
+
+/** The same by a hash with a seed for each word, or with none, in slot 108: over the levels of one that was built without. */
+function ofSeededPrints() {
+    const given = ofPrints(), size = structs.get("bitm_hash").size, at = slot(108);
+    if (r() % 2) for (let i = 0; i < N; i++) words(slot(81), N)[i] = words(slot(68), N)[i] + 7n;
+    arena().copyWithin(at - START, slot(76) - START, slot(76) - START + size);
+    put(at, "bitm_seeded_hash", { seeds: slot(10), seeds_len: r() % 8 ? 0 : Number(words(slot(76) + 8, 1)[0]) - (r() % 7 ? 0 : 1) });
+    return { ...given, hash: at };
+}
+
+/** 40 strings of three bytes in slot 99, whose ends are in slot 100; their block in slot 102, of which a word may be wrong, with
+ * the struct in slot 103: the size of the block, and the seed of the hashes. */
+function strings(spoilt) {
+    const B = BigInt, at = k => B(slot(k)), bytes = new Uint8Array(memory.buffer, slot(99), 3 * N), seed = r();
+    for (let i = 0; i < N; i++) {
+        bytes.set([i, r() % 256, r() % 256], 3 * i);
+        words(slot(100), N)[i] = B(3 * i + 3);
+    }
+    assert.equal(library.bitm_strings_hashes(at(99), B(3 * N), at(100), B(N), B(seed), at(69), B(N)), 0);
+    const { len, levels } = hashed();
+    assert.equal(library.bitm_strings_size(B(len), B(levels), B(N), B(3 * N), B(ANSWER)), 0);
+    const size = words(ANSWER, 1)[0];
+    assert.equal(library.bitm_strings_build(at(76), B(seed), at(99), B(3 * N), at(100), B(N), at(102), size), 0);
+    assert.equal(library.bitm_strings_open(at(102), size, at(103)), 0);
+    if (spoilt) words(slot(102), Number(size))[40 + (r() % (Number(size) - 40))] ^= B(r());
+    return { size: Number(size), seed };
+}
+function ofStrings() {
+    const { size, seed } = strings(r() % 3 === 0), lists = { bytes: slot(99), bytes_len: 3 * N, ends: slot(100), ends_len: N };
+    const one = { string: slot(99) + 3 * (r() % N), string_len: r() % 5 ? 3 : r() % 5, number: r() % (N + 5) };
+    return { ...lists, ...one, strings: slot(103), hash: slot(76), seed, block: slot(104), block_len: size - (r() % 7 ? 0 : 1), out: slot(106), counts: slot(107) };
+}
+const ofStringsBlock = () => ({ block: slot(102), block_len: strings(r() % 3 === 0).size - (r() % 7 ? 0 : 1), strings: slot(105) });
 
 /** The lists of what ranges of the matrix in slot 43 have. */
 function ofRanges() {
@@ -368,6 +408,19 @@ const FITTING = {
     bitm_hash_set_prints: ofPrints,
     bitm_hash_find: ofPrints,
     bitm_hash_find_list: ofPrints,
+    bitm_hash_get_seeded: ofSeededPrints,
+    bitm_hash_get_list_seeded: ofSeededPrints,
+    bitm_hash_set_prints_seeded: ofSeededPrints,
+    bitm_hash_find_seeded: ofSeededPrints,
+    bitm_hash_find_list_seeded: ofSeededPrints,
+    bitm_strings_hashes: ofStrings,
+    bitm_strings_size: () => ({ levels: r() % 300 }),
+    bitm_strings_build: ofStrings,
+    bitm_strings_open: ofStringsBlock,
+    bitm_strings_check: ofStringsBlock,
+    bitm_strings_find: ofStrings,
+    bitm_strings_find_list: ofStrings,
+    bitm_strings_get: ofStrings,
     bitm_cursor_start: ofCursor,
     bitm_cursor_next: ofCursor,
     bitm_cursors_intersect: ofCursors,
@@ -441,6 +494,7 @@ export function argumentsOf(call, parts) {
         if (name === "bits_len") return r() % 9 ? BITS : r() % 4000;
         if (name.endsWith("_len") || name === "sizes_len") return r() % 7 ? N : r() % N;
         if (type === "uint32_t") return r() % (SMALL[name] ?? 2 ** 31);
+        if (type === "uint16_t") return r() % 300;
         return r() % 50 === 0 ? Number.MAX_SAFE_INTEGER - (r() % 9) : r() % (SMALL[name] ?? BITS + 60);
     });
 }
