@@ -68,6 +68,7 @@ fn a_matrix_gives_its_numbers(rt: HostRuntime) -> Result<(), Fail> {
     let made = matrix_block::build(
         NUMBERS.as_slice(),
         3,
+        false,
         room.as_mut_slice(),
         block.as_mut_slice(),
     );
