@@ -83,7 +83,7 @@ pub fn check(block: &[u64]) -> bool
 pub fn check_as(kind: u64, block: &[u64]) -> bool
     ensures { IsTrue result ↔ IsSoundOfKind kind block.now }
 {
-    // By reference, and opened inline: a view that moves would be copied by C's `memcpy`, and the archive calls nothing.
+    // By reference, and opened inline: to move a view C's `memcpy` is called, which the archive does without.
     match (&open_as(kind, block), Block::open(block)) {
         (Some(sequence), Ok(opened)) => opened.verify() && sequence.check(),
         _ => false,
