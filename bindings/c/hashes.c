@@ -132,7 +132,7 @@ static void alone_by(const uint64_t *hashes, uint64_t count, uint32_t level, siz
     }
     for (size_t w = 0; w < len; w++) {
         alone[w] = 0;
-        for (int p = 0; p < 64; p++) alone[w] = (uint8_t)(alone[w] + (hits[64 * w + p] == 1));
+        for (int p = 0; p < 64; p++) alone[w] = (uint8_t)(alone[w] + (hits[64 * w + (size_t)p] == 1));
     }
 }
 

@@ -197,7 +197,7 @@ static void by_samples(struct bitm_sequence view, const uint64_t *items)
 {
     const struct bitm_index high =
         index_over(view.words, view.words_len, view.upper, view.upper_len, view.lower, view.lower_len);
-    const uint32_t log2 = 7 + draw() % 3;
+    const uint32_t log2 = (uint32_t)(7 + draw() % 3);
     struct bitm_samples list[3] = {built_samples(&high, true, log2), built_samples(&high, false, log2), {0}};
     view.samples = list;
     for (int turn = 0; turn < 3; turn++) {

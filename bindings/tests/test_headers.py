@@ -10,7 +10,7 @@ from shell import bash, needs
 HEADER, VERSION = header(), read("VERSION").strip()
 SOURCES = "\n".join(it.read_text() for name in ("bitm_abi", "bitm_c", "bitm_block_c", "bitm_matrix_c", "bitm_text_c", "bitm_lists_c", "bitm_hash_c", "bitm_trie_c", "bitm_strings_c") for it in sorted(TOP.glob(f"crates/{name}/src/**/*.rt")))
 OF_INLINE = {"bitm_sequence_walk"}  # of functions in the header alone
-NUMBERS = {"u8": "uint8_t", "u32": "uint32_t", "u64": "uint64_t", "usize": "uint64_t", "bool": "bool", "": "void"}
+NUMBERS = {"u8": "uint8_t", "u16": "uint16_t", "u32": "uint32_t", "u64": "uint64_t", "usize": "uint64_t", "bool": "bool", "": "void"}
 
 
 def in_c(name):
@@ -97,6 +97,19 @@ def test_symbols_are_of_this_series():
     assert {series(it) for it, _ in NODES} == {series(VERSION)}
 
 
+# Structs whose reserved words were taken since: what stands there, a word each. A program of before has zeros there, which
+# mean none, as its header said.
+TAKEN = {"bitm_sequence": [("samples", "const struct bitm_samples *"), ("samples_len", "size_t")]}
+
+
+def with_room(name, members):
+    """The members of a struct, with its reserved words in place of what took them."""
+    if name not in TAKEN:
+        return members
+    assert [(it.name, it.type) for it in members[-2:]] == TAKEN[name]
+    return [*members[:-2], members[0]._replace(name="reserved", type="uint64_t[2]")]
+
+
 KEPT = sorted(TOP.glob("install/bitm-*.h"))
 IS_SERIES = [series(it.stem.removeprefix("bitm-")) == series(VERSION) for it in KEPT] == [True]
 
@@ -109,7 +122,7 @@ def test_one_version_before_is_kept():
 @pytest.mark.parametrize("what", ["calls", "structs", "statuses", "constants"])
 def test_declarations_stay(what):
     before, now = (getattr(it, what) for it in (header(KEPT[0]), HEADER))
-    assert {name: now.get(name) for name in before} == before
+    assert {name: with_room(name, now.get(name)) for name in before} == before
 
 
 @pytest.mark.skipif(not IS_SERIES, reason="the declarations that are kept are of another series")
@@ -120,4 +133,5 @@ def test_abidiff_finds_no_change(tmp_path):
         bodies = "".join(f"{it.result} {it.name}({', '.join(f'{of.type} {of.name}' for of in it.given)}) {{ return 0; }}\n" for it in header(path).calls.values())
         (tmp_path / f"{name}.c").write_text(f'#include "{path}"\n{bodies}')
         bash(f"gcc -g -w -shared -fPIC -nostdlib {name}.c -o {name}.so", tmp_path)
-    bash("abidiff --no-added-syms before.so now.so", tmp_path)
+    (tmp_path / "taken").write_text("".join(f"[suppress_type]\nname = {it}\n" for it in TAKEN))
+    bash("abidiff --no-added-syms --suppressions taken before.so now.so", tmp_path)

@@ -3,4 +3,6 @@
 #[rustfmt::skip]
 pub(crate) mod blocks;
 #[rustfmt::skip]
+pub(crate) mod hashes;
+#[rustfmt::skip]
 pub(crate) mod words;

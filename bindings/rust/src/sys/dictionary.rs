@@ -2,7 +2,7 @@
 pub(crate) mod owned;
 
 use crate::errors::{BuildError, ListError, StoredError, WrongTables};
-use crate::ffi::blocks::*;
+use crate::ffi::hashes::*;
 use crate::sys::block::{views, Block, Parts};
 use crate::sys::hash::PerfectHash;
 use crate::sys::lists::query_list;

@@ -1,6 +1,6 @@
 //! Minimal perfect hashes: a number of its own below n for each of n keys, by the key's hash of 64 bits.
 use crate::errors::{sure, BuildError, ListError, WrongTables};
-use crate::ffi::blocks::*;
+use crate::ffi::hashes::*;
 use crate::sys::lists::query_list;
 use crate::sys::memory::{as_u64_mut, copied, zeroed};
 use crate::sys::tables::Tables;

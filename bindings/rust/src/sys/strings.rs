@@ -2,7 +2,7 @@
 pub(crate) mod owned;
 
 use crate::errors::{BuildError, StoredError, WrongTables};
-use crate::ffi::blocks::*;
+use crate::ffi::hashes::*;
 use crate::sys::block::{views, Block, Parts};
 use crate::sys::hash::PerfectHash;
 use crate::sys::memory::{words_of, zeroed};
