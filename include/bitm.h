@@ -551,15 +551,15 @@ BITM_MUST_USE uint32_t bitm_index_previous(const struct bitm_index *index, bool 
  *     const struct bitm_index high_bits = {.words = high, .words_len = of.words_len, .upper = high_upper,
  *                                          .upper_len = of.upper_len, .lower = high_lower, .lower_len = of.lower_len,
  *                                          .bits_len = 64 * of.words_len};
- *     uint32_t ones_of[1], zeros_of[1]; // bitm_index_samples_len(1, 7) is 1
+ *     uint32_t samples_of_ones[1], samples_of_zeros[1]; // bitm_index_samples_len(1, 7) is 1
  *     uint64_t starts_of_ones[1], starts_of_zeros[1], ones_used, zeros_used;
  *     if (of.words_len != 1 ||
- *         bitm_index_build_samples(&high_bits, true, 7, ones_of, 1, starts_of_ones, 1, &ones_used) != BITM_OK ||
- *         bitm_index_build_samples(&high_bits, false, 7, zeros_of, 1, starts_of_zeros, 1, &zeros_used) != BITM_OK)
+ *         bitm_index_build_samples(&high_bits, true, 7, samples_of_ones, 1, starts_of_ones, 1, &ones_used) != BITM_OK ||
+ *         bitm_index_build_samples(&high_bits, false, 7, samples_of_zeros, 1, starts_of_zeros, 1, &zeros_used) != BITM_OK)
  *         return 1;
- *     const struct bitm_samples both[2] = {{ones_of, ones_used, starts_of_ones, 1, 7, 0},
- *                                          {zeros_of, zeros_used, starts_of_zeros, 1, 7, 0}};
- *     primes.samples = both;
+ *     const struct bitm_samples two_kinds[2] = {{samples_of_ones, ones_used, starts_of_ones, 1, 7, 0},
+ *                                               {samples_of_zeros, zeros_used, starts_of_zeros, 1, 7, 0}};
+ *     primes.samples = two_kinds;
  *     primes.samples_len = 2;
  *     if (bitm_sequence_get(&primes, 4, &item) != BITM_OK || item != 11) return 1; */
 struct bitm_sequence {
