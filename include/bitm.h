@@ -546,7 +546,7 @@ BITM_MUST_USE uint32_t bitm_index_previous(const struct bitm_index *index, bool 
  * sequences: item 0 has the samples of the 1 bits of words, item 1 those of the 0 bits, and a list may end before either.
  * bitm_index_build_samples writes them, as for any index. They may hold anything: samples shorten a search, never change
  * an answer, and never lead to a read outside. A selection then reads up to 51 lower entries in place of 23, and at most
- * 28 where the samples are those of the words. A cursor selects without them.
+ * 28 where the samples are those of the words (evident from the code). A cursor selects without them.
  *
  *     const struct bitm_index high_bits = {.words = high, .words_len = of.words_len, .upper = high_upper,
  *                                          .upper_len = of.upper_len, .lower = high_lower, .lower_len = of.lower_len,
