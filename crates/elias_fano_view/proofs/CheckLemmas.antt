@@ -1,5 +1,5 @@
 -- The numbers that a walk over the ones finds, and the sequence that they are.
-use Rattle.std.proofs.Common.{◌≡◌, ℕ, ◌+◌, ◌-◌, ◌*◌, ◌/◌, ◌%◌, ◌^◌, ◌<◌, ◌≤◌, suc, true, false, List, [], ◌∷◌, length, get_or, drop, length-drop, drop-cons, refl, sym, ap, subst, ◌∙◌, ⊎_elim, arith}
+use Rattle.std.proofs.Common.{◌≡◌, ℕ, ◌+◌, ◌-◌, ◌*◌, ◌/◌, ◌%◌, ◌^◌, ◌<◌, ◌≤◌, true, false, List, [], ◌∷◌, length, get_or, refl, sym, ap, ◌∙◌, ⊎_elim, arith}
 use Rattle.std.proofs.lemmas.Bool.{cases_lt, cases_eq}
 use Rattle.std.proofs.lemmas.Grind.{same_number_lists}
 use Rattle.std.proofs.lemmas.List.FromFn.{length-map-range_with_len, get_or-map-range_with_len}
@@ -39,7 +39,7 @@ module _ (a w f : ℕ) (narrow : w ≤ 63) (low : f < 2 ^ w) where
       absurd (omega (arith, power)))
       (cases_lt a (2 ^ (64 - w)))
 
--- ---- one number more
+-- ---- the number of a 1 bit
 
 module _ (l : ℕ) (low words : List ℕ) where
   -- item i of the places is what rank i picks
@@ -52,64 +52,6 @@ module _ (l : ℕ) (low words : List ℕ) where
   pub held_of_pick : (i p : ℕ) → Picks (bits_of words) true i p
       → held_item l low words i ≡ (p - i) * 2 ^ l + number_at (bits_of low) (i * l) l
   held_of_pick i p one = ap (λ q. (q - i) * 2 ^ l + number_at (bits_of low) (i * l) l) (place_of_pick i p one)
-
-  pub AreNumbers-more : (k last x : ℕ) → AreNumbers l low words k last → held_item l low words k ≡ x → x < 2 ^ 64 → last ≤ x
-      → AreNumbers l low words (k + 1) x
-  AreNumbers-more k last x h here fits order = record {
-    rising = λ i j le less. ⊎_elim (λ before. h.rising i j le before) (λ from. upto i j le (omega arith)) (cases_lt j k);
-    small = λ j less. ⊎_elim (λ before. h.small j before)
-        (λ from. let e : j ≡ k = omega arith in omega (arith, ap (held_item l low words) e, here, fits)) (cases_lt j k);
-    last_is = λ _. sym here ∙ ap (held_item l low words) (let e : k ≡ k + 1 - 1 = omega arith in e);
-    none = λ e. absurd (omega arith);
-  }
-    where
-      upto : (i j : ℕ) → i ≤ j → j ≡ k → held_item l low words i ≤ held_item l low words j
-      upto i j le e =
-          ⊎_elim
-          (λ before.
-          omega (arith, h.rising i (k - 1) (omega arith) (omega arith), h.last_is (omega arith), order, here, ap (held_item l low words) e))
-          (λ from. let same : i ≡ j = omega arith in omega (arith, ap (held_item l low words) same))
-          (cases_lt i k)
-
--- ---- the ones to come
-
-module _ (words : List ℕ) (k : ℕ) (coming : List ℕ) (are : coming ≡ drop k (places true 0 (bits_of words))) where
-  ps : List ℕ
-  ps = places true 0 (bits_of words)
-
-  -- where there are none, there are no more than k
-  pub none_come : coming ≡ [] → ones_of (bits_of words) ≤ k
-  unfolding ps
-  none_come e = omega (arith, ap length (sym are ∙ e), length-drop k ps, places_are_counted (bits_of words) true)
-
-  module _ (p : ℕ) (rest : List ℕ) (e : coming ≡ p ∷ rest) where
-    -- there are more than k
-    pub more_come : k < ones_of (bits_of words)
-    unfolding ps
-    more_come = omega (arith, ap length (sym are ∙ e), length-drop k ps, places_are_counted (bits_of words) true)
-
-    first_and_rest : p ∷ rest ≡ get_or ps k 0 ∷ drop (suc k) ps
-    unfolding ps
-    first_and_rest =
-        let inside : k < length ps = omega (arith, more_come, places_are_counted (bits_of words) true) in
-        sym e ∙ are ∙ drop-cons ps k 0 inside
-
-    -- the first of them is what rank k picks
-    pub first_comes : Picks (bits_of words) true k p
-    unfolding ps
-    first_comes =
-        let b = bits_of words in
-        subst (Picks b true k) (sym (ap (λ s. get_or s 0 0) first_and_rest))
-        (places_are_picked b true k (omega (arith, more_come, places_are_counted b true)))
-
-    -- and the others are those after it
-    pub others_come : rest ≡ drop (k + 1) (places true 0 (bits_of words))
-    unfolding ps
-    others_come = let step : suc k ≡ k + 1 = omega arith in ap (drop 1) first_and_rest ∙ ap (λ i. drop i ps) step
-
-    -- it has as many places before it as ones, and more
-    pub comes_late : k ≤ p
-    comes_late = omega (arith, first_comes.before, first_comes.inside, ones_and_zeros (bits_of words) p (omega (arith, first_comes.inside)))
 
 -- ---- what is held of a sequence
 
@@ -138,16 +80,6 @@ module _ (xs : List ℕ) (n l : ℕ) (low words : List ℕ) (h : ArePartsOf xs n
       none : (ys : List ℕ) → length ys ≡ 0 → largest ys ≡ 0
       none [] e = refl
       none (y ∷ ys) e = absurd (omega arith)
-
-  -- no number before number k is more
-  pub last-at_most : (k last : ℕ) → AreNumbers l low words k last → k < n → last ≤ get_or xs k 0
-  last-at_most k last a less =
-      ⊎_elim (λ e. omega (arith, a.none e))
-      (λ some.
-      let inside : k < length xs = omega (arith, h.count) in
-      let before : k - 1 ≤ k = omega arith in
-      omega (arith, a.last_is (omega arith), held_is (k - 1) (omega arith), h.sequence.rising (k - 1) k 0 before inside))
-      (cases_eq k 0)
 
   -- the width and the number of upper words follow from the number of the numbers and the last
   pub sizes-agree : (last : ℕ) → AreNumbers l low words n last → (width_at n last ≡ l) × (upper_words_at n last l ≡ length words)

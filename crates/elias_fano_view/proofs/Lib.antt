@@ -1,3 +1,5 @@
 pub mod CheckLemmas
+pub mod FollowLemmas
 pub mod OnesLemmas
+pub mod RiseLemmas
 pub mod RoomLemmas

@@ -7,11 +7,11 @@ ghost use Rattle.elias_fano.specs.Low.{joined_item, unread, HasFragments, ReadsF
 ghost use Rattle.elias_fano.specs.Parts.{ArePartsOf, HasFragment};
 ghost use Rattle.elias_fano_view.specs.Checks.{AreNumbers};
 
+use crate::rising::rise_among;
 use crate::sizes::Sizes;
-use bit_words::{BitOnesIterator, words};
+use bit_words::words;
 use elias_fano::LowDigits;
 use elias_fano::building::join_digits;
-use std::iter::Iterator;
 
 /// Number `at`, whose 1 bit is at position `place`, if it is below 2^64.
 #[inline(always)]
@@ -30,48 +30,33 @@ fn number_of(place: usize, low: &mut LowDigits<'_>, at: usize) -> Option<u64>
 }
 
 /// The last of `n` numbers, 0 where there is none, if the 1 bits of the words and the low bits are those of `n` numbers
-/// that never decrease. Reads the low bits of each number at most once.
-#[tactic(auto, using(bitm::proofs::BitLaws::ones_and_zeros, bitm::proofs::BitLaws::bits_are_counted))]
-fn last_of(words: &[u64], low: &mut LowDigits<'_>, n: usize) -> Option<u64>
+/// that never decrease.
+fn last_of(words: &[u64], low: &[u64], width: u8, n: usize) -> Option<u64>
     requires short { IsShort words.now }
-    requires some { HasFragments low.old n }
-    ensures last { MatchOption result
-        ((xs : List ℕ) → ¬ (ArePartsOf xs n low.old.width low.old.words words.now))
-        (λ last. AreNumbers low.old.width low.old.words words.now n last
-        × (ones_of (bits_of words.now) ≡ n)) }
-    ensures fragments { ReadsFragments low.old low.new n }
+    requires some { HasFragments (unread low.now width) n }
+    ensures { MatchOption result
+        ((xs : List ℕ) → ¬ (ArePartsOf xs n width low.now words.now))
+        (λ last. AreNumbers width low.now words.now n last × (ones_of (bits_of words.now) ≡ n)) }
 {
-    let mut ones = BitOnesIterator::new(words);
-    let mut last = 0;
-    for at in 0..n {
-        let place = match ones.next() {
-            Some(place) => place,
-            None => return None,
-        };
-        let number = match number_of(place, &mut *low, at) {
-            Some(number) => number,
-            None => return None,
-        };
-        if number < last {
-            return None;
-        }
-        last = number;
+    if !rise_among(words, low, width, n, 0) {
+        return None;
     }
-    match ones.next() {
-        Some(_) => None,
-        None => Some(last),
+    if n == 0 {
+        return Some(0);
     }
+    let place = words::rfind_bit_one_unchecked(words, words.len() * 64 - 1);
+    number_of(place, &mut LowDigits::new(low, width), n - 1)
 }
 
-/// Whether these are the parts of some sequence. One pass over the words of the high bits, and one over those of the
-/// low bits.
+/// Whether these are the parts of some sequence. One pass over the words of the high bits; of the low bits, those of
+/// numbers next to one another with the same high bits are read.
 pub(crate) fn are_parts(words: &[u64], low: &[u64], width: u8, n: usize) -> bool
     requires short { IsShort words.now }
     requires some { HasFragments (unread low.now width) n }
     requires low { length low.now ≡ div_ceil (n * width) 64 }
     ensures { IsTrue result ↔ ((xs : List ℕ) × ArePartsOf xs n width low.now words.now) }
 {
-    let Some(last) = last_of(words, &mut LowDigits::new(low, width), n) else {
+    let Some(last) = last_of(words, low, width, n) else {
         return false;
     };
     let Some(sizes) = Sizes::of(n, last) else {

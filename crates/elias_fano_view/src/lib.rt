@@ -24,6 +24,7 @@
 // - `error`: why numbers were refused
 // - `filling`: the parts, written into the caller's memory
 // - `lists`: lists of queries
+// - `rising`: whether the low bits of neighbours rise
 // - `sequence`: a sequence whose parts are borrowed
 // - `sizes`: the lengths of the parts
 mod bucket;
@@ -31,6 +32,7 @@ mod checking;
 mod error;
 mod filling;
 mod lists;
+mod rising;
 mod sequence;
 mod sizes;
 

@@ -1,6 +1,7 @@
 //! A sequence whose parts are borrowed.
 ghost use Rattle.std.specs.Prelude.{◌≡◌, ◌+◌, ◌*◌, ◌/◌, ◌^◌, ◌<◌, ◌≤◌, ◌↔◌, ℕ, SomeIff};
 ghost use Rattle.std.specs.Prelude.{IsTrue, List, length, slice_index, true};
+ghost use Rattle.std.specs.List.Sorted.{IsStrictlyIncreasing};
 ghost use Rattle.bit_lists.specs.Count.{as_bit};
 ghost use Rattle.bitm_select.specs.Answers.{SelectTold, ToldEach};
 ghost use Rattle.bitm_tables.specs.Tables.{Lists};
@@ -16,6 +17,7 @@ mod items;
 
 use crate::bucket::{place_of, rank_each};
 use crate::checking::are_parts;
+use crate::rising::rise_among;
 use bitm_select::search::selected::WRONG_TABLES;
 use bitm_tables::answer::Answer;
 use bitm_tables::source::Probe;
@@ -182,11 +184,27 @@ impl<'a> LentSequence<'a> {
     }
 
     /// Whether the parts are those of some sequence, tables included. One pass over the words of the high bits for the
-    /// tables, and one more for the numbers, which reads the low bits of each.
+    /// tables, and one more for the numbers, which reads the low bits of those next to one another with the same high
+    /// bits.
     pub fn check(&self) -> bool
         ensures { IsTrue result ↔ AreParts self.now }
     {
         self.upper.check() && are_parts(self.upper.words(), self.low, self.width, self.len)
+    }
+
+    /// Whether each number is greater than the one before it, where the parts are those of a sequence.
+    ///
+    /// # Cost
+    /// One pass over the words of the high bits, which reads the low bits of numbers next to one another with the same
+    /// high bits (evident from the code).
+    ///
+    /// ```
+    /// primes.is_strictly_rising();   // true: no prime stands there twice
+    /// ```
+    pub fn is_strictly_rising(&self) -> bool
+        ensures { (xs : List ℕ) → Holds xs self.now → IsTrue result ↔ IsStrictlyIncreasing xs }
+    {
+        rise_among(self.upper.words(), self.low, self.width, self.len, 1)
     }
 
     /// The low bits, whose reads are counted from 0.

@@ -1,2 +1,3 @@
+pub mod CheckLemmas
 pub mod NearLemmas
 pub mod QueryLemmas

@@ -13,24 +13,23 @@ use sequence_block::check_as;
 fn rise_below(numbers: &LentSequence<'_>, end: u64) -> bool
     ensures { (xs : List ℕ) → Holds xs numbers.now → IsTrue result ↔ ArePlaces end 0 xs }
 {
-    let mut next = 0;
-    for at in 0..numbers.len() {
-        let Answer::Found(number) = numbers.get(at) else {
-            return false;
-        };
-        if number < next || number >= end {
-            return false;
-        }
-        next = number + 1;
+    if numbers.len() == 0 {
+        return true;
     }
-    true
+    let Answer::Found(last) = numbers.get(numbers.len() - 1) else {
+        return false;
+    };
+    if last >= end {
+        return false;
+    }
+    numbers.is_strictly_rising()
 }
 
 /// Whether the block is opened, is as it was written, and holds sparse bits: then each answer of the view is that of
 /// counting.
 ///
 /// # Cost
-/// Four passes over the words of the block, and one selection for each 1 bit (evident from the code).
+/// Five passes over the words of the block, and one selection (evident from the code).
 ///
 /// ```
 /// check(block.as_slice());   // true of a block that `build` wrote

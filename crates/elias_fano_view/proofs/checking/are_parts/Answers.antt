@@ -1,5 +1,5 @@
 -- The numbers that were found are a sequence exactly where the width, the lengths and the zeros behind fit.
-use Rattle.std.proofs.Common.{◌≡◌, length, refl, sym, ap, subst, ◌∙◌, ⊎_elim, arith}
+use Rattle.std.proofs.Common.{◌≡◌, length, refl, sym, ap, ◌∙◌, ⊎_elim, arith}
 use Rattle.std.proofs.lemmas.Bool.{false≢true}
 use Rattle.std.proofs.Math.Nat.{mul-le-mul_left}
 use Rattle.bit_lists.specs.Bits.{bits_of}
@@ -9,20 +9,16 @@ use Rattle.elias_fano_view.specs.Sizes.{upper_words_at}
 use Rattle.elias_fano_view.specs.declared.sizes.Sizes.{Sizes}
 use Rattle.elias_fano_view.proofs.CheckLemmas.{sizes-agree, parts}
 use Rattle.elias_fano_view.specs.Checks.{AreNumbers}
-use Rattle.elias_fano.specs.Low.{Lows}
 use Rattle.elias_fano_view.proofs.checking.are_parts.Goals as goal
 use Rattle.elias_fano_view.proofs.checking.are_parts.Goals.{In-Some}
 
 pub overflow_mul-n : goal.overflow_mul-n
 overflow_mul-n c = omega (arith, mul-le-mul_left c.args.n c.requires.some.width, c.requires.some.short)
 
--- what was found in the digits of which nothing was read
+-- what was found
 found : (c : In-Some) → AreNumbers c.args.width c.args.low.now c.args.words.now c.args.n c.in-Some.last
     × (ones_of (bits_of c.args.words.now) ≡ c.args.n)
-found c =
-    let P : Lows → Type 0 = λ d. AreNumbers d.width d.words c.args.words.now c.args.n c.in-Some.last
-    × (ones_of (bits_of c.args.words.now) ≡ c.args.n) in
-    subst P c.new.ensures c.in-Some.ensures.last
+found c = c.in-Some.ensures
 
 pub returns-then-sizes-width : goal.returns-then-sizes-width
 returns-then-sizes-width c = (

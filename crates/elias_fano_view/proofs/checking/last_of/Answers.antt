@@ -1,80 +1,91 @@
--- Each one is that of the next number; where a test fails, no sequence has these parts.
-use Rattle.std.proofs.Common.{◌≡◌, ℕ, ◌-◌, ◌<◌, true, sym, subst, ◌∙◌, arith}
+-- Numbers whose neighbours rise never decrease, and those of a sequence do; the last of them is the largest.
+use Rattle.std.proofs.Common.{◌≡◌, ◌-◌, ◌*◌, ◌<◌, true, length, sym, ap, subst, ◌∙◌, arith}
+use Rattle.std.proofs.lemmas.Bool.{both_ways}
 use Rattle.bit_lists.specs.Bits.{bits_of}
-use Rattle.bit_lists.specs.Count.{Picks}
-use Rattle.bit_lists.proofs.BitLaws.{places_are_counted}
-use Rattle.elias_fano.proofs.lemmas.FragmentLemmas.{joined-same}
-use Rattle.elias_fano_view.proofs.CheckLemmas.{AreNumbers-more, comes_late, first_comes, held_of_pick, held_is, last-at_most, more_come, none_come, ones-all, others_come}
-use Rattle.elias_fano_view.specs.Checks.{AreNumbers}
+use Rattle.bit_lists.specs.Count.{ones_of, Picks}
+use Rattle.elias_fano.specs.Low.{joined_item, Lows}
+use Rattle.elias_fano.specs.Parts.{HasFragment}
+use Rattle.elias_fano_view.proofs.CheckLemmas.{held_is, held_of_pick, ones-all}
+use Rattle.elias_fano_view.proofs.FollowLemmas.{fragment-among}
+use Rattle.elias_fano_view.proofs.RiseLemmas.{are-numbers, last-late, last-picked, one-to, sequence-rise, told, words-some}
+use Rattle.elias_fano_view.specs.Checks.{held_item, NeighboursRise}
 use Rattle.elias_fano_view.proofs.checking.last_of.Goals as goal
-use Rattle.elias_fano_view.proofs.checking.last_of.Goals.{In-Some}
+use Rattle.elias_fano_view.proofs.checking.last_of.Goals.{Else-n-eq0, After-rfind_bit_one_unchecked-place}
 
-pick_of : (c : In-Some) → Picks (bits_of c.args.words.now) true c.loop-at.at c.in-Some.place
-pick_of c = first_comes c.args.words.now c.loop-at.at c.loop-at.ones c.loop-at.invariant.coming c.in-Some.place c.next.new.self c.in-Some.ensures.steps
+pub returns-then-not-rise_among : goal.returns-then-not-rise_among
+returns-then-not-rise_among c = λ xs h.
+    let width = c.args.width in
+    let low = c.args.low.now in
+    let words = c.args.words.now in
+    let n = c.args.n in
+    both_ways c.rise_among.result c.if-not-rise_among.true
+    (c.rise_among.ensures.1 (ones-all xs n width low words h, sequence-rise xs n width low words h))
+
+pub returns-then-n-eq0 : goal.returns-then-n-eq0
+returns-then-n-eq0 c =
+    let h = c.rise_among.ensures.0 c.if-not-rise_among.false in (
+      are-numbers 0 c.args.n c.args.width c.args.low.now c.args.words.now (omega arith) c.requires.some h.0 h.1 0
+          (λ some. absurd (omega (arith, some, c.if-n-eq0.true))) (λ _. cc) (omega arith),
+      h.0,
+    )
+
+-- what was found among all
+found : (c : Else-n-eq0) → (ones_of (bits_of c.args.words.now) ≡ c.args.n)
+    × NeighboursRise 0 c.args.width c.args.low.now c.args.words.now 0 (64 * length c.args.words.now)
+found c = c.rise_among.ensures.0 c.if-not-rise_among.false
+
+some : (c : Else-n-eq0) → 0 < c.args.n
+some c = omega (arith, c.if-n-eq0.false)
+
+pub overflow_sub-words : goal.overflow_sub-words
+overflow_sub-words c =
+    let a = (goal.at.overflow_sub-words c).Else-n-eq0 in
+    let more = words-some 0 c.args.n c.args.width c.args.low.now c.args.words.now (omega arith) c.requires.some (found a).0 (found a).1 (some a) in
+    omega (arith, more)
+
+pub rfind_bit_one_unchecked-place-requires-clause-inside : goal.rfind_bit_one_unchecked-place-requires-clause-inside
+rfind_bit_one_unchecked-place-requires-clause-inside c =
+    let a = (goal.at.rfind_bit_one_unchecked-place-requires-clause-inside c).Else-n-eq0 in
+    let more = words-some 0 c.args.n c.args.width c.args.low.now c.args.words.now (omega arith) c.requires.some (found a).0 (found a).1 (some a) in
+    omega (arith, more)
+
+pub rfind_bit_one_unchecked-place-requires-clause-exists : goal.rfind_bit_one_unchecked-place-requires-clause-exists
+rfind_bit_one_unchecked-place-requires-clause-exists c =
+    let a = (goal.at.rfind_bit_one_unchecked-place-requires-clause-exists c).Else-n-eq0 in
+    one-to 0 c.args.n c.args.width c.args.low.now c.args.words.now (omega arith) c.requires.some (found a).0 (found a).1 (some a)
+
+pick : (c : After-rfind_bit_one_unchecked-place) → Picks (bits_of c.args.words.now) true (c.args.n - 1) c.rfind_bit_one_unchecked-place.result
+pick c =
+    let f = c.rise_among.ensures.0 c.if-not-rise_among.false in
+    let one : 0 < c.args.n = omega (arith, c.if-n-eq0.false) in
+    last-picked 0 c.args.n c.args.width c.args.low.now c.args.words.now (omega arith) c.requires.some f.0 f.1 one _ c.rfind_bit_one_unchecked-place.ensures
+
+pub number_of-requires-clause-fragment : goal.number_of-requires-clause-fragment
+number_of-requires-clause-fragment c =
+    let a = (goal.at.number_of-requires-clause-fragment c).Else-n-eq0 in
+    let P : Lows → Type 0 = λ d. HasFragment d.words (c.args.n - 1) d.width in
+    subst P (sym c.new.ensures) (fragment-among c.args.low.now c.args.width c.args.n (c.args.n - 1) c.requires.some (omega (arith, some a)))
 
 pub number_of-requires-clause-order : goal.number_of-requires-clause-order
 number_of-requires-clause-order c =
-    comes_late c.args.words.now c.loop-at.at c.loop-at.ones c.loop-at.invariant.coming c.in-Some.place c.next.new.self c.in-Some.ensures.steps
+    let a = (goal.at.number_of-requires-clause-order c).After-rfind_bit_one_unchecked-place in
+    let f = c.rise_among.ensures.0 c.if-not-rise_among.false in
+    last-late 0 c.args.n c.args.width c.args.low.now c.args.words.now (omega arith) c.requires.some f.0 f.1 _ (pick a)
 
-pub loop-at-preserved : goal.loop-at-preserved
-loop-at-preserved c =
+pub returns : goal.returns
+returns c =
+    let f = c.rise_among.ensures.0 c.if-not-rise_among.false in
+    let width = c.args.width in
+    let low = c.args.low.now in
     let words = c.args.words.now in
-    let i = c.loop-at.invariant in
-    let x = c.in-Some-number_of.ensures.number in
-    let here = held_of_pick c.args.low.now.width _ _ c.loop-at.at c.in-Some.place (pick_of (goal.at.loop-at-preserved c).In-Some) in
-    let same = joined-same (c.in-Some.place - c.loop-at.at) c.args.low.now c.loop-at.low c.loop-at.at i.fragments.words i.fragments.width in
-    let read = c.in-Some-number_of.ensures.fragments in
-    record {
-      numbers = AreNumbers-more c.args.low.now.width _ _ c.loop-at.at c.loop-at.last _ i.numbers (here ∙ sym same ∙ sym x.1)
-          (omega (arith, x.0, x.1)) c.if-number-last.false;
-      coming = others_come words c.loop-at.at c.loop-at.ones i.coming c.in-Some.place c.next.new.self c.in-Some.ensures.steps;
-      within = omega (
-        arith,
-        more_come words c.loop-at.at c.loop-at.ones i.coming c.in-Some.place c.next.new.self c.in-Some.ensures.steps,
-        places_are_counted (bits_of words) true,
-      );
-      fragments = record {
-        at_most = omega (arith, read.at_most, i.fragments.at_most);
-        words = read.words ∙ i.fragments.words;
-        width = read.width ∙ i.fragments.width;
-      };
-    }
-
-pub returns-in-None-clause-last : goal.returns-in-None-clause-last
-returns-in-None-clause-last c = λ xs h.
-    let none = none_come c.args.words.now c.loop-at.at c.loop-at.ones c.loop-at.invariant.coming c.in-None.ensures.steps.0 in
-    omega (arith, none, c.loop-at-test.true, c.loop-at.auto.at-end, ones-all xs c.args.n c.args.low.now.width _ _ h)
-
-pub returns-in-None-number_of-clause-last : goal.returns-in-None-number_of-clause-last
-returns-in-None-number_of-clause-last c = λ xs h.
-    let pick = pick_of (goal.at.returns-in-None-number_of-clause-last c).In-Some in
-    let inside : c.loop-at.at < c.args.n = omega (arith, c.loop-at-test.true, c.loop-at.auto.at-end) in
-    let here = held_of_pick c.args.low.now.width c.args.low.now.words c.args.words.now c.loop-at.at c.in-Some.place pick in
-    let item = held_is xs c.args.n c.args.low.now.width _ _ h c.loop-at.at inside in
-    let i = c.loop-at.invariant.fragments in
-    let same = joined-same (c.in-Some.place - c.loop-at.at) c.args.low.now c.loop-at.low c.loop-at.at i.words i.width in
-    c.in-None-number_of.ensures.number (omega (arith, here, item, same, h.sequence.small c.loop-at.at 0 (omega (arith, inside, h.count))))
-
-pub returns-then-number-last-clause-last : goal.returns-then-number-last-clause-last
-returns-then-number-last-clause-last c = λ xs h.
-    let pick = pick_of (goal.at.returns-then-number-last-clause-last c).In-Some in
-    let inside : c.loop-at.at < c.args.n = omega (arith, c.loop-at-test.true, c.loop-at.auto.at-end) in
-    let here = held_of_pick c.args.low.now.width c.args.low.now.words c.args.words.now c.loop-at.at c.in-Some.place pick in
-    let item = held_is xs c.args.n c.args.low.now.width _ _ h c.loop-at.at inside in
-    let order = last-at_most xs c.args.n c.args.low.now.width _ _ h c.loop-at.at c.loop-at.last c.loop-at.invariant.numbers inside in
-    let i = c.loop-at.invariant.fragments in
-    let same = joined-same (c.in-Some.place - c.loop-at.at) c.args.low.now c.loop-at.low c.loop-at.at i.words i.width in
-    omega (arith, here, item, order, same, c.in-Some-number_of.ensures.number.1, c.if-number-last.true)
-
-pub returns-in-Some-next-clause-last : goal.returns-in-Some-next-clause-last
-returns-in-Some-next-clause-last c = λ xs h.
-    let more = more_come c.args.words.now c.loop-at.at c.loop-at.ones c.loop-at.invariant.coming _ c.next-2.new.self c.in-Some-next.ensures.steps in
-    omega (arith, more, c.loop-at-test.false, ones-all xs c.args.n c.args.low.now.width _ _ h)
-
-pub returns-in-None-next-clause-last : goal.returns-in-None-next-clause-last
-returns-in-None-next-clause-last c =
-    let b = bits_of c.args.words.now in
-    let ended : c.loop-at.at ≡ c.args.n = omega (arith, c.loop-at-test.false, c.loop-at.auto.at-end) in
-    let none = none_come c.args.words.now c.loop-at.at c.loop-at.ones c.loop-at.invariant.coming c.in-None-next.ensures.steps.0 in
-    let P : ℕ → Type 0 = λ k. AreNumbers c.args.low.now.width c.args.low.now.words c.args.words.now k c.loop-at.last in
-    (subst P ended c.loop-at.invariant.numbers, omega (arith, none, ended, c.loop-at.invariant.within, places_are_counted b true))
+    let n = c.args.n in
+    let one : 0 < n = omega (arith, c.if-n-eq0.false) in
+    let place = c.rfind_bit_one_unchecked-place.result in
+    let is : joined_item (place - (n - 1)) c.new.result (n - 1) ≡ held_item width low words (n - 1) =
+    ap (λ (d : Lows). joined_item (place - (n - 1)) d (n - 1)) c.new.ensures
+    ∙ sym (held_of_pick width low words (n - 1) place (pick (goal.at.returns c).After-rfind_bit_one_unchecked-place)) in
+    told c.number_of.result _ _ _ _ c.number_of.ensures.number
+    (λ large xs h.
+    large (omega (arith, is, held_is xs n width low words h (n - 1) (omega (arith, one)), h.sequence.small (n - 1) 0 (omega (arith, one, h.count)))))
+    (λ fits.
+    (are-numbers 0 n width low words (omega arith) c.requires.some f.0 f.1 _ (λ _. is) (λ none. absurd (omega (arith, none, one))) fits, f.0))
