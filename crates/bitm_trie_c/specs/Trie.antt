@@ -9,6 +9,7 @@ use Rattle.trie_block.specs.Block.{degrees_of_parts, labels_of_parts, trie_of, H
 use Rattle.trie_block.specs.Labels.{IsShape}
 use Rattle.bitm_abi.specs.Status.{truth_of, Exported, IsFoundBelow}
 use Rattle.bitm_abi.specs.Tree.{tree_parts}
+use Rattle.trie_words.specs.Words.{words_in, AreSorted, AreWords}
 use Rattle.bitm_trie_c.specs.declared.trie.Trie.{Trie}
 
 -- A status is 0 where the answer was written, 1 where there is no such node, label, end or word, 2 where a length is
@@ -22,6 +23,10 @@ trie_parts trie = trie_of (tree_parts trie.tree) trie.labels.now trie.width trie
 abbrev pub IsNoTrie : List ℕ → List ℕ → ℕ → Type 0
 IsNoTrie degrees labels width =
     IsShape (length degrees) width × ((¬ (IsTree degrees)) ⊎ (IsTree degrees × (¬ (AreLabels degrees (0 ∷ labels) width))))
+
+-- there are words, and one does not stand after the one before it
+abbrev pub AreUnsorted : List ℕ → List ℕ → Type 0
+AreUnsorted bytes starts = AreWords bytes starts × (¬ (AreSorted (words_in bytes starts)))
 
 -- whether a word ends at a node, as 0 or 1, whatever the sections hold
 pub record IsEnd (node : ℕ) (parts : TrieParts) (answer : Answer ℕ) : Type 0 where

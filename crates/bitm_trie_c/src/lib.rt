@@ -9,11 +9,13 @@
 // What is in each file:
 // - `bytes`: nodes by their words, over bytes
 // - `making`: the block of a trie, written, opened and checked
+// - `of_words`: the block of the trie of sorted words
 // - `queries`: labels, ends and words of nodes, and children by their labels
 // - `trie`: a trie as C passes it
 // - `words`: nodes by their words, over labels
 mod bytes;
 mod making;
+mod of_words;
 mod queries;
 mod trie;
 mod words;

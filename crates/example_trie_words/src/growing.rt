@@ -1,4 +1,4 @@
-//! The degrees and labels of the trie of sorted words, level by level.
+//! The degrees and labels of the trie of sorted words, which `trie_words` writes.
 use std::alloc::{AllocError, Global};
 
 /// What a trie is built of, and for each node whether a word ends there.
@@ -9,72 +9,65 @@ pub struct Grown {
     pub ends: Vec<bool>,
 }
 
-/// The words that go through a node: those from `first` on and before `past`.
-#[derive(Clone, Copy)]
-struct Part {
-    first: usize,
-    past: usize,
-}
-
-/// Adds a node through which these words go, of a level: whether a word ends there, and a part of the next level for
-/// each letter that comes next.
-fn add_node(
-    grown: &mut Grown,
-    next: &mut Vec<Part>,
-    words: &[&str],
-    part: Part,
-    depth: usize,
-) -> Result<(), AllocError> {
-    let mut ends = false;
-    let mut degree = 0usize;
-    let mut last = None;
-    for at in part.first..part.past {
-        let letter = words
-            .get(at)
-            .and_then(|word| word.as_bytes().get(depth).copied());
-        match letter {
-            None => ends = true,
-            Some(letter) if last == Some(letter) => {
-                if let Some(begun) = next.last_mut() {
-                    begun.past = at.saturating_add(1);
-                }
-            }
-            Some(letter) => {
-                last = Some(letter);
-                degree = degree.saturating_add(1);
-                grown.labels.push(letter as u64)?;
-                next.push(Part {
-                    first: at,
-                    past: at.saturating_add(1),
-                })?;
-            }
+/// The bytes of the words one after another, and where each begins and the last one ends.
+fn joined(alloc: Global, words: &[&str]) -> Result<(Vec<u8>, Vec<usize>), AllocError> {
+    let mut bytes = Vec::new(alloc);
+    let mut starts = Vec::new(alloc);
+    starts.push(0)?;
+    for word in words {
+        for byte in word.bytes() {
+            bytes.push(byte)?;
         }
+        starts.push(bytes.len())?;
     }
-    grown.degrees.push(degree)?;
-    grown.ends.push(ends)?;
-    Ok(())
+    Ok((bytes, starts))
 }
 
-/// The trie of words in the order of a dictionary, each there once. The root's label is 0.
-pub fn grow(alloc: Global, words: &[&str]) -> Result<Grown, AllocError> {
-    let mut grown = Grown {
-        degrees: Vec::new(alloc),
-        labels: Vec::new(alloc),
-        ends: Vec::new(alloc),
+/// The first `len` bits of the words, lowest first.
+fn bits_of(alloc: Global, words: &[u64], len: usize) -> Result<Vec<bool>, AllocError> {
+    let mut bits = Vec::new(alloc);
+    for at in 0..len {
+        let word = words.get(at / 64).copied().unwrap_or(0);
+        bits.push(word >> (at % 64) & 1 == 1)?;
+    }
+    Ok(bits)
+}
+
+/// The labels of all nodes: that of the root is 0.
+fn with_root(alloc: Global, letters: &[u64]) -> Result<Vec<u64>, AllocError> {
+    let mut labels = Vec::new(alloc);
+    labels.push(0)?;
+    for letter in letters {
+        labels.push(*letter)?;
+    }
+    Ok(labels)
+}
+
+/// The trie of words in the order of a dictionary, each there once; `None` for other words.
+pub fn grow(alloc: Global, words: &[&str]) -> Result<Option<Grown>, AllocError> {
+    let (bytes, starts) = joined(alloc, words)?;
+    let Ok(nodes) = trie_words::nodes(bytes.as_slice(), starts.as_slice()) else {
+        return Ok(None);
     };
-    grown.labels.push(0)?;
-    let longest = words.iter().map(|word| word.len()).max().unwrap_or(0);
-    let mut level = Vec::new(alloc);
-    level.push(Part {
-        first: 0,
-        past: words.len(),
-    })?;
-    for depth in 0..longest.saturating_add(1) {
-        let mut next = Vec::new(alloc);
-        for part in &level {
-            add_node(&mut grown, &mut next, words, *part, depth)?;
-        }
-        level = next;
+    let children = nodes.saturating_sub(1);
+    let mut degrees = vec![in alloc; 0usize; nodes]?;
+    let mut letters = vec![in alloc; 0u64; children]?;
+    let mut parents = vec![in alloc; 0usize; children]?;
+    let mut ends = vec![in alloc; 0u64; nodes.div_ceil(64)]?;
+    let grown = trie_words::grow(
+        bytes.as_slice(),
+        starts.as_slice(),
+        degrees.as_mut_slice(),
+        letters.as_mut_slice(),
+        ends.as_mut_slice(),
+        parents.as_mut_slice(),
+    );
+    if grown.is_err() {
+        return Ok(None);
     }
-    Ok(grown)
+    Ok(Some(Grown {
+        degrees,
+        labels: with_root(alloc, letters.as_slice())?,
+        ends: bits_of(alloc, ends.as_slice(), nodes)?,
+    }))
 }

@@ -126,7 +126,10 @@ fn print_found(
 /// Builds the trie of a text's words, and prints what begins with some letters.
 fn answer(rt: &HostRuntime, text: &str, letters: &str) -> io::Result<()> {
     let words = different(rt.alloc(), text)?;
-    let grown = grow(rt.alloc(), words.as_slice())?;
+    let Some(grown) = grow(rt.alloc(), words.as_slice())? else {
+        println!(rt; "the words do not rise")?;
+        return Ok(());
+    };
     let (degrees, labels) = (grown.degrees.as_slice(), grown.labels.as_slice());
     match SampledTrie::build(rt.alloc(), degrees, labels, WIDTH) {
         Ok(trie) => print_found(rt, &trie, &grown, letters),

@@ -1,10 +1,13 @@
 //! Tests of the block of a trie: its words beside those that another program made, each bit of a block flipped, each
-//! length cut off.
+//! length cut off; and of the trie of a few words, beside one that was drawn by hand.
 //!
 //! They stand in a crate of their own, since a crate with tests is proved twice.
 #![tactic(auto)]
 
 // What is in each file:
 // - `tries`: the block of a small trie
+// - `words`: the trie of a few words
 #[cfg(test)]
 mod tries;
+#[cfg(test)]
+mod words;

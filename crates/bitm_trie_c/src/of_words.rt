@@ -1,0 +1,54 @@
+//! The block of the trie of sorted words.
+ghost use Rattle.std.specs.Prelude.{◌≡◌, ◌≢◌, ◌↔◌, ◌⊎◌};
+ghost use Rattle.bitm_trie_c.specs.Trie.{AreUnsorted};
+ghost use Rattle.trie_words.specs.Building.{CanBuild};
+ghost use Rattle.trie_words.specs.Room.{AreSortedWords};
+ghost use Rattle.trie_words.specs.Trie.{IsBlockOfWords};
+ghost use Rattle.trie_words.specs.Words.{nodes_of, words_in};
+
+use bitm_abi::{BAD_SIZE, OK, WRONG};
+use trie_words::{WordsError, build, nodes};
+
+/// Writes how many nodes the trie of these words has.
+#[unsafe(no_mangle)]
+pub extern "C" fn bitm_trie_nodes_of_words(bytes: &[u8], starts: &[usize], out: &mut usize) -> u32
+    ensures ok { (result ≡ 0) ↔ AreSortedWords bytes.now starts.now }
+    ensures wrong { (result ≡ 3) ↔ AreUnsorted bytes.now starts.now }
+    ensures status { (result ≡ 0) ⊎ (result ≡ 2) ⊎ (result ≡ 3) }
+    ensures nodes { result ≡ 0 → out.new ≡ nodes_of (words_in bytes.now starts.now) }
+    ensures kept { result ≢ 0 → out.new ≡ out.old }
+{
+    match nodes(bytes, starts) {
+        Ok(count) => {
+            *out = count;
+            OK
+        }
+        Err(WordsError::NotSorted) => WRONG,
+        Err(WordsError::NotWords) => BAD_SIZE,
+        Err(WordsError::WrongLength) => BAD_SIZE,
+    }
+}
+
+/// Writes the block of the trie of these words, with room for its degrees and parents, and for its labels
+/// and ends.
+#[unsafe(no_mangle)]
+pub extern "C" fn bitm_trie_build_words(
+    bytes: &[u8],
+    starts: &[usize],
+    scratch: &mut [usize],
+    room: &mut [u64],
+    block: &mut [u64],
+) -> u32
+    ensures ok { (result ≡ 0) ↔ CanBuild bytes.now starts.now scratch.old room.old block.old }
+    ensures wrong { (result ≡ 3) ↔ AreUnsorted bytes.now starts.now }
+    ensures status { (result ≡ 0) ⊎ (result ≡ 2) ⊎ (result ≡ 3) }
+    ensures block { result ≡ 0 → IsBlockOfWords (words_in bytes.now starts.now) block.new }
+    ensures kept { result ≢ 0 → block.new ≡ block.old }
+{
+    match build(bytes, starts, scratch, room, block) {
+        Ok(()) => OK,
+        Err(WordsError::NotSorted) => WRONG,
+        Err(WordsError::NotWords) => BAD_SIZE,
+        Err(WordsError::WrongLength) => BAD_SIZE,
+    }
+}

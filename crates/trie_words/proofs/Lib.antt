@@ -1,0 +1,12 @@
+pub mod CommonLemmas
+pub mod CountLemmas
+pub mod GrowLemmas
+pub mod LeadLemmas
+pub mod LevelLemmas
+pub mod OrderLemmas
+pub mod PathLemmas
+pub mod PlaceLemmas
+pub mod PlacingLemmas
+pub mod StepLemmas
+pub mod TrieLemmas
+pub mod WordLemmas

@@ -1,0 +1,7 @@
+use Rattle.std.proofs.Common.{ℕ, ◌+◌, ◌<◌}
+use Rattle.trie_words.specs.Words.{word_of, IsBefore}
+use Rattle.trie_words.proofs.words.are_sorted.Given as goal
+
+-- each word so far stands before the next one
+abbrev pub invariant-loop-j : goal.invariant-loop-j
+invariant-loop-j l = (i : ℕ) → i + 1 < l.j → IsBefore (word_of l.bytes l.starts i) (word_of l.bytes l.starts (i + 1))
