@@ -35,8 +35,18 @@ fn copy(to: &mut [usize], from: &[usize])
     }
 }
 
-/// Writes the words of levels, their tables and their sizes, and returns how many 1 bits there are.
-pub(crate) fn write_levels(
+/// Writes the words of levels, their tables and their sizes where a block has them, and returns how many 1 bits there
+/// are: for who writes a block with these sections and others.
+///
+/// # Conditions
+/// There are fewer than 2^58 words, and the memory of each has the length that it needs.
+/// # Cost
+/// Two passes over the words (evident from the code). Nothing is allocated.
+///
+/// ```
+/// let ones = write_levels(&words, &sizes, to, upper, lower, to_sizes);   // 3 of one word 0b1101
+/// ```
+pub fn write_levels(
     words: &[u64],
     sizes: &[usize],
     to: &mut [u64],

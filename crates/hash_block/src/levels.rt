@@ -23,8 +23,17 @@ fn fitting(words: usize, sizes: &[usize]) -> Option<usize>
 
 /// Whether the sizes are those of levels of these words: each level has a word, all have as many as there are, and
 /// there are at most 256 levels.
+///
+/// # Conditions
+/// There are fewer than 2^58 words.
+/// # Cost
+/// One pass over the sizes (evident from the code).
+///
+/// ```
+/// are_levels(&words, &[1, 2]);   // true of three words
+/// ```
 #[tactic(auto, using(bitm::proofs::BitLaws::bits_are_counted))]
-pub(crate) fn are_levels(words: &[u64], sizes: &[usize]) -> bool
+pub fn are_levels(words: &[u64], sizes: &[usize]) -> bool
     requires { length words.now < 2 ^ 58 }
     ensures { IsTrue result ↔ AreSizes sizes.now (bits_of words.now) }
 {

@@ -39,11 +39,12 @@ mod sections;
 mod view;
 
 pub use bitm_tables::answer::Answer;
-pub use building::{build, build_of};
+pub use building::{build, build_of, write_levels};
 pub use dictionary::{DictionaryView, check_dictionary, open_dictionary};
 pub use error::BuildError;
 pub use hashing::Added;
 pub use keyed::{build_dictionary, build_keyed};
+pub use levels::are_levels;
 pub use opening::{check, open};
 pub use sections::{HASH, dictionary_size, size};
 pub use view::HashView;

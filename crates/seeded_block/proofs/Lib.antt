@@ -1,0 +1,3 @@
+pub mod SeedLemmas
+pub mod MovedLemmas
+pub mod BlockLemmas

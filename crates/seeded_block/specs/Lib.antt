@@ -1,0 +1,4 @@
+pub mod Block
+pub mod Error
+pub mod Parts
+pub mod Seeds

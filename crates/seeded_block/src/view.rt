@@ -1,0 +1,145 @@
+//! A hash with seeds in memory that may hold anything.
+ghost use Rattle.std.specs.Prelude.{◌≡◌, ◌+◌, ◌↔◌, IsTrue, length, None, SomeIff};
+ghost use Rattle.bitm_tables.specs.Reads.{none_read, ReadsAtMost};
+ghost use Rattle.perfect_hash.specs.Asking.{IfAbsent, IsBelow, IsNumbered};
+ghost use Rattle.perfect_hash.specs.Placed.{FitIn};
+ghost use Rattle.hash_block.specs.Parts.{IsHash};
+ghost use Rattle.seeded_block.specs.Parts.{seeded_number};
+
+use crate::packed::PackedSeeds;
+use bitm_tables::answer::Answer;
+use bitm_tables::source::counts::ReadCounts;
+use hash_block::HashView;
+use perfect_hash::total_number_by_on;
+use std::marker::Model;
+
+/// A minimal perfect hash with a seed for each word in memory that may hold anything: the parts of a hash, and the
+/// seeds.
+///
+/// Contracts see both. A call says what it answers where they are those of a hash, and what it answers otherwise.
+///
+/// ```
+/// let Some(hash) = open(block.as_slice()) else { .. };
+/// hash.check();   // true of a block that `build` wrote
+/// hash.get(9);    // Found(number), Absent or Wrong
+/// ```
+#[derive(Drop)]
+pub struct SeededView<'a> {
+    hash: HashView<'a>,
+    seeds: PackedSeeds<'a>,
+}
+
+impl<'a> Model for SeededView<'a> {
+    ghost use Rattle.seeded_block.specs.Parts.{HasSeeds, SeededParts};
+
+    ghost Value = { SeededParts };
+
+    ghost view = { λ h. record { hash = h.hash; seeds = h.seeds } };
+
+    ghost invariant = { λ h. HasSeeds (record { hash = h.hash; seeds = h.seeds }) };
+}
+
+impl<'a> SeededView<'a> {
+    /// A hash over the parts of one and seeds; `None` exactly where there are not as many seeds as words.
+    ///
+    /// ```
+    /// SeededView::over(hash, seeds);   // Some(..) where there is a seed for each word
+    /// ```
+    #[inline(always)]
+    pub fn over(hash: HashView<'a>, seeds: PackedSeeds<'a>) -> Option<SeededView<'a>>
+        ensures { SomeIff result (length seeds.entry ≡ length hash.entry.lists.words)
+            (record { hash = hash.entry; seeds = seeds.entry }) }
+    {
+        if seeds.len() == hash.tables().words().len() {
+            Some(SeededView { hash, seeds })
+        } else {
+            None
+        }
+    }
+
+    /// The words of all levels and their tables, the sizes, the number of keys and the seed of the caller's. Without
+    /// the seeds of the words its own queries answer other numbers.
+    ///
+    /// ```
+    /// hash.parts().keys();   // 3
+    /// ```
+    #[inline(always)]
+    pub fn parts(&self) -> &HashView<'a>
+        ensures { result.now ≡ self.now.hash }
+    {
+        &self.hash
+    }
+
+    /// The seeds, one for each word.
+    ///
+    /// ```
+    /// hash.seeds().get(0);   // 17
+    /// ```
+    #[inline(always)]
+    pub fn seeds(&self) -> &PackedSeeds<'a>
+        ensures seeds { result.now ≡ self.now.seeds }
+        ensures len { length result.now ≡ length self.now.hash.lists.words }
+    {
+        &self.seeds
+    }
+
+    /// The number of a hash, below the number of keys.
+    ///
+    /// Whatever the memory holds, `Absent` is answered only where the sizes are those of levels in the words and the
+    /// hash falls on no 1 bit. Where it is that of a hash, the number is the hash's, and the answer is never `Wrong`. A
+    /// value that is no key may have any number.
+    ///
+    /// # Cost
+    /// That of `get_counted`.
+    ///
+    /// ```
+    /// hash.get(9);   // Found(number), Absent or Wrong
+    /// ```
+    #[inline]
+    pub fn get(&self, hash: u64) -> Answer<usize>
+        ensures below { IsBelow self.now.hash.keys result }
+        ensures number { IsHash self.now.hash → IsNumbered (seeded_number self.now hash) result }
+        ensures fit { IfAbsent result
+            (FitIn (length self.now.hash.lists.words) self.now.hash.sizes) }
+        ensures none { IfAbsent result (seeded_number self.now hash ≡ None) }
+    {
+        self.get_counted(hash).0
+    }
+
+    /// What `get` answers, and what was read of the words and tables for it, whatever the memory holds: at most one
+    /// word of each level, and one upper entry, one lower entry and eight words for the rank. Of each level at most one
+    /// seed is read too (evident from the code).
+    ///
+    /// ```
+    /// hash.get_counted(9).1;   // of one level at most 9 words
+    /// ```
+    #[inline]
+    pub fn get_counted(&self, hash: u64) -> (Answer<usize>, ReadCounts)
+        ensures below { IsBelow self.now.hash.keys result.0 }
+        ensures number { IsHash self.now.hash → IsNumbered (seeded_number self.now hash) result.0 }
+        ensures fit { IfAbsent result.0
+            (FitIn (length self.now.hash.lists.words) self.now.hash.sizes) }
+        ensures none { IfAbsent result.0 (seeded_number self.now hash ≡ None) }
+        ensures reads { ReadsAtMost none_read result.1 1 1 (length self.now.hash.sizes + 8) }
+    {
+        let parts = &self.hash;
+        let mut probe = parts.tables().probe();
+        let number = total_number_by_on(&mut probe, &self.seeds, parts.sizes(), parts.keys(), hash);
+        (number, probe.into_reads())
+    }
+
+    /// Whether the tables are those of the words, these those of levels of these sizes, and there is a 1 bit for each
+    /// key: then each number is that of the hash. Any seeds are right.
+    ///
+    /// # Cost
+    /// One pass over the words, and one over the sizes (evident from the code).
+    ///
+    /// ```
+    /// hash.check();   // true of a block that `build` wrote
+    /// ```
+    pub fn check(&self) -> bool
+        ensures { IsTrue result ↔ IsHash self.now.hash }
+    {
+        self.hash.check()
+    }
+}
