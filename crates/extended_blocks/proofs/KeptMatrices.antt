@@ -1,0 +1,103 @@
+-- A matrix in a block that is extended is that of before, if the section is not taken for its quarters.
+use Rattle.std.proofs.Common.{◌≡◌, ◌≢◌, ℕ, ◌+◌, ◌*◌, ◌≤◌, ◌==◌, ◌&&◌, nat_le, Bool, true, false, if◌then◌else◌, List, [], ⊎_elim, get_or, slice_index, refl, ap, sym, subst, ◌∙◌, arith}
+use Rattle.std.proofs.lemmas.Bool.{and_left, and_parts, and_right, cases_lt, le-leb, leb-true, ne_eqb}
+use Rattle.std.proofs.lemmas.List.{get_or_push}
+use Rattle.bitm_block.proofs.HeaderLemmas.{section_at, sections_len}
+use Rattle.bitm_block.specs.Header.{count_in, section_in, sections_in}
+use Rattle.bitm_block.specs.Layout.{no_section}
+use Rattle.bitm_block.specs.declared.head.Head.{Head}
+use Rattle.bitm_block.specs.declared.layout.Section.{Section}
+use Rattle.block_sections.proofs.ExtendLemmas.{count_is}
+use Rattle.block_sections.specs.Extended.{IsExtended}
+use Rattle.extended_blocks.proofs.KeptLemmas.{role_is, tables_are}
+use Rattle.extended_blocks.specs.Matrices.{AddsNoQuarters, KeepsMatrix}
+use Rattle.bitm_tables.specs.Tables.{Lists}
+use Rattle.block_tables.specs.Sections.{tables_in}
+use Rattle.lent_levels.specs.Levels.{levels_with}
+use Rattle.matrix_block.specs.Block.{has_quarters, items_in, matrix_in, quarters_in, HasLengths, HoldsMatrix, IsMatrixBlock, IsSoundBlock, MatrixParts}
+
+-- a list or none, by a test
+same_if : (t : Bool) (a b : List ℕ) → (t ≡ true → a ≡ b) → (if t then a else []) ≡ (if t then b else [])
+same_if true a b e = e refl
+same_if false a b e = refl
+
+abbrev matrix_with : Lists → ℕ → ℕ → List ℕ → List ℕ → List ℕ → MatrixParts
+matrix_with lists n w ones zeros quarters = record { levels = levels_with n w ones zeros quarters; lists = lists }
+
+module _ (block : List ℕ) (added : Section) (words new : List ℕ) (none : AddsNoQuarters block added) (is : IsExtended block added words new) where
+  last_role : slice_index new (16 + 4 * count_in block) ≡ added.role
+  last_role =
+      ap (λ (s : Section). s.role)
+      (sym (section_at new (count_in block) no_section (omega (arith, count_is block added words new is)))
+      ∙ ap (λ (l : List Section). get_or l (count_in block) no_section) is.sections_are
+      ∙ get_or_push (sections_in block) added no_section (count_in block) (sections_len block))
+
+  -- the sixth section is that of quarters exactly where it was
+  with_six : 6 ≤ count_in block → has_quarters new ≡ has_quarters block
+  with_six six =
+      let more : 6 ≤ count_in new = omega (arith, six, count_is block added words new is) in
+      ap (λ t. t && (slice_index new 36 == 6)) (le-leb 6 (count_in new) more ∙ sym (le-leb 6 (count_in block) six))
+      ∙ ap (λ r. nat_le 6 (count_in block) && (r == 6)) (role_is block added words new is 5 (omega (arith, six)))
+
+  with_five : count_in block ≡ 5 → added.role ≢ 6 → has_quarters new ≡ has_quarters block
+  with_five five other =
+      let role : slice_index new 36 ≡ added.role = ap (λ n. slice_index new (16 + 4 * n)) (sym five) ∙ last_role in
+      and_right (nat_le 6 (count_in new)) (slice_index new 36 == 6) (ap (λ r. r == 6) role ∙ ne_eqb added.role 6 other)
+      ∙ sym (and_left (nat_le 6 (count_in block)) (slice_index block 36 == 6) (ap (nat_le 6) five))
+
+  flag_is : 5 ≤ count_in block → has_quarters new ≡ has_quarters block
+  flag_is five =
+      ⊎_elim (λ six. with_six six)
+      (λ other. ⊎_elim (λ less. with_five (omega (arith, five, less)) other) (λ six. with_six six) (cases_lt (count_in block) 6))
+      none
+
+  quarters_are : 5 ≤ count_in block → quarters_in new ≡ quarters_in block
+  quarters_are five =
+      ap (λ t. if t then section_in new 5 else []) (flag_is five)
+      ∙ same_if (has_quarters block) (section_in new 5) (section_in block 5)
+      (λ has. is.kept 5 (omega (arith, leb-true 6 (count_in block) (and_parts (nat_le 6 (count_in block)) (slice_index block 36 == 6) has).0)))
+
+  matrix_is : 5 ≤ count_in block → matrix_in new ≡ matrix_in block
+  matrix_is five =
+      let n = (matrix_in block).levels.len in
+      let w = (matrix_in block).levels.width in
+      ap (λ (h : Head). matrix_with (tables_in new) h.len h.width (section_in new 3) (section_in new 4) (quarters_in new)) is.head_is
+      ∙ ap (λ t. matrix_with t n w (section_in new 3) (section_in new 4) (quarters_in new)) (tables_are block added words new is (omega (arith, five)))
+      ∙ ap (λ l. matrix_with (tables_in block) n w l (section_in new 4) (quarters_in new)) (is.kept 3 (omega (arith, five)))
+      ∙ ap (λ l. matrix_with (tables_in block) n w (section_in block 3) l (quarters_in new)) (is.kept 4 (omega (arith, five)))
+      ∙ ap (λ q. matrix_with (tables_in block) n w (section_in block 3) (section_in block 4) q) (quarters_are five)
+
+  opened_matrix : IsMatrixBlock block → IsMatrixBlock new
+  opened_matrix old =
+      let five = old.sections.five in record {
+        is_block = is.is_block;
+        sections = record {
+          kind = ap (λ (h : Head). h.kind) is.head_is ∙ old.sections.kind;
+          five = omega (arith, five, count_is block added words new is);
+          words = role_is block added words new is 0 (omega (arith, five)) ∙ old.sections.words;
+          upper = role_is block added words new is 1 (omega (arith, five)) ∙ old.sections.upper;
+          lower = role_is block added words new is 2 (omega (arith, five)) ∙ old.sections.lower;
+          ones = role_is block added words new is 3 (omega (arith, five)) ∙ old.sections.ones;
+          zeros = role_is block added words new is 4 (omega (arith, five)) ∙ old.sections.zeros;
+        };
+        lengths = subst (λ (p : MatrixParts). HasLengths p) (sym (matrix_is five)) old.lengths;
+      }
+
+  sound_matrix : IsSoundBlock block → IsSoundBlock new
+  sound_matrix old = record {
+    matrix_block = opened_matrix old.matrix_block;
+    verified = is.verified;
+    matrix = subst (λ (p : MatrixParts). HoldsMatrix p) (sym (matrix_is old.matrix_block.sections.five)) old.matrix;
+  }
+
+  pub keeps_matrix : KeepsMatrix block new
+  keeps_matrix = record {
+    opened = opened_matrix;
+    parts = λ old. matrix_is old.sections.five;
+    sound = sound_matrix;
+    numbers = λ xs w old. record {
+      sound = sound_matrix old.sound;
+      width = ap (λ (h : Head). h.width) is.head_is ∙ old.width;
+      items = ap items_in (matrix_is old.sound.matrix_block.sections.five) ∙ old.items;
+    };
+  }

@@ -1,0 +1,4 @@
+pub mod KeptLemmas
+pub mod KeptTrees
+pub mod KeptSparse
+pub mod KeptMatrices

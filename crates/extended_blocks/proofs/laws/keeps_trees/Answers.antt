@@ -1,0 +1,5 @@
+use Rattle.extended_blocks.proofs.KeptTrees.{keeps_tree}
+use Rattle.extended_blocks.proofs.laws.keeps_trees.Goals as goal
+
+pub returns : goal.returns
+returns c = keeps_tree

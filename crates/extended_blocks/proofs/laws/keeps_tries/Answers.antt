@@ -1,0 +1,5 @@
+use Rattle.extended_blocks.proofs.KeptTrees.{keeps_trie}
+use Rattle.extended_blocks.proofs.laws.keeps_tries.Goals as goal
+
+pub returns : goal.returns
+returns c = keeps_trie

@@ -1,0 +1,4 @@
+pub mod Kept
+pub mod Matrices
+pub mod Sparse
+pub mod Trees

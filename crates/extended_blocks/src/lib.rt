@@ -1,0 +1,13 @@
+//! A block that is extended by a section holds what it held: laws of the kinds of blocks.
+//!
+//! `block_sections::extend` says of a block of any kind that its numbers and its sections stay. What its kind says of
+//! it stays too, and a caller that wants this calls a law here.
+#![tactic(auto)]
+
+// What is in each file:
+// - `laws`: sequences, sparse bits, bits with their index, trees, tries and matrices
+mod laws;
+
+pub use laws::{
+    keeps_indexes, keeps_matrices, keeps_sequences, keeps_sparse_bits, keeps_trees, keeps_tries,
+};
