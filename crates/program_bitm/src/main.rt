@@ -1,5 +1,5 @@
-//! Builds blocks of the numbers in a text and the index of a text, checks them, and answers questions to them
-//! (`docs/PROGRAM.md`).
+//! Builds blocks of the numbers in a text, the index of a text, and blocks of the lines of a text, checks them, and
+//! answers questions to them (`docs/PROGRAM.md`).
 #![tactic(auto)]
 
 use program_runs::CANNOT_READ;
@@ -21,11 +21,15 @@ fn main(rt: HostRuntime) -> ExitCode {
     ExitCode::from(status)
 }
 
-/// Does what the arguments say, those after `text` to a text, and answers the status.
+/// Does what the arguments say, those after `text` to a text and those after `strings` to strings, and answers the
+/// status.
 fn run<W: Write>(rt: &HostRuntime, args: &[String], out: &mut W) -> u8 {
     match args.split_first() {
         Some((word, rest)) if word.as_str() == "text" => {
             program_texts::start(rt, rest, out, &mut rt.stderr())
+        }
+        Some((word, rest)) if word.as_str() == "strings" => {
+            program_strings::start(rt, rest, out, &mut rt.stderr())
         }
         _ => program_blocks::start(rt, args, out, &mut rt.stderr()),
     }

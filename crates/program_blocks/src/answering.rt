@@ -26,7 +26,7 @@ use std::io::Write;
 /// # Errors
 /// `AllocError` where memory was refused.
 /// # Cost
-/// A few passes over the block; of sparse bits a selection for each 1 bit (evident from the code).
+/// A few passes over the block (evident from the code).
 ///
 /// ```
 /// check(alloc, bytes);   // Ok(true) of what `build` wrote

@@ -1,0 +1,51 @@
+-- Each command is one that the program does.
+use Rattle.std.proofs.Common.{ℕ, List, Option}
+use Rattle.std.proofs.KnownBytes.{Appends-kept}
+use Rattle.std.specs.Io.KnownBytes.{Keeps}
+use Rattle.program_runs.specs.Known.{IsKnownAs, Known}
+use Rattle.program_strings.specs.Building.{WroteStrings}
+use Rattle.program_strings.specs.Finding.{WroteFound, WroteNumbers}
+use Rattle.program_strings.specs.Program.{Did, DidAsAsked, IsDone}
+use Rattle.program_strings.specs.declared.command.Command.{Command}
+use Rattle.program_strings.specs.declared.command.Command.TheVariants.{Build, Find}
+use Rattle.string_block.specs.Parts.{StringParts}
+
+pub did_build : (known : Known) (text path : List ℕ) (before after : Option (List ℕ)) → IsKnownAs known.input text
+    → WroteStrings text before after → Did known Build path before after
+did_build known text path before after is h = record { done = (text, is, h) }
+
+pub did_find : (known : Known) (file text path : List ℕ) (before after : Option (List ℕ)) → IsKnownAs (known.files path) file
+    → IsKnownAs known.input text → WroteFound file text before after → Did known Find path before after
+did_find known file text path before after is known_text h = record { done = (file, text, is, known_text, h) }
+
+-- what was done stays so by a flush
+numbers_kept : (parts : StringParts) (lines : List (List ℕ)) (a b c : Option (List ℕ)) → Keeps b c → WroteNumbers parts lines a b
+    → WroteNumbers parts lines a c
+numbers_kept parts lines a b c k h = record { answers = h.answers; are = h.are; written = Appends-kept a b c _ h.written k }
+
+done_kept : (known : Known) (command : Command) (path : List ℕ) (a b c : Option (List ℕ)) → Keeps b c → IsDone known command path a b
+    → IsDone known command path a c
+done_kept known Build path a b c k h =
+    (h.0, h.1, record { block = h.2.block; block_of = h.2.block_of; written = Appends-kept a b c _ h.2.written k })
+done_kept known Find path a b c k h =
+    let found = h.4 in (
+      h.0,
+      h.1,
+      h.2,
+      h.3,
+      record {
+        block = found.block;
+        words = found.words;
+        sound = found.sound;
+        wrote = numbers_kept _ _ a b c k found.wrote;
+      },
+    )
+
+pub asked_kept : (known : Known) (args : List (List ℕ)) (a b c : Option (List ℕ)) → DidAsAsked known args a b → Keeps b c
+    → DidAsAsked known args a c
+asked_kept known args a b c h k = record {
+  command = h.command;
+  path = h.path;
+  asked = h.asked;
+  did = record { done = done_kept known h.command h.path a b c k h.did.done };
+}

@@ -1,0 +1,51 @@
+-- The numbers of lines among strings.
+use Rattle.std.specs.Prelude.{◌≡◌, ⊤, ℕ, List, [], ◌∷◌, ◌++◌, codes, length, slice_index, Option, Some, IsSomeAnd}
+use Rattle.std.specs.Fmt.{decimal}
+use Rattle.std.specs.Io.KnownBytes.{Appends}
+use Rattle.std.specs.List.{flat_map}
+use Rattle.bitm_tables.specs.declared.answer.Answer.{Answer}
+use Rattle.bitm_tables.specs.declared.answer.Answer.TheVariants.{Found, Absent, Wrong}
+use Rattle.program_blocks.specs.Bytes.{words_of_bytes}
+use Rattle.program_text.specs.Text.{lines_of}
+use Rattle.string_block.specs.Block.{strings_in, IsSoundBlock}
+use Rattle.string_block.specs.Parts.{IsFound, StringParts}
+
+-- the line that says a number, or that there is none
+abbrev pub answer_line : Answer ℕ → List ℕ
+answer_line (Found number) = decimal number ++ codes "\n"
+answer_line Absent = codes "none\n"
+answer_line Wrong = codes "none\n"
+
+-- the answer to a line: the number of the string that it is, or that it is none of the strings
+abbrev pub IsAnswer : StringParts → List ℕ → Answer ℕ → Type 0
+IsAnswer parts line answer = IsFound parts (slice_index line) (length line) answer
+
+-- these are the answers to these lines, one for each and in their order
+abbrev pub AreAnswers : StringParts → List (List ℕ) → List (Answer ℕ) → Type 0
+AreAnswers parts [] [] = ⊤
+AreAnswers parts (line ∷ lines) (answer ∷ answers) = IsAnswer parts line answer × AreAnswers parts lines answers
+AreAnswers parts [] (answer ∷ answers) = ⊥
+AreAnswers parts (line ∷ lines) [] = ⊥
+
+-- the answer to a line was written: the writer's bytes, where the writer shows them, went from before to after by just it
+pub record WroteNumber (parts : StringParts) (line : List ℕ) (before after : Option (List ℕ)) : Type 0 where
+  pub answer : Answer ℕ
+  pub is : IsAnswer parts line answer
+  pub written : Appends before after (answer_line answer)
+
+-- the answers to these lines were
+pub record WroteNumbers (parts : StringParts) (lines : List (List ℕ)) (before after : Option (List ℕ)) : Type 0 where
+  pub answers : List (Answer ℕ)
+  pub are : AreAnswers parts lines answers
+  pub written : Appends before after (flat_map answer_line answers)
+
+-- the bytes are those of a block of strings, as it was written
+abbrev pub IsStringFile : List ℕ → Type 0
+IsStringFile bytes = IsSomeAnd (words_of_bytes bytes) IsSoundBlock
+
+-- they are, and the answers of these strings to the lines of a text were written
+pub record WroteFound (bytes text : List ℕ) (before after : Option (List ℕ)) : Type 0 where
+  pub block : List ℕ
+  pub words : words_of_bytes bytes ≡ Some block
+  pub sound : IsSoundBlock block
+  pub wrote : WroteNumbers (strings_in block) (lines_of text) before after

@@ -1,0 +1,6 @@
+pub mod Building
+pub mod Command
+pub mod Failure
+pub mod Finding
+pub mod Lines
+pub mod Program

@@ -1,0 +1,24 @@
+//! The command that the arguments are.
+ghost use Rattle.std.specs.Prelude.{◌≡◌, map, option_map, string_bytes};
+ghost use Rattle.program_strings.specs.Command.{command_in};
+
+/// A command, less the file that it names.
+#[derive(Clone, Copy)]
+pub(crate) enum Command {
+    /// Writes the block of the lines of the standard input.
+    Build,
+    /// Writes the numbers of these lines in the block of a file.
+    Find,
+}
+
+/// The command that the arguments after `strings` are, with the path of its file, which is empty where it has none;
+/// `None` where they are no command.
+pub(crate) fn command_in(args: &[String]) -> Option<(Command, &str)>
+    ensures { option_map (λ found. (found.0, found.1.now)) result ≡ command_in (map string_bytes args.now) }
+{
+    match args.len() {
+        1 if args[0].as_str() == "build" => Some((Command::Build, "")),
+        2 if args[0].as_str() == "find" => Some((Command::Find, args[1].as_str())),
+        _ => None,
+    }
+}

@@ -1,0 +1,86 @@
+//! The numbers of the lines of a text.
+ghost use Rattle.std.specs.Prelude.{◌≡◌, IfSome, IsErrOf, OnOk, SomeIff};
+ghost use Rattle.program_text.specs.Text.{lines_of};
+ghost use Rattle.program_strings.specs.Finding.{IsStringFile, WroteFound, WroteNumber, WroteNumbers};
+ghost use Rattle.string_block.specs.Block.{strings_in, IsSoundBlock};
+ghost use Rattle.string_block.specs.Parts.{AreStrings};
+
+use crate::failure::Failure;
+use program_blocks::words_of_bytes;
+use program_runs::CannotWrite;
+use program_text::Lines;
+use std::alloc::Global;
+use std::io::Write;
+use string_block::{Answer, StringsView, check, open};
+
+/// Writes for each line of a text that is not empty the number that it has among the strings of a file, or `none` where
+/// it is none of them, each as a line and in their order.
+///
+/// `file` are the bytes that `build` wrote. The whole file is checked first, so that the numbers are those of its
+/// strings.
+///
+/// # Errors
+/// `WrongBlock` only where the bytes are not those of a block of strings, or not as they were written, and nothing is
+/// written then; `NoMemory` where memory was refused; `CannotWrite` where a write failed.
+/// # Cost
+/// That of `string_block::check`; then that of `StringsView::find` for each line (evident from the code).
+///
+/// ```
+/// find(alloc, file, b"bob\neve\n".as_slice(), &mut out);   // Ok(()): out has "0\nnone\n", say
+/// ```
+pub fn find<W: Write>(alloc: Global, file: &[u8], text: &[u8], out: &mut W) -> Result<(), Failure>
+    ensures written { OnOk result (WroteFound file.now text.now (W.contents out.old) (W.contents out.new)) }
+    ensures wrong { IsErrOf result Failure.WrongBlock → ¬ (IsStringFile file.now) }
+    ensures nothing { IsErrOf result Failure.WrongBlock → out.new ≡ out.old }
+{
+    let Some(words) = words_of_bytes(alloc, file)? else {
+        return Err(Failure::WrongBlock);
+    };
+    match open_checked(words.as_slice()) {
+        Some(strings) => Ok(write_numbers(&strings, text, out)?),
+        None => Err(Failure::WrongBlock),
+    }
+}
+
+/// The strings in a block that is as it was written.
+fn open_checked(block: &[u64]) -> Option<StringsView<'_>>
+    ensures opened { SomeIff result (IsSoundBlock block.now) (strings_in block.now) }
+    ensures holds { IfSome result AreStrings }
+{
+    if !check(block) {
+        return None;
+    }
+    open(block)
+}
+
+/// Writes the number of each line among strings.
+fn write_numbers<W: Write>(
+    strings: &StringsView<'_>,
+    text: &[u8],
+    out: &mut W,
+) -> Result<(), CannotWrite>
+    requires { AreStrings strings.now }
+    ensures { OnOk result (WroteNumbers strings.now (lines_of text.now)
+        (W.contents out.old) (W.contents out.new)) }
+{
+    for line in Lines::new(text) {
+        write_number(strings, line, out)?;
+    }
+    Ok(())
+}
+
+/// Writes the number of a line among strings.
+fn write_number<W: Write>(
+    strings: &StringsView<'_>,
+    line: &[u8],
+    out: &mut W,
+) -> Result<(), CannotWrite>
+    requires { AreStrings strings.now }
+    ensures { OnOk result (WroteNumber strings.now line.now (W.contents out.old) (W.contents out.new)) }
+{
+    match strings.find(line) {
+        Answer::Found(number) => writeln!(out, "{number}")?,
+        _ => writeln!(out, "none")?,
+    }
+    Ok(())
+}

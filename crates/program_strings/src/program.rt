@@ -1,0 +1,97 @@
+//! The program without its process: its arguments, the file and the input that it reads, and the statuses and texts.
+ghost use Rattle.std.specs.Prelude.{◌≡◌, ◌⊎◌, IfOk, IsErr, None, OnOk, map, string_bytes, true};
+ghost use Rattle.program_strings.specs.Command.{command_in};
+ghost use Rattle.program_strings.specs.Program.{Did, DidAsAsked};
+
+use crate::building::build;
+use crate::command::{Command, command_in};
+use crate::failure::Failure;
+use crate::finding::find;
+use program_runs::{Sources, Stop, end};
+use std::io::Write;
+
+/// What is written where the arguments are not those of a command.
+const USAGE: &str = "usage: bitm strings build | bitm strings find BLOCK";
+
+/// Does what the arguments after `strings` say, and answers the status that the program ends with: 0 where that was
+/// done, on the file that is named, and then nothing was written to `err`.
+///
+/// `build` reads lines from the standard input, and so does `find BLOCK`, which reads the file too.
+///
+/// # Errors
+/// The status is 2, and a text goes to `err`, where the arguments are no command, where something can't be read, where
+/// there is no answer (`Failure`), and where a flush of `out` failed. A failed write to `err` changes nothing.
+pub fn start<R: Sources + AllocGlobal, W: Write, E: Write>(
+    rt: &R,
+    args: &[String],
+    out: &mut W,
+    err: &mut E,
+) -> u8
+    ensures status { (result ≡ 0) ⊎ (result ≡ 2) }
+    ensures unknown { command_in (map string_bytes args.now) ≡ None
+        → (result ≡ 2) × (W.contents out.new ≡ W.contents out.old) }
+    ensures did { result ≡ 0 → DidAsAsked (R.known rt.now) (map string_bytes args.now)
+        (W.contents out.old) (W.contents out.new) }
+    ensures quiet { result ≡ 0 → E.contents err.new ≡ E.contents err.old }
+{
+    end(run(rt, args, out), out, err)
+}
+
+/// Does what the arguments say, and answers that all went well.
+fn run<R: Sources + AllocGlobal, W: Write>(
+    rt: &R,
+    args: &[String],
+    out: &mut W,
+) -> Result<bool, Stop<Failure>>
+    ensures unknown { command_in (map string_bytes args.now) ≡ None → IsErr result × (out.new ≡ out.old) }
+    ensures good { IfOk result (λ good. good ≡ true) }
+    ensures did { IfOk result (λ _. DidAsAsked (R.known rt.now) (map string_bytes args.now)
+        (W.contents out.old) (W.contents out.new)) }
+{
+    let Some((command, path)) = command_in(args) else {
+        return Err(Stop::Usage(USAGE));
+    };
+    perform(rt, command, path, out)?;
+    Ok(true)
+}
+
+/// Does a command with its file.
+fn perform<R: Sources + AllocGlobal, W: Write>(
+    rt: &R,
+    command: Command,
+    path: &str,
+    out: &mut W,
+) -> Result<(), Stop<Failure>>
+    ensures { OnOk result (Did (R.known rt.now) command path.now (W.contents out.old) (W.contents out.new)) }
+{
+    match command {
+        Command::Build => build_input(rt, path, out),
+        Command::Find => find_input(rt, path, out),
+    }
+}
+
+/// Writes the block of the lines of the standard input.
+fn build_input<R: Sources + AllocGlobal, W: Write>(
+    rt: &R,
+    _path: &str,
+    out: &mut W,
+) -> Result<(), Stop<Failure>>
+    ensures { OnOk result (Did (R.known rt.now) Command.Build _path.now
+        (W.contents out.old) (W.contents out.new)) }
+{
+    let text = rt.input()?;
+    Ok(build(rt.alloc(), text.as_slice(), out)?)
+}
+
+/// Writes the numbers of the lines of the standard input among the strings of a file.
+fn find_input<R: Sources + AllocGlobal, W: Write>(
+    rt: &R,
+    path: &str,
+    out: &mut W,
+) -> Result<(), Stop<Failure>>
+    ensures { OnOk result (Did (R.known rt.now) Command.Find path.now (W.contents out.old) (W.contents out.new)) }
+{
+    let file = rt.file(path)?;
+    let text = rt.input()?;
+    Ok(find(rt.alloc(), file.as_slice(), text.as_slice(), out)?)
+}
