@@ -15,7 +15,7 @@
  *
  * NAMES. The prefix says what is queried: bitm_bits_ (words without tables), bitm_index_ (words with tables),
  * bitm_sequence_, bitm_cursor_, bitm_sparse_, bitm_hash_, bitm_dictionary_, bitm_strings_, bitm_tree_, bitm_trie_,
- * bitm_matrix_, bitm_text_, bitm_stored_.
+ * bitm_matrix_, bitm_text_, bitm_block_ (a block of any kind), bitm_stored_.
  * `bool one` says which bits are meant: true the 1 bits, false the 0 bits. A position counts from 0; the rank of a bit
  * is how many bits of its kind there are before it.
  *
@@ -611,7 +611,8 @@ BITM_MUST_USE uint32_t bitm_sequence_build(const uint64_t *items, size_t items_l
                                            uint64_t *lower, size_t lower_len, uint64_t *width);
 
 /* Whether the parts are those of some sequence, as bitm_sequence_build writes them: BITM_OK, BITM_WRONG or
- * BITM_BAD_SIZE. Passes twice over the words, and reads at most one fragment of low for each number.
+ * BITM_BAD_SIZE. Passes twice over the words, and of low reads only the fragments of numbers next to one another with
+ * the same high bits, each at most twice, and the last number's (evident from the code).
  *
  *     if (bitm_sequence_check(&primes) != BITM_OK) return 1; */
 BITM_MUST_USE uint32_t bitm_sequence_check(const struct bitm_sequence *sequence);
@@ -940,7 +941,7 @@ BITM_MUST_USE uint32_t bitm_hash_find_list(const struct bitm_hash *hash, const u
  *         .seeds = seeds, .seeds_len = filled};
  *     if (bitm_hash_get_seeded(&seeded, 0x13198a2e03707344, &number) != BITM_OK || number > 2) return 1;
  *
- * A dictionary and a block have no room for seeds: they take hashes without. */
+ * A dictionary takes a hash without seeds. The block of a hash can have seeds: see bitm_hash_block_build_seeded. */
 struct bitm_seeded_hash {
     struct bitm_hash hash;
     const uint8_t *seeds; /* of the words of all levels */
@@ -1492,6 +1493,45 @@ BITM_MUST_USE uint32_t bitm_trie_build(const uint64_t *degrees, size_t degrees_l
                                        size_t labels_len, uint32_t width, const uint64_t *ends, size_t ends_len,
                                        uint64_t *block, size_t block_len);
 
+/* How many nodes the trie of sorted words has, whose labels are bytes: the root, and one for each byte that a word does
+ * not share with the word before it, from their first on. The words stand one after another in bytes: starts says where
+ * each begins, and at last where the last one ends. They rise in the order of a dictionary, by their bytes, a word before
+ * a longer one that it begins, and none is twice there; the empty word may be one. BITM_BAD_SIZE exactly if there are no
+ * starts, one is less than the one before it, or the last one is more than bytes_len; else BITM_WRONG exactly if a word
+ * does not stand after the one before it. Three passes over the starts, and two over the bytes (evident from the code).
+ *
+ *     const uint8_t *letters_of = (const uint8_t *)"aabeb"; // a, abe and b
+ *     const uint64_t starts_of[4] = {0, 1, 4, 5};
+ *     if (bitm_trie_nodes_of_words(letters_of, 5, starts_of, 4, &value) != BITM_OK || value != 5 ||
+ *         bitm_trie_nodes_of_words(letters_of, 5, starts_of + 1, 2, &value) != BITM_OK || value != 4 ||
+ *         bitm_trie_nodes_of_words(letters_of, 4, starts_of, 4, &value) != BITM_BAD_SIZE) return 1; */
+BITM_MUST_USE uint32_t bitm_trie_nodes_of_words(const uint8_t *bytes, size_t bytes_len, const uint64_t *starts,
+                                                size_t starts_len, uint64_t *out);
+
+/* Writes the block of the trie of sorted words, which are given as to bitm_trie_nodes_of_words, with labels of 8 bits and
+ * ends: bitm_trie_find_bytes of a word finds a node, and bitm_trie_is_end says that a word ends there, exactly if it is
+ * one of them. Of n nodes, scratch has 2 n - 1 numbers and room has n - 1 + ceil(n / 64); what they hold afterwards is not
+ * said. BITM_BAD_SIZE and BITM_WRONG as that call; else BITM_BAD_SIZE if they are not as long as that, or
+ * bitm_trie_size(n, 8, true, ..) does not say block_len. Allocates nothing, and needs no other memory. scratch, room and
+ * block may overlap neither each other nor what is read. Five passes over the starts, four over the bytes, and those of
+ * bitm_trie_build (evident from the code).
+ *
+ *     uint64_t numbers_of[9], labels_of[5], grown_len;
+ *     if (bitm_trie_size(5, 8, true, &grown_len) != BITM_OK) return 1;
+ *     uint64_t *grown = malloc(8 * grown_len);
+ *     struct bitm_trie of_grown = {0};
+ *     if (!grown ||
+ *         bitm_trie_build_words(letters_of, 5, starts_of, 4, numbers_of, 9, labels_of, 5, grown, grown_len) != BITM_OK ||
+ *         bitm_trie_open(grown, grown_len, &of_grown) != BITM_OK ||
+ *         bitm_trie_find_bytes(&of_grown, (const uint8_t *)"abe", 3, &node) != BITM_OK || node != 4 ||
+ *         bitm_trie_is_end(&of_grown, node, &value) != BITM_OK || value != 1 ||
+ *         bitm_trie_find_bytes(&of_grown, (const uint8_t *)"ab", 2, &node) != BITM_OK || node != 3 ||
+ *         bitm_trie_is_end(&of_grown, node, &value) != BITM_OK || value != 0) return 1;
+ *     free(grown); */
+BITM_MUST_USE uint32_t bitm_trie_build_words(const uint8_t *bytes, size_t bytes_len, const uint64_t *starts,
+                                             size_t starts_len, uint64_t *scratch, size_t scratch_len, uint64_t *room,
+                                             size_t room_len, uint64_t *block, size_t block_len);
+
 /* Opens a block: writes the trie that queries take, which points into the block. *trie has to be zeros, or a trie
  * whose block is still there. BITM_WRONG exactly if the header or the directory of the block is not right, or is that
  * of no trie, or block_len is not as they say. Reads at most 80 words, however long the block is (evident from the
@@ -1573,8 +1613,8 @@ BITM_MUST_USE uint32_t bitm_trie_word(const struct bitm_trie *trie, size_t node,
  *
  * A wavelet matrix (Claude, Navarro and Ordonez, Information Systems 47, 2015) holds n numbers of at most `width` bits
  * each in about 1.03 * width bits a number, and answers where and how often a number is in the list, and which numbers
- * of a range are the least. With quarters it takes about 1.16 * width bits, and most queries read fewer words. A block
- * of numbers is written and opened as that of a tree:
+ * of a range are the least. With quarters it takes about 1.16 * width bits, and most queries read fewer words (evident
+ * from the code, where a query does not say how many). A block of numbers is written and opened as that of a tree:
  *
  *     const uint64_t any_order[6] = {3, 1, 4, 1, 5, 1};
  *     uint64_t matrix_len, scratch[12]; // two words for each number
@@ -1765,7 +1805,7 @@ BITM_MUST_USE uint32_t bitm_matrix_intersect(const struct bitm_matrix *matrix, s
  *
  * A block as that of a tree, from which struct bitm_index is opened without samples, or struct bitm_sequence: every
  * bitm_index_ or bitm_sequence_ call then works over a mapped file. bitm_index_build_samples adds samples to an index
- * that was opened, in memory of yours.
+ * that was opened, in memory of yours, or to be kept in its block ("sections of your own", below).
  *
  *     uint64_t block_words;
  *     if (bitm_index_block_size(100, &block_words) != BITM_OK) return 1;
@@ -1829,6 +1869,98 @@ BITM_MUST_USE uint32_t bitm_sequence_block_open(const uint64_t *block, size_t bl
  * block (evident from the code). */
 BITM_MUST_USE uint32_t bitm_sequence_block_check(const uint64_t *block, size_t block_len);
 
+/* ---- sections of your own: notes, samples and the like, in a block of any kind
+ *
+ * A block may have sections of yours after those of its kind: of a role from 65536 on, whose items are bytes, eight in a
+ * word. Readers of the kind step over them, so a block of a sequence opens as that sequence still. A block has at most
+ * 16 sections; docs/FORMAT.md says which roles the kinds have, and what they mean.
+ *
+ *     uint64_t plain_words, noted_words;
+ *     if (bitm_sequence_block_size(5, 11, &plain_words) != BITM_OK) return 1;
+ *     uint64_t *plain_block = malloc(8 * plain_words);
+ *     if (!plain_block || bitm_sequence_block_build(items, 5, plain_block, plain_words) != BITM_OK) return 1;
+ *     const char note[16] = "primes below 13"; // 15 bytes, and a 0 byte up to the end of the last word
+ *     uint64_t note_in_words[2];
+ *     memcpy(note_in_words, note, 16);
+ *     if (bitm_block_extended_size(plain_block, plain_words, 65536, 15, &noted_words) != BITM_OK) return 1;
+ *     uint64_t *noted_block = malloc(8 * noted_words); // or a mapped file
+ *     struct bitm_section its_note = {0};
+ *     if (!noted_block ||
+ *         bitm_block_extend(plain_block, plain_words, 65536, 15, note_in_words, 2, noted_block, noted_words) != BITM_OK ||
+ *         bitm_sequence_block_check(noted_block, noted_words) != BITM_OK ||
+ *         bitm_block_section(noted_block, noted_words, 4, &its_note) != BITM_OK || its_note.role != 65536 ||
+ *         its_note.count != 15 || memcmp(its_note.words, "primes below 13", 15) != 0) return 1;
+ *
+ * SAMPLES of a sequence (struct bitm_sequence) are kept so too: those of 1 bits have role 7, those of 0 bits role 8, two
+ * in a word. As long as words_len is at most 2^26 there is one upper block, and its start is 0; the starts of more of
+ * them may be a section of your own. Over 5 numbers samples gain nothing; this shows how they are kept.
+ *
+ *     struct bitm_sequence to_sample = {0}, with_samples = {0};
+ *     if (bitm_sequence_block_open(noted_block, noted_words, &to_sample) != BITM_OK || to_sample.words_len != 1) return 1;
+ *     const struct bitm_index its_high_bits = {.words = to_sample.words, .words_len = to_sample.words_len,
+ *                                              .upper = to_sample.upper, .upper_len = to_sample.upper_len,
+ *                                              .lower = to_sample.lower, .lower_len = to_sample.lower_len,
+ *                                              .bits_len = 64 * to_sample.words_len};
+ *     uint32_t kept_samples[2] = {0, 0}; // room for bitm_index_samples_len(1, 7) samples, in whole words
+ *     uint64_t kept_start[1], kept_len, kept_in_words[1], sampled_words;
+ *     if (bitm_index_build_samples(&its_high_bits, true, 7, kept_samples, 1, kept_start, 1, &kept_len) != BITM_OK ||
+ *         bitm_block_extended_size(noted_block, noted_words, 7, kept_len, &sampled_words) != BITM_OK) return 1;
+ *     memcpy(kept_in_words, kept_samples, 8);
+ *     uint64_t *sampled_block = malloc(8 * sampled_words);
+ *     struct bitm_section its_samples = {0};
+ *     if (!sampled_block ||
+ *         bitm_block_extend(noted_block, noted_words, 7, kept_len, kept_in_words, (kept_len + 1) / 2, sampled_block,
+ *                           sampled_words) != BITM_OK ||
+ *         bitm_sequence_block_open(sampled_block, sampled_words, &with_samples) != BITM_OK ||
+ *         bitm_block_section(sampled_block, sampled_words, 5, &its_samples) != BITM_OK) return 1;
+ *     const uint64_t zero_start[1] = {0};
+ *     const struct bitm_samples of_its_ones = {(const uint32_t *)its_samples.words, its_samples.count, zero_start, 1, 7, 0};
+ *     with_samples.samples = &of_its_ones;
+ *     with_samples.samples_len = 1;
+ *     if (bitm_sequence_get(&with_samples, 4, &item) != BITM_OK || item != 11) return 1;
+ *     free(plain_block);
+ *     free(noted_block);
+ *     free(sampled_block); */
+struct bitm_section {
+    uint64_t role;  /* what the items are */
+    uint64_t count; /* how many items there are */
+    const uint64_t *words;
+    size_t words_len;
+};
+
+/* How many words a block takes with one section more, of `count` items of a role: four bytes each for the roles 7 and 8,
+ * one each for role 15 and those from 65536 on, eight each for all others. BITM_WRONG exactly if header or directory of
+ * the block are not right, or block_len is not as they say; else BITM_BAD_SIZE exactly if it has 16 sections already,
+ * count is 2^58 or more, or there would be 2^60 words or more. Reads at most 160 words (evident from the code). */
+BITM_MUST_USE uint32_t bitm_block_extended_size(const uint64_t *block, size_t block_len, uint64_t role, uint64_t count,
+                                                uint64_t *out);
+
+/* Writes to `to` a copy of the block with one section more, after its own: the same numbers, the same words in each
+ * section, these words in the new one, and all checksums right. Where the items do not fill the last word, its other
+ * bytes have to be 0 if equal sections are to make equal blocks. BITM_WRONG exactly if the block is none, or all lengths
+ * are right and a section of it does not have its checksum: what was spoiled gets no right one. Else BITM_BAD_SIZE
+ * exactly if bitm_block_extended_size returns it, words_len is not what the items take, or to_len is not what that call
+ * writes. to may not overlap the block or the words. Two passes over the block, one over the words, and two over what is
+ * written (evident from the code). */
+BITM_MUST_USE uint32_t bitm_block_extend(const uint64_t *block, size_t block_len, uint64_t role, uint64_t count,
+                                         const uint64_t *words, size_t words_len, uint64_t *to, size_t to_len);
+
+/* Section i of a block, counted from 0: its role, how many items it has, and where its words lie in the block. *section
+ * has to be zeros, or a section whose memory is still there. BITM_WRONG as bitm_block_extended_size; BITM_NONE exactly if
+ * the block has no more than i sections. Reads at most 80 words (evident from the code); what the words of the section
+ * hold is not looked at. */
+BITM_MUST_USE uint32_t bitm_block_section(const uint64_t *block, size_t block_len, size_t i,
+                                          struct bitm_section *section);
+
+/* Whether a block of any kind is as it was written: BITM_OK, or BITM_WRONG as bitm_block_extended_size, or if the
+ * checksum of a section is not that of its words, or a word between two sections is not 0. Two lists of words that differ
+ * in one word have different checksums. Whether the sections hold a structure is for the check of its kind to say. One
+ * pass over the block (evident from the code).
+ *
+ *     uint64_t unsealed[24] = {0};
+ *     if (bitm_block_check(unsealed, 24) != BITM_WRONG) return 1; */
+BITM_MUST_USE uint32_t bitm_block_check(const uint64_t *block, size_t block_len);
+
 /* ---- sparse bits: in one block of memory
  *
  * Of n bits of which only m are 1 bits the positions of these are kept, as a monotone sequence (Okanohara and Sadakane,
@@ -1881,8 +2013,8 @@ BITM_MUST_USE uint32_t bitm_sparse_open(const uint64_t *block, size_t block_len,
 
 /* Whether a block is as it was written and holds sparse bits: BITM_OK, or BITM_WRONG as bitm_sparse_open, if a checksum
  * is not that of its words, if the parts are not those of a sequence, or if its numbers are not positions of 1 bits.
- * So a block in which one word was changed is refused. Four passes over the block, and one selection for each 1 bit
- * (evident from the code).
+ * So a block in which one word was changed is refused. Five passes over the block, and one selection (evident from the
+ * code).
  *
  *     of_few[40] ^= 1;
  *     if (bitm_sparse_check(of_few, sparse_len) != BITM_WRONG) return 1;
@@ -2073,8 +2205,8 @@ BITM_MUST_USE uint32_t bitm_hash_block_build(const uint64_t *words, size_t words
 
 /* Opens a block, that of a dictionary too: writes the hash that bitm_hash_get takes, which points into the block, and
  * its seed. *hash has to be zeros, or a hash whose memory is still there. BITM_WRONG exactly if the header or the
- * directory of the block is not right, or is that of no hash, or block_len is not as they say. Reads at most 80 words,
- * however long the block is (evident from the code); what its other words hold is not looked at. */
+ * directory of the block is not right, or is that of no hash without seeds, or block_len is not as they say. Reads at
+ * most 80 words, however long the block is (evident from the code); what its other words hold is not looked at. */
 BITM_MUST_USE uint32_t bitm_hash_block_open(const uint64_t *block, size_t block_len, struct bitm_hash *hash,
                                             uint64_t *seed);
 
@@ -2082,6 +2214,51 @@ BITM_MUST_USE uint32_t bitm_hash_block_open(const uint64_t *block, size_t block_
  * is not that of its words, or if the tables are not those of the words or the sizes not those of levels. Two passes
  * over the words of the block (evident from the code). */
 BITM_MUST_USE uint32_t bitm_hash_block_check(const uint64_t *block, size_t block_len);
+
+/* The same four calls for a hash with a seed for each word. Each block of it is refused by those above, and each block of
+ * a hash without seeds by these, since the other placing would give other numbers:
+ *
+ *     uint64_t seeded_len;
+ *     if (bitm_hash_block_size_seeded(filled, levels, &seeded_len) != BITM_OK) return 1;
+ *     uint64_t *of_seeded = malloc(8 * seeded_len); // or a mapped file
+ *     struct bitm_seeded_hash in_seeded = {.seeds = NULL};
+ *     if (!of_seeded || bitm_hash_block_build_seeded(of_hash_words, filled, seeds, filled, heights, levels, 9, of_seeded,
+ *                                                    seeded_len) != BITM_OK ||
+ *         bitm_hash_block_check_seeded(of_seeded, seeded_len) != BITM_OK ||
+ *         bitm_hash_block_open_seeded(of_seeded, seeded_len, &in_seeded, &hash_seed) != BITM_OK || hash_seed != 9 ||
+ *         bitm_hash_block_open(of_seeded, seeded_len, &hash_in_block, &hash_seed) != BITM_WRONG ||
+ *         bitm_hash_get_seeded(&in_seeded, 0x13198a2e03707344, &value) != BITM_OK ||
+ *         bitm_hash_get_seeded(&seeded, 0x13198a2e03707344, &number) != BITM_OK || value != number) return 1;
+ *     free(of_seeded); */
+BITM_MUST_USE uint32_t bitm_hash_block_size_seeded(size_t words, size_t levels, uint64_t *out);
+
+/* Writes the block of the hash whose levels have these words, seeds and sizes, as bitm_hash_build_seeded writes them.
+ * BITM_BAD_SIZE also if seeds_len is not words_len. All else is as of bitm_hash_block_build. */
+BITM_MUST_USE uint32_t bitm_hash_block_build_seeded(const uint64_t *words, size_t words_len, const uint8_t *seeds,
+                                                    size_t seeds_len, const uint64_t *sizes, size_t sizes_len,
+                                                    uint64_t seed, uint64_t *block, size_t block_len);
+
+/* Opens a block, which is passed as words and once more as bytes: writes the hash that bitm_hash_get_seeded takes, whose
+ * parts point into the block and whose seeds point into the bytes, and its seed. *hash has to be zeros, or a hash whose
+ * memory is still there. BITM_WRONG exactly if the header or the directory of the block is not right, or is that of no
+ * hash with seeds, or block_len is not as they say; else BITM_BAD_SIZE exactly if bytes_len is not 8 * block_len. Where
+ * the bytes are those of the block, the seeds are those that were built. Reads at most 80 words, however long the block is
+ * (evident from the code); what its other words hold is not looked at. */
+BITM_MUST_USE uint32_t bitm_hash_block_open_seeded_bytes(const uint64_t *block, size_t block_len, const uint8_t *bytes,
+                                                         size_t bytes_len, struct bitm_seeded_hash *hash,
+                                                         uint64_t *seed);
+
+/* The same, where the seeds too are taken from the block: it never returns BITM_BAD_SIZE. */
+BITM_MUST_USE static inline uint32_t bitm_hash_block_open_seeded(const uint64_t *block, size_t block_len,
+                                                                 struct bitm_seeded_hash *hash, uint64_t *seed)
+{
+    return bitm_hash_block_open_seeded_bytes(block, block_len, (const uint8_t *)block, 8 * block_len, hash, seed);
+}
+
+/* Whether a block is as it was written and holds a hash with seeds: BITM_OK, or BITM_WRONG as
+ * bitm_hash_block_open_seeded, if a checksum is not that of its words, or if the tables are not those of the words or the
+ * sizes not those of levels. Any seeds are right. Two passes over the words of the block (evident from the code). */
+BITM_MUST_USE uint32_t bitm_hash_block_check_seeded(const uint64_t *block, size_t block_len);
 
 /* ---- strings: in one block of memory
  *

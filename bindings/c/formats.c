@@ -1,14 +1,15 @@
-/* Writes to standard output blocks of drawn bits, sequences, sparse bits, hashes, dictionaries, matrices, trees and
- * tries, each after what it was made of: six words (the kind of the block, or DICTIONARY; how many bits, numbers, 1
- * bits, keys or nodes; the width of numbers or labels, how many bits, or the percent of a hash; how many words are
- * given; how many words the block has; the seed of a hash), the given words, and the block.
+/* Writes to standard output blocks of drawn bits, sequences, sparse bits, hashes with and without seeds, dictionaries,
+ * strings, matrices, trees and tries, each after what it was made of: six words (the kind of the block, DICTIONARY or
+ * SEEDED; how many bits, numbers, 1 bits, keys, strings or nodes; the width of numbers or labels, how many bits, or the
+ * percent of a hash; how many words are given; how many words the block has; the seed of a hash), the given words, and
+ * the block.
  * bindings/tests/test_formats.py writes the same blocks by docs/FORMAT.md. */
 #include "common.h"
 
 #include <string.h>
 
-/* A dictionary is of kind 5, as a hash. */
-enum { WORDS = 4000, SCRATCH = 2 * WORDS, DICTIONARY = 50 };
+/* A dictionary and a hash with seeds are of kind 5, as a hash. */
+enum { WORDS = 4000, SCRATCH = 2 * WORDS, DICTIONARY = 50, SEEDED = 51 };
 
 static uint64_t given[WORDS], scratch[SCRATCH], block[2 * WORDS + 400];
 
@@ -69,11 +70,10 @@ static void of_matrix(size_t len, uint32_t width)
 
 static uint64_t level_words[SCRATCH], again[SCRATCH], upper[1], lower[SCRATCH / 32], sizes[256];
 
-/* The hash of the given keys, each added to the seed: of which the levels are written. */
-static struct bitm_hash hash_of(size_t keys, uint32_t percent, uint64_t with)
+/* The hash of the hashes in scratch, which are moved: its levels are written. */
+static struct bitm_hash hash_of(size_t keys, uint32_t percent)
 {
     uint64_t levels, filled, left, ones;
-    for (size_t i = 0; i < keys; i++) scratch[i] = given[i] + with;
     MUST(bitm_hash_build(scratch, keys, percent, level_words, SCRATCH, again, SCRATCH, sizes, 256, &levels, &filled,
                          &left) == BITM_OK &&
          left == 0);
@@ -90,12 +90,31 @@ static void of_hash(size_t keys, uint32_t percent)
     uint64_t words;
     for (size_t i = 0; i < keys; i++) given[i] = draw();
     const uint64_t with = draw();
-    const struct bitm_hash hash = hash_of(keys, percent, 0);
+    memcpy(scratch, given, 8 * keys);
+    const struct bitm_hash hash = hash_of(keys, percent);
     MUST(bitm_hash_block_size(hash.index.words_len, hash.sizes_len, &words) == BITM_OK && words <= sizeof block / 8);
     memset(block, UNTOUCHED, sizeof block);
     MUST(bitm_hash_block_build(level_words, hash.index.words_len, sizes, hash.sizes_len, with, block, words) ==
          BITM_OK);
     put_seeded(5, keys, percent, keys, words, with);
+}
+
+/* The number of tries stands after the hashes. */
+static void of_seeded(size_t keys, uint32_t percent, uint16_t tries)
+{
+    static uint64_t sorted[WORDS];
+    static uint8_t seeds[SCRATCH];
+    uint64_t words, levels, filled, left;
+    for (size_t i = 0; i < keys; i++) scratch[i] = given[i] = draw();
+    given[keys] = tries;
+    const uint64_t with = draw();
+    MUST(bitm_hash_build_seeded(scratch, keys, percent, tries, level_words, SCRATCH, seeds, SCRATCH, again, SCRATCH,
+                                sorted, keys, sizes, 256, &levels, &filled, &left) == BITM_OK && left == 0);
+    MUST(bitm_hash_block_size_seeded(filled, levels, &words) == BITM_OK && words <= sizeof block / 8);
+    memset(block, UNTOUCHED, sizeof block);
+    MUST(bitm_hash_block_build_seeded(level_words, filled, seeds, filled, sizes, levels, with, block, words) ==
+         BITM_OK);
+    put_seeded(SEEDED, keys, percent, keys + 1, words, with);
 }
 
 static void of_dictionary(size_t keys, uint32_t percent)
@@ -104,8 +123,9 @@ static void of_dictionary(size_t keys, uint32_t percent)
     uint64_t words, number;
     for (size_t i = 0; i < keys; i++) given[i] = draw();
     const uint64_t with = draw();
+    for (size_t i = 0; i < keys; i++) scratch[i] = given[i] + with;
     const struct bitm_dictionary made = {
-        .hash = hash_of(keys, percent, with), .keys = placed, .keys_len = keys, .seed = with};
+        .hash = hash_of(keys, percent), .keys = placed, .keys_len = keys, .seed = with};
     for (size_t i = 0; i < keys; i++) {
         MUST(bitm_hash_get(&made.hash, given[i] + with, &number) == BITM_OK && number < keys);
         placed[number] = given[i];
@@ -115,6 +135,29 @@ static void of_dictionary(size_t keys, uint32_t percent)
     memset(block, UNTOUCHED, sizeof block);
     MUST(bitm_dictionary_build(&made, block, words) == BITM_OK);
     put_seeded(DICTIONARY, keys, percent, keys, words, with);
+}
+
+/* Strings of 3 to 12 bytes, of which the first two say which it is, and an empty one: where each ends, and their bytes.
+ */
+static void of_strings(size_t count, uint32_t percent)
+{
+    uint64_t words, len = 0;
+    uint8_t *const bytes = (uint8_t *)(given + count);
+    memset(given, 0, sizeof given);
+    for (size_t i = 0; i < count; i++) {
+        const size_t more = i ? 1 + draw() % 10 : 0;
+        if (i) bytes[len++] = (uint8_t)i, bytes[len++] = (uint8_t)(i >> 8);
+        for (size_t k = 0; k < more; k++) bytes[len++] = (uint8_t)draw();
+        given[i] = len;
+    }
+    const uint64_t with = draw();
+    MUST(bitm_strings_hashes(bytes, len, given, count, with, scratch, count) == BITM_OK);
+    const struct bitm_hash hash = hash_of(count, percent);
+    MUST(bitm_strings_size(hash.index.words_len, hash.sizes_len, count, len, &words) == BITM_OK &&
+         words <= sizeof block / 8);
+    memset(block, UNTOUCHED, sizeof block);
+    MUST(bitm_strings_build(&hash, with, bytes, len, given, count, block, words) == BITM_OK);
+    put_seeded(10, count, percent, count + (len + 7) / 8, words, with);
 }
 
 /* The degrees of a tree, at most `most` each: a node has a child where no later one would have a parent else. */
@@ -167,7 +210,10 @@ int main(int argc, char **argv)
     for (size_t i = 0; i < 6; i++)
         for (size_t k = 0; k < 4; k++) of_matrix(k < 2 ? k : k == 2 ? 6 : 1000 / (i + 1), widths[i]);
     for (size_t i = 0; i < 9; i++) of_hash(i < 4 ? i : 200 * i, i % 3 ? 100 : 25 * (uint32_t)i);
+    for (size_t i = 0; i < 12; i++)
+        of_seeded(i < 4 ? i : 60 * i, i % 3 ? 100 : 25 * (uint32_t)i, (uint16_t)(i == 11 ? 300 : 5 * i));
     for (size_t i = 0; i < 9; i++) of_dictionary(i < 4 ? i : 200 * i, i % 3 ? 100 : 200);
+    for (size_t i = 0; i < 9; i++) of_strings(i < 4 ? i : 200 * i, i % 3 ? 100 : 200);
     for (size_t i = 0; i < 6; i++)
         for (uint64_t most = 1; most < 4; most++) of_tree(nodes[i], most);
     for (size_t i = 0; i < 6; i++)

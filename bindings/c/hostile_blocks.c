@@ -241,6 +241,36 @@ static void matrix_queried(uint64_t at, uint64_t other)
     QUERY(out < number, bitm_matrix_previous_value, &matrix, start, end, number);
 }
 
+/* ---- a hash with seeds */
+
+static struct bitm_seeded_hash seeded;
+
+static uint64_t seeded_built(uint64_t *block, size_t len)
+{
+    enum { SIZES = 256, LEVELS = 1000 };
+    static uint64_t level_words[LEVELS], again[LEVELS], sizes[SIZES];
+    static uint8_t seeds[LEVELS];
+    uint64_t words, levels, filled, left;
+    for (size_t i = 0; i < len; i++) numbers[i] = draw();
+    MUST(bitm_hash_build_seeded(numbers, len, 100, 4, level_words, LEVELS, seeds, LEVELS, again, LEVELS, scratch, len,
+                                sizes, SIZES, &levels, &filled, &left) == BITM_OK && left == 0);
+    MUST(bitm_hash_block_size_seeded(filled, levels, &words) == BITM_OK && 8 * words <= ROOM);
+    MUST(bitm_hash_block_build_seeded(level_words, filled, seeds, filled, sizes, levels, 7, block, words) == BITM_OK);
+    return words;
+}
+
+static bool seeded_opens(const uint64_t *block, size_t words)
+{
+    uint64_t with;
+    return bitm_hash_block_open_seeded(block, words, &seeded, &with) == BITM_OK && with == 7;
+}
+
+static void seeded_queried(uint64_t at, uint64_t other)
+{
+    QUERY(out < seeded.hash.keys, bitm_hash_get_seeded, &seeded, at);
+    QUERY(out < seeded.hash.keys, bitm_hash_get_seeded, &seeded, other);
+}
+
 static const struct kind kinds[] = {
     {"bits", bits_built, 32, bits_open, bits_queried},
     {"sequence", sequence_built, 32, sequence_opens, sequence_queried},
@@ -249,6 +279,7 @@ static const struct kind kinds[] = {
     {"trie", trie_built, 40, trie_opens, trie_queried},
     {"matrix", matrix_built, 40, matrix_opens, matrix_queried},
     {"matrix with quarters", quarters_built, 40, matrix_opens, matrix_queried},
+    {"hash with seeds", seeded_built, 40, seeded_opens, seeded_queried},
 };
 enum { KINDS = sizeof kinds / sizeof *kinds };
 

@@ -219,6 +219,7 @@ static void query_everything(void)
     build_a_text(one);
     query_a_text(one);
     query_a_dictionary(one);
+    query_seeds_in_a_block(one);
     query_strings(one);
     query_a_file();
 }

@@ -45,6 +45,11 @@ static void open_sparse_bits(uint64_t *one)
     struct bitm_sparse *sparse = placed(OF_STARTS, sizeof *sparse);
     *sparse = (struct bitm_sparse){0};
     TOUCHES(2, 0, 0, bitm_sparse_open(block, words, sparse));
+    TOUCHES_ANY(bitm_block_check(block, words));
+    TOUCHES(2, 0, 0, bitm_block_extended_size(block, words, 7, ITEMS / 128, one));
+    struct bitm_section *section = placed(OF_STARTS, sizeof *section);
+    *section = (struct bitm_section){0};
+    TOUCHES(2, 0, 0, bitm_block_section(block, words, 3, section));
 }
 
 /* A matrix in a block, whose words take 32 pages. For each bit of the width a number takes nine words, which may be of
@@ -196,6 +201,34 @@ static void query_a_dictionary(uint64_t *one)
     *hash = (struct bitm_hash){0};
     TOUCHES(2, 0, 0, bitm_hash_block_open(block, words, hash, one));
     MUST(*one == 7);
+}
+
+/* A hash with seeds in a block: opening looks at the first words, and not at the bytes; a number touches a word and a
+ * seed of each level. */
+static void query_seeds_in_a_block(uint64_t *one)
+{
+    enum { MOST = ITEMS, SIZES = 256, OTHERS = 8 };
+    static uint64_t *words, *again, *sizes, *keys, *hashes, *sorted, levels, filled, left;
+    static uint8_t *seeds;
+    if (words == NULL) {
+        words = malloc(8 * MOST), again = malloc(8 * MOST), sizes = malloc(8 * SIZES), seeds = malloc(MOST);
+        keys = malloc(8 * ITEMS), hashes = malloc(8 * ITEMS), sorted = malloc(8 * ITEMS);
+        MUST(words && again && sizes && seeds && keys && hashes && sorted);
+        for (size_t i = 0; i < ITEMS; i++) keys[i] = hashes[i] = draw();
+        MUST(bitm_hash_build_seeded(hashes, ITEMS, 100, 2, words, MOST, seeds, MOST, again, MOST, sorted, ITEMS, sizes,
+                                    SIZES, &levels, &filled, &left) == BITM_OK && left == 0);
+    }
+    TOUCHES_ANY(bitm_hash_block_size_seeded(filled, levels, one));
+    const uint64_t len = *one;
+    uint64_t *block = placed(OF_WORDS, 8 * len);
+    TOUCHES_ANY(bitm_hash_block_build_seeded(words, filled, seeds, filled, sizes, levels, 7, block, len));
+    TOUCHES_ANY(bitm_hash_block_check_seeded(block, len));
+    struct bitm_seeded_hash *hash = placed(OF_STARTS, sizeof *hash);
+    *hash = (struct bitm_seeded_hash){.seeds = NULL};
+    TOUCHES(2, 0, 0, bitm_hash_block_open_seeded(block, len, hash, one));
+    MUST(*one == 7);
+    for (unsigned turn = 0; turn < 20; turn++)
+        TOUCHES(2 * levels + OTHERS, 0, 0, bitm_hash_get_seeded(hash, keys[draw() % ITEMS], one));
 }
 
 /* Strings of eight bytes, the numbers that such steps reach, and a hash of their hashes, in memory of their own. */

@@ -26,7 +26,7 @@ static void draw_tree(struct plain_tree *tree, size_t len, uint64_t most)
     MUST(known == len);
 }
 
-static void parent_as(const struct plain_tree *plain, const struct bitm_tree *tree, size_t node)
+static inline void parent_as(const struct plain_tree *plain, const struct bitm_tree *tree, size_t node)
 {
     uint64_t *out;
     uint32_t status;

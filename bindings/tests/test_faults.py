@@ -30,13 +30,16 @@ EXPORTS = {
         " stored_index stored_index_room stored_build stored_sequence prefix_sums tree_size matrix_size"
         " matrix_get_list matrix_rank_list matrix_select_list index_block_size index_block_build sequence_block_size"
         " sparse_size text_size text_size_letters text_size_bytes text_build_bytes text_len"
-        " hash_block_size hash_block_build dictionary_size trie_size strings_size strings_hashes strings_find_list",
+        " hash_block_size hash_block_build hash_block_size_seeded hash_block_build_seeded"
+        " dictionary_size trie_size strings_size strings_hashes strings_find_list",
     "- words": "bits_clear_from",
     "N": "bits_copy_range bits_equal_range bits_select_in_word",
     "B words other": "bits_intersects bits_is_subset",
     "N bytes": "bytes_get57 bytes_init57 bytes_set57 bytes_get25 bytes_init25 bytes_set25",
     "BW": "hash_set_prints hash_set_prints_seeded index_check sequence_check tree_build matrix_build text_build cursor_start cursors_intersect"
-        " dictionary_build trie_build strings_build",
+        " dictionary_build trie_build trie_nodes_of_words trie_build_words strings_build block_extend",
+    "BW block": "block_extended_size",
+    "NW block": "block_section",
     "BW words": "index_check_samples",
     "NBW words lower": "index_rank hash_get hash_find hash_get_seeded hash_find_seeded tree_parent tree_child tree_degree tree_is_leaf tree_next_sibling"
         " tree_previous_sibling tree_child_rank",
@@ -55,12 +58,13 @@ EXPORTS = {
     "W file": "stored_read",
     "W": "cursors_union prefix_sums_check tree_check matrix_check index_block_check sequence_block_check"
         " sparse_check text_check text_open"
-        " hash_block_check dictionary_check trie_check strings_check",
+        " hash_block_check hash_block_check_seeded dictionary_check trie_check strings_check block_check",
     "NBW bits ones": "shards_find",
     "NBW bits ones shards": "shards_rank shards_select shards_next shards_previous",
     "B bits ones shards": "shards_rank_list shards_select_list",
     "W block": "tree_open matrix_open index_block_open sequence_block_open sparse_open"
         " hash_block_open dictionary_open trie_open strings_open",
+    "BW block bytes": "hash_block_open_seeded_bytes",
     "NBW words": "matrix_get matrix_rank matrix_select matrix_count_less matrix_quantile"
         " matrix_distinct matrix_top matrix_intersect"
         " dictionary_find",
@@ -114,7 +118,7 @@ OUTSIDE = {
     "shards->counts.bits[shards->shards_len]": "shards_select shards_next shards_previous shards_select_list",
 }
 # The programs that have to see such an answer by themselves, before any other is run.
-HOSTILE = ["hostile", "cursors", "guarded", "hashes", "fingerprints", "shards", "trees", "tries", "matrices", "matrix_ranges", "matrix_tallies", "sparse", "texts", "dictionaries", "strings"]
+HOSTILE = ["hostile", "cursors", "guarded", "hashes", "fingerprints", "shards", "trees", "tries", "matrices", "matrix_ranges", "matrix_tallies", "sparse", "texts", "dictionaries", "seeded_blocks", "strings"]
 PROGRAMS = list(dict.fromkeys(["statuses", "pages", *IN_C]))
 for one in ("walks", "lengths", "careless"):
     PROGRAMS.remove(one)

@@ -2,14 +2,16 @@
 import struct
 import subprocess
 
-from blocks import as_bytes, of_bits, of_bytes, of_dictionary, of_hash, of_matrix, of_sequence, of_sparse, of_tree, of_trie
+from blocks import as_bytes, of_bits, of_bytes, of_dictionary, of_hash, of_matrix, of_seeded_hash, of_sequence
+from blocks import of_sparse, of_strings, of_tree, of_trie
 from checks import TOP
 from common import compiled
 from shell import needs
 
-# By the kind of the block; a dictionary is of kind 5, as a hash.
-WRITERS = {2: of_bits, 3: of_sequence, 4: of_sparse, 5: of_hash, 6: of_matrix, 7: of_tree, 9: of_trie, 50: of_dictionary}
-SEEDED = {5, 50}
+# By the kind of the block; a dictionary and a hash with seeds are of kind 5, as a hash.
+WRITERS = {2: of_bits, 3: of_sequence, 4: of_sparse, 5: of_hash, 6: of_matrix, 7: of_tree, 9: of_trie, 10: of_strings,
+           50: of_dictionary, 51: of_seeded_hash}
+SEEDED = {5, 10, 50, 51}
 
 
 def test_blocks_are_those_of_the_format(tmp_path):
@@ -25,7 +27,8 @@ def test_blocks_are_those_of_the_format(tmp_path):
         assert words[6 + given : 6 + given + size] == made, (kind, length, width)
         kinds.append(kind)
         del words[: 6 + given + size]
-    assert {kind: kinds.count(kind) for kind in WRITERS} == {2: 9, 3: 9, 4: 18, 5: 9, 6: 24, 7: 18, 9: 36, 50: 9}
+    assert {kind: kinds.count(kind) for kind in WRITERS} == {
+        2: 9, 3: 9, 4: 18, 5: 9, 6: 24, 7: 18, 9: 36, 10: 9, 50: 9, 51: 12}
 
 
 def test_the_block_that_other_tests_read():

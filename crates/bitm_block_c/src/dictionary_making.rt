@@ -66,7 +66,7 @@ pub extern "C" fn bitm_dictionary_open<'a>(block: &'a [u64], dictionary: &mut Di
     match (open_dictionary(block), Block::open(block)) {
         (Some(view), Ok(opened)) => {
             *dictionary = Dictionary {
-                hash: hash_at(&opened),
+                hash: hash_at(&opened, 3),
                 keys: view.keys(),
                 seed: view.hash().seed(),
                 reserved: [0; 2],

@@ -1,5 +1,5 @@
 //! A perfect hash in a block: how many words it takes, writing it, opening it as a hash and checking it.
-ghost use Rattle.std.specs.Prelude.{◌≡◌, ◌≢◌, ◌*◌, ◌≤◌, ◌↔◌, ◌⊎◌, length};
+ghost use Rattle.std.specs.Prelude.{◌≡◌, ◌≢◌, ◌*◌, ◌<◌, ◌≤◌, ◌↔◌, ◌⊎◌, length};
 ghost use Rattle.bit_lists.specs.Bits.{bits_of};
 ghost use Rattle.bitm_tables.specs.Tables.{HasSizes};
 ghost use Rattle.bitm_block.specs.Header.{count_in, section_in};
@@ -49,21 +49,22 @@ pub extern "C" fn bitm_hash_block_build(
     }
 }
 
-/// The hash over the first four sections of a block, whose index has no samples.
+/// The hash over the first three sections of a block and the sizes in section `i`, whose index has no samples.
 #[inline(always)]
-pub(crate) fn hash_at<'a>(block: &Block<'a>) -> Hash<'a>
-    requires four { 4 ≤ count_in block.now }
+pub(crate) fn hash_at<'a>(block: &Block<'a>, i: usize) -> Hash<'a>
+    requires three { 3 ≤ count_in block.now }
+    requires inside { i < count_in block.now }
     requires sized { HasSizes (tables_in block.now) }
     ensures lists { hash_lists result ≡ tables_in block.now }
     ensures bits { result.index.bits_len ≡ 64 * length (section_in block.now 0) }
-    ensures sizes { result.sizes.now ≡ section_in block.now 3 }
+    ensures sizes { result.sizes.now ≡ section_in block.now i }
     ensures keys { result.keys ≡ (hash_in block.now).keys }
 {
     match (
         block.section(0),
         block.section(1),
         block.section(2),
-        block.section(3),
+        block.section(i),
     ) {
         (Some(words), Some(upper), Some(lower), Some(sizes)) => Hash {
             index: Index {
@@ -95,7 +96,7 @@ pub extern "C" fn bitm_hash_block_open<'a>(
 {
     match (open(block), Block::open(block)) {
         (Some(view), Ok(opened)) => {
-            *hash = hash_at(&opened);
+            *hash = hash_at(&opened, 3);
             *seed = view.seed();
             OK
         }

@@ -15,6 +15,8 @@
 // - `lists`: lists of queries of a tree
 // - `making`: the block of a tree, written, opened and checked
 // - `queries`: parents, children, degrees and siblings
+// - `sections`: a copy of a block with one section more, a section as it stands, and checksums
+// - `seeded_blocks`: the block of a perfect hash with seeds, written, opened as a hash and checked
 // - `sequence_blocks`: the block of a sequence, written, opened as a sequence and checked
 // - `sparse`: sparse bits as C passes them
 // - `sparse_lists`: lists of queries of sparse bits
@@ -31,6 +33,8 @@ mod index_blocks;
 mod lists;
 mod making;
 mod queries;
+mod sections;
+mod seeded_blocks;
 mod sequence_blocks;
 mod sparse;
 mod sparse_lists;

@@ -70,8 +70,7 @@ pub extern "C" fn bitm_sparse_open<'a>(block: &'a [u64], sparse: &mut Sparse<'a>
     }
 }
 
-/// Whether a block is as it was written, and holds sparse bits: four passes over its words, and one selection for each
-/// 1 bit.
+/// Whether a block is as it was written, and holds sparse bits: five passes over its words, and one selection.
 #[unsafe(no_mangle)]
 pub extern "C" fn bitm_sparse_check(block: &[u64]) -> u32
     ensures ok { (result ≡ 0) ↔ IsSoundBlock block.now }
