@@ -1,8 +1,9 @@
-// Tries in C++ beside a map of words: owners, views, files, threads; parts that are those of no trie, blocks that are
-// spoilt or cut, and what is left of an owner that was moved.
+// Tries in C++ beside a map of words: owners, made of words or of parts, views, files, threads; words that do not rise,
+// parts that are those of no trie, blocks that are spoilt or cut, and what is left of an owner that was moved.
 #include "blocks.hpp"
 
 #include <map>
+#include <set>
 
 using Word = std::vector<u64>;
 
@@ -63,7 +64,10 @@ static bitm::trie_match longest_of(const Plain &p, Word word)
 
 template <class Trie> static void word_as(const Trie &t, const Plain &p, const Word &word)
 {
-    MUST(t.find_labels(word) == node_of(p, word) && t.longest_labels(word) == longest_of(p, word));
+    const maybe_position node = node_of(p, word);
+    MUST(t.find_labels(word) == node && t.longest_labels(word) == longest_of(p, word));
+    MUST(t.contains_labels(word) == (node && p.has_ends && p.ends[*node / 64] >> *node % 64 & 1));
+    MUST(t.try_contains_labels(word).value() == t.contains_labels(word));
     MUST(t.try_find_labels(word).value() == t.find_labels(word));
     MUST(t.try_longest_labels(word).value() == t.longest_labels(word));
     std::string bytes;
@@ -73,6 +77,7 @@ template <class Trie> static void word_as(const Trie &t, const Plain &p, const W
         else
             bytes.push_back(static_cast<char>(label));
     MUST(t.find(bytes) == node_of(p, word) && t.longest(bytes) == longest_of(p, word));
+    MUST(t.contains(bytes) == t.contains_labels(word) && t.try_contains(bytes).value() == t.contains(bytes));
     MUST(t.try_find(bytes).value() == t.find(bytes) && t.try_longest(bytes).value() == t.longest(bytes));
 }
 
@@ -106,6 +111,84 @@ template <class Trie> static void same(const Trie &t, const Plain &p)
     for (const u64 node : {u64{t.size()}, u64{1} << 63, ~u64{}}) nowhere(t, node);
 }
 
+// ---- of words
+
+// Words of bytes: those of each of a few lengths, or of any byte.
+static std::set<std::string> drawn_words(std::size_t count, unsigned longest, bool is_any_byte)
+{
+    std::set<std::string> all;
+    for (std::size_t i = 0; i < count; i++) {
+        std::string word;
+        for (u64 len = draw() % (longest + 1); len > 0; len--)
+            word += static_cast<char>(is_any_byte ? draw() : 'a' + draw() % 3);
+        all.insert(word);
+    }
+    return all;
+}
+
+static Plain plain_of_bytes(const std::set<std::string> &words)
+{
+    std::vector<Word> all;
+    for (const std::string &word : words) {
+        all.emplace_back();
+        for (const char letter : word) all.back().push_back(static_cast<unsigned char>(letter));
+    }
+    return plain_of(all, 8, true);
+}
+
+// The trie of words has those of its words that it should, and is the one of the same parts.
+static void of_words(const std::set<std::string> &words)
+{
+    const Plain p = plain_of_bytes(words);
+    const bitm::trie t = bitm::trie::of_words(words);
+    const std::vector<std::string_view> views(words.begin(), words.end());
+    MUST(t == made(p) && t == bitm::trie::of_words(views) && t == bitm::trie::of_words(words.begin(), words.end()));
+    MUST(t == bitm::trie::try_of_words(views).value() && t.view().check());
+    same(t, p);
+    for (const std::string &word : words) MUST(t.contains(word) && t.contains(word + '\0') == words.count(word + '\0'));
+}
+
+// Words that are made as they are read, and an array.
+static void words_of_any_kind()
+{
+    std::istringstream text("a b be");
+    const char *const list[] = {"a", "b", "be"};
+    const bitm::trie t =
+        bitm::trie::of_words(std::istream_iterator<std::string>(text), std::istream_iterator<std::string>());
+    MUST(t == bitm::trie::of_words(list) && t == bitm::trie::of_words(std::begin(list), std::end(list)));
+    MUST(t.contains("be") && t.view().contains("b") && !t.view().contains("e") && !bitm::trie_view().contains(""));
+}
+
+static void many_words()
+{
+    std::set<std::string> words;
+    while (words.size() < 100000) words.insert(std::to_string(draw() % 1000000));
+    const bitm::trie t = bitm::trie::of_words(words);
+    u64 ends = 0;
+    for (u64 node = 0; node < t.size(); node++) ends += t.is_end(node).value();
+    MUST(t.check() && t.size() < 1111111 && ends == words.size());
+    for (u64 number = 0; number < 1000000; number += 1 + draw() % 9)
+        MUST(t.contains(std::to_string(number)) == (words.count(std::to_string(number)) > 0));
+}
+
+static void words_that_do_not_rise()
+{
+    const auto at = [](const std::vector<std::string> &words) {
+        const auto none = bitm::trie::try_of_words(words);
+        MUST(!none && none.error().code == bitm::errc::unsorted && none.error().of == words.size());
+        MUST(throws<std::invalid_argument>([&] { (void)bitm::trie::of_words(words); }));
+        return none.error().at;
+    };
+    MUST(at({"b", "a"}) == 1 && at({"a", "a"}) == 1 && at({"", ""}) == 1 && at({"a", "b", "c", "bc"}) == 3);
+    MUST(at({"ab", "a"}) == 1 && at({"a", "", "b"}) == 1 && at({"a", "\xc3\xa4", "z"}) == 2); // bytes have no sign
+    MUST(bitm::trie::of_words({"z", "\xc3\xa4", "\xff"}).contains("\xc3\xa4"));
+    const bitm::trie none = bitm::trie::of_words({}), empty = bitm::trie::of_words({""}),
+                     zero = bitm::trie::of_words({"a", {"a\0", 2}});
+    MUST(none.size() == 1 && none.has_ends() && !none.contains("") && none.find("") == 0 && none.check());
+    MUST(empty.size() == 1 && empty.contains("") && !empty.contains("a") && empty != none);
+    MUST(zero.size() == 3 && zero.contains({"a\0", 2}) && !zero.contains({"a\0\0", 3}) && !zero.contains({"\0", 1}));
+}
+
 static void refused()
 {
     const Words degrees{2, 0, 1, 0}, labels{97, 98, 101}, ends{14};
@@ -120,6 +203,7 @@ static void refused()
     MUST(why(bitm::trie::try_of(Words{0, 1}, Words{1}, 8)) == bitm::errc::no_tree);
     MUST(why(bitm::trie::try_of(Words{}, Words{}, 8)) == bitm::errc::no_tree);
     MUST(throws<std::invalid_argument>([&] { bitm::trie t(degrees, labels, 6, ends); }));
+    MUST(!bitm::trie(degrees, labels, 8).contains("be") && bitm::trie(degrees, labels, 8, ends).contains("be"));
     MUST(!bitm::trie(degrees, labels, 8).has_ends() && bitm::trie(degrees, labels, 8, ends).find("be") == 3);
     MUST(bitm::trie::try_map("/dev/null").error().code == bitm::errc::wrong_file);
 }
@@ -129,7 +213,7 @@ template <class Trie> static void of_none(const Trie &t)
 {
     MUST(t.size() == 0 && t.empty() && t.check() && t.block().empty() && t == bitm::trie_view() && !t.has_ends());
     for (const u64 node : {u64{0}, u64{1}, ~u64{}}) nowhere(t, node);
-    MUST(!t.find("") && !t.find("a") && t.longest("ab") == bitm::trie_match());
+    MUST(!t.find("") && !t.find("a") && !t.contains("") && t.longest("ab") == bitm::trie_match());
 }
 
 // Answers of a block that may hold anything: inside, or an error.
@@ -149,6 +233,8 @@ static void any(const bitm::trie_view &t)
         inside(t.try_parent(node), node + !node), inside(t.try_degree(node), n);
         const Word word{draw() % 4, draw() % 4};
         inside(t.try_find_labels(word), n), inside(t.try_find("ab"), n);
+        const auto contains = t.try_contains_labels(word);
+        MUST(contains || contains.error().code == bitm::errc::wrong);
         const auto longest = t.try_longest_labels(word);
         MUST(!longest || (longest->node < n && longest->count <= 2));
     }
@@ -171,6 +257,8 @@ static void threads()
 int main(int, char **argv)
 {
     const std::string path = argv[0] + std::string(".trie");
+    for (unsigned i = 0; i < 40; i++) of_words(drawn_words(i * i, 1 + i % 7, i % 2));
+    words_of_any_kind(), words_that_do_not_rise(), many_words();
     refused(), threads(), spoilt_blocks(made(drawn(12, 8, true)), 40, 3, any);
     std::vector<Plain> all{plain_of({{}}, 1, true), plain_of({{0}, {1, 1, 0}}, 1, false)};
     for (std::size_t i = 0; i < 24; i++)

@@ -106,8 +106,9 @@ enum class errc : std::uint8_t {
     no_tree                   // the degrees are those of no tree
 };
 
-// What went wrong: position `at` of `of` where it is `outside`; `at` is errno where it is `no_file`. `which` says which
-// argument or length is wrong, in memory that stays; nullptr where nothing more is known.
+// What went wrong: position `at` of `of` where it is `outside`, and word `at` of `of` where words are `unsorted`; `at`
+// is errno where it is `no_file`. `which` says which argument or length is wrong, in memory that stays; nullptr where
+// nothing more is known.
 struct failure {
     // The kind of failure.
     errc code = errc::none;

@@ -265,7 +265,8 @@ public:
     using iterator = matrix_iterator;
 
     // No numbers; those of words, a list or iterators, of `width` bits at most, or 0 for as many as the largest one
-    // has: fails where one has more. With quarters the block takes an eighth more, and most queries read fewer words.
+    // has: fails where one has more. With quarters the block takes an eighth more, and most queries read fewer words
+    // (evident from the code).
     wavelet_matrix() noexcept = default;
     explicit wavelet_matrix(words_in numbers, std::uint32_t width = 0, quarters kept = quarters::no)
         : wavelet_matrix(try_of(numbers, width, kept).value())

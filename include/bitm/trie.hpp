@@ -1,10 +1,12 @@
 // Tries, sets of words, each in one block of memory: an owner, and a view of a block in memory of the caller's.
 //
-//     // the words a, b and be: a tree, the letters of the nodes 1 to 3, of 8 bits each, and which nodes end a word
-//     const std::vector<std::uint64_t> children{2, 0, 1, 0}, letters{'a', 'b', 'e'}, ends{14};
-//     const bitm::trie words(children, letters, 8, ends);
+//     const bitm::trie words = bitm::trie::of_words({"a", "b", "be"}); // sorted, each once
+//     std::cout << words.contains("be") << ' ' << words.contains("bee") << '\n';                     // 1 0
 //     std::cout << words.find("be").value() << ' ' << words.is_end(3).value() << '\n';               // 3 1
 //     std::cout << words.longest("bee").count << ' ' << words.parent(3).value() << '\n';             // 2 2
+//     // the same, of its parts: a tree, the letters of the nodes 1 to 3, of 8 bits each, and which nodes end a word
+//     const std::vector<std::uint64_t> children{2, 0, 1, 0}, letters{'a', 'b', 'e'}, ends{14};
+//     std::cout << (bitm::trie(children, letters, 8, ends) == words) << '\n';                       // 1
 //
 // A trie is a tree in which each node but the root has a label, and the labels of the children of a node rise; so a
 // word leads from the root to at most one node. Labels are bytes, or numbers of at most 63 bits, of which the calls
@@ -15,6 +17,7 @@
 
 #include <bitm/tree.hpp>
 
+#include <string>
 #include <string_view>
 
 BITM_NAMESPACE_BEGIN
@@ -50,6 +53,9 @@ inline const std::uint8_t *labels_of(std::string_view word) noexcept
 {
     return reinterpret_cast<const std::uint8_t *>(word.data());
 }
+
+// Containers whose items convert to std::string_view.
+template <class Words> using item_as_word = decltype(std::string_view(*std::begin(std::declval<const Words &>())));
 
 template <class Self> class trie_calls : public node_calls<Self, trie_kind> {
 public:
@@ -102,6 +108,11 @@ public:
         const std::uint32_t status = bitm_trie_find(&trie(), word.data(), word.size(), &out);
         return tried(status, out);
     }
+    // Whether it is one of the words: it leads to a node, and a word ends there. A trie without ends has no words.
+    bool contains(std::string_view word) const { return try_contains(word).value(); }
+    bool contains_labels(words_in word) const { return try_contains_labels(word).value(); }
+    result<bool> try_contains(std::string_view word) const noexcept { return try_ends_at(try_find(word)); }
+    result<bool> try_contains_labels(words_in word) const noexcept { return try_ends_at(try_find_labels(word)); }
     // The deepest node to which a beginning of a word leads from the root, and how many labels lead there: all of them
     // where the word leads to a node. Of no nodes it is node 0, with no labels.
     trie_match longest(std::string_view word) const { return try_longest(word).value(); }
@@ -136,6 +147,14 @@ public:
 
 private:
     const bitm_trie &trie() const noexcept { return this->raw(); }
+    result<bool> try_ends_at(const result<maybe_position> &node) const noexcept
+    {
+        if (!node) return node.error();
+        if (!*node) return false;
+        const result<std::optional<bool>> end = try_is_end(**node);
+        if (!end) return end.error();
+        return end->value_or(false);
+    }
 };
 
 } // namespace detail
@@ -161,7 +180,8 @@ private:
     detail::in_block<detail::trie_kind> own_;
 };
 
-// A trie that owns its block, made from how many children each node has, and the labels of the nodes from 1 on.
+// A trie that owns its block, made of words; or from how many children each node has, and the labels of the nodes from
+// 1 on.
 class BITM_OWNER trie : public detail::trie_calls<trie>, public detail::stored_calls<trie, detail::trie_kind> {
 public:
     // Of no nodes; of the degrees of the nodes, the labels of those from 1 on, of `width` bits each, 1 to 63, and,
@@ -188,6 +208,35 @@ public:
         return opened(std::move(all), verify::no);
     }
 
+    // Of words, with labels of 8 bits and ends: iterators, a container or a list of what converts to std::string_view,
+    // each read once. They have to rise in the order of their bytes, each once, as those of a std::set<std::string> do;
+    // the empty one may be among them. Fails with errc::unsorted, `at` the first word that does not stand after the one
+    // before it. Needs memory for a copy of the words, and three numbers a node and one a word besides.
+    template <class It> static trie of_words(It first, It last) { return try_of_words(first, last).value(); }
+    template <class Words, class = detail::item_as_word<Words>> static trie of_words(const Words &words)
+    {
+        return try_of_words(words).value();
+    }
+    static trie of_words(std::initializer_list<std::string_view> words) { return try_of_words(words).value(); }
+    template <class It> static result<trie> try_of_words(It first, It last)
+    {
+        std::string bytes;
+        detail::gathered starts;
+        for (starts.push(0); first != last; ++first) {
+            bytes += std::string_view(*first);
+            starts.push(bytes.size());
+        }
+        return grown(bytes, words_in(starts.data(), starts.size()));
+    }
+    template <class Words, class = detail::item_as_word<Words>> static result<trie> try_of_words(const Words &words)
+    {
+        return try_of_words(std::begin(words), std::end(words));
+    }
+    static result<trie> try_of_words(std::initializer_list<std::string_view> words)
+    {
+        return try_of_words(words.begin(), words.end());
+    }
+
     // A view, which the owner has to outlive; the block, and all of it as C takes it. Deleted for temporaries.
     trie_view view() const &noexcept BITM_LIFETIMEBOUND { return trie_view(own_.found()); }
     words_in block() const &noexcept BITM_LIFETIMEBOUND { return own_.words(); }
@@ -198,6 +247,32 @@ public:
 
 private:
     friend class detail::node_calls<trie, detail::trie_kind>;
+
+    // The trie of words that stand one after another: where each begins, and where the last one ends.
+    static result<trie> grown(const std::string &bytes, words_in starts)
+    {
+        const std::uint8_t *const from = detail::labels_of(bytes);
+        std::uint64_t nodes = 0, len = 0;
+        std::uint32_t status = bitm_trie_nodes_of_words(from, bytes.size(), starts.data(), starts.size(), &nodes);
+        if (status == BITM_WRONG) return unsorted(bytes, starts);
+        if (status == BITM_OK) status = bitm_trie_size(nodes, 8, true, &len);
+        if (status != BITM_OK) return detail::bad_size("2^57 nodes or more");
+        const detail::block scratch(2 * nodes - 1), room(nodes - 1 + (nodes + 63) / 64);
+        detail::block all(len);
+        status = bitm_trie_build_words(from, bytes.size(), starts.data(), starts.size(), scratch.data(), scratch.size(),
+                                       room.data(), room.size(), all.data(), all.size());
+        if (status != BITM_OK) return detail::error_of(status);
+        return opened(std::move(all), verify::no);
+    }
+    // The first word that does not stand after the one before it.
+    static failure unsorted(std::string_view bytes, words_in starts) noexcept
+    {
+        const std::size_t words = starts.size() - 1;
+        const auto word = [&](std::size_t i) { return bytes.substr(starts[i], starts[i + 1] - starts[i]); };
+        std::size_t at = 1;
+        while (at < words && word(at - 1) < word(at)) at++;
+        return {errc::unsorted, at, words, "words rise in the order of their bytes, each once"};
+    }
 };
 
 BITM_NAMESPACE_END

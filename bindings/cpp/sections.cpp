@@ -1,0 +1,58 @@
+// Sections of one's own in blocks in C++: what is added is there, what was there stays, and what is refused is named.
+#include "blocks.hpp"
+
+static Words with(const Words &block, u64 role, u64 count, const Words &words)
+{
+    Words to(bitm::extended_size(block, role, count));
+    bitm::extend(block, role, count, words, to);
+    return to;
+}
+
+static Words block_of(const bitm::tree &t) { return Words(t.block().begin(), t.block().end()); }
+
+static void added()
+{
+    for (u64 count = 0; count < 40; count++) {
+        const bitm::tree t{2, 0, 1, 0};
+        const Words block = block_of(t);
+        Words words((count + 7) / 8);
+        for (u64 &it : words) it = draw();
+        const Words longer = with(block, bitm::own_role, count, words);
+        MUST(bitm::is_written(longer) && bitm::tree_view::in(longer).parent(3) == maybe_position(2));
+        const auto section = bitm::section_at(longer, 3).value();
+        MUST(section.role == bitm::own_role && section.count == count && section.words.size() == words.size());
+        MUST(std::equal(words.begin(), words.end(), section.words.begin()) && !bitm::section_at(longer, 4));
+        for (std::size_t i = 0; i < 3; i++) {
+            const auto was = bitm::section_at(block, i).value(), is = bitm::section_at(longer, i).value();
+            MUST(was.role == is.role && was.count == is.count);
+            MUST(std::equal(was.words.begin(), was.words.end(), is.words.begin(), is.words.end()));
+        }
+    }
+}
+
+static void refused()
+{
+    const Words block = block_of(bitm::tree{2, 0, 1, 0}), two(2), three(3);
+    Words to(bitm::extended_size(block, bitm::own_role, 16)), spoiled = block;
+    MUST(throws<std::invalid_argument>([&] { bitm::extend(block, bitm::own_role, 16, three, to); }));
+    MUST(throws<std::invalid_argument>([&] { bitm::extend(block, bitm::own_role, 16, two, {to.data(), 8}); }));
+    MUST(!bitm::try_extended_size(block, 9, u64{1} << 58));
+    spoiled[32] ^= 1;
+    MUST(!bitm::is_written(spoiled) && bitm::try_extended_size(spoiled, 9, 1));
+    MUST(throws<bitm::wrong_file>([&] { bitm::extend(spoiled, bitm::own_role, 16, two, to); }));
+    spoiled[1] ^= 1;
+    MUST(bitm::try_extended_size(spoiled, 9, 1).error().code == bitm::errc::wrong_file);
+    MUST(bitm::try_section_at(spoiled, 0).error().code == bitm::errc::wrong_file);
+    MUST(throws<bitm::wrong_file>([&] { (void)bitm::section_at(two, 0); }));
+    MUST(std::count(to.begin(), to.end(), u64{0}) == static_cast<std::ptrdiff_t>(to.size()));
+    bitm::extend(block, bitm::own_role, 16, two, to);
+    MUST(bitm::is_written(to));
+}
+
+int main()
+{
+    added();
+    refused();
+    std::puts("C++: sections are added to a block, and those of before stay");
+    return 0;
+}
