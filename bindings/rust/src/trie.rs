@@ -24,6 +24,25 @@ answers! { TrieView, Trie;
     /// ```
     pub fn find_labels(&self, word: &[u64]) -> Option<usize> = checked_find_labels;
 
+    /// Whether a word of bytes is one of the words: it leads to a node, and a word ends there. A trie without ends has no
+    /// words. Two proved calls.
+    ///
+    /// ```
+    /// let trie = bitm_proved::Trie::of_words(&["a", "b", "be"])?;
+    /// assert_eq!((trie.contains(b"be"), trie.contains(b""), trie.contains(b"e")), (true, false, false));
+    /// # Ok::<(), bitm_proved::BuildError>(())
+    /// ```
+    pub fn contains(&self, word: &[u8]) -> bool = checked_contains;
+
+    /// `contains` of a word of labels. Two proved calls.
+    ///
+    /// ```
+    /// let trie = bitm_proved::Trie::build(&[2, 0, 1, 0], &[97, 98, 500], 9, &[12])?;
+    /// assert_eq!((trie.contains_labels(&[98, 500]), trie.contains_labels(&[97])), (true, false));
+    /// # Ok::<(), bitm_proved::BuildError>(())
+    /// ```
+    pub fn contains_labels(&self, word: &[u64]) -> bool = checked_contains_labels;
+
     /// The deepest node to which a beginning of a word of bytes leads from the root, and how many of them lead there: all
     /// of them where the word leads to a node. One proved call.
     ///

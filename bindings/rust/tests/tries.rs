@@ -1,8 +1,8 @@
-//! Tries beside a map of words; parts of no trie, owners, blocks that are spoilt or cut.
+//! Tries beside a map of words, made of words and of parts; words that do not rise, parts of no trie, owners, blocks that are spoilt or cut.
 mod common;
 use bitm_proved::{bytes_of, BuildError, StoredError, Tree, Trie, TrieView, WrongTables};
 use common::{any_owner, says, with_any_words, with_one_bit_changed, Fickle, Random};
-use std::collections::BTreeMap;
+use std::collections::{BTreeMap, BTreeSet};
 use std::panic::{RefUnwindSafe, UnwindSafe};
 use std::sync::Arc;
 
@@ -56,8 +56,12 @@ fn word_as(trie: &TrieView<'_>, plain: &Plain, word: &[u64]) {
     let node = |len: usize| plain.nodes.get(&key(&word[..len])).copied();
     let longest = (0..=word.len()).rev().find_map(|len| node(len).map(|node| (node, len))).expect("the root");
     assert_eq!((trie.find_labels(word), trie.longest_labels(word)), (node(word.len()), longest));
+    let bit = |node: usize| plain.ends.get(node / 64).is_some_and(|it| it >> (node % 64) & 1 == 1);
+    let is_word = node(word.len()).is_some_and(bit);
+    assert_eq!(trie.contains_labels(word), is_word);
     if let Ok(bytes) = word.iter().map(|label| u8::try_from(*label)).collect::<Result<Vec<u8>, _>>() {
         assert_eq!((trie.find(&bytes), trie.longest(&bytes)), (node(word.len()), longest));
+        assert_eq!(trie.contains(&bytes), is_word);
     }
 }
 
@@ -104,6 +108,59 @@ fn answers_are_those_of_a_map_of_words() {
         as_a_map(TrieView::from_bytes(bytes_of(trie.block())).as_ref().expect("aligned"), &plain);
         as_a_map(trie.clone().view(), &plain);
     }
+}
+
+/// The trie of words is that of the parts in which they end.
+fn of_words(words: &BTreeSet<Vec<u8>>) {
+    let rising: Vec<&Vec<u8>> = words.iter().collect();
+    let labels: Vec<Vec<u64>> = words.iter().map(|word| word.iter().map(|it| u64::from(*it)).collect()).collect();
+    let (plain, trie) = (plain_of(&labels, 8, true), Trie::of_words(&rising).expect("they rise"));
+    assert_eq!(trie.block(), made(&plain).block());
+    as_a_map(trie.view(), &plain);
+    assert!(words.iter().all(|word| trie.contains(word)));
+}
+
+#[test]
+fn tries_of_words_have_these_words() {
+    let mut random = Random(47);
+    for turn in 0..40 {
+        let letter = |random: &mut Random| if turn % 2 == 0 { random.below(256) as u8 } else { random.below(3) as u8 };
+        let word = |random: &mut Random| (0..random.below(1 + turn % 7)).map(|_| letter(random)).collect();
+        of_words(&(0..turn * turn / 3).map(|_| word(&mut random)).collect());
+    }
+    let (none, empty) = (Trie::of_words::<&str>(&[]).expect("a root"), Trie::of_words(&[""]).expect("a root"));
+    assert_eq!((none.len(), none.contains(b""), none.has_ends(), none.find(b"")), (1, false, true, Some(0)));
+    assert_eq!((empty.len(), empty.contains(b""), empty.contains(b"a"), empty.check()), (1, true, false, true));
+    let zeros = Trie::of_words(&[&b"\0"[..], b"\0\0", b"a\0"]).expect("they rise");
+    assert!(zeros.len() == 5 && zeros.contains(b"a\0") && !zeros.contains(b"a") && !zeros.contains(b"\0\0\0"));
+    let texts = Trie::of_words(&["z".to_string(), "\u{e4}".to_string()]).expect("bytes have no sign");
+    assert!(texts.contains("\u{e4}".as_bytes()) && !texts.contains("\u{e4}".as_bytes()[..1].as_ref()));
+}
+
+#[test]
+fn a_trie_of_many_words() {
+    let mut random = Random(48);
+    let words: BTreeSet<String> = (0..100_000).map(|_| random.below(1_000_000).to_string()).collect();
+    let trie = Trie::of_words(&words.iter().collect::<Vec<_>>()).expect("they rise");
+    assert_eq!((0..trie.len()).filter(|node| trie.is_end(*node) == Some(true)).count(), words.len());
+    let numbers = (0..1_000_000).step_by(7).map(|it| it.to_string());
+    assert!(trie.check() && numbers.into_iter().all(|it| trie.contains(it.as_bytes()) == words.contains(&it)));
+}
+
+#[test]
+fn words_that_do_not_rise_are_refused() {
+    let refused: [(&[&str], usize); 6] = [
+        (&["b", "a"], 1),
+        (&["a", "a"], 1),
+        (&["", ""], 1),
+        (&["a", "b", "c", "bc"], 3),
+        (&["a", "ab", "a"], 2),
+        (&["z", "\u{e4}", "z"], 2),
+    ];
+    for (words, index) in refused {
+        assert_eq!(Trie::of_words(words).err(), Some(BuildError::UnsortedWord { index }));
+    }
+    assert_eq!(BuildError::UnsortedWord { index: 2 }.to_string(), "word 2 does not stand after the one before it");
 }
 
 #[test]
@@ -166,6 +223,7 @@ fn inside(trie: &TrieView<'_>) -> usize {
         assert!(found.iter().all(|it| it.map_or(true, |it| it.is_none_or(|it| it < len))));
         assert!(trie.word(node, &mut [0; 2]).map_or(true, |it| it.is_none_or(|it| it <= node)));
         assert!(trie.checked_longest_labels(&word).map_or(true, |(at, count)| at < len && count <= 2));
+        assert!(trie.checked_contains_labels(&word).is_ok() || trie.checked_find_labels(&word).is_err());
         assert!(trie.checked_label(node).is_ok() && trie.checked_is_end(node).is_ok());
         wrong += found.iter().filter(|it| **it == Err(WrongTables)).count();
     }

@@ -78,6 +78,16 @@ pub enum BuildError {
     /// assert_eq!(Trie::build(&[1, 0], &[8], 3, &[]).err(), Some(BuildError::NotATrie)); // 8 has four bits
     /// ```
     NotATrie,
+    /// The word at an index does not stand after the one before it, in the order of their bytes.
+    ///
+    /// ```
+    /// use bitm_proved::{BuildError, Trie};
+    /// assert_eq!(Trie::of_words(&["b", "be", "a"]).err(), Some(BuildError::UnsortedWord { index: 2 }));
+    /// ```
+    UnsortedWord {
+        /// The least such index.
+        index: usize,
+    },
     /// The number at an index has more bits than the width.
     ///
     /// ```
@@ -138,6 +148,7 @@ impl fmt::Display for BuildError {
             BuildError::LetterOutside { index } => write!(f, "letter {index} is outside the alphabet"),
             BuildError::WrongStep => f.write_str("the step between samples is 0"),
             BuildError::NotATree => f.write_str("the degrees are those of no tree"),
+            BuildError::UnsortedWord { index } => write!(f, "word {index} does not stand after the one before it"),
             BuildError::NotATrie => f.write_str("the degrees, labels, width and ends are those of no trie"),
             BuildError::NoMemory(why) => why.fmt(f),
         }

@@ -121,6 +121,13 @@ extern "C" {
         degrees: *const u64, degrees_len: usize, labels: *const u64, labels_len: usize, width: u32, ends: *const u64,
         ends_len: usize, block: *mut u64, block_len: usize,
     ) -> u32;
+    pub fn bitm_trie_nodes_of_words(
+        bytes: *const u8, bytes_len: usize, starts: *const u64, starts_len: usize, out: *mut u64,
+    ) -> u32;
+    pub fn bitm_trie_build_words(
+        bytes: *const u8, bytes_len: usize, starts: *const u64, starts_len: usize, scratch: *mut u64,
+        scratch_len: usize, room: *mut u64, room_len: usize, block: *mut u64, block_len: usize,
+    ) -> u32;
     pub fn bitm_trie_open(block: *const u64, block_len: usize, trie: *mut bitm_trie) -> u32;
     pub fn bitm_trie_check(block: *const u64, block_len: usize) -> u32;
     pub fn bitm_trie_label(trie: *const bitm_trie, node: usize, out: *mut u64) -> u32;
@@ -205,6 +212,23 @@ extern "C" {
     pub fn bitm_sequence_block_build(items: *const u64, items_len: usize, block: *mut u64, block_len: usize) -> u32;
     pub fn bitm_sequence_block_open(block: *const u64, block_len: usize, sequence: *mut bitm_sequence) -> u32;
     pub fn bitm_sequence_block_check(block: *const u64, block_len: usize) -> u32;
+}
+#[repr(C)]
+#[derive(Copy, Clone)]
+pub struct bitm_section {
+    pub role: u64,
+    pub count: u64,
+    pub words: *const u64,
+    pub words_len: usize,
+}
+extern "C" {
+    pub fn bitm_block_extended_size(block: *const u64, block_len: usize, role: u64, count: u64, out: *mut u64) -> u32;
+    pub fn bitm_block_extend(
+        block: *const u64, block_len: usize, role: u64, count: u64, words: *const u64, words_len: usize, to: *mut u64,
+        to_len: usize,
+    ) -> u32;
+    pub fn bitm_block_section(block: *const u64, block_len: usize, i: usize, section: *mut bitm_section) -> u32;
+    pub fn bitm_block_check(block: *const u64, block_len: usize) -> u32;
 }
 #[repr(C)]
 #[derive(Copy, Clone)]

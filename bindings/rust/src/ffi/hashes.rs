@@ -94,6 +94,16 @@ extern "C" {
     ) -> u32;
     pub fn bitm_hash_block_open(block: *const u64, block_len: usize, hash: *mut bitm_hash, seed: *mut u64) -> u32;
     pub fn bitm_hash_block_check(block: *const u64, block_len: usize) -> u32;
+    pub fn bitm_hash_block_size_seeded(words: usize, levels: usize, out: *mut u64) -> u32;
+    pub fn bitm_hash_block_build_seeded(
+        words: *const u64, words_len: usize, seeds: *const u8, seeds_len: usize, sizes: *const u64, sizes_len: usize,
+        seed: u64, block: *mut u64, block_len: usize,
+    ) -> u32;
+    pub fn bitm_hash_block_open_seeded_bytes(
+        block: *const u64, block_len: usize, bytes: *const u8, bytes_len: usize, hash: *mut bitm_seeded_hash,
+        seed: *mut u64,
+    ) -> u32;
+    pub fn bitm_hash_block_check_seeded(block: *const u64, block_len: usize) -> u32;
 }
 #[repr(C)]
 pub struct bitm_strings {

@@ -19,8 +19,7 @@ use core::ptr::addr_of;
 ///
 /// ```
 /// use bitm_proved::{Trie, TrieView};
-/// // the words a, b and be: how many children each node has, the letters of the nodes 1 to 3, and where words end
-/// let made = Trie::build(&[2, 0, 1, 0], &[97, 98, 101], 8, &[0b1110])?;
+/// let made = Trie::of_words(&["a", "b", "be"])?;
 /// let trie = TrieView::from_words(made.block())?;
 /// assert_eq!((trie.find(b"be"), trie.find(b"bee"), trie.longest(b"bee")), (Some(3), None, (3, 2)));
 /// assert_eq!((trie.label(3), trie.is_end(3), trie.parent(3)), (Some(101), Some(true), Some(2)));
@@ -136,6 +135,35 @@ impl<'a> TrieView<'a> {
         unsafe { self.block.find(|trie, out| bitm_trie_find(trie, word.as_ptr(), word.len(), out)) }
     }
 
+    /// Whether a word of bytes is one of the words: it leads to a node, and a word ends there. A trie without ends has no
+    /// words.
+    ///
+    /// ```
+    /// let trie = bitm_proved::Trie::of_words(&["a", "b", "be"])?;
+    /// assert_eq!((trie.view().checked_contains(b"be"), trie.view().checked_contains(b"bee")), (Ok(true), Ok(false)));
+    /// # Ok::<(), bitm_proved::BuildError>(())
+    /// ```
+    #[inline]
+    pub fn checked_contains(&self, word: &[u8]) -> Result<bool, WrongTables> {
+        self.ends_at(self.checked_find(word)?)
+    }
+
+    /// `checked_contains` of a word of labels.
+    ///
+    /// ```
+    /// let trie = bitm_proved::Trie::of_words(&["a", "b", "be"])?;
+    /// assert_eq!(trie.view().checked_contains_labels(&[98, 101]), Ok(true));
+    /// # Ok::<(), bitm_proved::BuildError>(())
+    /// ```
+    #[inline]
+    pub fn checked_contains_labels(&self, word: &[u64]) -> Result<bool, WrongTables> {
+        self.ends_at(self.checked_find_labels(word)?)
+    }
+
+    fn ends_at(&self, node: Option<usize>) -> Result<bool, WrongTables> {
+        Ok(node.map_or(Ok(None), |node| self.checked_is_end(node))? == Some(true))
+    }
+
     /// The deepest node to which a beginning of a word of bytes leads from the root, and how many of them lead there: all
     /// of them where the word leads to a node. Of a block of no nodes, which is never built, it is `(0, 0)`.
     ///
@@ -242,5 +270,56 @@ pub(crate) fn build(degrees: &[u64], labels: &[u64], width: u32, ends: &[u64]) -
     match unsafe { bitm_trie_build(from.0, from.1, of.0, of.1, width, at.0, at.1, to, len) } {
         OK => Ok(block),
         _ => Err(BuildError::NotATrie),
+    }
+}
+
+/// The block of the trie of these words.
+pub(crate) fn grown<W: AsRef<[u8]>>(words: &[W]) -> Result<Vec<u64>, BuildError> {
+    let (bytes, starts) = one_after_another(words)?;
+    let nodes = nodes_of(&bytes, &starts)?;
+    let (too_long, mut size) = (BuildError::TooLong { len: bytes.len() }, 0);
+    // SAFETY: numbers are passed, and room for one.
+    if unsafe { bitm_trie_size(nodes, 8, true, &mut size) } != OK {
+        return Err(too_long);
+    }
+    let (mut scratch, mut room) = (zeroed::<u64>(2 * nodes - 1)?, zeroed::<u64>(nodes - 1 + nodes.div_ceil(64))?);
+    let mut block = zeroed::<u64>(size as usize)?;
+    let (at, begin) = ((bytes.as_ptr(), bytes.len()), (starts.as_ptr(), starts.len()));
+    let (first, second) = ((scratch.as_mut_ptr(), scratch.len()), (room.as_mut_ptr(), room.len()));
+    let (to, len) = (block.as_mut_ptr(), block.len());
+    // SAFETY: two shared slices, and three mutable ones, which overlap neither them nor each other.
+    match unsafe { bitm_trie_build_words(at.0, at.1, begin.0, begin.1, first.0, first.1, second.0, second.1, to, len) }
+    {
+        OK => Ok(block),
+        _ => Err(too_long),
+    }
+}
+
+/// The bytes of words one after another, and where each begins and the last one ends.
+fn one_after_another<W: AsRef<[u8]>>(words: &[W]) -> Result<(Vec<u8>, Vec<u64>), BuildError> {
+    let mut starts = zeroed::<u64>(words.len() + 1)?;
+    let mut all = 0;
+    for (end, word) in starts[1..].iter_mut().zip(words) {
+        all += word.as_ref().len();
+        *end = all as u64;
+    }
+    let mut bytes = zeroed::<u8>(all)?;
+    for (word, span) in words.iter().zip(starts.windows(2)) {
+        bytes[span[0] as usize..span[1] as usize].copy_from_slice(word.as_ref());
+    }
+    Ok((bytes, starts))
+}
+
+/// How many nodes the trie of such words has.
+fn nodes_of(bytes: &[u8], starts: &[u64]) -> Result<usize, BuildError> {
+    let mut nodes = 0;
+    // SAFETY: shared slices, and room for a number.
+    match unsafe { bitm_trie_nodes_of_words(bytes.as_ptr(), bytes.len(), starts.as_ptr(), starts.len(), &mut nodes) } {
+        OK => Ok(nodes as usize),
+        _ => {
+            let word = |span: &[u64]| &bytes[span[0] as usize..span[1] as usize];
+            let falls = starts.windows(3).position(|it| word(&it[..2]) >= word(&it[1..]));
+            Err(BuildError::UnsortedWord { index: falls.map_or(0, |it| it + 1) })
+        }
     }
 }

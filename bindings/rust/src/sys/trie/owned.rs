@@ -3,7 +3,7 @@ use crate::errors::{made, BuildError, StoredError};
 use crate::sys::held::Held;
 use crate::sys::memory::copied;
 use crate::sys::owner::owners_of_blocks;
-use crate::sys::trie::{build, TrieView};
+use crate::sys::trie::{build, grown, TrieView};
 use alloc::vec::Vec;
 use core::fmt;
 
@@ -15,8 +15,8 @@ use core::fmt;
 ///
 /// ```
 /// use bitm_proved::Trie;
-/// // the words a, b and be: how many children each node has, the letters of the nodes 1 to 3, and where words end
-/// let trie = Trie::build(&[2, 0, 1, 0], &[97, 98, 101], 8, &[0b1110])?;
+/// let trie = Trie::of_words(&["a", "b", "be"])?;
+/// assert_eq!((trie.contains(b"be"), trie.contains(b"e"), trie.contains(b"")), (true, false, false));
 /// assert_eq!((trie.find(b"be"), trie.find(b"bee"), trie.longest(b"bee")), (Some(3), None, (3, 2)));
 /// assert_eq!((trie.is_end(3), trie.child_by_label(0, 98), trie.children(0)), (Some(true), Some(2), 1..3));
 /// # Ok::<(), bitm_proved::BuildError>(())
@@ -27,6 +27,26 @@ pub struct Trie<O = Vec<u64>> {
 }
 
 impl Trie {
+    /// The trie of these words, with labels of 8 bits and ends. They rise in the order of their bytes, each once, as `sort`
+    /// and `dedup` leave them; the empty word may be among them.
+    ///
+    /// `UnsortedWord` exactly where a word does not stand after the one before it. Needs memory for a copy of the words, and
+    /// three numbers a node and one a word besides.
+    ///
+    /// ```
+    /// use bitm_proved::{BuildError, Trie};
+    /// let mut words = vec!["to", "tea", "a", "ten", "tea"];
+    /// assert_eq!(Trie::of_words(&words).err(), Some(BuildError::UnsortedWord { index: 1 }));
+    /// words.sort();
+    /// words.dedup();
+    /// let trie = Trie::of_words(&words)?;
+    /// assert_eq!((trie.contains(b"tea"), trie.contains(b"te"), trie.longest(b"tend")), (true, false, (6, 3)));
+    /// # Ok::<(), BuildError>(())
+    /// ```
+    pub fn of_words<W: AsRef<[u8]>>(words: &[W]) -> Result<Self, BuildError> {
+        Self::of_block(grown(words)?, BuildError::TooLong { len: words.len() })
+    }
+
     /// The trie whose nodes have these degrees, and those from 1 on these labels, of `width` bits each, 1 to 63. The ends
     /// are a bit for each node, lowest first, which says whether a word ends there; or no words.
     ///
