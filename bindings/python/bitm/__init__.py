@@ -1,5 +1,5 @@
 """Bit vectors with rank and select, sparse bits, monotone integer sequences (Elias-Fano), lists of numbers in any order (wavelet matrices),
-indexes of texts, minimal perfect hashes, dictionaries, trees (LOUDS) and tries, over a library proved correct.
+indexes of texts, minimal perfect hashes, dictionaries of numbers and strings, trees (LOUDS) and tries, over a library proved correct.
 
 >>> import bitm
 >>> bits = bitm.BitVector.from_indices([1, 3, 4, 6], 7)
@@ -16,7 +16,7 @@ arguments, Python's conventions) is tested.
 from collections.abc import MutableSequence, Sequence
 
 from . import _more, _shard_docs
-from ._core import BitVector, Cursor, Dictionary, EliasFano, Index, PerfectHash, SparseBits, TextIndex, Tree, Trie, WaveletMatrix, WrongTables
+from ._core import BitVector, Cursor, Dictionary, EliasFano, Index, PerfectHash, SparseBits, Strings, TextIndex, Tree, Trie, WaveletMatrix, WrongTables
 from ._files import load, loads
 from ._more import tables_of
 from ._sets import intersect, union
@@ -24,8 +24,8 @@ from .shards import ShardError, Shards
 
 __version__ = "0.3.0"
 __all__ = [
-    "BitVector", "Cursor", "Dictionary", "EliasFano", "Index", "PerfectHash", "ShardError", "Shards", "SparseBits", "TextIndex",
-    "Tree", "Trie", "WaveletMatrix", "WrongTables", "intersect", "load", "loads", "tables_of", "union",
+    "BitVector", "Cursor", "Dictionary", "EliasFano", "Index", "PerfectHash", "ShardError", "Shards", "SparseBits", "Strings",
+    "TextIndex", "Tree", "Trie", "WaveletMatrix", "WrongTables", "intersect", "load", "loads", "tables_of", "union",
 ]
 
 _more.complete()

@@ -1,15 +1,18 @@
 """What the values over one block have beside their queries: the block itself, and a value over one that exists already."""
+import array
+import itertools
 from typing import Any, List
 
 from . import _core
 from ._files import load
 
-# What a value is, one, how many nodes, 1 bits, keys, numbers or letters it has, and a query of it with its answer.
+# What a value is, one, how many nodes, 1 bits, keys, strings, numbers or letters it has, and a query of it with its answer.
 BLOCKS = (
     (_core.Tree, "A tree", "Tree([2, 0, 1, 0])", 4, "parent(3)", 2),
-    (_core.Trie, "A trie", 'Trie([2, 0, 1, 0], b"abe")', 4, 'find(b"be")', 3),
+    (_core.Trie, "A trie", 'Trie.of_words(["a", "b", "be"])', 4, 'find(b"be")', 3),
     (_core.SparseBits, "Sparse bits", "SparseBits([3, 100, 101, 4000], 5000)", 4, "rank(101)", 2),
     (_core.Dictionary, "A dictionary", "Dictionary([4, 9, 49])", 3, "get(50, -1)", -1),
+    (_core.Strings, "Strings", 'Strings(["ada"])', 1, 'find("ada")', 0),
     (_core.WaveletMatrix, "A list of numbers", "WaveletMatrix([3, 1, 4, 1, 5, 1])", 6, "rank(1, 4)", 2),
     (_core.TextIndex, "The index of a text", 'TextIndex(b"banana")', 6, 'count(b"ana")', 2),
 )
@@ -51,6 +54,29 @@ def text_find_all(self: Any, pattern: Any) -> List[int]:
     return sorted(self.locate(pattern))
 
 
+def _word(it: Any) -> bytes:
+    if isinstance(it, str):
+        return str.encode(it)
+    if isinstance(it, (bytes, bytearray, memoryview)):
+        return bytes(it)
+    raise TypeError(f"a word is a str or bytes, not {it!r}")
+
+
+def trie_of_words(cls: Any, words: Any) -> Any:
+    """The trie of words, each bytes or a str as UTF-8: labels have 8 bits, and a bit for each node says whether a word ends
+    there. They may come in any order, and more than once: they are copied, sorted and counted once. The rest of the work is
+    done while other threads run.
+
+    >>> words = Trie.of_words(["to", "tea", "a", "ten"])
+    >>> "tea" in words, "te" in words, words.longest("tend")
+    (True, False, (6, 3))
+    """
+    if isinstance(words, (str, bytes, bytearray, memoryview)):
+        raise TypeError(f"words are needed, not the one word {words!r}")
+    rising = sorted({_word(it) for it in words})
+    return _core.trie_of_sorted(cls, b"".join(rising), array.array("Q", itertools.accumulate(map(len, rising), initial=0)))
+
+
 def complete() -> None:
     """Gives the types of the extension what stands here."""
     for kind, what, made, count, query, answer in BLOCKS:
@@ -68,5 +94,6 @@ def complete() -> None:
     >>> {made}.block[3]  # a word of the header
     {count}
     """))
+    setattr(_core.Trie, "of_words", classmethod(trie_of_words))
     setattr(_core.TextIndex, "open", classmethod(text_open))
     setattr(_core.TextIndex, "find_all", text_find_all)

@@ -12,10 +12,11 @@ from typing import Any, BinaryIO, Callable, List, Optional, Tuple, Union
 from . import _core
 
 PathLike = Union[str, bytes, "os.PathLike[str]", "os.PathLike[bytes]"]
-Stored = Union["_core.Index", "_core.EliasFano", "_core.SparseBits", "_core.PerfectHash", "_core.Dictionary", "_core.Tree", "_core.Trie",
-               "_core.WaveletMatrix", "_core.TextIndex"]
+Stored = Union["_core.Index", "_core.EliasFano", "_core.SparseBits", "_core.PerfectHash", "_core.Dictionary", "_core.Strings", "_core.Tree",
+               "_core.Trie", "_core.WaveletMatrix", "_core.TextIndex"]
 Piece = Tuple[int, Any]
 HEADER = 192
+ONE_BLOCK = (_core.Tree, _core.Trie, _core.WaveletMatrix, _core.SparseBits, _core.Dictionary, _core.Strings, _core.TextIndex)
 
 
 def _pieces(value: Any) -> Tuple[int, List[Piece]]:
@@ -25,7 +26,7 @@ def _pieces(value: Any) -> Tuple[int, List[Piece]]:
     if isinstance(value, _core.EliasFano):
         header, size, (words, upper, lower, low, *_) = _core.sequence_header(*numbers, *map(len, windows))
         return size, [(0, header), *zip((low, words, upper, lower), windows)]
-    if isinstance(value, (_core.Tree, _core.Trie, _core.WaveletMatrix, _core.SparseBits, _core.Dictionary, _core.TextIndex)):
+    if isinstance(value, ONE_BLOCK):
         return 8 * len(windows[0]), [(0, windows[0])]
     if isinstance(value, _core.Index):
         return _index_pieces(numbers, windows)
@@ -167,12 +168,12 @@ def _look(head: bytes, size: Optional[int], shown: str) -> None:
     """A first look at a header, lest much is read in vain. What counts is the library's own, at the whole."""
     at = _SIZE_AT.get(head[:8])
     if at is None or (size is not None and int.from_bytes(head[at : at + 8], "little") > size):
-        raise ValueError(f"{shown} is not a stored index, sequence, hash, dictionary, tree, trie, matrix, text or sparse bits of this format, or not all of it")
+        raise ValueError(f"{shown} is not a stored index, sequence, hash, dictionary, strings, tree, trie, matrix, text or sparse bits of this format, or not all of it")
 
 
 def load(source: Union[PathLike, int, BinaryIO], *, mmap: bool = False) -> Stored:
-    """The index, sequence, perfect hash, dictionary, tree, trie, matrix, text or sparse bits that `save` wrote, from a path, a
-    descriptor or a file object: read into memory, or with `mmap` mapped from the file and read where it lies. Bytes are a
+    """The index, sequence, perfect hash, dictionary, strings, tree, trie, matrix, text or sparse bits that `save` wrote, from a
+    path, a descriptor or a file object: read into memory, or with `mmap` mapped from the file and read where it lies. Bytes are a
     path: see `loads`.
 
     ValueError where it has no header of this format and byte order, or is shorter than its header says: the header is

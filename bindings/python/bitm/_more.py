@@ -240,7 +240,7 @@ def complete() -> None:
     """Gives the types of the extension those methods that stand here, in `_blocks` and in `_sets`."""
     _blocks.complete()
     _sets.complete()
-    kept = (_core.Index, _core.EliasFano, _core.SparseBits, _core.PerfectHash, _core.Dictionary, _core.Tree, _core.Trie,
+    kept = (_core.Index, _core.EliasFano, _core.SparseBits, _core.PerfectHash, _core.Dictionary, _core.Strings, _core.Tree, _core.Trie,
             _core.WaveletMatrix, _core.TextIndex)
     for kind in kept:
         setattr(kind, "save", save)

@@ -37,9 +37,11 @@
 
 extern PyObject *WrongTables;
 extern PyTypeObject *Memory_Type, *Window_Type, *Positions_Type, *Numbers_Type, *Cursor_Type, *Vector_Type, *Index_Type,
-    *Sequence_Type, *Sparse_Type, *Dictionary_Type, *Hash_Type, *Tree_Type, *Trie_Type, *Matrix_Type, *Text_Type, *ShardSet_Type;
+    *Sequence_Type, *Sparse_Type, *Dictionary_Type, *Strings_Type, *Hash_Type, *Tree_Type, *Trie_Type, *Matrix_Type,
+    *Text_Type, *ShardSet_Type;
 extern PyType_Spec memory_spec, window_spec, positions_spec, numbers_spec, cursor_spec, vector_spec, index_spec,
-    sequence_spec, sparse_spec, dictionary_spec, hash_spec, tree_spec, trie_spec, matrix_spec, text_spec, shard_set_spec;
+    sequence_spec, sparse_spec, dictionary_spec, strings_spec, hash_spec, tree_spec, trie_spec, matrix_spec, text_spec,
+    shard_set_spec;
 
 /* ---- arguments.c */
 
@@ -165,12 +167,13 @@ typedef struct {
     struct bitm_sequence sequence;
     struct bitm_sparse sparse;
     struct bitm_dictionary dictionary;
+    struct bitm_strings strings;
     struct bitm_hash hash;
     struct bitm_tree tree;
     struct bitm_trie trie;
     struct bitm_matrix matrix;
     struct bitm_text text;
-    const uint64_t *block; /* the words of the block of a tree, a trie, a matrix, a text, sparse bits or a dictionary */
+    const uint64_t *block; /* the words of the block of a value over one */
     size_t block_len;
     const uint64_t *prints; /* the fingerprints of a hash: hash.keys numbers of print_width bits */
     size_t prints_len;
@@ -332,17 +335,7 @@ Py_ssize_t bits_len(PyObject *self);
 PyObject *bits_ones(PyObject *self, PyObject *const *args, Py_ssize_t count, PyObject *keywords);
 PyObject *bits_zeros(PyObject *self, PyObject *const *args, Py_ssize_t count, PyObject *keywords);
 
-/* ---- text_make.c */
-
-int text_init(PyObject *self, PyObject *args, PyObject *keywords);
-PyObject *text_of_letters(PyObject *type, PyObject *const *args, Py_ssize_t count, PyObject *keywords);
-
-/* Bytes that nobody changes: 1 and the object itself where it is bytes, or a copy of a buffer of bytes; 0 where it is
- * none; -1 and an error. */
-int bytes_kept(PyObject *from, PyObject **bytes);
-
 /* ---- sequence.c, numbers.c, cursor.c, sets.c, merged.c, keys.c, stored.c */
-
 /* What equals a whole number of 64 bits: 1 and the number, 0 where it cannot be one, -1 and an error. */
 int equal_number(PyObject *value, uint64_t *out);
 
@@ -385,7 +378,6 @@ PyObject *stored_index_header(PyObject *module, PyObject *args);
 PyObject *stored_sequence_header(PyObject *module, PyObject *args);
 
 /* ---- shard_set.c, shards.c */
-
 /* Counts of shards, and the indexes of those that are mapped so far. The index of another has no bits, so that the
  * library finds it wrong where a query reads it (but for the rank of its first position, which its counts say). */
 typedef struct {

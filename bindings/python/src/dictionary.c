@@ -1,8 +1,6 @@
 /* bitm.Dictionary: numbers in a dictionary, in one block of memory. */
 #include "values.h"
 
-enum { LEVELS = 256 };
-
 int dictionary_opened(Memory *it)
 {
     return block_opened("a dictionary", bitm_dictionary_open(it->block, it->block_len, &it->dictionary) == BITM_OK);
@@ -10,63 +8,19 @@ int dictionary_opened(Memory *it)
 
 /* ---- made */
 
-/* The keys, and what the levels are built in: rooms of words, of which `most` are for those of all levels. */
-typedef struct {
-    size_t count, most, first;
-    uint64_t *keys, *hashes, *words, *again, *upper, *lower, *placed, sizes[LEVELS];
-} Rooms;
-
-static void rooms_drop(Rooms *it)
+/* The parts of the dictionary of keys by a seed, in the rooms of the levels and one for the keys at their numbers:
+ * BITM_OK; BITM_NONE where two hashes are equal. Needs no GIL. */
+static uint32_t parts_built(const uint64_t *keys, Levels *in, uint64_t *placed, struct bitm_dictionary *out)
 {
-    uint64_t *all[] = {it->keys, it->hashes, it->words, it->again, it->upper, it->lower, it->placed};
-    for (size_t i = 0; i < sizeof all / sizeof *all; i++)
-        free(all[i]);
-}
-
-/* All levels together have some e^(100 / percent) times the words of the first, and each has one at least. */
-static int rooms_taken(Rooms *it, uint32_t percent)
-{
-    it->first = bitm_hash_level_len(it->count, percent);
-    if (it->first > (size_t)PY_SSIZE_T_MAX / 128) {
-        PyErr_NoMemory();
-        return -1;
-    }
-    it->most = 8 * it->first + 2 * LEVELS;
-    it->hashes = room_for(it->count);
-    it->words = it->hashes == NULL ? NULL : room_for(it->most);
-    it->again = it->words == NULL ? NULL : room_for(it->first);
-    it->upper = it->again == NULL ? NULL : room_for(bitm_index_upper_len(it->most));
-    it->lower = it->upper == NULL ? NULL : room_for(bitm_index_lower_len(it->most));
-    it->placed = it->lower == NULL ? NULL : room_for(it->count);
-    return it->placed == NULL ? -1 : 0;
-}
-
-/* The parts of the dictionary by a seed, in the rooms: BITM_OK; BITM_NONE where hashes are left. Needs no GIL. */
-static uint32_t parts_built(Rooms *in, uint32_t percent, struct bitm_dictionary *out)
-{
-    uint64_t levels, used, left, ones, number_there = 0;
-    struct bitm_index *index = &out->hash.index;
+    uint64_t number_there = 0;
     for (size_t i = 0; i < in->count; i++)
-        in->hashes[i] = in->keys[i] + out->seed; /* modulo 2^64 */
-    uint32_t status = bitm_hash_build(in->hashes, in->count, percent, in->words, in->most, in->again, in->first,
-                                      in->sizes, LEVELS, &levels, &used, &left);
-    if (status != BITM_OK || left > 0)
-        return status == BITM_OK ? BITM_NONE : status;
-    *index = (struct bitm_index){.words = in->words,
-                                 .words_len = (size_t)used,
-                                 .upper = in->upper,
-                                 .upper_len = bitm_index_upper_len((size_t)used),
-                                 .lower = in->lower,
-                                 .lower_len = bitm_index_lower_len((size_t)used),
-                                 .bits_len = 64 * used};
-    out->hash.sizes = in->sizes, out->hash.sizes_len = (size_t)levels, out->hash.keys = in->count;
-    out->keys = in->placed, out->keys_len = in->count;
-    status =
-        bitm_index_build(in->words, index->words_len, in->upper, index->upper_len, in->lower, index->lower_len, &ones);
+        in->hashes[i] = keys[i] + out->seed; /* modulo 2^64 */
+    uint32_t status = levels_built(in, &out->hash);
+    out->keys = placed, out->keys_len = in->count;
     for (size_t i = 0; i < in->count && status == BITM_OK; i++) {
-        status = bitm_hash_get(&out->hash, in->keys[i] + out->seed, &number_there);
+        status = bitm_hash_get(&out->hash, keys[i] + out->seed, &number_there);
         if (status == BITM_OK)
-            in->placed[number_there] = in->keys[i];
+            placed[number_there] = keys[i];
     }
     return status;
 }
@@ -87,15 +41,14 @@ static int block_built(Memory *it, const struct bitm_dictionary *parts)
     return -1;
 }
 
-/* The dictionary of keys that were loaded, by the first seeds from the given one on that leave no hash: -1 and an
- * error. */
-static int built(Memory *it, Rooms *in, uint32_t percent, uint64_t seed, int seeds)
+/* The dictionary of keys by the first seed that leaves no hash. -1 and an error. */
+static int built(Memory *it, const uint64_t *keys, Levels *in, uint64_t *placed, const Wanted *how)
 {
     uint32_t status = BITM_NONE;
-    for (int i = 0; i < seeds && status == BITM_NONE; i++) {
-        struct bitm_dictionary parts = {.seed = seed + (uint64_t)i};
+    for (int i = 0; i < how->seeds && status == BITM_NONE; i++) {
+        struct bitm_dictionary parts = {.seed = how->seed + (uint64_t)i};
         Py_BEGIN_ALLOW_THREADS
-        status = parts_built(in, percent, &parts);
+        status = parts_built(keys, in, placed, &parts);
         Py_END_ALLOW_THREADS
         if (status == BITM_OK)
             return block_built(it, &parts);
@@ -108,18 +61,20 @@ static int built(Memory *it, Rooms *in, uint32_t percent, uint64_t seed, int see
 static int dictionary_init(PyObject *self, PyObject *args, PyObject *keywords)
 {
     static char *names[] = {"keys", "percent", "seed", NULL};
-    PyObject *from, *wanted_percent = NULL, *wanted_seed = NULL;
-    uint64_t seed, percent;
-    Rooms rooms = {0};
-    if (!PyArg_ParseTupleAndKeywords(args, keywords, "O|$OO:Dictionary", names, &from, &wanted_percent, &wanted_seed) ||
-        number_or(wanted_seed, 0, "the seed", &seed) || number_or(wanted_percent, 100, "percent", &percent) ||
-        (rooms.keys = integers_all(from, "a key", &rooms.count)) == NULL)
+    PyObject *from, *percent = NULL, *seed = NULL;
+    uint64_t *keys, *placed = NULL;
+    size_t count;
+    Levels levels = {0};
+    Wanted how;
+    if (!PyArg_ParseTupleAndKeywords(args, keywords, "O|$OO:Dictionary", names, &from, &percent, &seed) ||
+        wanted_take(&how, percent, seed) || (keys = integers_all(from, "a key", &count)) == NULL)
         return -1;
-    const int is_any_seed = wanted_seed == NULL || wanted_seed == Py_None;
-    const uint32_t each = percent > UINT32_MAX ? UINT32_MAX : (uint32_t)percent;
-    Memory *it = rooms_taken(&rooms, each) ? NULL : memory_new();
-    int is_made = it != NULL && built(it, &rooms, each, seed, is_any_seed ? 2 : 1) == 0;
-    rooms_drop(&rooms);
+    const int taken = levels_room(&levels, count, how.percent) == 0 && (placed = room_for(count)) != NULL;
+    Memory *it = taken ? memory_new() : NULL;
+    int is_made = it != NULL && built(it, keys, &levels, placed, &how) == 0;
+    levels_drop(&levels);
+    free(placed);
+    free(keys);
     return value_made(self, it, is_made);
 }
 

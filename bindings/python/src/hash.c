@@ -2,8 +2,6 @@
 #include "siphash.h"
 #include "values.h"
 
-enum { LEVELS = 256 };
-
 /* ---- made */
 
 int hash_opened(Memory *it)

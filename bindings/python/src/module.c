@@ -1,15 +1,17 @@
 /* bitm._core: the types, and what the Python part of the package asks. */
-#include "core.h"
+#include "values.h"
 
 PyObject *WrongTables;
 PyTypeObject *Memory_Type, *Window_Type, *Positions_Type, *Numbers_Type, *Cursor_Type, *Vector_Type, *Index_Type,
-    *Sequence_Type, *Sparse_Type, *Dictionary_Type, *Hash_Type, *Tree_Type, *Trie_Type, *Matrix_Type, *Text_Type, *ShardSet_Type;
+    *Sequence_Type, *Sparse_Type, *Dictionary_Type, *Strings_Type, *Hash_Type, *Tree_Type, *Trie_Type, *Matrix_Type,
+    *Text_Type, *ShardSet_Type;
 
 static PyMethodDef functions[] = {{"stored_load", stored_load, METH_O, NULL},
                                   {"index_header", stored_index_header, METH_VARARGS, NULL},
                                   {"sequence_header", stored_sequence_header, METH_VARARGS, NULL},
                                   {"parts", parts_of, METH_O, NULL},
                                   {"over", parts_over, METH_VARARGS, NULL},
+                                  {"trie_of_sorted", trie_of_sorted, METH_VARARGS, NULL},
                                   {"sequence_window", sequence_window, METH_O, NULL},
                                   {"sequence_merged", sequence_merged, METH_VARARGS, NULL},
                                   {"cursors_merged", cursors_merged, METH_VARARGS, NULL},
@@ -64,6 +66,7 @@ static int filled(PyObject *module)
                  {&sequence_spec, &Sequence_Type, "EliasFano"},
                  {&sparse_spec, &Sparse_Type, "SparseBits"},
                  {&dictionary_spec, &Dictionary_Type, "Dictionary"},
+                 {&strings_spec, &Strings_Type, "Strings"},
                  {&hash_spec, &Hash_Type, "PerfectHash"},
                  {&tree_spec, &Tree_Type, "Tree"},
                  {&trie_spec, &Trie_Type, "Trie"},

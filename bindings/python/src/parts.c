@@ -20,18 +20,18 @@ typedef struct {
         (const void **)&(pointer), &(length), size                                                                     \
     }
 
-/* Whether it is a class of Index, EliasFano, SparseBits, PerfectHash, Dictionary, Tree, Trie, WaveletMatrix or
- * TextIndex; TypeError else. */
+/* Whether it is a class of a value: of those that the error names; TypeError else. */
 static int is_value(PyObject *type)
 {
     PyTypeObject *it = (PyTypeObject *)type;
     if (PyType_IsSubtype(it, Index_Type) || PyType_IsSubtype(it, Sequence_Type) || PyType_IsSubtype(it, Hash_Type) ||
         PyType_IsSubtype(it, Tree_Type) || PyType_IsSubtype(it, Matrix_Type) || PyType_IsSubtype(it, Sparse_Type) ||
-        PyType_IsSubtype(it, Dictionary_Type) || PyType_IsSubtype(it, Text_Type) || PyType_IsSubtype(it, Trie_Type))
+        PyType_IsSubtype(it, Dictionary_Type) || PyType_IsSubtype(it, Strings_Type) ||
+        PyType_IsSubtype(it, Text_Type) || PyType_IsSubtype(it, Trie_Type))
         return 1;
     PyErr_Format(PyExc_TypeError,
-                 "an Index, an EliasFano, SparseBits, a PerfectHash, a Dictionary, a Tree, a Trie, a WaveletMatrix or "
-                 "a TextIndex is needed, not %R",
+                 "an Index, an EliasFano, SparseBits, a PerfectHash, a Dictionary, Strings, a Tree, a Trie, a "
+                 "WaveletMatrix or a TextIndex is needed, not %R",
                  type);
     return 0;
 }
@@ -124,7 +124,7 @@ static const struct {
     opener opened;
 } KINDS[] = {{&Index_Type, index_opened},          {&Sequence_Type, sequence_opened}, {&Tree_Type, tree_opened},
              {&Matrix_Type, matrix_opened},        {&Sparse_Type, sparse_opened},     {&Text_Type, text_opened},
-             {&Dictionary_Type, dictionary_opened}, {&Trie_Type, trie_opened}};
+             {&Dictionary_Type, dictionary_opened}, {&Trie_Type, trie_opened},         {&Strings_Type, strings_opened}};
 
 /* over(class, numbers, buffers): a value of the class over memory that others keep. Lengths alone are checked. */
 PyObject *parts_over(PyObject *module, PyObject *args)

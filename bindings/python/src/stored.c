@@ -9,11 +9,9 @@ static const struct {
     uint64_t number;
     PyTypeObject **type;
     opener opened;
-} KINDS[] = {{4, &Sparse_Type, sparse_opened},
-             {5, &Dictionary_Type, dictionary_opened},
-             {6, &Matrix_Type, matrix_opened},
-             {8, &Text_Type, text_opened},
-             {9, &Trie_Type, trie_opened}};
+} KINDS[] = {{4, &Sparse_Type, sparse_opened}, {5, &Dictionary_Type, dictionary_opened},
+             {6, &Matrix_Type, matrix_opened}, {8, &Text_Type, text_opened},
+             {9, &Trie_Type, trie_opened},     {10, &Strings_Type, strings_opened}};
 
 /* A perfect hash is stored as an index with these numbers after it: mark, keys, bits of a fingerprint, seed, number of
  * sizes, words of fingerprints; then the sizes and the fingerprints. */
@@ -22,8 +20,8 @@ enum { TAIL = 6 };
 static PyObject *not_whole(Memory *it)
 {
     DROP(it);
-    PyErr_SetString(PyExc_ValueError, "it is not a stored index, sequence, hash, dictionary, tree, trie, matrix, text "
-                                      "or sparse bits of this format, or not all of it");
+    PyErr_SetString(PyExc_ValueError, "it is not a stored index, sequence, hash, dictionary, strings, tree, trie, "
+                                      "matrix, text or sparse bits of this format, or not all of it");
     return NULL;
 }
 

@@ -72,26 +72,105 @@ static int trie_init(PyObject *self, PyObject *args, PyObject *keywords)
     return value_made(self, it, is_made);
 }
 
+/* Writes the block of the trie of words into memory of its own. -1 and an error. */
+static int grown(Memory *it, const uint8_t *bytes, size_t bytes_len, const uint64_t *starts, size_t starts_len)
+{
+    uint64_t nodes = 1, len = 0, *block = NULL, *scratch = NULL, *room = NULL;
+    size_t room_len = 0;
+    uint32_t status;
+    Py_BEGIN_ALLOW_THREADS
+    status = bitm_trie_nodes_of_words(bytes, bytes_len, starts, starts_len, &nodes);
+    Py_END_ALLOW_THREADS
+    if (status == BITM_OK)
+        status = bitm_trie_size((size_t)nodes, 8, true, &len);
+    if (status == BITM_OK) {
+        room_len = (size_t)(nodes - 1 + (nodes + 63) / 64);
+        if ((block = block_room(it, len)) != NULL && (scratch = room_for(2 * nodes - 1)) != NULL &&
+            (room = room_for(room_len)) != NULL) {
+            Py_BEGIN_ALLOW_THREADS
+            status = bitm_trie_build_words(bytes, bytes_len, starts, starts_len, scratch, (size_t)(2 * nodes - 1), room,
+                                           room_len, block, (size_t)len);
+            Py_END_ALLOW_THREADS
+        }
+        free(scratch);
+        free(room);
+    }
+    if (!PyErr_Occurred() && status == BITM_OK)
+        return trie_opened(it);
+    if (!PyErr_Occurred())
+        PyErr_SetString(PyExc_ValueError,
+                        status == BITM_WRONG ? "the words do not rise" : "the starts are those of no words");
+    return -1;
+}
+
+/* trie_of_sorted(class, bytes, starts): a trie of words that rise, one after another in bytes, and where each begins
+ * and the last one ends. */
+PyObject *trie_of_sorted(PyObject *module, PyObject *args)
+{
+    PyObject *type, *bytes, *numbers;
+    size_t starts_len;
+    (void)module;
+    if (!PyArg_ParseTuple(args, "O!O!O", &PyType_Type, &type, &PyBytes_Type, &bytes, &numbers))
+        return NULL;
+    if (!PyType_IsSubtype((PyTypeObject *)type, Trie_Type)) {
+        PyErr_Format(PyExc_TypeError, "%R is no class of tries", type);
+        return NULL;
+    }
+    uint64_t *starts = integers_all(numbers, "a start", &starts_len);
+    Memory *it = starts == NULL ? NULL : memory_new();
+    const int failed = it == NULL || grown(it, (const uint8_t *)PyBytes_AsString(bytes), (size_t)PyBytes_Size(bytes),
+                                           starts, starts_len);
+    free(starts);
+    if (!failed)
+        return value_new(type, it);
+    DROP(it);
+    return NULL;
+}
+
 /* ---- queries by words */
 
+/* A word: bytes, a str as its bytes in UTF-8, or a list of labels. */
 static int word_take(Pattern *it, PyObject *from)
 {
-    return pattern_take(it, from, "a label", "a word is bytes or a list of labels, no str: encode it");
+    PyObject *encoded = PyUnicode_Check(from) ? PyUnicode_AsUTF8String(from) : Py_NewRef(from);
+    const int status = encoded == NULL ? -1 : pattern_take(it, encoded, "a label", "");
+    Py_XDECREF(encoded);
+    return status;
+}
+
+/* The node to which a word leads; or whether it leads to one at which a word ends. -1 and an error. */
+static int word_asked(PyObject *self, PyObject *query, int is_end, uint64_t *out, uint32_t *status)
+{
+    Pattern word;
+    if (word_take(&word, query))
+        return -1;
+    Memory *it = memory_of(self);
+    if (it != NULL)
+        *status = word.bytes != NULL ? bitm_trie_find_bytes(&it->trie, word.at, word.len, out)
+                                     : bitm_trie_find(&it->trie, word.letters, word.len, out);
+    if (it != NULL && is_end && *status == BITM_OK)
+        *status = bitm_trie_is_end(&it->trie, (size_t)*out, out);
+    pattern_drop(&word); /* may run Python code, which may close the value */
+    return it == NULL ? -1 : 0;
 }
 
 static PyObject *trie_find(PyObject *self, PyObject *query)
 {
-    Pattern word;
-    uint64_t out;
+    uint64_t node = 0;
     uint32_t status = BITM_OK;
-    if (word_take(&word, query))
-        return NULL;
-    Memory *it = memory_of(self);
-    if (it != NULL)
-        status = word.bytes != NULL ? bitm_trie_find_bytes(&it->trie, word.at, word.len, &out)
-                                    : bitm_trie_find(&it->trie, word.letters, word.len, &out);
-    pattern_drop(&word);
-    return it == NULL ? NULL : answer_or_none(status, &out);
+    return word_asked(self, query, 0, &node, &status) ? NULL : answer_or_none(status, &node);
+}
+
+static int trie_contains(PyObject *self, PyObject *query)
+{
+    uint64_t is_end = 0;
+    uint32_t status = BITM_OK;
+    if (word_asked(self, query, 1, &is_end, &status))
+        return -1;
+    if (status == BITM_OK || status == BITM_NONE)
+        return status == BITM_OK && is_end;
+    (void)wrong();
+    return -1;
 }
 
 static PyObject *trie_longest(PyObject *self, PyObject *query)
@@ -169,8 +248,8 @@ static PyObject *trie_has_ends(PyObject *self, void *none)
 #define WORD(name, text) METHOD(#name, trie_##name, METH_O, "($self, word, /)", text)
 static PyMethodDef methods[] = {
     WORD(find,
-         "The node to which a word leads from the root, bytes or a list of labels; None where it leads to none." OF(
-             ".find(b'be')") PRINTS("3")),
+         "The node to which a word leads from the root, bytes, a str as UTF-8 or a list of labels; None where it leads "
+         "to none." OF(".find(b'be')") PRINTS("3")),
     WORD(longest,
          "The deepest node to which a beginning of a word leads from the root, and how many labels lead there: "
          "all of them where the word leads to a node." OF(".longest(b'bee')") PRINTS("(3, 2)")),
@@ -209,12 +288,15 @@ static PyGetSetDef attributes[] = {
     "A trie in one block of memory: a tree, from the degree of each node, in which each node but the root has a "      \
     "label, and the labels of the children of a node rise, so that a word leads to at most one node. `labels` has "    \
     "those of the nodes from 1 on, bytes or numbers of `width` bits each, 1 to 63; `ends`, a BitVector or words, has " \
-    "a bit for each node that says whether a word ends there. Words are bytes, or lists of labels." EXAMPLE(           \
+    "a bit for each node that says whether a word ends there. Words are bytes, a str as UTF-8, or lists of labels. "   \
+    "`word in trie` says whether it leads to a node at which a word ends: never where there are no ends. `of_words` "  \
+    "makes a trie of words." EXAMPLE(                                                                                  \
         "trie = Trie([2, 0, 1, 0], b'abe', ends=BitVector.from_bits('0111'))  # a, b and be")                          \
-        THEN("trie.find(b'be'), trie.find(b'e'), trie.word(2)") PRINTS("(3, None, b'b')")
+        THEN("trie.find(b'be'), trie.find(b'e'), trie.word(2), 'be' in trie") PRINTS("(3, None, b'b', True)")
 
 static PyType_Slot slots[] = {VALUE_SLOTS(TRIE_DOC, trie_init, methods, attributes, trie_repr),
                               {Py_tp_hash, PyObject_HashNotImplemented},
                               {Py_sq_length, trie_len},
+                              {Py_sq_contains, trie_contains},
                               {0, NULL}};
 PyType_Spec trie_spec = {"bitm.Trie", sizeof(Value), 0, VALUE_FLAGS, slots};

@@ -17,8 +17,10 @@ int tree_opened(Memory *it);
 int matrix_opened(Memory *it);
 int sparse_opened(Memory *it);
 int dictionary_opened(Memory *it);
+int strings_opened(Memory *it);
 int text_opened(Memory *it);
 int trie_opened(Memory *it);
+PyObject *trie_of_sorted(PyObject *module, PyObject *args);
 
 /* ---- values.c */
 
@@ -148,7 +150,39 @@ static inline PyObject *ask_rank(PyObject *self, PyObject *query, query_call cal
     BIT_QUERY(class, previous_one, previous, true, "a position")                                                       \
     BIT_QUERY(class, previous_zero, previous, false, "a position")
 
-/* ---- text_make.c: patterns of a text, and words of a trie */
+/* ---- levels.c: the hash of a dictionary and of strings */
+
+/* How it is wanted: bits of a level for 100 keys, and how many seeds are tried from the first on. -1 and an error. */
+typedef struct {
+    uint64_t seed;
+    uint32_t percent;
+    int seeds;
+} Wanted;
+int wanted_take(Wanted *it, PyObject *percent, PyObject *seed);
+
+/* What the levels of `count` hashes are built in: rooms of words, of which `most` are for those of all levels. */
+enum { LEVELS = 256 };
+typedef struct {
+    size_t count, most, first;
+    uint32_t percent;
+    uint64_t *hashes, *words, *again, *upper, *lower, sizes[LEVELS];
+} Levels;
+
+/* Takes the rooms: -1 and an error. Given back by levels_drop, also then. */
+int levels_room(Levels *it, size_t count, uint32_t percent);
+void levels_drop(Levels *it);
+
+/* The hash of the hashes, which are moved, in the rooms: BITM_OK; BITM_NONE where two are equal. Needs no GIL. */
+uint32_t levels_built(Levels *it, struct bitm_hash *out);
+
+/* ---- text_make.c: what texts are made of, and patterns of a text, words of a trie, strings */
+
+int text_init(PyObject *self, PyObject *args, PyObject *keywords);
+PyObject *text_of_letters(PyObject *type, PyObject *const *args, Py_ssize_t count, PyObject *keywords);
+
+/* Bytes that nobody changes: 1 and the object itself where it is bytes, or a copy of a buffer of bytes; 0 where it is
+ * none; -1 and an error. */
+int bytes_kept(PyObject *from, PyObject **bytes);
 
 /* Its letters: bytes, or numbers of its own. */
 typedef struct {

@@ -41,9 +41,11 @@ def refuses_another(kind, data, what):
 
 
 def over_each_change(kind, data):
-    """The values over a block of which one bit of a byte was changed, for each byte. They open where that is not in the header, and do
-    not pass the check; a part of the block does not open."""
+    """The values over a block of which one bit of a byte was changed, for each byte. They open where that is not in the header, nor in
+    that of a block which is the first section, and do not pass the check; a part of the block does not open."""
     start = int.from_bytes(data[136:144], "little")  # where the first section begins, by the directory
+    if data[128] == 21:  # its role: the words of a block
+        start += int.from_bytes(data[start + 136 : start + 144], "little")
     for at in range(len(data)):
         changed = bytearray(data)
         changed[at] ^= 1 << at % 8

@@ -112,7 +112,11 @@ for call, want in ((copy.copy, None), (lambda s: s.parts[0] >= 0, True), (lambda
     turn(sequence, call, want)
 for call, want in ((copy.copy, None), (lambda h: h.get_list([1, 2]) != [], True), (lambda h: len(pickle.dumps(h, 5)) > 100, True), (lambda h: h.save(io.BytesIO()), None)):
     turn(lambda: bitm.PerfectHash(range(100)), call, want)
-gc.set_threshold(700); print(closed + right == 26 * 11, closed > 0)
+words = list(map(str, range(100)))
+for call, want in ((copy.copy, None), (lambda s: s.find_list(words[:2]) != [], True), (lambda s: len(s[1:50]), 49), (lambda s: len(list(s)), 100),
+                   (lambda s: len(pickle.dumps(s, 5)) > 100, True), (lambda s: s.save(io.BytesIO()), None), (repr, None)):
+    turn(lambda: bitm.Strings(words), call, want)
+gc.set_threshold(700); print(closed + right == 33 * 11, closed > 0)
 """, ["True True"])
 
     def test_parts_that_their_owner_resizes(self):

@@ -6,8 +6,8 @@ import pytest
 
 import bitm
 pytest.importorskip("numpy")
-KINDS = (bitm.BitVector, bitm.Index, bitm.EliasFano, bitm.Cursor, bitm.SparseBits, bitm.PerfectHash, bitm.Dictionary, bitm.Shards,
-         bitm.Tree, bitm.Trie, bitm.WaveletMatrix, bitm.TextIndex)
+KINDS = (bitm.BitVector, bitm.Index, bitm.EliasFano, bitm.Cursor, bitm.SparseBits, bitm.PerfectHash, bitm.Dictionary, bitm.Strings,
+         bitm.Shards, bitm.Tree, bitm.Trie, bitm.WaveletMatrix, bitm.TextIndex)
 WALK = type(iter(bitm.EliasFano([1])))
 
 

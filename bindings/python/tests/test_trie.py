@@ -1,4 +1,5 @@
 """Trie beside a dict of words; files and buffers of blocks, of which bytes were changed or cut off."""
+import array
 import random
 
 import pytest
@@ -36,16 +37,16 @@ def test_answers_are_those_of_a_dict(width, count):
     assert len(trie) == len(number) and trie.check() and trie.width == width and trie.has_ends
     for word, node in number.items():
         of_bytes = width <= 8
-        assert trie.word(node) == (bytes(word) if of_bytes else list(word)) and trie.is_end(node) is (word in words)
+        assert trie.word(node) == (bytes(word) if of_bytes else list(word)) and trie.is_end(node) is (list(word) in trie) is (word in words)
         assert trie.label(node) == (word[-1] if word else None) and trie.degree(node) == degrees[node]
         assert trie.parent(node) == (number[word[:-1]] if word else None)
         for child in trie.children(node):
             assert trie.child_by_label(node, labels[child - 1]) == child
         for other in (word, word[:-1], (*word, 0), (*word, 3, 2), (1, *word)):
             wanted = number.get(other), longest_of(number, other)
-            assert (trie.find(list(other)), trie.longest(other)) == wanted
+            assert (trie.find(list(other)), trie.longest(other)) == wanted and (other in trie) is (other in words)
             if max(other, default=0) < 256:
-                assert (trie.find(bytes(other)), trie.longest(bytearray(other))) == wanted
+                assert (trie.find(bytes(other)), trie.longest(bytearray(other))) == wanted and (bytes(other) in trie) is (other in words)
     for node in (len(trie), 2**63, 2**64 - 1):
         assert [ask(node) for ask in (trie.word, trie.label, trie.is_end, trie.parent, trie.degree)] == [None] * 5
         assert trie.child_by_label(node, 0) is None and list(trie.children(node)) == []
@@ -54,6 +55,7 @@ def test_answers_are_those_of_a_dict(width, count):
 def test_ends_may_be_missing():
     trie = Trie([2, 0, 1, 0], b"abe")
     assert not trie.has_ends and trie.is_end(3) is None and trie.find(b"be") == 3 and trie.longest(b"bee") == (3, 2)
+    assert b"be" not in trie and b"bee" not in trie
 
 
 def test_parts_of_no_trie_are_refused():
@@ -69,26 +71,33 @@ def test_parts_of_no_trie_are_refused():
             Trie(*wrong)
 
 
-def test_words_are_bytes_or_labels():
-    trie = Trie([2, 0, 1, 0], b"abe")
-    for ask in (trie.find, trie.longest):
-        for wrong in ("be", 5, None, [None], ["b"]):
+def test_words_are_bytes_text_or_labels():
+    trie = Trie.of_words(["a", "b", "be", "ß"])
+    for word in (b"be", bytearray(b"be"), memoryview(b"be"), "be", [98, 101], (98, 101), array.array("B", b"be"), iter(b"be")):
+        assert trie.find(word) == 4
+    for word in (b"be", "be", [98, 101]):
+        assert (trie.longest(word), word in trie) == ((4, 2), True)
+    assert (trie.find("ß"), trie.longest("Ü"), "ß" in trie, "Ü" in trie) == (5, (3, 1), True, False)
+    for ask in (trie.find, trie.longest, trie.__contains__):
+        for wrong in (5, None, [None], ["b"], ["be"]):
             with pytest.raises(TypeError):
                 ask(wrong)
         with pytest.raises(OverflowError):
             ask([-1])
+        with pytest.raises(UnicodeEncodeError):
+            ask("\ud800")
 
 
 def test_a_value_that_is_closed_while_a_word_is_taken_is_not_read():
-    trie = Trie([2, 0, 1, 0], b"abe")
-
     class Label:
         def __index__(self):
             trie.close()
             return 98
 
-    with pytest.raises(ValueError, match="closed"):
-        trie.find([Label()])
+    for ask in (Trie.find, Trie.longest, Trie.__contains__):
+        trie = Trie([2, 0, 1, 0], b"abe")
+        with pytest.raises(ValueError, match="closed"):
+            ask(trie, [Label()])
 
 
 def test_files_and_copies(tmp_path):
@@ -96,7 +105,7 @@ def test_files_and_copies(tmp_path):
     trie = Trie(*parts[:2], ends=parts[2])
     for other in stored_and_copied(trie, tmp_path / "trie"):
         assert all(other.find(list(word)) == node and other.word(node) == bytes(word) for word, node in number.items())
-        refuses_once_closed(other, lambda it: it.find(b""), lambda it: it.word(0), lambda it: it.has_ends)
+        refuses_once_closed(other, lambda it: it.find(b""), lambda it: it.word(0), lambda it: it.has_ends, lambda it: b"" in it)
     refuses_another(Trie, bytes(trie.block), "trie")
     assert isinstance(bitm.loads(bytes(trie.block)), Trie)
 
@@ -105,6 +114,7 @@ def test_each_changed_byte_and_each_prefix_is_seen():
     _, *parts = parts_of(drawn(5, 8, 5))
     for trie in over_each_change(Trie, bytes(Trie(*parts[:2], ends=parts[2]).block)):
         for node in range(len(trie) + 1):
+            assert answer_of(trie.__contains__, b"\1\2") in (None, False, True)
             for answer in (answer_of(trie.child_by_label, node, 1), answer_of(trie.find, b"\1\2"), answer_of(trie.parent, node)):
                 assert answer is None or 0 <= answer < len(trie)
             word, longest = answer_of(trie.word, node), answer_of(trie.longest, b"\1\0\2")

@@ -15,7 +15,7 @@ LINES = """
 import bitm, numpy
 bits = bitm.BitVector.from_indices([1, 3])
 index, sequence, numbers = bitm.Index(bits), bitm.EliasFano([1, 2]), bitm.PerfectHash(["a"])
-shards = bitm.Shards("x")
+shards, names = bitm.Shards("x"), bitm.Strings(["a", b"b", bytearray(b"c")], seed=3)
 array = numpy.array([1, 2], dtype=numpy.int64)
 """
 EXPRESSIONS = """bits[1]; bits[1:]; bits & bits; ~bits; bits << 1; list(bits.ones()); bits.next_one(1); bits.to_numpy(); bits.words; bits.copy()
@@ -28,6 +28,7 @@ numbers["a"]; numbers.get("b"); numbers.get("b", "x"); numbers.get_list(["a"]); 
 shards[1]; shards[1:]; shards.rank(3); shards.select(3); shards.next_one(3); shards.find(3); list(shards.ones()); shards.parts; shards.shard(1)
 shards.rank_list([1]); shards.rank_list(array); shards.select_list([1]); shards.select_list(array); shards.select0_list(array, missing="error")
 bitm.TextIndex(b"a", 3).count(b"a"); bitm.TextIndex.of_letters([1], 2).locate([1]); bitm.TextIndex.of_letters(array, 9, step=1)[0]
+names.find("a"); names.find(b"a"); names.find_list(["a", b"b"]); names.find_list(array); names.find_list({"a": 1}, missing=5); names[0]; names[1:]; list(names)
 bitm.Shards.build([bits, (b"", 0)], "x"); shards.count(); shards.folder
 bitm.intersect([sequence]); bitm.union(iter([sequence]), 3, limit=4); bitm.union([sequence], to_numpy=True); bitm.intersect([], 1, None, to_numpy=True)
 sequence.cursor(); sequence.cursor().next_geq(3); next(sequence.cursor()); sequence.cursor().number; sequence.cursor().index; list(sequence.cursor())
@@ -84,7 +85,7 @@ def test_pyright_finds_nothing(tmp_path):
 def test_every_name_has_a_stub_and_a_text():
     stub = pathlib.Path(bitm.__file__).with_name("_core.pyi").read_text()
     for kind in (bitm.BitVector, bitm.Index, bitm.EliasFano, bitm.Cursor, bitm.SparseBits, bitm.PerfectHash, bitm.Dictionary,
-                 bitm.Tree, bitm.Trie, bitm.WaveletMatrix, bitm.TextIndex):
+                 bitm.Strings, bitm.Tree, bitm.Trie, bitm.WaveletMatrix, bitm.TextIndex):
         body = re.search(rf"class {kind.__name__}.*?:\n(.*?)(\n\S|\Z)", stub, re.S)[1] + re.search(r"class _Value:\n(.*?)\n\S", stub, re.S)[1]
         for name in dir(kind):
             if not name.startswith("_"):
