@@ -6,6 +6,7 @@ export { Cursor, intersect, union } from "./cursor.js";
 export { SparseBits } from "./sparse_bits.js";
 export { PerfectHash } from "./perfect_hash.js";
 export { Dictionary } from "./dictionary.js";
+export { Strings } from "./strings.js";
 export { Tree } from "./tree.js";
 export { Trie } from "./trie.js";
 export { WaveletMatrix } from "./wavelet_matrix.js";

@@ -13,8 +13,8 @@ const BLOCK = 2048;
 
 /** Puts a cursor at the first number of a sequence, whose struct stands at `parts`. */
 function startAt(at, parts) {
-    bytesAt(at, BITM_CURSOR.bytes).fill(0);
-    bytesAt(at, BITM_SEQUENCE.bytes).set(bytesAt(parts, BITM_SEQUENCE.bytes));
+    bytesAt(at, BITM_CURSOR.sizeof).fill(0);
+    bytesAt(at, BITM_SEQUENCE.sizeof).set(bytesAt(parts, BITM_SEQUENCE.sizeof));
     must(calls.bitm_cursor_start(at), "the sequence");
 }
 
@@ -30,7 +30,7 @@ export class Cursor {
     constructor(sequence) {
         const parts = partsOf(sequence);
         this.#sequence = sequence;
-        this.#block = new Block(BITM_CURSOR.bytes).heldBy(this, at => startAt(at, parts));
+        this.#block = new Block(BITM_CURSOR.sizeof).heldBy(this, at => startAt(at, parts));
     }
 
     /** Where the struct stands. TypeError where the sequence was freed, or the cursor. */
@@ -75,9 +75,9 @@ export class Cursor {
 /** Runs body(cursors, n, out) with cursors at the first numbers of n sequences, of the shortest first, and room for numbers. */
 function withCursors(sequences, room, body) {
     const parts = [...sequences].sort((a, b) => a.length - b.length).map(partsOf), n = parts.length;
-    return withRoom(BITM_CURSOR.bytes * n + 8 * room, cursors => {
-        parts.forEach((it, k) => startAt(cursors + BITM_CURSOR.bytes * k, it));
-        return body(cursors, n, cursors + BITM_CURSOR.bytes * n);
+    return withRoom(BITM_CURSOR.sizeof * n + 8 * room, cursors => {
+        parts.forEach((it, k) => startAt(cursors + BITM_CURSOR.sizeof * k, it));
+        return body(cursors, n, cursors + BITM_CURSOR.sizeof * n);
     });
 }
 

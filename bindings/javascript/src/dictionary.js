@@ -1,10 +1,11 @@
 import { BESIDE, bytesAt, calls, doublesAt, numberAt, smallest, wordsAt } from "./core.js";
 import { Copied, InBlock, checked } from "./in_block.js";
-import { BITM_DICTIONARY, BITM_LIST_COUNTS } from "./layout.js";
+import { BITM_DICTIONARY, BITM_HASH, BITM_LIST_COUNTS } from "./layout.js";
+import { withHash } from "./levels.js";
 import { answers, copyIn, numbersOf } from "./lists.js";
 import { dispose, withRoom } from "./memory.js";
-import { WrongTables, answerOf, big, must, orNone, orThrow, within } from "./numbers.js";
-import { LEVELS } from "./perfect_hash.js";
+import { WrongTables, answerOf, big, must, orNone, orThrow } from "./numbers.js";
+import { put } from "./stored.js";
 
 const KIND = { name: "Dictionary", what: "a dictionary", open: "bitm_dictionary_open", check: "bitm_dictionary_check", layout: BITM_DICTIONARY };
 /** How many keys are copied at a time. */
@@ -28,38 +29,25 @@ export class Dictionary {
         this.#length = this.#held.member("keys_len");
     }
 
-    /** Rooms for the keys, their hashes, the keys at their numbers, and the levels. */
+    /** Rooms for the keys, their hashes, and the keys at their numbers. */
     #build(items, { percent = 100, seed = 0 }) {
         const n = items.length, salt = big(seed, "seed");
-        const first = calls.bitm_hash_level_len(n, within(percent, 50, 10000, "percent"));
-        // All levels together have some e^(100 / percent) times the words of the first, and each has one at least.
-        const most = 8 * first + 2 * LEVELS;
-        withRoom(8 * (3 * n + first + most + LEVELS), keys => {
-            const hashes = keys + 8 * n, placed = hashes + 8 * n, again = placed + 8 * n, words = again + 8 * first, sizes = words + 8 * most;
+        withRoom(24 * n, keys => {
+            const hashes = keys + 8 * n, placed = hashes + 8 * n;
             copyIn(items, keys, "keys");
             putHashes(keys, n, salt, hashes);
-            const rooms = [words, most, again, first, sizes, LEVELS, BESIDE, BESIDE + 8];
-            if (orThrow(calls.bitm_hash_build(hashes, n, percent, ...rooms), "keys", n) !== 0) throw new RangeError("bitm: two keys are equal");
-            this.#of({ n, salt, keys, hashes, placed, words, words_len: numberAt(BESIDE + 8), sizes, sizes_len: numberAt(BESIDE) });
+            if (!withHash(hashes, n, percent, hash => this.#of({ n, salt, keys, hashes, placed }, hash))) throw new RangeError("bitm: two keys are equal");
         });
     }
 
-    /** Builds the tables of the levels, puts each key at its number, and writes the block of these. */
-    #of(it) {
-        const upper_len = calls.bitm_index_upper_len(it.words_len), lower_len = calls.bitm_index_lower_len(it.words_len);
-        withRoom(BITM_DICTIONARY.bytes + 8 * (upper_len + lower_len + it.n), at => {
-            const upper = at + BITM_DICTIONARY.bytes, lower = upper + 8 * upper_len, numbers = lower + 8 * lower_len;
-            orThrow(calls.bitm_index_build(it.words, it.words_len, upper, upper_len, lower, lower_len), "the levels", it.words_len);
-            bytesAt(at, BITM_DICTIONARY.bytes).fill(0);
-            const members = {
-                hash_index_words: it.words, hash_index_words_len: it.words_len, hash_index_upper: upper, hash_index_upper_len: upper_len,
-                hash_index_lower: lower, hash_index_lower_len: lower_len, hash_index_bits_len: 64 * it.words_len, hash_sizes: it.sizes,
-                hash_sizes_len: it.sizes_len, hash_keys: it.n, keys: it.placed, keys_len: it.n, seed: it.salt,
-            };
-            for (const [name, value] of Object.entries(members)) wordsAt(at + BITM_DICTIONARY[name], 1)[0] = BigInt(value);
-            putHashes(it.keys, it.n, it.salt, it.hashes); // the build has moved them
-            this.#place(at, it, numbers);
-            const size = orThrow(calls.bitm_dictionary_size(it.words_len, it.sizes_len, it.n), "keys", it.n);
+    /** Puts each key at its number, and writes the block of the hash and of these. */
+    #of(it, hash) {
+        putHashes(it.keys, it.n, it.salt, it.hashes); // the build has moved them
+        withRoom(8 * it.n, numbers => this.#place(hash.at, it, numbers));
+        const size = orThrow(calls.bitm_dictionary_size(hash.words_len, hash.sizes_len, it.n), "keys", it.n);
+        withRoom(BITM_DICTIONARY.sizeof, at => {
+            put(at, BITM_DICTIONARY, { keys: it.placed, keys_len: it.n, seed: it.salt });
+            bytesAt(at, BITM_HASH.sizeof).set(bytesAt(hash.at, BITM_HASH.sizeof));
             this.#held = new InBlock(KIND, this, size, to => must(calls.bitm_dictionary_build(at, to, size), "the keys"));
         });
     }

@@ -18,6 +18,14 @@ export class Copied {
     }
 }
 
+/** A block of the given number of words, which fill(at) writes. */
+export class Made {
+    constructor(words, fill) {
+        this.words = words;
+        this.fill = fill;
+    }
+}
+
 /** An open block, and its struct before it: what a value of the package holds. */
 export class InBlock {
     #kind;

@@ -1,13 +1,13 @@
-// Written by the script adaptors from include/bitm.h: the statuses, and where each member of a struct stands.
+// Written by the script adaptors from include/bitm.h: the statuses, how many bytes a struct has, and where each member stands.
 export const STATUS = {"OK":0,"NONE":1,"BAD_SIZE":2,"WRONG":3,"UNSORTED":4};
 export const BAD_ARGUMENT = 5;
 export const BITM_LIST_COUNTS = {
-    bytes: 16,
+    sizeof: 16,
     missing: 0,
     wrong: 8,
 };
 export const BITM_SAMPLES = {
-    bytes: 40,
+    sizeof: 40,
     samples: 0,
     samples_len: 8,
     starts: 16,
@@ -15,7 +15,7 @@ export const BITM_SAMPLES = {
     log2: 32,
 };
 export const BITM_INDEX = {
-    bytes: 152,
+    sizeof: 152,
     words: 0,
     words_len: 8,
     upper: 16,
@@ -35,7 +35,7 @@ export const BITM_INDEX = {
     zeros_log2: 128,
 };
 export const BITM_SEQUENCE = {
-    bytes: 96,
+    sizeof: 96,
     len: 0,
     width: 8,
     low: 16,
@@ -50,7 +50,7 @@ export const BITM_SEQUENCE = {
     samples_len: 88,
 };
 export const BITM_SEQUENCE_LENS = {
-    bytes: 40,
+    sizeof: 40,
     width: 0,
     low_len: 8,
     words_len: 16,
@@ -58,7 +58,7 @@ export const BITM_SEQUENCE_LENS = {
     lower_len: 32,
 };
 export const BITM_SEQUENCE_WALK = {
-    bytes: 632,
+    sizeof: 632,
     sequence_len: 0,
     sequence_width: 8,
     sequence_low: 16,
@@ -77,7 +77,7 @@ export const BITM_SEQUENCE_WALK = {
     numbers: 120,
 };
 export const BITM_CURSOR = {
-    bytes: 120,
+    sizeof: 120,
     sequence_len: 0,
     sequence_width: 8,
     sequence_low: 16,
@@ -95,7 +95,7 @@ export const BITM_CURSOR = {
     number: 112,
 };
 export const BITM_HASH = {
-    bytes: 176,
+    sizeof: 176,
     index_words: 0,
     index_words_len: 8,
     index_upper: 16,
@@ -118,7 +118,7 @@ export const BITM_HASH = {
     keys: 168,
 };
 export const BITM_SEEDED_HASH = {
-    bytes: 192,
+    sizeof: 192,
     hash_index_words: 0,
     hash_index_words_len: 8,
     hash_index_upper: 16,
@@ -143,12 +143,12 @@ export const BITM_SEEDED_HASH = {
     seeds_len: 184,
 };
 export const BITM_SPAN = {
-    bytes: 16,
+    sizeof: 16,
     at: 0,
     len: 8,
 };
 export const BITM_STORED = {
-    bytes: 192,
+    sizeof: 192,
     mark: 0,
     kind: 8,
     len: 16,
@@ -175,19 +175,19 @@ export const BITM_STORED = {
     checksum: 184,
 };
 export const BITM_PREFIXES = {
-    bytes: 32,
+    sizeof: 32,
     bits: 0,
     bits_len: 8,
     ones: 16,
     ones_len: 24,
 };
 export const BITM_SHARD_PLACE = {
-    bytes: 16,
+    sizeof: 16,
     shard: 0,
     within: 8,
 };
 export const BITM_SHARDS = {
-    bytes: 64,
+    sizeof: 64,
     counts_bits: 0,
     counts_bits_len: 8,
     counts_ones: 16,
@@ -196,7 +196,7 @@ export const BITM_SHARDS = {
     shards_len: 40,
 };
 export const BITM_TREE = {
-    bytes: 72,
+    sizeof: 72,
     len: 0,
     words: 8,
     words_len: 16,
@@ -206,7 +206,7 @@ export const BITM_TREE = {
     lower_len: 48,
 };
 export const BITM_TRIE = {
-    bytes: 128,
+    sizeof: 128,
     tree_len: 0,
     tree_words: 8,
     tree_words_len: 16,
@@ -221,7 +221,7 @@ export const BITM_TRIE = {
     ends_len: 104,
 };
 export const BITM_MATRIX = {
-    bytes: 112,
+    sizeof: 112,
     len: 0,
     width: 8,
     words: 16,
@@ -237,8 +237,15 @@ export const BITM_MATRIX = {
     quarters: 96,
     quarters_len: 104,
 };
+export const BITM_SECTION = {
+    sizeof: 32,
+    role: 0,
+    count: 8,
+    words: 16,
+    words_len: 24,
+};
 export const BITM_SPARSE = {
-    bytes: 120,
+    sizeof: 120,
     positions_len: 0,
     positions_width: 8,
     positions_low: 16,
@@ -254,7 +261,7 @@ export const BITM_SPARSE = {
     bits_len: 96,
 };
 export const BITM_DICTIONARY = {
-    bytes: 216,
+    sizeof: 216,
     hash_index_words: 0,
     hash_index_words_len: 8,
     hash_index_upper: 16,
@@ -280,7 +287,7 @@ export const BITM_DICTIONARY = {
     seed: 192,
 };
 export const BITM_STRINGS = {
-    bytes: 232,
+    sizeof: 232,
     hash_index_words: 0,
     hash_index_words_len: 8,
     hash_index_upper: 16,
@@ -308,7 +315,7 @@ export const BITM_STRINGS = {
     seed: 208,
 };
 export const BITM_TEXT = {
-    bytes: 304,
+    sizeof: 304,
     letters_len: 0,
     letters_width: 8,
     letters_words: 16,

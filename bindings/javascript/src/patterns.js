@@ -31,3 +31,23 @@ export function withPattern(pattern, name, body) {
         return body("numbers", at, n);
     });
 }
+
+/** Words that a user gave, strings or Uint8Arrays: copies of their bytes, in the order of these, each once. */
+export function rising(words) {
+    if (typeof words !== "object" || words === null || words instanceof Uint8Array || typeof words[Symbol.iterator] !== "function")
+        throw new TypeError("bitm: words must be an array or another iterable of words");
+    const all = Array.from(words, it => {
+        const bytes = encoded(it, "a word");
+        if (!bytes) throw new TypeError(`bitm: a word is a string or a Uint8Array, and not ${it === null ? "null" : typeof it}`);
+        return typeof it === "string" ? bytes : bytes.slice();
+    });
+    return all.sort(inOrder).filter((it, k) => k === 0 || inOrder(all[k - 1], it) !== 0);
+}
+
+/** Below 0, 0 or above it, as bytes stand before others, are these, or stand after them. */
+function inOrder(a, b) {
+    const n = Math.min(a.length, b.length);
+    let k = 0;
+    while (k < n && a[k] === b[k]) k++;
+    return k < n ? a[k] - b[k] : a.length - b.length;
+}

@@ -1,11 +1,11 @@
 import { BESIDE, bytesAt, calls, halvesAt, numberAt, wordsAt } from "./core.js";
 import { hashKey } from "./keys.js";
 import { BITM_HASH } from "./layout.js";
+import { LEVELS } from "./levels.js";
 import { copyOut } from "./lists.js";
 import { Block, dispose, freed, withRoom } from "./memory.js";
 import { must, orThrow, refused, within } from "./numbers.js";
 
-export const LEVELS = 256;
 const STRUCT = 192, TRIES = 4;
 const out = new Int32Array(3);
 const rounded = bytes => Math.ceil(bytes / 64) * 64;

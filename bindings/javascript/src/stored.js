@@ -11,7 +11,7 @@ export const BEFORE = 192;
 /** The header at `at`, as numbers; what lies at BESIDE if it was just made. */
 export function headerAt(at = BESIDE) {
     const it = {};
-    for (const [name, offset] of Object.entries(BITM_STORED)) if (name !== "bytes") it[name] = numberAt(at + offset);
+    for (const [name, offset] of Object.entries(BITM_STORED)) if (name !== "sizeof") it[name] = numberAt(at + offset);
     return it;
 }
 
@@ -50,11 +50,12 @@ export function isWhole(at, it) {
 
 /** Copies the header at BESIDE to the front of the file. */
 export function putHeader(file) {
-    bytesAt(file, BITM_STORED.bytes).set(bytesAt(BESIDE, BITM_STORED.bytes));
+    bytesAt(file, BITM_STORED.sizeof).set(bytesAt(BESIDE, BITM_STORED.sizeof));
 }
 
-function put(at, layout, members) {
-    bytesAt(at, layout.bytes).fill(0);
+/** Writes a struct, whose members are those that are given, and zeros. */
+export function put(at, layout, members) {
+    bytesAt(at, layout.sizeof).fill(0);
     for (const [name, value] of Object.entries(members)) wordsAt(at + layout[name], 1)[0] = BigInt(value);
 }
 

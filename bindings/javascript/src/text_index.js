@@ -1,5 +1,5 @@
 import { BESIDE, bytesAt, calls, numberAt } from "./core.js";
-import { Copied, InBlock, checked } from "./in_block.js";
+import { Copied, InBlock, Made, checked } from "./in_block.js";
 import { BITM_TEXT, STATUS } from "./layout.js";
 import { copyIn, copyOut, numbersOf } from "./lists.js";
 import { dispose, withRoom } from "./memory.js";
@@ -10,14 +10,6 @@ const KIND = { name: "TextIndex", what: "the index of a text", open: "bitm_text_
 
 const COUNT = { numbers: "bitm_text_count", bytes: "bitm_text_count_bytes" };
 const LOCATE = { numbers: "bitm_text_locate", bytes: "bitm_text_locate_bytes" };
-
-/** A block of the given number of words, which fill(at) writes. */
-class Made {
-    constructor(words, fill) {
-        this.words = words;
-        this.fill = fill;
-    }
-}
 
 /** Each how many letters a position is kept. */
 function stepOf(options) {

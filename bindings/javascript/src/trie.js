@@ -1,12 +1,12 @@
 import { BESIDE, bytesAt, calls, numberAt } from "./core.js";
 import { BitVector, wordsOf } from "./bit_vector.js";
-import { Copied, InBlock, checked } from "./in_block.js";
+import { Copied, InBlock, Made, checked } from "./in_block.js";
 import { BITM_TRIE, STATUS } from "./layout.js";
 import { copyIn, copyOut, numbersOf } from "./lists.js";
 import { dispose, withRoom } from "./memory.js";
 import { childrenOf, isNode, ofNode } from "./nodes.js";
 import { answerOf, must, orNone, orThrow, place, whole, within } from "./numbers.js";
-import { encoded, withPattern } from "./patterns.js";
+import { encoded, rising, withPattern } from "./patterns.js";
 
 const KIND = { name: "Trie", what: "a trie", open: "bitm_trie_open", check: "bitm_trie_check", layout: BITM_TRIE };
 const FIND = { numbers: "bitm_trie_find", bytes: "bitm_trie_find_bytes" };
@@ -25,6 +25,7 @@ export class Trie {
      */
     constructor(degrees, labels, options = {}) {
         if (degrees instanceof Copied) this.#held = new InBlock(KIND, this, degrees);
+        else if (degrees instanceof Made) this.#held = new InBlock(KIND, this, degrees.words, degrees.fill);
         else this.#build(numbersOf(degrees, "degrees").items, numbersOf(encoded(labels, "labels") ?? labels, "labels").items, options);
         this.#length = this.#held.member("tree_len");
         this.#width = this.#held.member("width");
@@ -45,6 +46,26 @@ export class Trie {
                 if (got === -STATUS.WRONG) throw new RangeError("bitm: the degrees are those of no tree, or the labels none for it");
                 must(got, "the nodes");
             });
+        });
+    }
+
+    /**
+     * The trie of words, each a string (as UTF-8) or a Uint8Array, with labels of 8 bits, and ends. They may come in any order,
+     * and more than once: they are sorted by their bytes, and counted once.
+     */
+    static ofWords(words) {
+        const all = rising(words), n = all.length, begins = new Float64Array(n + 1);
+        all.forEach((it, k) => { begins[k + 1] = begins[k] + it.length; });
+        return withRoom(8 * (n + 1) + begins[n], starts => {
+            const bytes = starts + 8 * (n + 1), given = [bytes, begins[n], starts, n + 1];
+            copyIn(begins, starts, "starts");
+            all.forEach((it, k) => bytesAt(bytes + begins[k], it.length).set(it));
+            const nodes = orThrow(calls.bitm_trie_nodes_of_words(...given), "the words", n);
+            const size = orThrow(calls.bitm_trie_size(nodes, 8, 1), "the number of nodes", nodes);
+            const scratch = 2 * nodes - 1, rest = nodes - 1 + Math.ceil(nodes / 64);
+            return withRoom(8 * (scratch + rest), room => new Trie(new Made(size, block => {
+                must(calls.bitm_trie_build_words(...given, room, scratch, room + 8 * scratch, rest, block, size), "the words");
+            })));
         });
     }
 
@@ -70,6 +91,12 @@ export class Trie {
 
     /** The node to which a word leads from the root: a string (as UTF-8), bytes or a list of labels; undefined where it leads to none. */
     find(word) { return withPattern(word, "the word", (form, at, n) => orNone(calls[FIND[form]](this.#held.at, at, n), "the word", n)); }
+
+    /** Whether it is one of the words: it leads to a node, and a word ends there. A trie without ends has no words. */
+    has(word) {
+        const node = this.find(word);
+        return node !== undefined && this.isEnd(node) === true;
+    }
 
     /**
      * The deepest node to which a beginning of a word leads from the root, and how many labels lead there: all of them where the

@@ -4,7 +4,8 @@ import assert from "node:assert/strict";
 import { readFileSync, readdirSync } from "node:fs";
 import { test } from "node:test";
 import { wasmType } from "../header.mjs";
-import { ANSWER, adaptors, arena, argumentsOf, exported, library, load, prepare, words } from "./arguments.js";
+import * as layout from "../src/layout.js";
+import { ANSWER, adaptors, arena, argumentsOf, exported, library, load, prepare, structs, words } from "./arguments.js";
 import { Tally } from "./plain.js";
 
 const beside = new URL("../", import.meta.url), tally = new Tally();
@@ -28,13 +29,13 @@ function both(call, parts) {
 }
 
 test("each adaptor does what its export does", () => {
-    assert.equal(exported.length, 192);
+    assert.equal(exported.length, 202);
     for (const call of exported) {
         let answered = 0;
         for (let round = 0; round < 60; round++) answered += both(call, prepare(round % 4 === 3));
         assert.ok(answered >= 5, `${call.name} answered ${answered} times of 60`);
     }
-    tally.atLeast(192 * 60);
+    tally.atLeast(202 * 60);
 });
 
 test("each adaptor refuses what is no whole number of its range", () => {
@@ -55,6 +56,15 @@ test("each adaptor refuses what is no whole number of its range", () => {
     }
 });
 
+test("the layout says how many bytes each struct has, and where each of its members stands", () => {
+    for (const [name, { size, members }] of structs) {
+        const said = layout[name.toUpperCase()], own = members.filter(it => !/reserved/.test(it.name) && (it.type.endsWith("*") || !it.type.startsWith("struct ")));
+        assert.equal(said.sizeof, size, name);
+        for (const { name: member, at } of own) assert.equal(said[member], at, `${name}.${member}`);
+    }
+    assert.equal(Object.keys(layout).length, structs.size + 2);
+});
+
 // Exports that no function of the package calls, each with the reason.
 const LEFT_OUT = {
     bitm_bytes_get57: "a DataView reads 8 bytes of a buffer where they are; a copy into memory would be slower",
@@ -71,6 +81,10 @@ const LEFT_OUT = {
     bitm_hash_set_prints_seeded: "as bitm_hash_build_seeded",
     bitm_hash_find_seeded: "as bitm_hash_build_seeded",
     bitm_hash_find_list_seeded: "as bitm_hash_build_seeded",
+    bitm_hash_block_size_seeded: "as bitm_hash_build_seeded",
+    bitm_hash_block_build_seeded: "as bitm_hash_build_seeded",
+    bitm_hash_block_open_seeded_bytes: "as bitm_hash_build_seeded",
+    bitm_hash_block_check_seeded: "as bitm_hash_build_seeded",
     bitm_stored_index: "bitm_stored_build writes the header of an index",
     bitm_index_build_samples: "bitm_stored_build writes the samples too",
     bitm_index_samples_len: "bitm_stored_index_room says how long all parts are",
@@ -78,6 +92,10 @@ const LEFT_OUT = {
     bitm_index_block_build: "as bitm_index_block_size",
     bitm_sequence_block_size: "toBytes() writes the format of bitm_stored_",
     bitm_sequence_block_build: "as bitm_sequence_block_size",
+    bitm_block_extended_size: "no class adds sections of your own yet",
+    bitm_block_extend: "as bitm_block_extended_size",
+    bitm_block_section: "as bitm_block_extended_size",
+    bitm_block_check: "each class checks its own kind",
     bitm_prefix_sums: "there are no shards here yet",
     bitm_prefix_sums_check: "as bitm_prefix_sums",
     bitm_shards_find: "as bitm_prefix_sums",
@@ -92,15 +110,7 @@ const LEFT_OUT = {
     bitm_hash_block_open: "as bitm_hash_block_size",
     bitm_hash_block_check: "as bitm_hash_block_size",
     bitm_hash_get: "bitm_hash_find looks at the fingerprint too",
-    bitm_strings_hash: "there are no strings here yet",
-    bitm_strings_hashes: "as bitm_strings_hash",
-    bitm_strings_size: "as bitm_strings_hash",
-    bitm_strings_build: "as bitm_strings_hash",
-    bitm_strings_open: "as bitm_strings_hash",
-    bitm_strings_check: "as bitm_strings_hash",
-    bitm_strings_find: "as bitm_strings_hash",
-    bitm_strings_find_list: "as bitm_strings_hash",
-    bitm_strings_get: "as bitm_strings_hash",
+    bitm_strings_hash: "bitm_strings_hashes hashes one string too",
     bitm_text_len: "the struct of an open block has the length",
     bitm_text_size: "a block of other widths than those of letters below a bound is not made here",
 };

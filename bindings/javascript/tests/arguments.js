@@ -7,7 +7,7 @@ import { moduleBytes, random } from "./plain.js";
 const beside = new URL("../", import.meta.url);
 const header = readFileSync(process.env.BITM_HEADER ?? new URL("../../include/bitm.h", beside), "utf8");
 export const exported = callsOf(header);
-const structs = structsOf(header);
+export const structs = structsOf(header);
 export const load = name => new WebAssembly.Module(moduleBytes(name));
 export const library = new WebAssembly.Instance(load("bitm"), {}).exports;
 const memory = library.memory;
@@ -155,6 +155,15 @@ function blockOf(kind, spoilt) {
 }
 const ofBlockOf = kind => () => ({ block: slot(51), block_len: blockOf(kind, r() % 3 === 0) - (r() % 7 ? 0 : 1), index: slot(52), sequence: slot(52) });
 
+/** What is asked of the sections of such a block: one more of samples or of bytes, and each. */
+function ofSections() {
+    const size = blockOf("sequence", r() % 3 === 0), role = r() % 2 ? 65536 + (r() % 9) : 7, count = r() % 60;
+    const fits = library.bitm_block_extended_size(...[slot(51), size, role, count, ANSWER].map(BigInt)) === 0;
+    const to_len = fits ? Number(words(ANSWER, 1)[0]) - (r() % 7 ? 0 : 1) : 0;
+    const words_len = Math.ceil(count / (role === 7 ? 2 : 8)) + (r() % 7 ? 0 : 1);
+    return { block: slot(51), block_len: size - (r() % 7 ? 0 : 1), role, count, words: slot(14), words_len, to: slot(53), to_len, i: r() % 6, section: slot(52) };
+}
+
 /** Sparse bits of 60 positions in slot 54, of which a word after the directory may be wrong, and their struct: its words. */
 function sparse(spoilt) {
     const positions = words(slot(55), 60), block = slot(54);
@@ -286,6 +295,23 @@ function ofSeededPrints() {
     return { ...given, hash: at };
 }
 
+/** The parts of the block of that hash with seeds, which are any bytes, and how many words it takes. */
+function seededParts() {
+    const { len, levels } = dictionary(false);
+    assert.equal(library.bitm_hash_block_size_seeded(BigInt(len), BigInt(levels), BigInt(ANSWER)), 0);
+    return { len, levels, size: Number(words(ANSWER, 1)[0]) };
+}
+function ofSeededBuilt() {
+    const { len, levels, size } = seededParts(), wrong = () => (r() % 7 ? 0 : 1);
+    return { words: slot(70), words_len: len, seeds: slot(10), seeds_len: len - wrong(), sizes: slot(72), sizes_len: levels, block: slot(84), block_len: size - wrong() };
+}
+function ofSeededBlock() {
+    const { len, levels, size } = seededParts(), B = BigInt, at = k => B(slot(k)), wrong = () => (r() % 7 ? 0 : 1);
+    assert.equal(library.bitm_hash_block_build_seeded(at(70), B(len), at(10), B(len), at(72), B(levels), 7n, at(84), B(size)), 0);
+    if (r() % 3 === 0) words(slot(84), size)[40 + (r() % (size - 40))] ^= B(r());
+    return { block: slot(84), block_len: size - wrong(), bytes: slot(84), bytes_len: 8 * size - wrong(), hash: slot(108) };
+}
+
 /** 40 strings of three bytes in slot 99, whose ends are in slot 100; their block in slot 102, of which a word may be wrong, with
  * the struct in slot 103: the size of the block, and the seed of the hashes. */
 function strings(spoilt) {
@@ -339,6 +365,22 @@ const ofTrieBlock = () => ({ block: slot(95), block_len: trie(r() % 3 === 0) - (
 function ofTrieBuilt() {
     const block_len = trie(false) - (r() % 7 ? 0 : 1);
     return { degrees: slot(23), degrees_len: N, labels: slot(93), labels_len: N - 1, width: r() % 7 ? 7 : r() % 9, ends: slot(94), ends_len: 1, block: slot(98), block_len };
+}
+
+/** Words in slot 109, which do not always rise, and where they begin in slot 110; with room for the block of their trie. */
+function ofWords() {
+    const all = [...new Set(Array.from({ length: 9 }, () => `${r() % 200}`))].sort(), begins = [0n];
+    if (r() % 5 === 0) all.reverse();
+    for (const it of all) begins.push(begins.at(-1) + BigInt(it.length));
+    const text = new TextEncoder().encode(all.join(""));
+    new Uint8Array(memory.buffer, slot(109), text.length).set(text);
+    words(slot(110), begins.length).set(begins);
+    const nodes = 1 + new Set(all.flatMap(it => Array.from(it, (_, k) => it.slice(0, k + 1)))).size, wrong = () => (r() % 20 ? 0 : 1);
+    assert.equal(library.bitm_trie_size(BigInt(nodes), 8, 1, BigInt(ANSWER)), 0);
+    return {
+        bytes: slot(109), bytes_len: text.length - wrong(), starts: slot(110), starts_len: begins.length - wrong(), scratch: slot(111), scratch_len: 2 * nodes - 1 + wrong(),
+        room: slot(111) + ROOM / 2, room_len: nodes - 1 + Math.ceil(nodes / 64) + wrong(), block: slot(98), block_len: Number(words(ANSWER, 1)[0]) - wrong(),
+    };
 }
 
 const someLog2 = () => (r() % 5 ? [0, 7 + (r() % 8)][r() % 2] : r() % 40);
@@ -395,6 +437,8 @@ const FITTING = {
     bitm_matrix_intersect: ofRanges,
     bitm_trie_size: () => ({ nodes: r() % 3000, width: r() % 66 }),
     bitm_trie_build: ofTrieBuilt,
+    bitm_trie_nodes_of_words: ofWords,
+    bitm_trie_build_words: ofWords,
     bitm_trie_open: ofTrieBlock,
     bitm_trie_check: ofTrieBlock,
     bitm_trie_label: ofNode,
@@ -451,6 +495,10 @@ const FITTING = {
     bitm_hash_block_build: ofHashBlock,
     bitm_hash_block_open: ofDictionaryBlock,
     bitm_hash_block_check: ofDictionaryBlock,
+    bitm_hash_block_size_seeded: () => ({ levels: r() % 300 }),
+    bitm_hash_block_build_seeded: ofSeededBuilt,
+    bitm_hash_block_open_seeded_bytes: ofSeededBlock,
+    bitm_hash_block_check_seeded: ofSeededBlock,
     bitm_dictionary_size: () => ({ levels: r() % 300 }),
     bitm_dictionary_build: () => ({ block_len: dictionary(false).size - (r() % 7 ? 0 : 1), dictionary: slot(76), block: slot(84) }),
     bitm_dictionary_open: ofDictionaryBlock,
@@ -463,6 +511,10 @@ const FITTING = {
     bitm_sequence_block_build: () => ({ items: slot(14), items_len: 60, block: slot(53), block_len: blockOf("sequence", false) - (r() % 7 ? 0 : 1) }),
     bitm_sequence_block_open: ofBlockOf("sequence"),
     bitm_sequence_block_check: ofBlockOf("sequence"),
+    bitm_block_extended_size: ofSections,
+    bitm_block_extend: ofSections,
+    bitm_block_section: ofSections,
+    bitm_block_check: ofSections,
     bitm_shards_find: () => ({ counts: shards(r() % 3 === 0) }),
     bitm_shards_rank: () => ({ shards: shards(r() % 3 === 0), position: r() % (2 * BITS + 60) }),
     bitm_shards_select: () => ({ shards: shards(r() % 3 === 0), rank: r() % (2 * BITS) }),

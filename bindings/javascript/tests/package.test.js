@@ -46,7 +46,7 @@ test("each value that is exported has a type, and each type a value", async () =
     const declarations = readdirSync(join(root, "types")).map(it => read(`types/${it}`)).join("\n");
     const types = [...declarations.matchAll(/^export (?:declare )?(?:class|function|const) (\w+)/gm)].map(it => it[1]);
     assert.deepEqual([...new Set(types)].sort(), Object.keys(bitm).sort());
-    for (const name of ["BitVector", "Index", "EliasFano", "Cursor", "SparseBits", "PerfectHash", "Dictionary", "Tree", "Trie", "WaveletMatrix", "TextIndex"]) {
+    for (const name of ["BitVector", "Index", "EliasFano", "Cursor", "SparseBits", "PerfectHash", "Dictionary", "Strings", "Tree", "Trie", "WaveletMatrix", "TextIndex"]) {
         const body = new RegExp(`^export class ${name} [^]*?^}`, "m").exec(declarations)[0];
         const declared = new Set([...body.matchAll(/^    (?:static |readonly )?(\w+)[(:?]/gm)].map(it => it[1]));
         const own = [...Object.getOwnPropertyNames(bitm[name].prototype), ...Object.getOwnPropertyNames(bitm[name])];
@@ -93,7 +93,7 @@ test("the lines of README.md, against the packed package", { skip: !has("npm") &
     assert.ok(got >= 20, `${got} lines of README.md were compared`);
 });
 
-const USE = `import { BitVector, Cursor, Dictionary, Index, EliasFano, SparseBits, PerfectHash, Trie, WaveletMatrix, TextIndex, intersect, open, union, NO_ANSWER, WrongTables } from "bitm";
+const USE = `import { BitVector, Cursor, Dictionary, Index, EliasFano, SparseBits, PerfectHash, Strings, Trie, WaveletMatrix, TextIndex, intersect, open, union, NO_ANSWER, WrongTables } from "bitm";
 const index: Index = new Index(BitVector.fromPositions([1, 2n, 3], 10), { sampleLog2: 9 });
 const rank: number = index.rank(4), place: number | undefined = index.select(2n);
 const doubles: Float64Array = index.rankList(Uint32Array.of(1)), wide: BigUint64Array = index.selectList(BigUint64Array.of(1n));
@@ -110,6 +110,9 @@ const text: TextIndex = TextIndex.open(new Uint8Array(0)), places: number[] = te
 const made: TextIndex[] = [TextIndex.of("she"), TextIndex.of(new Uint8Array(1), { step: 3n }), TextIndex.ofLetters(new Set([1n]), 2, {})];
 const cursor: Cursor = numbers.cursor(), there: number | bigint | undefined = cursor.nextGeq(2n), rest: (number | bigint)[] = [...cursor, ...intersect([numbers]), ...union(new Set([numbers]), 1n, 2)];
 const words = new Dictionary([4, 9n], { percent: 150, seed: 3n }), which: number | undefined = words.get(4n), many: (number | undefined)[] = words.getList([4]), key9: number | bigint | undefined = words.keyOf(1);
+const names = new Strings(["ada", Uint8Array.of(98)], { percent: 150, seed: 3n }), numberOf: number | undefined = names.find("ada"), known: (number | undefined)[] = names.findList(new Set(["ada"]));
+const spelled: Uint8Array | undefined = names.get(0n), spoken: string | undefined = Strings.open(names.toBytes(), { check: false }).text(0), each: Uint8Array[] = [...names];
+void [numberOf, known, spelled, spoken, each, names.has("bob"), names.seed];
 const trie = new Trie([2, 0, 1n, 0], "abe", { width: 9, ends: BitVector.fromPositions([1], 4) }), node: number | undefined = trie.find([98n]), deepest: { node: number; count: number } = trie.longest("bee");
 const label: number | bigint | undefined = trie.label(3n), ends: boolean | undefined = Trie.open(trie.toBytes(), { check: false }).isEnd(1), letters: Uint8Array | (number | bigint)[] | undefined = trie.word(3);
 const kinds: [number | bigint, number][] = matrix.distinct(0, 2n), often3 = new Map(matrix.top(3)), shared: (number | bigint)[] = matrix.intersect(0, 1, 1n, 2);
@@ -121,7 +124,7 @@ void [rank, place, doubles, wide, list, all, least, flags, bytes, key, NO_ANSWER
 `;
 const WRONG = ["index.rank('1')", "index.rank()", "const x: number = index.select(1)", "const x: number = numbers.at(0)", "new EliasFano('12')",
     "new Index([1, 2])", "index.selectList([1]).byteLength", "open('name')", "new PerfectHash([{}])", "index.set(1)", "matrix.select(1)", "const y: number = matrix.get(0)", "TextIndex.of([1])",
-    "TextIndex.ofLetters([1])", "new Cursor([1])", "cursor.nextGeq('1')", "const z: number = words.get(1)", "new Dictionary(['1'])", "intersect(numbers)", "union([index])",
+    "TextIndex.ofLetters([1])", "new Cursor([1])", "cursor.nextGeq('1')", "const z: number = words.get(1)", "new Strings('ada')", "new Strings([1])", "const s: string = names.get(0)", "names.findList('ada')", "new Dictionary(['1'])", "intersect(numbers)", "union([index])",
     "matrix.top()", "matrix.intersect(0, 1)", "new Trie([1, 0])", "trie.find(98)", "const w: number = trie.find('b')", "new Trie([1, 0], 'a', { ends: [1] })"];
 
 test("tsc takes the types, and refuses what is wrong", { skip: !(has("tsc") && has("npm")) && "tsc is not here" }, () => {

@@ -1,4 +1,4 @@
-// Trie beside a plain Map of words; words that are read once; blocks of which bytes were changed or cut off.
+// Trie beside a plain Map of words, made of words and of parts; words that are read once; blocks of which bytes were changed or cut off.
 import assert from "node:assert/strict";
 import { test } from "node:test";
 import { Tally, bitm, random, spoil, unlessWrong } from "./plain.js";
@@ -60,6 +60,8 @@ function compare(words, width) {
     assert.deepEqual([n, trie.width, trie.hasEnds, trie.check()], [parts.nodes.length, width, true, true]);
     parts.nodes.forEach((it, node) => ofNode(trie, parts, it, node));
     for (const it of parts.nodes) for (const word of [it, it.slice(0, -1), [...it, 0n], [...it, 3n, 2n], [1n, ...it], [...it, 2n ** 64n - 1n]]) ofWord(trie, parts.numbers, word);
+    const isWord = word => parts.isEnd[parts.numbers.get(key(word))] ?? false;
+    for (const it of parts.nodes) for (const word of [it, [...it, 0n], [...it, 1n], it.slice(1)]) tally.same(trie.has(word), isWord(word), () => `has ${key(word)}`);
     for (const none of [n, n + 1, ...MOST]) {
         for (const name of ["word", "label", "parent", "degree", "isEnd"]) assert.equal(trie[name](none), undefined, name);
         assert.deepEqual([trie.childByLabel(none, 0), ...trie.children(none)], [undefined]);
@@ -74,6 +76,59 @@ function compare(words, width) {
 test("answers are those of a Map", () => {
     for (const [width, count] of [[1, 9], [2, 60], [8, 0], [8, 1], [8, 90], [13, 70], [53, 60], [54, 60], [63, 80]]) compare(drawn(count, width, width + count), width);
     tally.atLeast(10000);
+});
+
+/** The trie of words of bytes is that of its parts, however they come. */
+function ofWords(words) {
+    const { degrees, labels, isEnd } = partsOf(words.map(it => Array.from(it, BigInt))), trie = Trie.ofWords(words);
+    const wanted = new Trie(degrees, labels, { ends: BitVector.fromBooleans(isEnd) }).toBytes();
+    for (const it of [trie, Trie.ofWords(new Set([...words, ...words.map(it => it.slice())].reverse())), Trie.ofWords(words.values())]) assert.deepEqual(it.toBytes(), wanted);
+    tally.same(trie.check(), true, () => "check");
+    for (const it of words) tally.same(trie.has(it), true, () => `has ${it}`);
+    trie.free();
+}
+
+test("tries of words are those of their parts", () => {
+    const r = random(31);
+    for (let turn = 0; turn < 40; turn++) {
+        const letter = () => (turn % 2 ? r() % 256 : r() % 3);
+        ofWords(Array.from({ length: turn * 2 }, () => Uint8Array.from({ length: r() % (1 + turn % 7) }, letter)));
+    }
+});
+
+test("words are strings or bytes, in any order", () => {
+    const words = Trie.ofWords(["be", Uint8Array.of(98), "a", "be"]);
+    assert.deepEqual(words.toBytes(), small.toBytes());
+    assert.deepEqual(["a", "b", "be", "", "e", "bee", [98, 101], Uint8Array.of(97), [98]].map(it => words.has(it)), [true, true, true, false, false, false, true, true, true]);
+    const texts = ["ü", "z", "\uffff", "\u{1f600}", "\0", "a\0", ""], trie = Trie.ofWords(texts);
+    for (const it of texts) assert.ok(trie.has(it) && trie.has(new TextEncoder().encode(it)), it);
+    for (const it of ["u", "\0\0", "a", "\u{1f601}"]) assert.equal(trie.has(it), false);
+    for (const [given, isEnd] of [[[], false], [[""], true]]) {
+        const root = Trie.ofWords(given);
+        assert.deepEqual([root.length, root.hasEnds, root.find(""), root.has(""), root.has("a"), root.check()], [1, true, 0, isEnd, false, true]);
+    }
+    assert.equal(new Trie([2, 0, 1, 0], "abe").has("be"), false, "there are no ends");
+});
+
+test("many words", () => {
+    const r = random(32), words = new Set(Array.from({ length: 1e5 }, () => `${r() % 1e6}`)), trie = Trie.ofWords(words);
+    let ends = 0;
+    for (let node = 0; node < trie.length; node++) ends += trie.isEnd(node) ? 1 : 0;
+    assert.deepEqual([ends, trie.check()], [words.size, true]);
+    for (let k = 0; k < 1e6; k += 7) tally.same(trie.has(`${k}`), words.has(`${k}`), () => `has ${k}`);
+});
+
+test("what are no words", () => {
+    const before = bitm.memoryUse().used;
+    for (const it of ["be", 5, null, undefined, true, {}, Uint8Array.of(98), new ArrayBuffer(8)]) assert.throws(() => Trie.ofWords(it), TypeError);
+    for (const it of [5, null, undefined, true, {}, [98], 5n, Uint16Array.of(98), new ArrayBuffer(1)]) assert.throws(() => Trie.ofWords(["a", it]), TypeError);
+    const gone = new Uint8Array(2);
+    structuredClone(gone.buffer, { transfer: [gone.buffer] });
+    assert.throws(() => Trie.ofWords([gone]), TypeError);
+    const late = Uint8Array.of(98, 101), words = Trie.ofWords({ *[Symbol.iterator]() { yield late; late[0] = 97; yield "a"; structuredClone(late.buffer, { transfer: [late.buffer] }); } });
+    assert.deepEqual([words.has("be"), words.has("ae"), words.length], [true, false, 4]);
+    words.free();
+    assert.equal(bitm.memoryUse().used, before);
 });
 
 test("strings are their bytes in UTF-8", () => {
@@ -113,25 +168,25 @@ test("degrees and labels that are those of no trie", () => {
 test("nodes and words that are wrong", () => {
     for (const it of [-1, 0.5, NaN, Infinity, 2 ** 53, -1n, 2n ** 64n]) {
         for (const name of ["word", "label", "parent", "degree", "isEnd"]) assert.throws(() => small[name](it), RangeError, `${name} ${it}`);
-        for (const call of [() => [...small.children(it)], () => small.childByLabel(it, 0), () => small.childByLabel(0, it), () => small.find([it]), () => small.longest([it])])
+        for (const call of [() => [...small.children(it)], () => small.childByLabel(it, 0), () => small.childByLabel(0, it), () => small.find([it]), () => small.longest([it]), () => small.has([it])])
             assert.throws(call, RangeError, `${it}`);
     }
     for (const it of ["1", null, undefined, true, {}, [1], Symbol("1"), () => 1]) {
         for (const name of ["word", "label", "parent", "degree", "isEnd"]) assert.throws(() => small[name](it), TypeError);
-        for (const call of [() => [...small.children(it)], () => small.childByLabel(it, 0), () => small.childByLabel(0, it), () => small.find([it]), () => small.longest([it])])
+        for (const call of [() => [...small.children(it)], () => small.childByLabel(it, 0), () => small.childByLabel(0, it), () => small.find([it]), () => small.longest([it]), () => small.has([it])])
             assert.throws(call, TypeError);
     }
-    for (const it of [5, null, undefined, true, {}, new DataView(new ArrayBuffer(8)), new ArrayBuffer(8)]) for (const name of ["find", "longest"]) assert.throws(() => small[name](it), TypeError);
+    for (const it of [5, null, undefined, true, {}, new DataView(new ArrayBuffer(8)), new ArrayBuffer(8)]) for (const name of ["find", "longest", "has"]) assert.throws(() => small[name](it), TypeError);
     const word = new Uint8Array(2);
     structuredClone(word.buffer, { transfer: [word.buffer] });
-    for (const name of ["find", "longest"]) assert.throws(() => small[name](word), TypeError);
+    for (const name of ["find", "longest", "has"]) assert.throws(() => small[name](word), TypeError);
     for (const Type of [Uint8Array, Uint16Array, Float64Array, BigUint64Array]) assert.equal(small.find(Type.from("be", it => (Type === BigUint64Array ? BigInt(it.charCodeAt()) : it.charCodeAt()))), 3);
 });
 
 test("a word is read once, and before the trie", () => {
     function* once() { yield* [98, 101]; }
-    assert.deepEqual([small.find(once()), small.longest(once())], [3, { node: 3, count: 2 }]);
-    for (const name of ["find", "longest"]) {
+    assert.deepEqual([small.find(once()), small.longest(once()), small.has(once())], [3, { node: 3, count: 2 }, true]);
+    for (const name of ["find", "longest", "has"]) {
         const trie = new Trie([2, 0, 1, 0], "abe");
         assert.throws(() => trie[name]({ *[Symbol.iterator]() { trie.free(); yield 98; } }), /Trie was freed/);
     }
@@ -145,6 +200,7 @@ test("each changed byte is seen, and each prefix; unchecked blocks answer within
             for (const ask of [() => trie.childByLabel(node, 1), () => trie.find([1, 2]), () => trie.degree(node)]) assert.ok((unlessWrong(ask) ?? 0) < n);
             assert.ok((unlessWrong(() => trie.parent(node)) ?? -1) < node);
             assert.ok((unlessWrong(() => trie.word(node)) ?? []).length <= node);
+            assert.ok([undefined, false, true].includes(unlessWrong(() => trie.has([1, 2]))));
             const { node: deepest, count } = unlessWrong(() => trie.longest([1, 0, 2])) ?? { node: 0, count: 0 };
             assert.ok(deepest < n && count <= 3);
         }
@@ -159,7 +215,7 @@ test("a trie that was freed, and memory", () => {
     trie.free();
     trie.free();
     assert.equal(trie.byteLength, 0);
-    const asks = [() => trie.find("b"), () => trie.longest("b"), () => trie.word(1), () => trie.label(1), () => trie.isEnd(1), () => trie.childByLabel(0, 97), () => trie.parent(1),
+    const asks = [() => trie.find("b"), () => trie.has("b"), () => trie.longest("b"), () => trie.word(1), () => trie.label(1), () => trie.isEnd(1), () => trie.childByLabel(0, 97), () => trie.parent(1),
         () => trie.degree(1), () => walk.next(), () => trie.check(), () => trie.toBytes()];
     for (const ask of asks) assert.throws(ask, /was freed/);
     for (const call of [() => new Trie([2, 0, 1, 0], "bae"), () => new Trie([1, 0], "a", { width: 64 }), () => small.find([-1])]) assert.throws(call);

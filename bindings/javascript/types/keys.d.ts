@@ -1,4 +1,4 @@
-// Numbers for keys: of any kind, none of which is kept, and whole numbers, which are.
+// Numbers for keys: of any kind, none of which is kept, and whole numbers and strings, which are.
 
 import type { Whole, Wholes, NumberArray, Bytes, OpenOptions } from "./common.js";
 
@@ -54,6 +54,46 @@ export class Dictionary implements Iterable<number | bigint> {
     toBigUint64Array(): BigUint64Array;
 
     /** Whether the block is as it was written and holds a dictionary, by going over all of it. */
+    check(): boolean;
+    /** The bytes of the block. */
+    toBytes(): Uint8Array;
+    free(): void;
+    [Symbol.dispose](): void;
+}
+
+export interface StringsOptions {
+    /** 100 takes least memory, 200 less time. */
+    percent?: number;
+    /** What the hashes begin with: 0, or 1 where that gives two strings one hash. */
+    seed?: Whole;
+}
+
+/** A string, as its bytes in UTF-8, or bytes; and a list of such, which is no string. */
+export type StringOrBytes = string | Uint8Array;
+export type StringsOrBytes = Iterable<StringOrBytes> & object;
+
+/** Numbers for strings, with the strings: each of n strings has a number of its own below n, and nothing else has. */
+export class Strings implements Iterable<Uint8Array> {
+    /** RangeError if two strings are equal. */
+    constructor(strings: StringsOrBytes, options?: StringsOptions);
+    /** The strings in the bytes of a block, which are copied once. */
+    static open(bytes: Bytes, options?: OpenOptions): Strings;
+
+    readonly length: number;
+    readonly byteLength: number;
+    readonly seed: number | bigint;
+    find(string: StringOrBytes): number | undefined;
+    has(string: StringOrBytes): boolean;
+    /** undefined for what is none of the strings. */
+    findList(strings: StringsOrBytes): (number | undefined)[];
+    /** The string of a number, as bytes. */
+    get(number: Whole): Uint8Array | undefined;
+    /** The same as a string, of bytes in UTF-8. */
+    text(number: Whole): string | undefined;
+    /** The strings, as bytes, in the order of their numbers. */
+    [Symbol.iterator](): IterableIterator<Uint8Array>;
+
+    /** Whether the block is as it was written and holds strings, by going over all of it. */
     check(): boolean;
     /** The bytes of the block. */
     toBytes(): Uint8Array;

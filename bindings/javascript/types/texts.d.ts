@@ -104,6 +104,8 @@ export interface TrieOptions {
 export class Trie {
     /** The degree of each node, level by level, and the labels of the nodes from 1 on. RangeError if these are those of no trie. */
     constructor(degrees: Wholes, labels: Pattern, options?: TrieOptions);
+    /** The trie of words, each a string (as UTF-8) or bytes, with labels of 8 bits, and ends: in any order, more than once too. */
+    static ofWords(words: Iterable<string | Uint8Array>): Trie;
     /** The trie in the bytes of a block, which are copied once. */
     static open(bytes: Bytes, options?: OpenOptions): Trie;
 
@@ -113,6 +115,8 @@ export class Trie {
     readonly byteLength: number;
     /** The node to which a word leads from the root. */
     find(word: Pattern): number | undefined;
+    /** Whether it is one of the words: a word ends at the node to which it leads. */
+    has(word: Pattern): boolean;
     /** The deepest node to which a beginning of a word leads, and how many labels lead there. */
     longest(word: Pattern): { node: number; count: number };
     /** The word that leads from the root to a node: bytes where a label has at most 8 bits. */

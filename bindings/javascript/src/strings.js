@@ -1,0 +1,130 @@
+import { BESIDE, bytesAt, calls, numberAt, wasm } from "./core.js";
+import { Copied, InBlock, checked } from "./in_block.js";
+import { BITM_LIST_COUNTS, BITM_STRINGS } from "./layout.js";
+import { withHash } from "./levels.js";
+import { copyIn, copyOut } from "./lists.js";
+import { dispose, withRoom } from "./memory.js";
+import { WrongTables, big, must, orNone, orThrow, place } from "./numbers.js";
+import { encoded, withBytes } from "./patterns.js";
+
+const KIND = { name: "Strings", what: "strings", open: "bitm_strings_open", check: "bitm_strings_check", layout: BITM_STRINGS };
+/** The seeds that are tried where none is given. */
+const SEEDS = [0n, 1n];
+
+/** A call of the library by BigInts, since a seed is any number of 64 bits: its status. */
+const called = (name, ...given) => wasm[name](...given.map(BigInt));
+
+function bytesIn(string) {
+    const bytes = encoded(string, "a string");
+    if (!bytes) throw new TypeError(`bitm: a string is a string or a Uint8Array, and not ${string === null ? "null" : typeof string}`);
+    return bytes;
+}
+
+/** Copies strings into memory, one after another with where each ends, and runs body([bytes, how many, ends, how many]). */
+function withStrings(given, body) {
+    if (typeof given !== "object" || given === null || typeof given[Symbol.iterator] !== "function")
+        throw new TypeError("bitm: strings must be an array or another iterable of strings");
+    const all = Array.from(given).map(bytesIn), n = all.length, ends = new Float64Array(n);
+    let length = 0;
+    all.forEach((it, k) => (ends[k] = length += it.length));
+    return withRoom(8 * n + length, at => {
+        const text = at + 8 * n, room = bytesAt(text, length);
+        all.forEach((it, k) => room.set(it, ends[k] - it.length));
+        copyIn(ends, at, "strings");
+        return body([text, length, at, n]);
+    });
+}
+
+/** Numbers for strings, with the strings: each of n strings has a number of its own below n, and nothing else has. */
+export class Strings {
+    #held;
+    #length;
+
+    /**
+     * Strings (as UTF-8) or Uint8Arrays, no two equal. percent: 100 takes least memory, 200 less time; seed is what their hashes
+     * begin with: unless it is given 0, and 1 where that gives two strings one hash.
+     */
+    constructor(strings, options = {}) {
+        if (strings instanceof Copied) this.#held = new InBlock(KIND, this, strings);
+        else this.#build(strings, options);
+        this.#length = this.#held.member("hash_keys");
+    }
+
+    #build(strings, { percent = 100, seed }) {
+        const seeds = seed === undefined ? SEEDS : [big(seed, "seed")];
+        withStrings(strings, spelled => {
+            if (!seeds.some(it => this.#bySeed(spelled, percent, it)))
+                throw new RangeError("bitm: two strings are equal, or have one hash, which they may not have by another seed");
+        });
+    }
+
+    /** Writes the block by a seed, unless two strings have one hash by it. */
+    #bySeed(spelled, percent, seed) {
+        const [, length, , n] = spelled;
+        return withRoom(8 * n, hashes => {
+            must(called("bitm_strings_hashes", ...spelled, seed, hashes, n), "strings");
+            return withHash(hashes, n, percent, hash => {
+                const words = orThrow(calls.bitm_strings_size(hash.words_len, hash.sizes_len, n, length), "strings", n);
+                this.#held = new InBlock(KIND, this, words, to => {
+                    must(called("bitm_strings_build", hash.at, seed, ...spelled, to, words), "strings");
+                });
+            });
+        });
+    }
+
+    /**
+     * The strings in the bytes of a block, as toBytes() gives them and the C library writes them; they are copied once. Unless
+     * `check` is false, all of them are looked at, and WrongTables is thrown where they are not as they were written; without
+     * that, a string may have no number, but a number that is found is that of the string which stands there.
+     */
+    static open(bytes, options = {}) { return checked(new Strings(new Copied(KIND, bytes)), options); }
+
+    /** How many strings there are. */
+    get length() { return this.#length; }
+
+    /** How many bytes the block has. */
+    get byteLength() { return this.#held.byteLength; }
+
+    /** The seed of the hashes. */
+    get seed() { return this.#held.member("seed"); }
+
+    /** The number of a string (as UTF-8) or of bytes, below length; undefined for what is none of the strings. And whether it is one. */
+    find(string) {
+        return withBytes(bytesIn(string), (at, n) => orNone(calls.bitm_strings_find(this.#held.at, at, n), "the string", n));
+    }
+    has(string) { return this.find(string) !== undefined; }
+
+    /** The numbers of several strings, as find() answers them. */
+    findList(strings) {
+        return withStrings(strings, spelled => withRoom(8 * spelled[3], out => {
+            must(calls.bitm_strings_find_list(this.#held.at, ...spelled, out, spelled[3], BESIDE), "strings");
+            if (numberAt(BESIDE + BITM_LIST_COUNTS.wrong) !== 0) throw new WrongTables();
+            return copyOut(out, spelled[3], "plain", true);
+        }));
+    }
+
+    /** The string of a number, as bytes; undefined where there is none. */
+    get(number) {
+        const length = orNone(calls.bitm_strings_get(this.#held.at, place(number, "number"), BESIDE), "number", number);
+        return length === undefined ? undefined : bytesAt(this.#held.member("bytes") + numberAt(BESIDE), length).slice();
+    }
+
+    /** The same as a string, of bytes in UTF-8. */
+    text(number) {
+        const bytes = this.get(number);
+        return bytes && new TextDecoder("utf-8", { ignoreBOM: true }).decode(bytes);
+    }
+
+    /** The strings, as bytes, in the order of their numbers. */
+    *[Symbol.iterator]() { for (let k = 0; k < this.#length; k++) yield this.get(k); }
+
+    /** Whether the block is as it was written and holds strings, by going over all of it. */
+    check() { return this.#held.check(); }
+
+    /** The bytes of the block: what open() takes, and the C library and its other bindings. */
+    toBytes() { return this.#held.toBytes(); }
+
+    /** Gives the memory back at once. */
+    free() { this.#held.free(); }
+    [dispose]() { this.free(); }
+}
