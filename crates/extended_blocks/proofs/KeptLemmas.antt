@@ -1,7 +1,10 @@
 -- The first sections of a block that is extended are those of before, and so is what they hold.
-use Rattle.std.proofs.Common.{◌≡◌, ℕ, ◌<◌, ◌≤◌, List, length, ap, sym, subst, ◌∙◌, arith}
+use Rattle.std.proofs.Common.{◌≡◌, ℕ, ◌+◌, ◌*◌, ◌<◌, ◌≤◌, List, get_or, length, slice_index, ap, sym, subst, ◌∙◌, arith}
+use Rattle.std.proofs.lemmas.List.{get_or_push}
 use Rattle.std.specs.Int.{div_ceil}
-use Rattle.bitm_block.specs.Header.{count_in, entry_in, section_in}
+use Rattle.bitm_block.proofs.HeaderLemmas.{section_at, sections_len}
+use Rattle.bitm_block.specs.Header.{count_in, entry_in, section_in, sections_in}
+use Rattle.bitm_block.specs.Layout.{no_section}
 use Rattle.bitm_block.specs.declared.head.Head.{Head}
 use Rattle.bitm_block.specs.declared.layout.Section.{Section}
 use Rattle.bitm_tables.specs.Tables.{bits_in, HasSizes, HasTables, Lists}
@@ -19,6 +22,14 @@ use Rattle.sequence_block.specs.Block.{sequence_in, IsBlockOfKind, IsSoundOfKind
 module _ (block : List ℕ) (added : Section) (words new : List ℕ) (is : IsExtended block added words new) where
   pub role_is : (i : ℕ) → i < count_in block → (entry_in new i).role ≡ (entry_in block i).role
   role_is i less = ap (λ (s : Section). s.role) (entry_is block added words new is i less)
+
+  -- the section that is added has its role at the end of the directory
+  pub last_role : slice_index new (16 + 4 * count_in block) ≡ added.role
+  last_role =
+      ap (λ (s : Section). s.role)
+      (sym (section_at new (count_in block) no_section (omega (arith, count_is block added words new is)))
+      ∙ ap (λ (l : List Section). get_or l (count_in block) no_section) is.sections_are
+      ∙ get_or_push (sections_in block) added no_section (count_in block) (sections_len block))
 
   pub tables_are : 3 ≤ count_in block → tables_in new ≡ tables_in block
   tables_are three =

@@ -1,15 +1,12 @@
 -- A matrix in a block that is extended is that of before, if the section is not taken for its quarters.
-use Rattle.std.proofs.Common.{◌≡◌, ◌≢◌, ℕ, ◌+◌, ◌*◌, ◌≤◌, ◌==◌, ◌&&◌, nat_le, Bool, true, false, if◌then◌else◌, List, [], ⊎_elim, get_or, slice_index, refl, ap, sym, subst, ◌∙◌, arith}
+use Rattle.std.proofs.Common.{◌≡◌, ◌≢◌, ℕ, ◌+◌, ◌*◌, ◌≤◌, ◌==◌, ◌&&◌, nat_le, Bool, true, false, if◌then◌else◌, List, [], ⊎_elim, slice_index, refl, ap, sym, subst, ◌∙◌, arith}
 use Rattle.std.proofs.lemmas.Bool.{and_left, and_parts, and_right, cases_lt, le-leb, leb-true, ne_eqb}
-use Rattle.std.proofs.lemmas.List.{get_or_push}
-use Rattle.bitm_block.proofs.HeaderLemmas.{section_at, sections_len}
-use Rattle.bitm_block.specs.Header.{count_in, section_in, sections_in}
-use Rattle.bitm_block.specs.Layout.{no_section}
+use Rattle.bitm_block.specs.Header.{count_in, section_in}
 use Rattle.bitm_block.specs.declared.head.Head.{Head}
 use Rattle.bitm_block.specs.declared.layout.Section.{Section}
 use Rattle.block_sections.proofs.ExtendLemmas.{count_is}
 use Rattle.block_sections.specs.Extended.{IsExtended}
-use Rattle.extended_blocks.proofs.KeptLemmas.{role_is, tables_are}
+use Rattle.extended_blocks.proofs.KeptLemmas.{last_role, role_is, tables_are}
 use Rattle.extended_blocks.specs.Matrices.{AddsNoQuarters, KeepsMatrix}
 use Rattle.bitm_tables.specs.Tables.{Lists}
 use Rattle.block_tables.specs.Sections.{tables_in}
@@ -25,13 +22,6 @@ abbrev matrix_with : Lists → ℕ → ℕ → List ℕ → List ℕ → List �
 matrix_with lists n w ones zeros quarters = record { levels = levels_with n w ones zeros quarters; lists = lists }
 
 module _ (block : List ℕ) (added : Section) (words new : List ℕ) (none : AddsNoQuarters block added) (is : IsExtended block added words new) where
-  last_role : slice_index new (16 + 4 * count_in block) ≡ added.role
-  last_role =
-      ap (λ (s : Section). s.role)
-      (sym (section_at new (count_in block) no_section (omega (arith, count_is block added words new is)))
-      ∙ ap (λ (l : List Section). get_or l (count_in block) no_section) is.sections_are
-      ∙ get_or_push (sections_in block) added no_section (count_in block) (sections_len block))
-
   -- the sixth section is that of quarters exactly where it was
   with_six : 6 ≤ count_in block → has_quarters new ≡ has_quarters block
   with_six six =
@@ -41,7 +31,7 @@ module _ (block : List ℕ) (added : Section) (words new : List ℕ) (none : Add
 
   with_five : count_in block ≡ 5 → added.role ≢ 6 → has_quarters new ≡ has_quarters block
   with_five five other =
-      let role : slice_index new 36 ≡ added.role = ap (λ n. slice_index new (16 + 4 * n)) (sym five) ∙ last_role in
+      let role : slice_index new 36 ≡ added.role = ap (λ n. slice_index new (16 + 4 * n)) (sym five) ∙ last_role block added words new is in
       and_right (nat_le 6 (count_in new)) (slice_index new 36 == 6) (ap (λ r. r == 6) role ∙ ne_eqb added.role 6 other)
       ∙ sym (and_left (nat_le 6 (count_in block)) (slice_index block 36 == 6) (ap (nat_le 6) five))
 

@@ -5,9 +5,10 @@
 #![tactic(auto)]
 
 // What is in each file:
-// - `laws`: sequences, sparse bits, bits with their index, trees, tries and matrices
+// - `laws`: sequences, sparse bits, bits with their index, trees, tries, matrices, hashes, strings and texts
 mod laws;
 
 pub use laws::{
-    keeps_indexes, keeps_matrices, keeps_sequences, keeps_sparse_bits, keeps_trees, keeps_tries,
+    keeps_dictionaries, keeps_hashes, keeps_indexes, keeps_matrices, keeps_seeded_hashes,
+    keeps_sequences, keeps_sparse_bits, keeps_strings, keeps_texts, keeps_trees, keeps_tries,
 };
