@@ -1,5 +1,5 @@
 -- A hash in a block that is extended is that of before: plain, with seeds, or a dictionary.
-use Rattle.std.proofs.Common.{◌≡◌, ◌⊎◌, ◌↔◌, ℕ, ◌+◌, ◌*◌, ◌<◌, ◌≤◌, Bool, List, Option, length, slice_index, inl, inr, ⊎_elim, ap, sym, subst, ◌∙◌, arith}
+use Rattle.std.proofs.Common.{◌≡◌, ◌⊎◌, ℕ, ◌+◌, ◌*◌, ◌<◌, ◌≤◌, List, length, slice_index, inl, inr, ⊎_elim, ap, sym, subst, ◌∙◌, arith}
 use Rattle.std.proofs.lemmas.Bool.{cases_lt}
 use Rattle.bitm_tables.specs.Tables.{bits_in, Lists}
 use Rattle.bitm_block.specs.Header.{count_in, section_in}
@@ -10,7 +10,7 @@ use Rattle.block_sections.specs.Extended.{IsExtended}
 use Rattle.block_tables.specs.Sections.{tables_in}
 use Rattle.extended_blocks.proofs.KeptLemmas.{last_role, role_is, table_sections, tables_are}
 use Rattle.extended_blocks.specs.Hashes.{AddsKeys, KeepsDictionary, KeepsHash, KeepsSeeded}
-use Rattle.hash_block.specs.Block.{hash_in, IsBlockOf, IsHashBlock, IsSoundBlock}
+use Rattle.hash_block.specs.Block.{hash_in, IsHashBlock, IsSoundBlock}
 use Rattle.hash_block.specs.Dictionary.{dictionary_in, number_of_key, AreKeys, DictionaryParts, IsDictionary, IsDictionaryBlock, IsSoundDictionary, StandAtNumbers}
 use Rattle.hash_block.specs.Parts.{HashParts, HasLengths, IsHash}
 use Rattle.seeded_block.specs.Block as seeded

@@ -37,7 +37,7 @@ module _ (block : List ℕ) (added : Section) (words new : List ℕ) (is : IsExt
       ∙ ap (λ u. lists_of (section_in block 0) u (section_in new 2)) (is.kept 1 (omega (arith, three)))
       ∙ ap (λ l. lists_of (section_in block 0) (section_in block 1) l) (is.kept 2 (omega (arith, three)))
 
-  table_sections : (kind : ℕ) → HasTableSections kind block → HasTableSections kind new
+  pub table_sections : (kind : ℕ) → HasTableSections kind block → HasTableSections kind new
   table_sections kind has = record {
     kind_is = ap (λ (h : Head). h.kind) is.head_is ∙ has.kind_is;
     three = omega (arith, has.three, count_is block added words new is);
