@@ -1872,8 +1872,8 @@ BITM_MUST_USE uint32_t bitm_sequence_block_check(const uint64_t *block, size_t b
 /* ---- sections of your own: notes, samples and the like, in a block of any kind
  *
  * A block may have sections of yours after those of its kind: of a role from 65536 on, whose items are bytes, eight in a
- * word. Readers of the kind step over them, so a block of a sequence opens as that sequence still. A block has at most
- * 16 sections; docs/FORMAT.md says which roles the kinds have, and what they mean.
+ * word. Readers of the kind step over them, so a block of any kind opens as what it was. A block has at most 16 sections;
+ * docs/FORMAT.md says which roles the kinds have, what they mean, and when a section of role 5 or 6 is one of the kind's.
  *
  *     uint64_t plain_words, noted_words;
  *     if (bitm_sequence_block_size(5, 11, &plain_words) != BITM_OK) return 1;
