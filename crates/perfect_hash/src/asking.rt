@@ -107,10 +107,11 @@ pub fn total_number_on<T: TableSource>(
         (number_by sizes.now (bits_in (T.lists source.old)) hash ≡ None) }
     ensures reads { OnlyReads T.lists T.reads source.old source.new 1 1 (length sizes.now + 8) }
 {
-    total_number_by_on(source, &Plain, sizes, count, hash)
+    total_number_by_on(source, &Plain, sizes, count, hash, &mut no_reads())
 }
 
-/// As `total_number_on`, where `placing` says where hashes fall: at most one seed a level is read too.
+/// As `total_number_on`, where `placing` says where hashes fall; the seeds that it reads are counted too, at most one a
+/// level.
 #[inline]
 pub fn total_number_by_on<T: TableSource, P: Placing>(
     source: &mut T,
@@ -118,6 +119,7 @@ pub fn total_number_by_on<T: TableSource, P: Placing>(
     sizes: &[usize],
     count: usize,
     hash: u64,
+    reads: &mut ReadCounts,
 ) -> Answer<usize>
     requires sized { HasSizes (T.lists source.old) }
     requires few { length sizes.now ≤ 256 }
@@ -129,8 +131,9 @@ pub fn total_number_by_on<T: TableSource, P: Placing>(
     ensures none { IfAbsent result (number_in (fall_in (P.fall placing.now) sizes.now) sizes.now
         (bits_in (T.lists source.old)) hash ≡ None) }
     ensures reads { OnlyReads T.lists T.reads source.old source.new 1 1 (length sizes.now + 8) }
+    ensures seeds { ReadsAtMost reads.old reads.new 0 0 (length sizes.now) }
 {
-    match place_on(source, placing, sizes, hash, &mut no_reads()) {
+    match place_on(source, placing, sizes, hash, reads) {
         Answer::Found(place) => {
             // no rank exceeds its position
             let most = count.min(place + 1);

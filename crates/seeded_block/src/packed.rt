@@ -9,7 +9,7 @@ ghost use Rattle.seeded_block.specs.Seeds.{seed_of, seeds_of};
 
 use bit_words::words;
 use bitm_tables::source::counts::ReadCounts;
-use hash_levels::{Placing, place_seeded, spread_at};
+use hash_levels::{Placing, no_reads, place_seeded, spread_at};
 use lent_tables::clear;
 use std::alloc::{AllocError, Global};
 use std::marker::Model;
@@ -95,6 +95,17 @@ impl<'a> PackedSeeds<'a> {
             0
         }
     }
+
+    /// Seed `k`, which is counted; 0 where there is none.
+    #[inline(always)]
+    fn read(&self, k: usize, reads: &mut ReadCounts) -> u8
+        requires { k < 2 ^ 58 }
+        ensures seed { result ≡ slice_index self.now k }
+        ensures counted { reads.new ≡ word_read reads.old }
+    {
+        reads.read_word();
+        self.get(k)
+    }
 }
 
 impl<'a> Placing for PackedSeeds<'a> {
@@ -114,9 +125,9 @@ impl<'a> Placing for PackedSeeds<'a> {
         reads: &mut ReadCounts,
     ) -> usize {
         let word = word_of(spread_at(hash, level), words);
-        let seed = [self.get(begin + word)];
-        // Its bit of the word is that of a level of one word.
-        64 * word + place_seeded(seed.as_slice(), 0, hash, level, 1, reads)
+        let seed = [self.read(begin + word, reads)];
+        // Its bit of the word is that of a level of one word, whose seed is counted already.
+        64 * word + place_seeded(seed.as_slice(), 0, hash, level, 1, &mut no_reads())
     }
 
     fn add_level(

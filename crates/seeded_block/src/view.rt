@@ -10,6 +10,7 @@ use crate::packed::PackedSeeds;
 use bitm_tables::answer::Answer;
 use bitm_tables::source::counts::ReadCounts;
 use hash_block::HashView;
+use hash_levels::no_reads;
 use perfect_hash::total_number_by_on;
 use std::marker::Model;
 
@@ -106,26 +107,28 @@ impl<'a> SeededView<'a> {
         self.get_counted(hash).0
     }
 
-    /// What `get` answers, and what was read of the words and tables for it, whatever the memory holds: at most one
-    /// word of each level, and one upper entry, one lower entry and eight words for the rank. Of each level at most one
-    /// seed is read too (evident from the code).
+    /// What `get` answers, and what was read for it, whatever the memory holds: of the words and tables at most one
+    /// word of each level, and one upper entry, one lower entry and eight words for the rank; of the seeds, counted as
+    /// words, at most one for each level.
     ///
     /// ```
-    /// hash.get_counted(9).1;   // of one level at most 9 words
+    /// hash.get_counted(9);   // of one level at most 9 words, and one seed
     /// ```
     #[inline]
-    pub fn get_counted(&self, hash: u64) -> (Answer<usize>, ReadCounts)
+    pub fn get_counted(&self, hash: u64) -> (Answer<usize>, ReadCounts, ReadCounts)
         ensures below { IsBelow self.now.hash.keys result.0 }
         ensures number { IsHash self.now.hash → IsNumbered (seeded_number self.now hash) result.0 }
         ensures fit { IfAbsent result.0
             (FitIn (length self.now.hash.lists.words) self.now.hash.sizes) }
         ensures none { IfAbsent result.0 (seeded_number self.now hash ≡ None) }
         ensures reads { ReadsAtMost none_read result.1 1 1 (length self.now.hash.sizes + 8) }
+        ensures seeds { ReadsAtMost none_read result.2 0 0 (length self.now.hash.sizes) }
     {
-        let parts = &self.hash;
+        let (parts, mut seeds) = (&self.hash, no_reads());
+        let (sizes, keys) = (parts.sizes(), parts.keys());
         let mut probe = parts.tables().probe();
-        let number = total_number_by_on(&mut probe, &self.seeds, parts.sizes(), parts.keys(), hash);
-        (number, probe.into_reads())
+        let number = total_number_by_on(&mut probe, &self.seeds, sizes, keys, hash, &mut seeds);
+        (number, probe.into_reads(), seeds)
     }
 
     /// Whether the tables are those of the words, these those of levels of these sizes, and there is a 1 bit for each
