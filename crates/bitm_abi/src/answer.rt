@@ -54,15 +54,11 @@ pub fn report<T: Copy>(answer: Answer<T>, out: &mut T) -> u32
 pub fn report_both(answer: Answer<(usize, usize)>, first: &mut usize, second: &mut usize) -> u32
     ensures { IsReported answer result (first.old, second.old) (first.new, second.new) }
 {
-    match answer {
-        Answer::Found((one, two)) => {
-            *first = one;
-            *second = two;
-            OK
-        }
-        Answer::Absent => NONE,
-        Answer::Wrong => WRONG,
-    }
+    let mut both = (*first, *second);
+    let status = report(answer, &mut both);
+    *first = both.0;
+    *second = both.1;
+    status
 }
 
 /// A truth as 0 or 1.

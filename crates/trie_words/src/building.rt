@@ -59,7 +59,8 @@ fn write_block(
 ///
 /// # Errors
 /// `NotWords` and `NotSorted` exactly where `nodes` answers them; else `WrongLength` exactly where n is 2^57 or more,
-/// the scratch is not that long, or the block has not `trie_block::size(n, 8, true)` words. The block stays as it was then.
+/// the scratch is not that long, or the block has not `trie_block::size(n, 8, true)` words. The block stays as it was
+/// then.
 /// # Cost
 /// That of `grow` and of `trie_block::build`. Nothing is allocated.
 ///
