@@ -36,9 +36,7 @@ mod sequence_lists;
 mod shards;
 mod tree;
 
-pub use answer::{
-    BAD_SIZE, NONE, OK, UNSORTED, WRONG, as_number, done, report, report_both, tell,
-};
+pub use answer::{BAD_SIZE, NONE, OK, UNSORTED, WRONG, as_number, done, report, report_both, tell};
 pub use counts::{ListCounts, code_of, report_list};
 pub use hash::{Hash, LentHash, SeededHash};
 pub use hash_blocks::{hash_at, hash_view};

@@ -1,5 +1,5 @@
 //! A perfect hash in a block: how many words it takes, writing it, opening it as a hash and checking it.
-ghost use Rattle.std.specs.Prelude.{◌≡◌, ◌≢◌, ◌*◌, ◌<◌, ◌≤◌, ◌↔◌, ◌⊎◌, length};
+ghost use Rattle.std.specs.Prelude.{◌≡◌, ◌≢◌, ◌↔◌, ◌⊎◌};
 ghost use Rattle.bit_lists.specs.Bits.{bits_of};
 ghost use Rattle.bitm_block.specs.Layout.{end_of};
 ghost use Rattle.hash_block.specs.Block.{hash_in, hash_sections, AreFew, CanHold, IsBlockOf, IsHashBlock, IsSoundBlock};

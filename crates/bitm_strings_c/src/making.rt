@@ -1,5 +1,5 @@
 //! The block of strings: how many words it takes, writing it, opening it and checking it.
-ghost use Rattle.std.specs.Prelude.{◌≡◌, ◌≢◌, ◌*◌, ◌≤◌, ◌↔◌, ◌⊎◌, length};
+ghost use Rattle.std.specs.Prelude.{◌≡◌, ◌≢◌, ◌↔◌, ◌⊎◌};
 ghost use Rattle.bitm_block.specs.Layout.{end_of};
 ghost use Rattle.string_block.specs.Block.{sections_of, strings_in};
 ghost use Rattle.string_block.specs.Block.{AreFew, IsBlockOf, IsSoundBlock, IsStringBlock, NumberStrings};

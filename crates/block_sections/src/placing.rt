@@ -1,5 +1,5 @@
 //! The sections of a block and one more, and their words where the new block has them.
-ghost use Rattle.std.specs.Prelude.{◌≡◌, ◌+◌, ◌<◌, ◌≤◌, length, take};
+ghost use Rattle.std.specs.Prelude.{◌≡◌, ◌+◌, ◌<◌, length, take};
 ghost use Rattle.bitm_block.specs.Header.{count_in};
 ghost use Rattle.block_sections.specs.Extended.{body_in, sections_with, HasRoom, StandsIn};
 

@@ -22,13 +22,7 @@ fn has_block_room(count: usize, scratch: usize, block: usize) -> bool
 }
 
 /// Writes the block of the trie of words for which there is room.
-fn write_block(
-    bytes: &[u8],
-    starts: &[usize],
-    count: usize,
-    scratch: &mut [u64],
-    block: &mut [u64],
-)
+fn write_block(bytes: &[u8], starts: &[usize], count: usize, scratch: &mut [u64], block: &mut [u64])
     requires can { CanBuild bytes.now starts.now scratch.old block.old }
     requires count { count ≡ nodes_of (words_in bytes.now starts.now) }
     ensures { IsBlockOfWords (words_in bytes.now starts.now) block.new }
