@@ -36,7 +36,7 @@ pub fn samples_room(words_len: usize, log2: u32) -> usize
 }
 
 impl<'a> Samples<'a> {
-    /// No samples: a selection with them goes by the tables alone (evident from the code).
+    /// No samples.
     #[inline(always)]
     pub fn none() -> Samples<'a>
         ensures { HasNoSamples result }
