@@ -1510,18 +1510,17 @@ BITM_MUST_USE uint32_t bitm_trie_nodes_of_words(const uint8_t *bytes, size_t byt
 
 /* Writes the block of the trie of sorted words, which are given as to bitm_trie_nodes_of_words, with labels of 8 bits and
  * ends: bitm_trie_find_bytes of a word finds a node, and bitm_trie_is_end says that a word ends there, exactly if it is
- * one of them. Of n nodes, scratch has 2 n - 1 numbers and room has n - 1 + ceil(n / 64); what they hold afterwards is not
- * said. BITM_BAD_SIZE and BITM_WRONG as that call; else BITM_BAD_SIZE if they are not as long as that, or
- * bitm_trie_size(n, 8, true, ..) does not say block_len. Allocates nothing, and needs no other memory. scratch, room and
- * block may overlap neither each other nor what is read. Five passes over the starts, four over the bytes, and those of
- * bitm_trie_build (evident from the code).
+ * one of them. BITM_BAD_SIZE and BITM_WRONG as that call; else BITM_BAD_SIZE if scratch_len is not
+ * 3 n - 2 + ceil(n / 64) for n nodes, or bitm_trie_size(n, 8, true, ..) does not say block_len. What scratch holds is
+ * overwritten. Allocates nothing. scratch and block may overlap neither each other nor what is read. Five passes over the
+ * starts, four over the bytes, and those of bitm_trie_build (evident from the code).
  *
- *     uint64_t numbers_of[9], labels_of[5], grown_len;
+ *     uint64_t parts_of[14], grown_len;
  *     if (bitm_trie_size(5, 8, true, &grown_len) != BITM_OK) return 1;
  *     uint64_t *grown = malloc(8 * grown_len);
  *     struct bitm_trie of_grown = {0};
  *     if (!grown ||
- *         bitm_trie_build_words(letters_of, 5, starts_of, 4, numbers_of, 9, labels_of, 5, grown, grown_len) != BITM_OK ||
+ *         bitm_trie_build_words(letters_of, 5, starts_of, 4, parts_of, 14, grown, grown_len) != BITM_OK ||
  *         bitm_trie_open(grown, grown_len, &of_grown) != BITM_OK ||
  *         bitm_trie_find_bytes(&of_grown, (const uint8_t *)"abe", 3, &node) != BITM_OK || node != 4 ||
  *         bitm_trie_is_end(&of_grown, node, &value) != BITM_OK || value != 1 ||
@@ -1529,8 +1528,8 @@ BITM_MUST_USE uint32_t bitm_trie_nodes_of_words(const uint8_t *bytes, size_t byt
  *         bitm_trie_is_end(&of_grown, node, &value) != BITM_OK || value != 0) return 1;
  *     free(grown); */
 BITM_MUST_USE uint32_t bitm_trie_build_words(const uint8_t *bytes, size_t bytes_len, const uint64_t *starts,
-                                             size_t starts_len, uint64_t *scratch, size_t scratch_len, uint64_t *room,
-                                             size_t room_len, uint64_t *block, size_t block_len);
+                                             size_t starts_len, uint64_t *scratch, size_t scratch_len, uint64_t *block,
+                                             size_t block_len);
 
 /* Opens a block: writes the trie that queries take, which points into the block. *trie has to be zeros, or a trie
  * whose block is still there. BITM_WRONG exactly if the header or the directory of the block is not right, or is that

@@ -5,7 +5,7 @@
 
 enum { NODES = 250 };
 #include "plain_tree.h"
-enum { OF_BYTES = OF_MORE, OF_STARTS, OF_SCRATCH, OF_ROOM, OF_GROWN, OF_DEGREES, OF_LABELS, OF_ENDS };
+enum { OF_BYTES = OF_MORE, OF_STARTS, OF_SCRATCH, OF_GROWN, OF_DEGREES, OF_LABELS, OF_ENDS };
 
 /* A trie as arrays, whose labels are bytes; the root's label is not one. A word ends at each leaf, and at other nodes.
  */
@@ -65,14 +65,13 @@ static uint32_t nodes_of(const uint8_t *bytes, size_t bytes_len, const uint64_t 
 
 /* Builds into a block that is untouched where it is refused. */
 static uint32_t build(const uint8_t *bytes, size_t bytes_len, const uint64_t *starts, size_t starts_len,
-                      size_t scratch_len, size_t room_len, size_t block_len, uint64_t **block)
+                      size_t scratch_len, size_t block_len, uint64_t **block)
 {
-    uint64_t *const scratch = untouched_at(OF_SCRATCH, 8 * scratch_len), *const room =
-                                                                             untouched_at(OF_ROOM, 8 * room_len);
+    uint64_t *const scratch = untouched_at(OF_SCRATCH, 8 * scratch_len);
     *block = untouched_at(OF_GROWN, 8 * block_len);
     const uint32_t status =
         bitm_trie_build_words(given(OF_BYTES, bytes, bytes_len), bytes_len, given(OF_STARTS, starts, 8 * starts_len),
-                              starts_len, scratch, scratch_len, room, room_len, *block, block_len);
+                              starts_len, scratch, scratch_len, *block, block_len);
     MUST(status == BITM_OK || is_untouched(*block, 8 * block_len));
     return status;
 }
@@ -84,19 +83,15 @@ static void grown_as(const struct plain *trie, const struct words *words)
     uint64_t nodes, size, *block;
     MUST(nodes_of(words->bytes, bytes, words->starts, words->count + 1, &nodes) == BITM_OK && nodes == len);
     MUST(bitm_trie_size(len, 8, true, &size) == BITM_OK);
-    MUST(build(words->bytes, bytes, words->starts, words->count + 1, 2 * len - 1, len - 1 + ends, size, &block) ==
-         BITM_OK);
+    MUST(build(words->bytes, bytes, words->starts, words->count + 1, 3 * len - 2 + ends, size, &block) == BITM_OK);
     uint64_t *const wanted = untouched_at(OF_BLOCK, 8 * size);
     MUST(bitm_trie_build(given(OF_DEGREES, trie->tree.degrees, 8 * len), len,
                          given(OF_LABELS, trie->labels + 1, 8 * len - 8), len - 1, 8,
                          given(OF_ENDS, trie->ends, 8 * ends), ends, wanted, size) == BITM_OK);
     MUST(memcmp(block, wanted, 8 * size) == 0 && bitm_trie_check(block, size) == BITM_OK);
-    for (size_t i = 0; i < 6; i++) { /* another length */
-        const size_t lens[3] = {2 * len - 1 - (i == 0) + (i == 1), len - 1 + ends - (i == 2) + (i == 3),
-                                size - (i == 4) + (i == 5)};
-        if (i == 2 && len - 1 + ends == 0) continue;
-        MUST(build(words->bytes, bytes, words->starts, words->count + 1, lens[0], lens[1], lens[2], &block) ==
-             BITM_BAD_SIZE);
+    for (size_t i = 0; i < 4; i++) { /* another length */
+        const size_t lens[2] = {3 * len - 2 + ends - (i == 0) + (i == 1), size - (i == 2) + (i == 3)};
+        MUST(build(words->bytes, bytes, words->starts, words->count + 1, lens[0], lens[1], &block) == BITM_BAD_SIZE);
     }
 }
 
@@ -119,7 +114,7 @@ static void refused(const char *bytes, size_t bytes_len, const uint64_t *starts,
 {
     uint64_t nodes, *block;
     MUST(nodes_of((const uint8_t *)bytes, bytes_len, starts, starts_len, &nodes) == wanted && nodes == UNTOUCHED);
-    MUST(build((const uint8_t *)bytes, bytes_len, starts, starts_len, 9, 5, 80, &block) == wanted);
+    MUST(build((const uint8_t *)bytes, bytes_len, starts, starts_len, 14, 80, &block) == wanted);
 }
 
 static void no_words(void)

@@ -257,10 +257,10 @@ private:
         if (status == BITM_WRONG) return unsorted(bytes, starts);
         if (status == BITM_OK) status = bitm_trie_size(nodes, 8, true, &len);
         if (status != BITM_OK) return detail::bad_size("2^57 nodes or more");
-        const detail::block scratch(2 * nodes - 1), room(nodes - 1 + (nodes + 63) / 64);
+        const detail::block scratch(3 * nodes - 2 + (nodes + 63) / 64);
         detail::block all(len);
         status = bitm_trie_build_words(from, bytes.size(), starts.data(), starts.size(), scratch.data(), scratch.size(),
-                                       room.data(), room.size(), all.data(), all.size());
+                                       all.data(), all.size());
         if (status != BITM_OK) return detail::error_of(status);
         return opened(std::move(all), verify::no);
     }

@@ -62,9 +62,9 @@ export class Trie {
             all.forEach((it, k) => bytesAt(bytes + begins[k], it.length).set(it));
             const nodes = orThrow(calls.bitm_trie_nodes_of_words(...given), "the words", n);
             const size = orThrow(calls.bitm_trie_size(nodes, 8, 1), "the number of nodes", nodes);
-            const scratch = 2 * nodes - 1, rest = nodes - 1 + Math.ceil(nodes / 64);
-            return withRoom(8 * (scratch + rest), room => new Trie(new Made(size, block => {
-                must(calls.bitm_trie_build_words(...given, room, scratch, room + 8 * scratch, rest, block, size), "the words");
+            const room = 3 * nodes - 2 + Math.ceil(nodes / 64);
+            return withRoom(8 * room, scratch => new Trie(new Made(size, block => {
+                must(calls.bitm_trie_build_words(...given, scratch, room, block, size), "the words");
             })));
         });
     }

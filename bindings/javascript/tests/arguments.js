@@ -378,8 +378,8 @@ function ofWords() {
     const nodes = 1 + new Set(all.flatMap(it => Array.from(it, (_, k) => it.slice(0, k + 1)))).size, wrong = () => (r() % 20 ? 0 : 1);
     assert.equal(library.bitm_trie_size(BigInt(nodes), 8, 1, BigInt(ANSWER)), 0);
     return {
-        bytes: slot(109), bytes_len: text.length - wrong(), starts: slot(110), starts_len: begins.length - wrong(), scratch: slot(111), scratch_len: 2 * nodes - 1 + wrong(),
-        room: slot(111) + ROOM / 2, room_len: nodes - 1 + Math.ceil(nodes / 64) + wrong(), block: slot(98), block_len: Number(words(ANSWER, 1)[0]) - wrong(),
+        bytes: slot(109), bytes_len: text.length - wrong(), starts: slot(110), starts_len: begins.length - wrong(), scratch: slot(111),
+        scratch_len: 3 * nodes - 2 + Math.ceil(nodes / 64) + wrong(), block: slot(98), block_len: Number(words(ANSWER, 1)[0]) - wrong(),
     };
 }
 

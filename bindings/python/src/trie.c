@@ -75,8 +75,8 @@ static int trie_init(PyObject *self, PyObject *args, PyObject *keywords)
 /* Writes the block of the trie of words into memory of its own. -1 and an error. */
 static int grown(Memory *it, const uint8_t *bytes, size_t bytes_len, const uint64_t *starts, size_t starts_len)
 {
-    uint64_t nodes = 1, len = 0, *block = NULL, *scratch = NULL, *room = NULL;
-    size_t room_len = 0;
+    uint64_t nodes = 1, len = 0, *block = NULL, *scratch = NULL;
+    size_t scratch_len = 0;
     uint32_t status;
     Py_BEGIN_ALLOW_THREADS
     status = bitm_trie_nodes_of_words(bytes, bytes_len, starts, starts_len, &nodes);
@@ -84,16 +84,14 @@ static int grown(Memory *it, const uint8_t *bytes, size_t bytes_len, const uint6
     if (status == BITM_OK)
         status = bitm_trie_size((size_t)nodes, 8, true, &len);
     if (status == BITM_OK) {
-        room_len = (size_t)(nodes - 1 + (nodes + 63) / 64);
-        if ((block = block_room(it, len)) != NULL && (scratch = room_for(2 * nodes - 1)) != NULL &&
-            (room = room_for(room_len)) != NULL) {
+        scratch_len = (size_t)(3 * nodes - 2 + (nodes + 63) / 64);
+        if ((block = block_room(it, len)) != NULL && (scratch = room_for(scratch_len)) != NULL) {
             Py_BEGIN_ALLOW_THREADS
-            status = bitm_trie_build_words(bytes, bytes_len, starts, starts_len, scratch, (size_t)(2 * nodes - 1), room,
-                                           room_len, block, (size_t)len);
+            status =
+                bitm_trie_build_words(bytes, bytes_len, starts, starts_len, scratch, scratch_len, block, (size_t)len);
             Py_END_ALLOW_THREADS
         }
         free(scratch);
-        free(room);
     }
     if (!PyErr_Occurred() && status == BITM_OK)
         return trie_opened(it);

@@ -1,4 +1,5 @@
 pub mod Hash
+pub mod HashBlock
 pub mod Index
 pub mod Lengths
 pub mod Lists

@@ -1,5 +1,5 @@
 -- Samples as C passes them.
-use Rattle.std.specs.Prelude.{Bool, min, if◌then◌else◌}
+use Rattle.std.specs.Prelude.{◌≡◌, Bool, length, min, if◌then◌else◌}
 use Rattle.lent_tables.specs.declared.samples.LentSamples.{LentSamples}
 use Rattle.bitm_abi.specs.declared.samples.Samples.{Samples}
 use Rattle.bitm_abi.specs.declared.index.Index.{Index}
@@ -7,6 +7,11 @@ use Rattle.bitm_abi.specs.declared.index.Index.{Index}
 -- the samples as the library takes them
 abbrev pub lent_samples : Samples → LentSamples
 lent_samples s = record { samples = s.samples; starts = s.starts; log2 = min s.log2 31 }
+
+-- there are none
+pub record HasNoSamples (s : Samples) : Type 0 where
+  pub samples : length s.samples.now ≡ 0
+  pub starts : length s.starts.now ≡ 0
 
 -- an index's samples of one kind of bit
 abbrev pub samples_in : Bool → Index → Samples

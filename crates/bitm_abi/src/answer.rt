@@ -49,6 +49,18 @@ pub fn report<T: Copy>(answer: Answer<T>, out: &mut T) -> u32
     }
 }
 
+/// Reports an answer of two numbers by its status, and writes the numbers that were found.
+#[inline(always)]
+pub fn report_both(answer: Answer<(usize, usize)>, first: &mut usize, second: &mut usize) -> u32
+    ensures { IsReported answer result (first.old, second.old) (first.new, second.new) }
+{
+    let mut both = (*first, *second);
+    let status = report(answer, &mut both);
+    *first = both.0;
+    *second = both.1;
+    status
+}
+
 /// A truth as 0 or 1.
 #[inline(always)]
 pub fn as_number(answer: Answer<bool>) -> Answer<usize>

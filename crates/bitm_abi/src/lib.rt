@@ -8,6 +8,7 @@
 // - `answer`: statuses, and how an answer is reported by one
 // - `counts`: how a list of answers is reported, the number of its codes, and an answer as a code
 // - `hash`: a perfect hash, and the numbers of hashes
+// - `hash_blocks`: a hash in a block
 // - `header`: the header of a stored file: which lengths it can have, and how it is read
 // - `index`: an index
 // - `layout`: where each part of a file is
@@ -22,6 +23,7 @@
 mod answer;
 mod counts;
 mod hash;
+mod hash_blocks;
 mod header;
 mod index;
 mod layout;
@@ -34,9 +36,10 @@ mod sequence_lists;
 mod shards;
 mod tree;
 
-pub use answer::{BAD_SIZE, NONE, OK, UNSORTED, WRONG, as_number, done, report, tell};
+pub use answer::{BAD_SIZE, NONE, OK, UNSORTED, WRONG, as_number, done, report, report_both, tell};
 pub use counts::{ListCounts, code_of, report_list};
 pub use hash::{Hash, LentHash, SeededHash};
+pub use hash_blocks::{hash_at, hash_view};
 pub use header::{HEADER_WORDS, header_at, index_of, sequence_of};
 pub use index::Index;
 pub use layout::{Span, Stored};

@@ -1,7 +1,7 @@
 //! Samples as C passes them, and as the library takes them.
 ghost use Rattle.std.specs.Prelude.{◌≡◌, min};
 ghost use Rattle.lent_tables.specs.Samples.{enough_samples};
-ghost use Rattle.bitm_abi.specs.Samples.{lent_samples};
+ghost use Rattle.bitm_abi.specs.Samples.{lent_samples, HasNoSamples};
 
 use lent_tables::{LentSamples, samples_len};
 
@@ -36,6 +36,19 @@ pub fn samples_room(words_len: usize, log2: u32) -> usize
 }
 
 impl<'a> Samples<'a> {
+    /// No samples.
+    #[inline(always)]
+    pub fn none() -> Samples<'a>
+        ensures { HasNoSamples result }
+    {
+        Samples {
+            samples: &[],
+            starts: &[],
+            log2: 0,
+            reserved: 0,
+        }
+    }
+
     /// The samples as the library takes them.
     #[inline(always)]
     pub fn lent(&self) -> LentSamples<'a>

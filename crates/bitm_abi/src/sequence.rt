@@ -63,11 +63,7 @@ impl<'a> Sequence<'a> {
 fn samples_at<'a>(list: &[Samples<'a>], at: usize) -> LentSamples<'a> {
     match list.get(at) {
         Some(some) => some.lent(),
-        None => LentSamples {
-            samples: &[],
-            starts: &[],
-            log2: 0,
-        },
+        None => LentSamples::none(),
     }
 }
 

@@ -87,9 +87,16 @@ impl Section {
     }
 }
 
-/// How many words header and directory take with the given number of sections.
+/// How many words header and directory take with the given number of sections: where the first section begins.
+///
+/// # Conditions
+/// There are at most 16 sections.
+///
+/// ```
+/// head_len(1);   // 24: 16 words of the header and 4 of an entry, up to the next multiple of 8
+/// ```
 #[inline(always)]
-pub(crate) fn head_len(sections: usize) -> usize
+pub fn head_len(sections: usize) -> usize
     requires { sections ≤ 16 }
     ensures head { result ≡ head_of sections }
     ensures most { result ≤ 80 }

@@ -16,6 +16,7 @@
 
 // What is in each file:
 // - `checksum`: the checksum of words
+// - `copying`: items that are copied
 // - `error`: why words are no block, and why none was written
 // - `head`: the numbers of a header
 // - `layout`: where the sections stand
@@ -23,6 +24,7 @@
 // - `verifying`: whether the sections are as they were written
 // - `writing`: header, directory and checksums, written around the sections
 mod checksum;
+mod copying;
 mod error;
 mod head;
 mod layout;
@@ -31,8 +33,9 @@ mod verifying;
 mod writing;
 
 pub use checksum::{checksum_of, sees_one_word};
+pub use copying::copy_items;
 pub use error::{OpenError, WriteError};
 pub use head::Head;
-pub use layout::{ENTRY_WORDS, HEADER_WORDS, MOST_SECTIONS, Section, aligned, size};
+pub use layout::{ENTRY_WORDS, HEADER_WORDS, MOST_SECTIONS, Section, aligned, head_len, size};
 pub use reading::{Block, len_in};
 pub use writing::seal;

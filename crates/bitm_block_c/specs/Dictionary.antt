@@ -1,22 +1,16 @@
 -- A perfect hash and a dictionary in a block as C passes them, and what the exported calls answer.
 use Rattle.std.specs.Prelude.{ℕ, List}
 use Rattle.bitm_tables.specs.declared.answer.Answer.{Answer}
-use Rattle.bitm_abi.specs.Hash.{hash_lists}
+use Rattle.bitm_abi.specs.HashBlock.{hash_parts}
 use Rattle.bitm_abi.specs.Status.{Exported}
-use Rattle.bitm_abi.specs.declared.hash.Hash.{Hash}
 use Rattle.hash_block.specs.Dictionary.{DictionaryParts, HasKeys, IsDictionary, IsFound, IsHeld}
 use Rattle.hash_block.specs.Numbered.{CanHoldParts}
-use Rattle.hash_block.specs.Parts.{HashParts}
 use Rattle.bitm_block_c.specs.declared.dictionary.Dictionary.{Dictionary}
 
 -- A status is 0 where the answer was written, 1 where the number is no key, 2 where a length is wrong, and 3 where the
 -- parts are not those of a dictionary.
 
--- a hash, and the seed by which keys are hashed
-abbrev pub hash_parts : Hash → ℕ → HashParts
-hash_parts hash seed = record { lists = hash_lists hash; sizes = hash.sizes.now; keys = hash.keys; seed = seed }
-
--- and the keys, in the order of their numbers
+-- a hash, and the keys in the order of their numbers
 abbrev pub dictionary_parts : Dictionary → DictionaryParts
 dictionary_parts dictionary = record { hash = hash_parts dictionary.hash dictionary.seed; keys = dictionary.keys.now }
 

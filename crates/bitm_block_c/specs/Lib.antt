@@ -1,5 +1,4 @@
 pub mod Dictionary
-pub mod IndexBlock
 pub mod Section
 pub mod Seeded
 pub mod Sparse

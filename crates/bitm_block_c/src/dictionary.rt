@@ -3,8 +3,8 @@ ghost use Rattle.std.specs.Prelude.{SomeIff};
 ghost use Rattle.hash_block.specs.Dictionary.{HasKeys};
 ghost use Rattle.bitm_block_c.specs.Dictionary.{dictionary_parts};
 
-use bitm_abi::Hash;
-use hash_block::{DictionaryView, HashView};
+use bitm_abi::{Hash, hash_view};
+use hash_block::DictionaryView;
 
 /// A dictionary of numbers in the caller's memory: a hash, the keys in the order of their numbers, the seed that hashes
 /// each, and room.
@@ -27,8 +27,7 @@ impl<'a> Dictionary<'a> {
     pub(crate) fn view(&self) -> Option<DictionaryView<'a>>
         ensures { SomeIff result (HasKeys (dictionary_parts self.now)) (dictionary_parts self.now) }
     {
-        let tables = self.hash.lent()?;
-        let hash = HashView::over(tables, self.hash.sizes, self.hash.keys, self.seed)?;
+        let hash = hash_view(&self.hash, self.seed)?;
         DictionaryView::over(hash, self.keys)
     }
 }

@@ -6,8 +6,7 @@ ghost use Rattle.hash_block.specs.Dictionary.{IsDictionary, IsDictionaryBlock, I
 ghost use Rattle.bitm_block_c.specs.Dictionary.{dictionary_parts, IsWritable};
 
 use crate::dictionary::Dictionary;
-use crate::hash_blocks::hash_at;
-use bitm_abi::{BAD_SIZE, OK, WRONG};
+use bitm_abi::{BAD_SIZE, OK, WRONG, hash_at};
 use bitm_block::Block;
 use hash_block::{BuildError, build_keyed, check_dictionary, dictionary_size, open_dictionary};
 

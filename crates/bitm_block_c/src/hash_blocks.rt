@@ -1,18 +1,12 @@
 //! A perfect hash in a block: how many words it takes, writing it, opening it as a hash and checking it.
-ghost use Rattle.std.specs.Prelude.{◌≡◌, ◌≢◌, ◌*◌, ◌<◌, ◌≤◌, ◌↔◌, ◌⊎◌, length};
+ghost use Rattle.std.specs.Prelude.{◌≡◌, ◌≢◌, ◌↔◌, ◌⊎◌};
 ghost use Rattle.bit_lists.specs.Bits.{bits_of};
-ghost use Rattle.bitm_tables.specs.Tables.{HasSizes};
-ghost use Rattle.bitm_block.specs.Header.{count_in, section_in};
 ghost use Rattle.bitm_block.specs.Layout.{end_of};
-ghost use Rattle.block_tables.specs.Sections.{tables_in};
 ghost use Rattle.hash_block.specs.Block.{hash_in, hash_sections, AreFew, CanHold, IsBlockOf, IsHashBlock, IsSoundBlock};
-ghost use Rattle.bitm_abi.specs.Hash.{hash_lists};
-ghost use Rattle.bitm_block_c.specs.Dictionary.{hash_parts};
+ghost use Rattle.bitm_abi.specs.HashBlock.{hash_parts};
 
-use crate::index_blocks::no_samples;
-use bitm_abi::{BAD_SIZE, Hash, Index, OK, WRONG};
+use bitm_abi::{BAD_SIZE, Hash, OK, WRONG, hash_at};
 use bitm_block::Block;
-use block_tables::as_entries;
 use hash_block::{build, check, open, size};
 
 /// Writes how many words the block of a hash takes, whose levels have that many words together.
@@ -46,40 +40,6 @@ pub extern "C" fn bitm_hash_block_build(
     match build(words, sizes, seed, block) {
         Ok(()) => OK,
         Err(_) => BAD_SIZE,
-    }
-}
-
-/// The hash over the first three sections of a block and the sizes in section `i`, whose index has no samples.
-#[inline(always)]
-pub(crate) fn hash_at<'a>(block: &Block<'a>, i: usize) -> Hash<'a>
-    requires three { 3 ≤ count_in block.now }
-    requires inside { i < count_in block.now }
-    requires sized { HasSizes (tables_in block.now) }
-    ensures lists { hash_lists result ≡ tables_in block.now }
-    ensures bits { result.index.bits_len ≡ 64 * length (section_in block.now 0) }
-    ensures sizes { result.sizes.now ≡ section_in block.now i }
-    ensures keys { result.keys ≡ (hash_in block.now).keys }
-{
-    match (
-        block.section(0),
-        block.section(1),
-        block.section(2),
-        block.section(i),
-    ) {
-        (Some(words), Some(upper), Some(lower), Some(sizes)) => Hash {
-            index: Index {
-                words,
-                upper: as_entries(upper),
-                lower,
-                bits_len: 64 * words.len() as u64,
-                ones: no_samples(),
-                zeros: no_samples(),
-                reserved: [0; 2],
-            },
-            sizes: as_entries(sizes),
-            keys: block.head().len as usize,
-        },
-        _ => unreachable!(),
     }
 }
 

@@ -7,7 +7,7 @@ ghost use Rattle.bits_block.specs.Block.{bits_in_block, bits_sections, CanHold, 
 ghost use Rattle.bitm_tables.specs.Tables.{HasSizes, HasTables};
 ghost use Rattle.block_tables.specs.Sections.{tables_in};
 ghost use Rattle.bitm_abi.specs.Index.{cut_of};
-ghost use Rattle.bitm_block_c.specs.IndexBlock.{HasNoSamples};
+ghost use Rattle.bitm_abi.specs.Samples.{HasNoSamples};
 
 use bitm_abi::{BAD_SIZE, Index, OK, Samples, WRONG};
 use bitm_block::Block;
@@ -43,19 +43,6 @@ pub extern "C" fn bitm_index_block_build(words: &[u64], bits_len: u64, block: &m
     }
 }
 
-/// No samples.
-#[inline(always)]
-pub(crate) fn no_samples<'a>() -> Samples<'a>
-    ensures { HasNoSamples result }
-{
-    Samples {
-        samples: &[],
-        starts: &[],
-        log2: 0,
-        reserved: 0,
-    }
-}
-
 /// The index over the first three sections of a block, without samples.
 #[inline(always)]
 fn index_in<'a>(block: &Block<'a>) -> Index<'a>
@@ -70,8 +57,8 @@ fn index_in<'a>(block: &Block<'a>) -> Index<'a>
             upper: as_entries(upper),
             lower,
             bits_len: block.head().len,
-            ones: no_samples(),
-            zeros: no_samples(),
+            ones: Samples::none(),
+            zeros: Samples::none(),
             reserved: [0; 2],
         },
         _ => unreachable!(),

@@ -7,11 +7,10 @@ ghost use Rattle.hash_block.specs.Block.{AreFew, IsHashBlock};
 ghost use Rattle.seeded_block.specs.Block.{seeded_in, seeded_sections, seeds_in, CanHold, IsBlockOf};
 ghost use Rattle.seeded_block.specs.Block.{IsSeededBlock, IsSoundBlock};
 ghost use Rattle.seeded_block.specs.Seeds.{AreBytesOf};
-ghost use Rattle.bitm_block_c.specs.Dictionary.{hash_parts};
+ghost use Rattle.bitm_abi.specs.HashBlock.{hash_parts};
 ghost use Rattle.bitm_block_c.specs.Seeded.{seed_bytes, CanBeOpened};
 
-use crate::hash_blocks::hash_at;
-use bitm_abi::{BAD_SIZE, OK, SeededHash, WRONG};
+use bitm_abi::{BAD_SIZE, OK, SeededHash, WRONG, hash_at};
 use bitm_block::Block;
 use seeded_block::{build, check, open, size};
 

@@ -1,9 +1,8 @@
 -- Strings in a block as C passes them, and what the exported calls answer.
 use Rattle.std.specs.Prelude.{◌≡◌, ℕ, ◌-◌, ◌^◌, ◌<◌, List, length, slice_index}
 use Rattle.bitm_tables.specs.declared.answer.Answer.{Answer}
-use Rattle.bitm_abi.specs.Hash.{hash_lists}
+use Rattle.bitm_abi.specs.HashBlock.{hash_parts}
 use Rattle.bitm_abi.specs.Status.{Exported}
-use Rattle.bitm_abi.specs.declared.hash.Hash.{Hash}
 use Rattle.hash_block.specs.Parts.{HasLengths, HashParts}
 use Rattle.string_block.specs.Block.{CanHold}
 use Rattle.string_block.specs.Parts.{AreStrings, HasStarts, IsFound, IsHeld, IsNotWrong, IsPiece, StringParts}
@@ -12,11 +11,7 @@ use Rattle.bitm_strings_c.specs.declared.strings.Strings.{Strings}
 -- A status is 0 where the answer was written, 1 where there is no such string or number, 2 where a length is wrong, and 3
 -- where the parts are not those of strings.
 
--- a hash, and the seed of the hashes
-abbrev pub hash_parts : Hash → ℕ → HashParts
-hash_parts hash seed = record { lists = hash_lists hash; sizes = hash.sizes.now; keys = hash.keys; seed = seed }
-
--- and where strings begin, and their bytes
+-- a hash, where strings begin, and their bytes
 abbrev pub string_parts : Strings → StringParts
 string_parts strings = record {
   hash = hash_parts strings.hash strings.seed;

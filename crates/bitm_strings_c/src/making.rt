@@ -1,20 +1,15 @@
 //! The block of strings: how many words it takes, writing it, opening it and checking it.
-ghost use Rattle.std.specs.Prelude.{◌≡◌, ◌≢◌, ◌*◌, ◌≤◌, ◌↔◌, ◌⊎◌, length};
-ghost use Rattle.bitm_tables.specs.Tables.{HasSizes};
-ghost use Rattle.bitm_block.specs.Header.{count_in, section_in};
+ghost use Rattle.std.specs.Prelude.{◌≡◌, ◌≢◌, ◌↔◌, ◌⊎◌};
 ghost use Rattle.bitm_block.specs.Layout.{end_of};
-ghost use Rattle.block_tables.specs.Sections.{tables_in};
-ghost use Rattle.hash_block.specs.Block.{hash_in};
 ghost use Rattle.string_block.specs.Block.{sections_of, strings_in};
 ghost use Rattle.string_block.specs.Block.{AreFew, IsBlockOf, IsSoundBlock, IsStringBlock, NumberStrings};
 ghost use Rattle.string_block.specs.Parts.{string_number};
-ghost use Rattle.bitm_abi.specs.Hash.{hash_lists};
-ghost use Rattle.bitm_strings_c.specs.Strings.{hash_parts, string_parts, IsWritable};
+ghost use Rattle.bitm_abi.specs.HashBlock.{hash_parts};
+ghost use Rattle.bitm_strings_c.specs.Strings.{string_parts, IsWritable};
 
-use crate::strings::{Strings, hash_view};
-use bitm_abi::{BAD_SIZE, Hash, Index, OK, Samples, WRONG};
+use crate::strings::Strings;
+use bitm_abi::{BAD_SIZE, Hash, OK, WRONG, hash_at, hash_view};
 use bitm_block::Block;
-use block_tables::as_entries;
 use string_block::{BuildError, StringsView, build, check, open, size};
 
 /// Writes how many words the block of that many strings takes, which have that many bytes together, and the levels of
@@ -73,50 +68,6 @@ pub extern "C" fn bitm_strings_build(
     }
 }
 
-/// No samples.
-#[inline(always)]
-fn no_samples<'a>() -> Samples<'a> {
-    Samples {
-        samples: &[],
-        starts: &[],
-        log2: 0,
-        reserved: 0,
-    }
-}
-
-/// The hash over the first four sections of a block, whose index has no samples.
-#[inline(always)]
-fn hash_at<'a>(block: &Block<'a>) -> Hash<'a>
-    requires four { 4 ≤ count_in block.now }
-    requires sized { HasSizes (tables_in block.now) }
-    ensures lists { hash_lists result ≡ tables_in block.now }
-    ensures bits { result.index.bits_len ≡ 64 * length (section_in block.now 0) }
-    ensures sizes { result.sizes.now ≡ section_in block.now 3 }
-    ensures keys { result.keys ≡ (hash_in block.now).keys }
-{
-    match (
-        block.section(0),
-        block.section(1),
-        block.section(2),
-        block.section(3),
-    ) {
-        (Some(words), Some(upper), Some(lower), Some(sizes)) => Hash {
-            index: Index {
-                words,
-                upper: as_entries(upper),
-                lower,
-                bits_len: 64 * words.len() as u64,
-                ones: no_samples(),
-                zeros: no_samples(),
-                reserved: [0; 2],
-            },
-            sizes: as_entries(sizes),
-            keys: block.head().len as usize,
-        },
-        _ => unreachable!(),
-    }
-}
-
 /// What C is passed for strings whose hash is that of a block.
 #[inline(always)]
 fn strings_of<'a>(view: &StringsView<'a>, hash: Hash<'a>) -> Strings<'a>
@@ -151,7 +102,7 @@ pub extern "C" fn bitm_strings_open<'a>(block: &'a [u64], strings: &mut Strings<
     let Ok(nested) = Block::open(first) else {
         return WRONG;
     };
-    *strings = strings_of(&view, hash_at(&nested));
+    *strings = strings_of(&view, hash_at(&nested, 3));
     OK
 }
 

@@ -1,16 +1,14 @@
 //! Which number each string has, and which string each number.
 ghost use Rattle.std.specs.Prelude.{◌≡◌, ◌≢◌, ◌-◌, ◌^◌, ◌<◌, ◌↔◌, ℕ, length, slice_index};
 ghost use Rattle.bitm_abi.specs.Lists.{AreCounted};
-ghost use Rattle.bitm_abi.specs.Status.{IsReported};
 ghost use Rattle.bitm_view.specs.Queries.{selected_by};
 ghost use Rattle.string_block.specs.Given.{given, len_of, AreGiven};
 ghost use Rattle.string_block.specs.Parts.{HasStarts};
 ghost use Rattle.bitm_strings_c.specs.Strings.{string_parts, FindAnswered, GetAnswered, IsNumberOf};
 
 use crate::strings::Strings;
-use bitm_abi::{BAD_SIZE, ListCounts, NONE, OK, WRONG, code_of, report, report_list};
+use bitm_abi::{BAD_SIZE, ListCounts, code_of, report, report_both, report_list};
 use bitm_select::search::selected::WRONG_TABLES;
-use bitm_tables::answer::Answer;
 use string_block::{StringsView, are_given};
 
 /// The number of a string.
@@ -78,22 +76,6 @@ pub extern "C" fn bitm_strings_find_list(
     }
     find_each(&view, bytes, ends, &mut *out);
     report_list(true, &*out, counts)
-}
-
-/// Reports an answer of two numbers by its status, and writes the numbers that were found.
-#[inline(always)]
-fn report_both(answer: Answer<(usize, usize)>, first: &mut usize, second: &mut usize) -> u32
-    ensures { IsReported answer result (first.old, second.old) (first.new, second.new) }
-{
-    match answer {
-        Answer::Found((one, two)) => {
-            *first = one;
-            *second = two;
-            OK
-        }
-        Answer::Absent => NONE,
-        Answer::Wrong => WRONG,
-    }
 }
 
 /// Where the string of a number begins among the bytes, and how many it has.

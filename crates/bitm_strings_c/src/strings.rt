@@ -1,11 +1,9 @@
 //! Strings in a block as C passes them, and as the library queries them.
 ghost use Rattle.std.specs.Prelude.{SomeIff};
-ghost use Rattle.hash_block.specs.Parts.{HasLengths};
 ghost use Rattle.string_block.specs.Parts.{HasStarts};
-ghost use Rattle.bitm_strings_c.specs.Strings.{hash_parts, string_parts};
+ghost use Rattle.bitm_strings_c.specs.Strings.{string_parts};
 
-use bitm_abi::Hash;
-use hash_block::HashView;
+use bitm_abi::{Hash, hash_view};
 use string_block::StringsView;
 
 /// Strings of bytes in the caller's memory: a hash, where the string of each number begins and the last one ends, the
@@ -23,15 +21,6 @@ pub struct Strings<'a> {
     pub seed: u64,
     /// Room for later versions; this one does not read it.
     pub reserved: [u64; 2],
-}
-
-/// A hash as the library queries it; `None` exactly where a length is not right.
-#[inline(always)]
-pub(crate) fn hash_view<'a>(hash: &Hash<'a>, seed: u64) -> Option<HashView<'a>>
-    ensures { SomeIff result (HasLengths (hash_parts hash.now seed)) (hash_parts hash.now seed) }
-{
-    let tables = hash.lent()?;
-    HashView::over(tables, hash.sizes, hash.keys, seed)
 }
 
 impl<'a> Strings<'a> {

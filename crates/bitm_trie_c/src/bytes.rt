@@ -2,8 +2,7 @@
 ghost use Rattle.bitm_trie_c.specs.Trie.{FindAnswered, LongestAnswered};
 
 use crate::trie::Trie;
-use crate::words::report_both;
-use bitm_abi::{BAD_SIZE, report};
+use bitm_abi::{BAD_SIZE, report, report_both};
 
 /// `bitm_trie_find` of a word whose labels are bytes.
 #[unsafe(no_mangle)]

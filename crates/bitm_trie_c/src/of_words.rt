@@ -29,23 +29,21 @@ pub extern "C" fn bitm_trie_nodes_of_words(bytes: &[u8], starts: &[usize], out: 
     }
 }
 
-/// Writes the block of the trie of these words, with room for its degrees and parents, and for its labels
-/// and ends.
+/// Writes the block of the trie of these words; what the scratch has is overwritten.
 #[unsafe(no_mangle)]
 pub extern "C" fn bitm_trie_build_words(
     bytes: &[u8],
     starts: &[usize],
-    scratch: &mut [usize],
-    room: &mut [u64],
+    scratch: &mut [u64],
     block: &mut [u64],
 ) -> u32
-    ensures ok { (result ≡ 0) ↔ CanBuild bytes.now starts.now scratch.old room.old block.old }
+    ensures ok { (result ≡ 0) ↔ CanBuild bytes.now starts.now scratch.old block.old }
     ensures wrong { (result ≡ 3) ↔ AreUnsorted bytes.now starts.now }
     ensures status { (result ≡ 0) ⊎ (result ≡ 2) ⊎ (result ≡ 3) }
     ensures block { result ≡ 0 → IsBlockOfWords (words_in bytes.now starts.now) block.new }
     ensures kept { result ≢ 0 → block.new ≡ block.old }
 {
-    match build(bytes, starts, scratch, room, block) {
+    match build(bytes, starts, scratch, block) {
         Ok(()) => OK,
         Err(WordsError::NotSorted) => WRONG,
         Err(WordsError::NotWords) => BAD_SIZE,

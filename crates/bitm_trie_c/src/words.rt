@@ -1,10 +1,8 @@
 //! Nodes of a trie in a block by their words.
-ghost use Rattle.bitm_abi.specs.Status.{IsReported};
 ghost use Rattle.bitm_trie_c.specs.Trie.{FindAnswered, LongestAnswered};
 
 use crate::trie::Trie;
-use bitm_abi::{BAD_SIZE, NONE, OK, WRONG, report};
-use bitm_tables::answer::Answer;
+use bitm_abi::{BAD_SIZE, report, report_both};
 
 /// The node to which a word leads from the root.
 #[unsafe(no_mangle)]
@@ -14,26 +12,6 @@ pub extern "C" fn bitm_trie_find(trie: &Trie<'_>, word: &[u64], out: &mut usize)
     match trie.view() {
         Some(view) => report(view.find(word), out),
         None => BAD_SIZE,
-    }
-}
-
-/// Reports an answer of two numbers by its status, and writes the numbers that were found.
-#[inline(always)]
-pub(crate) fn report_both(
-    answer: Answer<(usize, usize)>,
-    first: &mut usize,
-    second: &mut usize,
-) -> u32
-    ensures { IsReported answer result (first.old, second.old) (first.new, second.new) }
-{
-    match answer {
-        Answer::Found((one, two)) => {
-            *first = one;
-            *second = two;
-            OK
-        }
-        Answer::Absent => NONE,
-        Answer::Wrong => WRONG,
     }
 }
 

@@ -64,16 +64,6 @@ impl<'a> Model for IndexView<'a> {
     ghost invariant = { λ i. IsSizedCut (cut_at i.tables i.len) };
 }
 
-/// No samples.
-#[inline(always)]
-fn no_samples<'a>() -> LentSamples<'a> {
-    LentSamples {
-        samples: [].as_slice(),
-        starts: [].as_slice(),
-        log2: 0,
-    }
-}
-
 impl<'a> IndexView<'a> {
     /// A view of the first `len` bits, without samples; `None` exactly where there are fewer bits.
     #[inline(always)]
@@ -88,8 +78,8 @@ impl<'a> IndexView<'a> {
         Some(IndexView {
             tables,
             len,
-            ones: no_samples(),
-            zeros: no_samples(),
+            ones: LentSamples::none(),
+            zeros: LentSamples::none(),
         })
     }
 

@@ -5,8 +5,8 @@ ghost use Rattle.bitm_block.specs.Layout.{end_of, words_of, AreShort};
 ghost use Rattle.block_sections.specs.Extended.{sections_with, CanExtend, FitsWith, HasRoom, IsExtended};
 
 use crate::error::ExtendError;
-use crate::placing::{copy_parts, head_len, list_sections};
-use bitm_block::{Block, MOST_SECTIONS, Section, aligned, seal};
+use crate::placing::{copy_parts, list_sections};
+use bitm_block::{Block, MOST_SECTIONS, Section, aligned, head_len, seal};
 
 /// How many words an opened block takes with one section more.
 fn size_with(block: &Block<'_>, added: &Section) -> Option<usize>

@@ -1,35 +1,9 @@
 //! The sections of a block and one more, and their words where the new block has them.
-ghost use Rattle.std.specs.Prelude.{◌≡◌, ◌+◌, ◌<◌, ◌≤◌, length, take};
+ghost use Rattle.std.specs.Prelude.{◌≡◌, ◌+◌, ◌<◌, length, take};
 ghost use Rattle.bitm_block.specs.Header.{count_in};
-ghost use Rattle.bitm_block.specs.Layout.{head_of};
 ghost use Rattle.block_sections.specs.Extended.{body_in, sections_with, HasRoom, StandsIn};
 
-use bitm_block::{Block, ENTRY_WORDS, HEADER_WORDS, Section, aligned};
-
-/// How many words header and directory take with the given number of sections.
-#[inline(always)]
-pub(crate) fn head_len(sections: usize) -> usize
-    requires { sections ≤ 16 }
-    ensures { result ≡ head_of sections }
-{
-    aligned(HEADER_WORDS + ENTRY_WORDS * sections)
-}
-
-/// Copies the words.
-fn copy_words(to: &mut [u64], from: &[u64])
-    requires { length to.old ≡ length from.now }
-    ensures { to.new ≡ from.now }
-{
-    let len = from.len();
-    // A loop over single words would be compiled to a call of C's `memcpy`, and the archive for C calls nothing.
-    for pair in 0..len / 2 {
-        to[2 * pair] = from[2 * pair];
-        to[2 * pair + 1] = from[2 * pair + 1];
-    }
-    if len % 2 == 1 {
-        to[len - 1] = from[len - 1];
-    }
-}
+use bitm_block::{Block, Section, copy_items, head_len};
 
 /// Writes the sections of a block to the front of a list, and one more after them.
 pub(crate) fn list_sections(block: &Block<'_>, added: &Section, list: &mut [Section])
@@ -57,7 +31,7 @@ pub(crate) fn copy_parts(block: &Block<'_>, added: &Section, words: &[u64], to: 
     let body = &block.words()[head_len(count)..];
     let (_head, rest) = to.split_at_mut(head_len(count + 1));
     let (kept, rest) = rest.split_at_mut(body.len());
-    copy_words(kept, body);
+    copy_items(kept, body);
     let (part, _gap) = rest.split_at_mut(words.len());
-    copy_words(part, words);
+    copy_items(part, words);
 }

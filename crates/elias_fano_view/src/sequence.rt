@@ -45,16 +45,6 @@ fn item_of(low: &mut LowDigits<'_>, n: usize, place: usize, one: usize) -> Answe
     Answer::Found(item_at_one(one, low, place))
 }
 
-/// No samples of a kind: selections go by the tables alone.
-#[inline(always)]
-fn no_samples<'a>() -> LentSamples<'a> {
-    LentSamples {
-        samples: &[],
-        starts: &[],
-        log2: 0,
-    }
-}
-
 /// The borrowed parts of a sequence, whose lengths are right.
 ///
 /// Contracts see the number of numbers, the number of low bits of each, and the lists. The lists may hold anything:
@@ -103,8 +93,8 @@ impl<'a> LentSequence<'a> {
             width,
             low,
             upper,
-            ones: no_samples(),
-            zeros: no_samples(),
+            ones: LentSamples::none(),
+            zeros: LentSamples::none(),
         })
     }
 

@@ -12,28 +12,12 @@ use crate::error::BuildError;
 use crate::levels::are_levels;
 use crate::sections::{block_len, hash_head, hash_sections};
 use bitm::RankSelect101111;
-use bitm_block::{aligned, seal};
+use bitm_block::{aligned, copy_items, seal};
 use bitm_strategies::{Select0ForRank101111, SelectForRank101111};
-use block_tables::{as_entries, as_entries_mut, fill_tables};
+use block_tables::{as_entries_mut, fill_tables};
 use lent_tables::{lower_len, upper_len};
 use perfect_hash::PerfectHash;
 use std::convert::AsSlice;
-
-/// Copies numbers.
-fn copy(to: &mut [usize], from: &[usize])
-    requires { length to.old ≡ length from.now }
-    ensures { to.new ≡ from.now }
-{
-    let len = from.len();
-    // A loop over single numbers would be compiled to a call of C's `memcpy`, and the archive for C calls nothing.
-    for pair in 0..len / 2 {
-        to[2 * pair] = from[2 * pair];
-        to[2 * pair + 1] = from[2 * pair + 1];
-    }
-    if len % 2 == 1 {
-        to[len - 1] = from[len - 1];
-    }
-}
 
 /// Writes the words of levels, their tables and their sizes where a block has them, and returns how many 1 bits there
 /// are: for who writes a block with these sections and others.
@@ -63,8 +47,8 @@ pub fn write_levels(
     ensures parts { AreParts words.now sizes.now upper.new lower.new to_sizes.new }
     ensures ones { result ≡ ones_of (bits_of words.now) }
 {
-    copy(as_entries_mut(to), as_entries(words));
-    copy(as_entries_mut(to_sizes), sizes);
+    copy_items(to, words);
+    copy_items(as_entries_mut(to_sizes), sizes);
     fill_tables(words, upper, lower)
 }
 

@@ -1,5 +1,5 @@
 //! Borrowed samples, and the room that they need.
-ghost use Rattle.std.specs.Prelude.{◌≡◌, ◌≤◌};
+ghost use Rattle.std.specs.Prelude.{◌≡◌, ◌≤◌, []};
 ghost use Rattle.bitm_strategies.specs.Density.{clamped_log};
 ghost use Rattle.lent_tables.specs.Samples.{enough_samples};
 
@@ -25,6 +25,25 @@ pub struct LentSamples<'a> {
     pub starts: &'a [usize],
     /// The logarithm of the number of bits that share a sample; it is clamped to 7 to 31.
     pub log2: u8,
+}
+
+impl<'a> LentSamples<'a> {
+    /// No samples: a selection with them goes by the tables alone (evident from the code).
+    ///
+    /// ```
+    /// LentSamples::none().samples;   // []
+    /// ```
+    #[inline(always)]
+    pub fn none() -> LentSamples<'a>
+        ensures samples { result.samples.now ≡ [] }
+        ensures starts { result.starts.now ≡ [] }
+    {
+        LentSamples {
+            samples: &[],
+            starts: &[],
+            log2: 0,
+        }
+    }
 }
 
 /// The room for samples of one kind of the given number of words: ceil(words / 2^(`log2` - 6)) samples. The logarithm

@@ -58,16 +58,14 @@ fn told(trie: &TrieView<'_>, word: &[u8]) -> usize {
 
 #[test]
 fn a_block_of_words_finds_them(rt: HostRuntime) -> Result<(), Fail> {
-    let mut numbers = [7usize; 17];
-    let mut words = [7u64; 9];
+    let mut scratch = [7u64; 26];
     let mut block = [7u64; 80];
     assert!(rt; size(9, 8, true) == Some(80));
     assert!(rt;
         build(
             BYTES.as_slice(),
             STARTS.as_slice(),
-            numbers.as_mut_slice(),
-            words.as_mut_slice(),
+            scratch.as_mut_slice(),
             block.as_mut_slice()
         )
         .is_ok()

@@ -11,26 +11,10 @@ use crate::error::BuildError;
 use crate::given::are_labels;
 use crate::sections::{block_len, is_shape, label_words, trie_head, trie_sections};
 use bit_words::words;
-use bitm_block::{aligned, seal};
+use bitm_block::{aligned, copy_items, seal};
 use lent_tables::clear;
 use louds::is_tree;
 use louds_block::{Lens, write_tree};
-
-/// Copies the words.
-fn copy_words(to: &mut [u64], from: &[u64])
-    requires { length to.old ≡ length from.now }
-    ensures { to.new ≡ from.now }
-{
-    let len = from.len();
-    // A loop over single words would be compiled to a call of C's `memcpy`, and the archive for C calls nothing.
-    for pair in 0..len / 2 {
-        to[2 * pair] = from[2 * pair];
-        to[2 * pair + 1] = from[2 * pair + 1];
-    }
-    if len % 2 == 1 {
-        to[len - 1] = from[len - 1];
-    }
-}
 
 /// Writes each label at its index.
 fn write_labels(words: &mut [u64], labels: &[u64], width: u8)
@@ -64,7 +48,7 @@ fn write_parts(degrees: &[usize], labels: &[u64], width: u8, ends: &[u64], block
     let (label_part, _gap) = room.split_at_mut(labels_len);
     write_labels(label_part, labels, width);
     let (end_part, _gap) = rest.split_at_mut(ends.len());
-    copy_words(end_part, ends);
+    copy_items(end_part, ends);
 }
 
 /// Writes the header and the directory of a trie.

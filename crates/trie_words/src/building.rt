@@ -7,35 +7,28 @@ ghost use Rattle.trie_words.specs.Words.{nodes_of, words_in};
 use crate::error::WordsError;
 use crate::growing::write_parts;
 use crate::words::nodes;
+use block_tables::as_entries_mut;
 use trie_block::size;
 
 /// Whether there is room for the block of the trie of that many nodes, and to write it.
-fn has_block_room(count: usize, numbers: usize, words: usize, block: usize) -> bool
+fn has_block_room(count: usize, scratch: usize, block: usize) -> bool
     requires { 1 ≤ count }
-    ensures { IsTrue result ↔ HasBlockRoom count numbers words block }
+    ensures { IsTrue result ↔ HasBlockRoom count scratch block }
 {
     match size(count, 8, true) {
-        Some(len) => {
-            block == len && numbers == 2 * count - 1 && words == count - 1 + count.div_ceil(64)
-        }
+        Some(len) => block == len && scratch == 3 * count - 2 + count.div_ceil(64),
         None => false,
     }
 }
 
 /// Writes the block of the trie of words for which there is room.
-fn write_block(
-    bytes: &[u8],
-    starts: &[usize],
-    count: usize,
-    numbers: &mut [usize],
-    words: &mut [u64],
-    block: &mut [u64],
-)
-    requires can { CanBuild bytes.now starts.now numbers.old words.old block.old }
+fn write_block(bytes: &[u8], starts: &[usize], count: usize, scratch: &mut [u64], block: &mut [u64])
+    requires can { CanBuild bytes.now starts.now scratch.old block.old }
     requires count { count ≡ nodes_of (words_in bytes.now starts.now) }
     ensures { IsBlockOfWords (words_in bytes.now starts.now) block.new }
 {
-    let (degrees, parents) = numbers.split_at_mut(count);
+    let (numbers, words) = scratch.split_at_mut(2 * count - 1);
+    let (degrees, parents) = as_entries_mut(numbers).split_at_mut(count);
     let (labels, ends) = words.split_at_mut(count - 1);
     write_parts(
         bytes,
@@ -54,41 +47,39 @@ fn write_block(
 /// Writes the block of the trie of sorted words, with labels of 8 bits, which `TrieView::open` opens and `check`
 /// accepts. A word of bytes leads from its root to a node at which a word ends exactly where it is one of the words.
 ///
-/// The words stand in `bytes` as for `nodes`, which says how many nodes there are, n. `numbers` is room for 2 n - 1
-/// numbers, and `words` for n - 1 + ceil(n / 64) words; what they hold afterwards is not said.
+/// The words stand in `bytes` as for `nodes`, which says how many nodes there are, n. The scratch has
+/// 3 n - 2 + ceil(n / 64) words: for the degrees of the nodes, their parents, their labels and where words end. What it
+/// holds afterwards is not said.
 ///
 /// # Errors
 /// `NotWords` and `NotSorted` exactly where `nodes` answers them; else `WrongLength` exactly where n is 2^57 or more,
-/// or the numbers, the words or the block are not as many as this takes: the block takes
-/// `trie_block::size(n, 8, true)`. The block stays as it was then.
+/// the scratch is not that long, or the block has not `trie_block::size(n, 8, true)` words. The block stays as it was
+/// then.
 /// # Cost
 /// That of `grow` and of `trie_block::build`. Nothing is allocated.
 ///
 /// ```
-/// let mut numbers = [0usize; 9];
-/// let mut words = [0u64; 5];
+/// let mut scratch = [0u64; 14];
 /// let mut block = [0u64; 80];     // trie_block::size(5, 8, true) words
 /// // the words a, abe and b
-/// build(b"aabeb".as_slice(), &[0, 1, 4, 5], numbers.as_mut_slice(), words.as_mut_slice(),
-///     block.as_mut_slice());      // Ok(())
+/// build(b"aabeb".as_slice(), &[0, 1, 4, 5], scratch.as_mut_slice(), block.as_mut_slice());   // Ok(())
 /// ```
 pub fn build(
     bytes: &[u8],
     starts: &[usize],
-    numbers: &mut [usize],
-    words: &mut [u64],
+    scratch: &mut [u64],
     block: &mut [u64],
 ) -> Result<(), WordsError>
     ensures error { IfErr result
-        (IsBuildReason bytes.now starts.now numbers.old words.old block.old) }
-    ensures ok { IsOk result ↔ CanBuild bytes.now starts.now numbers.old words.old block.old }
+        (IsBuildReason bytes.now starts.now scratch.old block.old) }
+    ensures ok { IsOk result ↔ CanBuild bytes.now starts.now scratch.old block.old }
     ensures block { IfOk result (λ _. IsBlockOfWords (words_in bytes.now starts.now) block.new) }
     ensures kept { IfErr result (λ _. block.new ≡ block.old) }
 {
     let count = nodes(bytes, starts)?;
-    if !has_block_room(count, numbers.len(), words.len(), block.len()) {
+    if !has_block_room(count, scratch.len(), block.len()) {
         return Err(WordsError::WrongLength);
     }
-    write_block(bytes, starts, count, numbers, words, block);
+    write_block(bytes, starts, count, scratch, block);
     Ok(())
 }

@@ -20,11 +20,13 @@
 // - `frequent`: the most frequent numbers of a range
 // - `iterating`: the numbers as an iterator
 // - `matrix`: the type of a matrix
+// - `queries`: the calls of a matrix by index and by value
 // - `range_queries`: the calls of a matrix on ranges
 mod distinct;
 mod frequent;
 mod iterating;
 mod matrix;
+mod queries;
 mod range_queries;
 
 pub use distinct::DistinctValues;

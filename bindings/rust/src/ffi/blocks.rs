@@ -126,7 +126,7 @@ extern "C" {
     ) -> u32;
     pub fn bitm_trie_build_words(
         bytes: *const u8, bytes_len: usize, starts: *const u64, starts_len: usize, scratch: *mut u64,
-        scratch_len: usize, room: *mut u64, room_len: usize, block: *mut u64, block_len: usize,
+        scratch_len: usize, block: *mut u64, block_len: usize,
     ) -> u32;
     pub fn bitm_trie_open(block: *const u64, block_len: usize, trie: *mut bitm_trie) -> u32;
     pub fn bitm_trie_check(block: *const u64, block_len: usize) -> u32;

@@ -282,14 +282,12 @@ pub(crate) fn grown<W: AsRef<[u8]>>(words: &[W]) -> Result<Vec<u64>, BuildError>
     if unsafe { bitm_trie_size(nodes, 8, true, &mut size) } != OK {
         return Err(too_long);
     }
-    let (mut scratch, mut room) = (zeroed::<u64>(2 * nodes - 1)?, zeroed::<u64>(nodes - 1 + nodes.div_ceil(64))?);
+    let mut scratch = zeroed::<u64>(3 * nodes - 2 + nodes.div_ceil(64))?;
     let mut block = zeroed::<u64>(size as usize)?;
     let (at, begin) = ((bytes.as_ptr(), bytes.len()), (starts.as_ptr(), starts.len()));
-    let (first, second) = ((scratch.as_mut_ptr(), scratch.len()), (room.as_mut_ptr(), room.len()));
-    let (to, len) = (block.as_mut_ptr(), block.len());
-    // SAFETY: two shared slices, and three mutable ones, which overlap neither them nor each other.
-    match unsafe { bitm_trie_build_words(at.0, at.1, begin.0, begin.1, first.0, first.1, second.0, second.1, to, len) }
-    {
+    let ((room, room_len), (to, len)) = ((scratch.as_mut_ptr(), scratch.len()), (block.as_mut_ptr(), block.len()));
+    // SAFETY: two shared slices, and two mutable ones, which overlap neither them nor each other.
+    match unsafe { bitm_trie_build_words(at.0, at.1, begin.0, begin.1, room, room_len, to, len) } {
         OK => Ok(block),
         _ => Err(too_long),
     }

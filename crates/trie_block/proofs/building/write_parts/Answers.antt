@@ -50,10 +50,10 @@ returns c =
     let count : length d - 1 ≡ length ls = omega (arith, c.requires.trie.are_labels.count) in
     let labels_len : length c.write_labels.new.words ≡ c.label_words-labels_len.result =
     omega (arith, c.write_labels.ensures.len, c.split_at_mut-label_part.ensures.front_len) in
-    let ends_len = ap length c.copy_words.ensures in
+    let ends_len = ap length c.copy_items.ensures in
     stands d ls width c.args.ends.now c.split_at_mut-head.result.0.now c.write_tree.new.words c.split_at_mut-words.result.1.now
     c.write_tree.new.upper c.split_at_mut-upper.result.1.now c.write_tree.new.lower c.split_at_mut-lower.result.1.now
-    c.write_labels.new.words c.split_at_mut-label_part.result.1.now c.copy_words.new.to c.split_at_mut-end_part.result.1.now
+    c.write_labels.new.words c.split_at_mut-label_part.result.1.now c.copy_items.new.to c.split_at_mut-end_part.result.1.now
     c.split_at_mut-head.ensures.front_len (
       tree.words_len,
       omega (arith, tree.words_len, at.words, c.split_at_mut-words.ensures.back_len, c.split_at_mut-room.ensures.front_len, c.aligned.ensures),
@@ -100,5 +100,5 @@ returns c =
         len = labels_len ∙ len;
         held = ap (λ k. 0 ∷ numbers_of c.write_labels.new.words width k) count ∙ ap (λ xs. 0 ∷ xs) c.write_labels.ensures.labels;
       };
-      ends_kept = c.copy_words.ensures;
+      ends_kept = c.copy_items.ensures;
     })

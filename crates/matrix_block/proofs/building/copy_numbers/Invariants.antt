@@ -1,7 +1,0 @@
-use Rattle.std.proofs.Common.{◌*◌, slice_index}
-use Rattle.lent_tables.specs.Sizes.{IsFilled}
-use Rattle.matrix_block.proofs.building.copy_numbers.Given as goal
-
--- the numbers of the pairs so far
-abbrev pub invariant-loop-pair : goal.invariant-loop-pair
-invariant-loop-pair l = IsFilled (slice_index l.from) l.to (2 * l.pair)

@@ -1,0 +1,142 @@
+//! The calls of a matrix by index and by value.
+ghost use Rattle.std.specs.Prelude.{◌≡◌, ◌<◌, ◌≤◌, All, SomeIff, length, slice_index};
+ghost use Rattle.matrix_levels.specs.Numbers.{count_before, GetsEach, PicksItem, RanksEach, IsItemRank, IsItemSelect};
+
+use crate::matrix::WaveletMatrix;
+use bitm_strategies::{Select0ForRank101111, SelectForRank101111};
+
+impl<S: SelectForRank101111, S0: Select0ForRank101111> WaveletMatrix<S, S0> {
+    /// Number `i`.
+    ///
+    /// # Conditions
+    /// There is such a number.
+    /// # Cost
+    /// That of `Levels::get_on`.
+    #[inline]
+    pub fn get(&self, i: usize) -> u64
+        requires { i < length self.now.items }
+        ensures { result ≡ slice_index self.now.items i }
+    {
+        let (levels, mut probe) = self.parts();
+        levels.get_on(&mut probe, i)
+    }
+
+    /// Number `i`; `None` exactly where there is none.
+    #[inline]
+    pub fn try_get(&self, i: usize) -> Option<u64>
+        ensures { SomeIff result (i < length self.now.items) (slice_index self.now.items i) }
+    {
+        if i < self.len() {
+            Some(self.get(i))
+        } else {
+            None
+        }
+    }
+
+    /// For each index the number there; they go to `numbers` in the order of the indices, which are overwritten.
+    ///
+    /// # Conditions
+    /// There are as many `numbers` as `places`, and there is a number at each index.
+    /// # Cost
+    /// That of `Levels::get_many_on`: all go from level to level together.
+    pub fn get_many(&self, places: &mut [usize], numbers: &mut [u64])
+        requires same_length { length numbers.old ≡ length places.old }
+        requires inside { All (λ p. p < length self.now.items) places.old }
+        ensures { GetsEach self.now.items places.old numbers.new }
+    {
+        let (levels, mut probe) = self.parts();
+        levels.get_many_on(&mut probe, places, numbers);
+    }
+
+    /// How many of the first `i` numbers are this one.
+    ///
+    /// # Conditions
+    /// There are no fewer than `i` numbers.
+    /// # Cost
+    /// That of `Levels::rank_on`.
+    #[inline]
+    pub fn rank(&self, number: u64, i: usize) -> usize
+        requires { i ≤ length self.now.items }
+        ensures { result ≡ count_before self.now.items number i }
+    {
+        let (levels, mut probe) = self.parts();
+        levels.rank_on(&mut probe, number, i)
+    }
+
+    /// How many of the first `i` numbers are this one; `None` exactly where there are fewer numbers.
+    #[inline]
+    pub fn try_rank(&self, number: u64, i: usize) -> Option<usize>
+        ensures { IsItemRank self.now.items number i result }
+    {
+        if i <= self.len() {
+            Some(self.rank(number, i))
+        } else {
+            None
+        }
+    }
+
+    /// For each number and its index in `places`, how many numbers before that index equal it; the counts go to `ranks`
+    /// in this order.
+    ///
+    /// # Conditions
+    /// There are as many `numbers` and `ranks` as `places`, and no index is past the end.
+    /// # Cost
+    /// That of `Levels::rank_many_on`: all go from level to level together.
+    pub fn rank_many(&self, numbers: &[u64], places: &[usize], ranks: &mut [usize])
+        requires numbers { length numbers.now ≡ length places.now }
+        requires ranks { length ranks.old ≡ length places.now }
+        requires inside { All (λ p. p ≤ length self.now.items) places.now }
+        ensures { RanksEach self.now.items numbers.now places.now ranks.new }
+    {
+        let (levels, mut probe) = self.parts();
+        levels.rank_many_on(&mut probe, numbers, places, ranks);
+    }
+
+    /// Number `i`, and how many of the numbers before it are equal to it.
+    ///
+    /// # Conditions
+    /// There is such a number.
+    /// # Cost
+    /// That of `Levels::get_and_rank_on`: no more than `rank` takes.
+    ///
+    /// ```
+    /// // of 3, 1, 4, 1, 5, 1
+    /// m.get_and_rank(3)   // (1, 1): a 1, with one 1 before it
+    /// ```
+    #[inline]
+    pub fn get_and_rank(&self, i: usize) -> (u64, usize)
+        requires { i < length self.now.items }
+        ensures number { result.0 ≡ slice_index self.now.items i }
+        ensures count { result.1 ≡ count_before self.now.items result.0 i }
+    {
+        let (levels, mut probe) = self.parts();
+        levels.get_and_rank_on(&mut probe, i)
+    }
+
+    /// The index of this number with exactly `k` such numbers before it.
+    ///
+    /// # Conditions
+    /// There is one: there are more than `k` such numbers.
+    /// # Cost
+    /// For each level a selection, and for each that is not known from the table of starts a rank.
+    #[inline]
+    pub fn select(&self, number: u64, k: usize) -> usize
+        requires { k < count_before self.now.items number (length self.now.items) }
+        ensures { PicksItem self.now.items number k result }
+    {
+        let (levels, index, mut probe) = self.all_parts();
+        levels.select_by(index, &mut probe, number, k)
+    }
+
+    /// The index of this number with exactly `k` such numbers before it; `None` exactly where there is none.
+    ///
+    /// # Cost
+    /// For each level a selection, and two ranks, or one where it is known from the table of starts.
+    #[inline]
+    pub fn try_select(&self, number: u64, k: usize) -> Option<usize>
+        ensures { IsItemSelect self.now.items number k result }
+    {
+        let (levels, index, mut probe) = self.all_parts();
+        levels.try_select_by(index, &mut probe, number, k)
+    }
+}
