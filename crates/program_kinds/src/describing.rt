@@ -41,6 +41,7 @@ pub fn info<W: Write>(alloc: Global, block: &[u8], out: &mut W) -> Result<(), Fa
 }
 
 /// What is said of a block that has this number of bytes, and is as it was written.
+#[tactic(auto, using(crate::proofs::lemmas::SoundLemmas::sound_block))]
 fn described(block: &[u64], bytes: usize) -> Option<Description>
     ensures described { IfSome result (IsDescribed block.now bytes) }
     ensures wrong { IsNone result → ¬ (IsSound block.now) }

@@ -1,7 +1,6 @@
 -- What is said of a block is that of the kind that it says.
-use Rattle.std.proofs.Common.{◌≡◌, List, ℕ, Option, Some, length, subst}
+use Rattle.std.proofs.Common.{◌≡◌, List, ℕ, Option, Some, length}
 use Rattle.std.specs.Io.KnownBytes.{Appends}
-use Rattle.bitm_block.specs.Header.{head_in}
 use Rattle.program_blocks.specs.Bytes.{words_of_bytes}
 use Rattle.program_kinds.specs.Info.{info_text, IsDescribed, WroteInfo}
 use Rattle.program_kinds.specs.declared.describing.Description.{Description}

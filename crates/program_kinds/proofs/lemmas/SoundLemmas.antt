@@ -1,5 +1,5 @@
 -- What is known of a block that is of the kind that it says, or is not.
-use Rattle.std.proofs.Common.{◌≡◌, List, ℕ, None, Some, subst}
+use Rattle.std.proofs.Common.{◌≡◌, ◌↔◌, List, ℕ, Option, None, Some, is_some, refl, subst, IsTrue, SomeIff}
 use Rattle.bitm_block.specs.Header.{IsBlock}
 use Rattle.program_blocks.specs.Sound as numbers
 use Rattle.program_blocks.specs.declared.kind.Kind.{Kind as NumberKind}
@@ -15,6 +15,11 @@ same_kind block kind says h = let same : h.kind ≡ kind = cc in subst (λ k. Is
 
 pub no_kind : (block : List ℕ) → kind_in block ≡ None → ¬ (IsSound block)
 no_kind block says h = cc
+
+-- what is opened only where a fact holds says by being there that it does
+pub some_where : {T : Type 0} (o : Option T) (S : Type 0) (v : T) → SomeIff o S v → IsTrue (is_some o) ↔ S
+some_where (Some x) S v opened = (λ _. opened.0, λ _. refl)
+some_where None S v opened = (λ some. cc, λ holds. absurd (opened holds))
 
 -- header and directory of a sound block are right
 numbers_block : (kind : NumberKind) (block : List ℕ) → numbers.IsSoundOf kind block → IsBlock block
