@@ -4,4 +4,5 @@ odd arguments, answers that are replayed. `pytest tests/test_odd_runs.py` runs s
 import pathlib
 import sys
 
-sys.path.insert(0, str(pathlib.Path(__file__).resolve().parents[1] / "scripts"))
+TOP = pathlib.Path(__file__).resolve().parents[1]
+sys.path[:0] = [str(TOP / "scripts"), str(TOP / "bindings/tests")]

@@ -21,8 +21,8 @@ fn main(rt: HostRuntime) -> ExitCode {
     ExitCode::from(status)
 }
 
-/// Does what the arguments say, those after `text` to a text and those after `strings` to strings, and answers the
-/// status.
+/// Does what the arguments say: those after `text` to a text, those after `strings` to strings, `check` and `info` to a
+/// block of any kind, and all others to the numbers of a text. Answers the status.
 fn run<W: Write>(rt: &HostRuntime, args: &[String], out: &mut W) -> u8 {
     match args.split_first() {
         Some((word, rest)) if word.as_str() == "text" => {
@@ -30,6 +30,9 @@ fn run<W: Write>(rt: &HostRuntime, args: &[String], out: &mut W) -> u8 {
         }
         Some((word, rest)) if word.as_str() == "strings" => {
             program_strings::start(rt, rest, out, &mut rt.stderr())
+        }
+        Some((word, _)) if word.as_str() == "check" || word.as_str() == "info" => {
+            program_kinds::start(rt, args, out, &mut rt.stderr())
         }
         _ => program_blocks::start(rt, args, out, &mut rt.stderr()),
     }

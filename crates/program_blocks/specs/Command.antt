@@ -3,15 +3,13 @@ use Rattle.std.specs.Prelude.{ℕ, List, [], ◌∷◌, codes, Option, None, Som
 use Rattle.std.specs.Str.{bytes_eq}
 use Rattle.program_blocks.specs.Kind.{kind_named}
 use Rattle.program_blocks.specs.declared.command.Command.{Command}
-use Rattle.program_blocks.specs.declared.command.Command.TheVariants.{Build, Query, Check, Info}
+use Rattle.program_blocks.specs.declared.command.Command.TheVariants.{Build, Query}
 
 -- the command that a word and what follows it are
 abbrev pub command_of : List ℕ → List ℕ → Option Command
 command_of word operand =
     if bytes_eq word (codes "build") then option_map Build (kind_named operand)
     else if bytes_eq word (codes "query") then Some Query
-    else if bytes_eq word (codes "check") then Some Check
-    else if bytes_eq word (codes "info") then Some Info
     else None
 
 -- the command that these arguments are, and what follows its word: there are two of them

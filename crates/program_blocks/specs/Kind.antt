@@ -1,4 +1,4 @@
--- The kinds of blocks that the program reads.
+-- The kinds of blocks that hold the numbers of a text.
 use Rattle.std.specs.Prelude.{ℕ, List, codes, Bool, true, false, ◌==◌, Option, None, Some, length, nat_lt, slice_index, if◌then◌else◌}
 use Rattle.std.specs.Str.{bytes_eq}
 use Rattle.program_blocks.specs.declared.kind.Kind.{Kind}

@@ -3,7 +3,6 @@ pub mod Building
 pub mod Bytes
 pub mod Command
 pub mod Failure
-pub mod Info
 pub mod Kind
 pub mod Matrix
 pub mod Program

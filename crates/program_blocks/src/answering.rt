@@ -1,5 +1,5 @@
 //! The answers to the lines of a text.
-ghost use Rattle.std.specs.Prelude.{◌≡◌, ◌↔◌, IfOk, IfSome, IsErrOf, IsNone, IsSomeAnd, IsTrue};
+ghost use Rattle.std.specs.Prelude.{◌≡◌, IfOk, IfSome, IsErrOf, IsNone, IsSomeAnd};
 ghost use Rattle.program_text.specs.Text.{lines_of};
 ghost use Rattle.program_blocks.specs.Query.{Told, WroteAnswers, WroteReplies, WroteReply};
 ghost use Rattle.program_blocks.specs.Sound.{IsSoundFile, IsSoundOf};
@@ -9,7 +9,6 @@ use crate::bytes::words_of_bytes;
 use crate::failure::Failure;
 use crate::kind::{Kind, kind_in};
 use crate::matrix::open_matrix;
-use crate::opened::is_sound;
 use crate::queryable::Queryable;
 use crate::question::asked;
 use crate::reply::Reply;
@@ -18,27 +17,8 @@ use crate::sparse::open_sparse;
 use crate::tree::open_tree;
 use program_runs::CannotWrite;
 use program_text::Lines;
-use std::alloc::{AllocError, Global};
+use std::alloc::Global;
 use std::io::Write;
-
-/// Whether the bytes are a block that the program reads, and it is as it was written.
-///
-/// # Errors
-/// `AllocError` where memory was refused.
-/// # Cost
-/// A few passes over the block (evident from the code).
-///
-/// ```
-/// check(alloc, bytes);   // Ok(true) of what `build` wrote
-/// ```
-pub fn check(alloc: Global, block: &[u8]) -> Result<bool, AllocError>
-    ensures { IfOk result (λ good. IsTrue good ↔ IsSoundFile block.now) }
-{
-    match words_of_bytes(alloc, block)? {
-        Some(words) => Ok(is_sound(words.as_slice())),
-        None => Ok(false),
-    }
-}
 
 /// Writes the answers of a block to the lines of a text, in their order and each with a line feed, and answers whether
 /// each line was a question. Empty lines have no answer.

@@ -11,10 +11,6 @@ pub(crate) enum Command {
     Build(Kind),
     /// Answers the lines of the standard input by a block.
     Query,
-    /// Says whether a file is a block that is as it was written.
-    Check,
-    /// Says what a block's header has.
-    Info,
 }
 
 /// The command that the arguments are, with what follows its word; `None` where they are no command.
@@ -38,10 +34,6 @@ fn command_of(word: &str, operand: &str) -> Option<Command>
         kind_named(operand).map(Command::Build)
     } else if word == "query" {
         Some(Command::Query)
-    } else if word == "check" {
-        Some(Command::Check)
-    } else if word == "info" {
-        Some(Command::Info)
     } else {
         None
     }

@@ -1,10 +1,10 @@
-//! The kinds of blocks that the program reads.
+//! The kinds of blocks that hold the numbers of a text.
 ghost use Rattle.std.specs.Prelude.{◌≡◌};
 ghost use Rattle.program_blocks.specs.Kind.{kind_in, kind_named, order_of};
 
 use std::fmt;
 
-/// A kind of block that the program reads.
+/// A kind of block that holds the numbers of a text.
 #[derive(Clone, Copy, Debug, PartialEq, Eq)]
 pub enum Kind {
     /// Bits with their index.
@@ -55,8 +55,12 @@ pub(crate) fn kind_named(name: &str) -> Option<Kind>
     }
 }
 
-/// The kind that a block says it is of, if the program reads that kind.
-pub(crate) fn kind_in(block: &[u64]) -> Option<Kind>
+/// The kind that a block says it is of; `None` where it says that it is of another kind than these.
+///
+/// ```
+/// kind_in(block.as_slice());   // Some(Kind::Tree) where the second word is 7
+/// ```
+pub fn kind_in(block: &[u64]) -> Option<Kind>
     ensures { result ≡ kind_in block.now }
 {
     if block.len() < 2 {

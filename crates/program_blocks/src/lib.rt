@@ -7,12 +7,10 @@
 // - `building`: the block of the numbers in a text
 // - `bytes`: the words of a block as bytes
 // - `command`: the command that the arguments are
-// - `describing`: what a block's header says
 // - `failure`: why there is no answer
 // - `indices`: lists of numbers in memory that is found for them
 // - `kind`: the kinds of blocks
 // - `matrix`: blocks of a wavelet matrix
-// - `opened`: whether a block is as it was written
 // - `program`: the program without its process
 // - `queryable`: what answers questions
 // - `question`: the question of a line
@@ -25,12 +23,10 @@ mod bits;
 mod building;
 mod bytes;
 mod command;
-mod describing;
 mod failure;
 mod indices;
 mod kind;
 mod matrix;
-mod opened;
 mod program;
 mod queryable;
 mod question;
@@ -39,10 +35,9 @@ mod sequence;
 mod sparse;
 mod tree;
 
-pub use answering::{check, query};
+pub use answering::query;
 pub use building::build;
 pub use bytes::{words_of_bytes, write_words};
-pub use describing::info;
 pub use failure::Failure;
-pub use kind::Kind;
+pub use kind::{Kind, kind_in};
 pub use program::start;

@@ -1,13 +1,11 @@
 //! Blocks of a wavelet matrix: numbers in any order.
 ghost use Rattle.std.specs.Prelude.{◌≡◌, IfErr, IfOk, IfSome, SomeIff};
-ghost use Rattle.matrix_block.specs.Block.{matrix_in, HoldsMatrix};
+ghost use Rattle.matrix_block.specs.Block.{matrix_in, HoldsMatrix, IsSoundBlock};
 ghost use Rattle.program_blocks.specs.Matrix.{HasLeastWidth, IsMatrixOf};
-ghost use Rattle.program_blocks.specs.Sound.{IsSoundMatrix};
 ghost use Rattle.program_blocks.specs.Failure.{IsBlockFailure};
 
 use crate::failure::Failure;
 use crate::kind::Kind;
-use crate::opened::is_verified;
 use crate::queryable::Queryable;
 use crate::question::{Question, Word};
 use crate::reply::Reply;
@@ -53,15 +51,10 @@ pub(crate) fn block_of_matrix(alloc: Global, numbers: &[u64]) -> Result<Vec<u64>
 
 /// The matrix in a block that is as it was written.
 pub(crate) fn open_matrix(block: &[u64]) -> Option<MatrixView<'_>>
-    ensures opened { SomeIff result (IsSoundMatrix block.now) (matrix_in block.now) }
+    ensures opened { SomeIff result (IsSoundBlock block.now) (matrix_in block.now) }
     ensures holds { IfSome result HoldsMatrix }
 {
-    let matrix = MatrixView::open(block)?;
-    if is_verified(block) && matrix.check() {
-        Some(matrix)
-    } else {
-        None
-    }
+    MatrixView::open_checked(block)
 }
 
 impl<'a> Queryable for MatrixView<'a> {

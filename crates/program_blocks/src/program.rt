@@ -1,28 +1,25 @@
 //! The program without its process: its arguments, the files and the input that it reads, and the statuses and texts.
 ghost use Rattle.std.specs.Prelude.{◌≡◌, ◌≢◌, ◌≤◌, IfOk, IsErr, None, length, map, nat_eq, string_bytes};
 ghost use Rattle.program_blocks.specs.Command as command;
-ghost use Rattle.program_blocks.specs.Program.{Did, DidAsAsked, WroteCheck};
+ghost use Rattle.program_blocks.specs.Program.{Did, DidAsAsked};
 
-use crate::answering::{check, query};
+use crate::answering::query;
 use crate::building::build;
 use crate::command::{Command, command_in};
-use crate::describing::info;
 use crate::failure::Failure;
 use crate::kind::Kind;
 use program_runs::{Sources, Stop, end};
-use std::alloc::Global;
 use std::io::Write;
 
 /// What is written where the arguments are not those of a command.
 const USAGE: &str = "usage: bitm build KIND | bitm query BLOCK | bitm check BLOCK | bitm info BLOCK
-KIND is bits, sequence, sparse, matrix or tree; bitm text says what it does with a text";
+KIND is bits, sequence, sparse, matrix or tree; bitm text and bitm strings say what they do with a text";
 
 /// Does what the two arguments say, and answers the status that the program ends with.
 ///
 /// `args` are the arguments without the program's name: `build KIND` reads numbers, and `query BLOCK` questions, from
-/// the standard input; `check BLOCK` and `info BLOCK` read the file alone. The status is 0 where all went well, and 1
-/// where a line is no question or a block is wrong; then the command was done on the file that is named, and nothing
-/// was written to `err`.
+/// the standard input. The status is 0 where all went well, and 1 where a line is no question; then the command was
+/// done on the file that is named, and nothing was written to `err`.
 ///
 /// # Errors
 /// The status is 2, and a text goes to `err`, where the arguments are no command, where something can't be read, where
@@ -74,8 +71,6 @@ fn perform<R: Sources + AllocGlobal, W: Write>(
     match command {
         Command::Build(kind) => build_input(rt, kind, operand, out),
         Command::Query => query_file(rt, operand, out),
-        Command::Check => check_file(rt, operand, out),
-        Command::Info => info_file(rt, operand, out),
     }
 }
 
@@ -104,39 +99,4 @@ fn query_file<R: Sources + AllocGlobal, W: Write>(
     let block = rt.file(path)?;
     let questions = rt.input()?;
     Ok(query(rt.alloc(), block.as_slice(), questions.as_slice(), out)?)
-}
-
-/// Writes whether a file is a block that is as it was written.
-fn check_file<R: Sources + AllocGlobal, W: Write>(
-    rt: &R,
-    path: &str,
-    out: &mut W,
-) -> Result<bool, Stop<Failure>>
-    ensures { IfOk result (Did (R.known rt.now) Command.Check path.now (W.contents out.old) (W.contents out.new)) }
-{
-    Ok(write_check(rt.alloc(), rt.file(path)?.as_slice(), out)?)
-}
-
-/// Writes what the header of the block in a file has.
-fn info_file<R: Sources + AllocGlobal, W: Write>(
-    rt: &R,
-    path: &str,
-    out: &mut W,
-) -> Result<bool, Stop<Failure>>
-    ensures { IfOk result (Did (R.known rt.now) Command.Info path.now (W.contents out.old) (W.contents out.new)) }
-{
-    info(rt.alloc(), rt.file(path)?.as_slice(), out)?;
-    Ok(true)
-}
-
-/// Writes whether the bytes are a block that is as it was written, and answers that.
-fn write_check<W: Write>(alloc: Global, block: &[u8], out: &mut W) -> Result<bool, Failure>
-    ensures { IfOk result (λ good. WroteCheck block.now (W.contents out.old) (W.contents out.new) good) }
-{
-    let good = check(alloc, block)?;
-    let text = if good { "good" } else { "wrong" };
-    match writeln!(out, "{text}") {
-        Ok(()) => Ok(good),
-        Err(_) => Err(Failure::CannotWrite),
-    }
 }

@@ -1,5 +1,5 @@
-//! Blocks of each kind that are built of a text, queried and described; texts that no block is built of.
-use program_blocks::{Failure, Kind, build, check, info, query};
+//! Blocks of each kind that are built of a text and queried; texts that no block is built of.
+use program_blocks::{Failure, Kind, build, query};
 use std::process::Abort;
 use std::test::Fail;
 
@@ -23,28 +23,12 @@ fn expect_answers(
 ) -> Result<(), Fail> {
     let mut block = Vec::new(rt.alloc());
     build(rt.alloc(), kind, text.as_bytes(), &mut block)?;
-    assert!(rt; check(rt.alloc(), block.as_slice())?);
     let mut out = Vec::new(rt.alloc());
     assert_eq!(rt;
         query(rt.alloc(), block.as_slice(), questions.as_bytes(), &mut out)?,
         good
     );
     assert!(rt; out.as_slice() == answers.as_bytes());
-    Ok(())
-}
-
-/// Compares what is said of the block of a text.
-fn expect_info(
-    rt: &(impl Abort + AllocGlobal),
-    kind: Kind,
-    text: &str,
-    said: &str,
-) -> Result<(), Fail> {
-    let mut block = Vec::new(rt.alloc());
-    build(rt.alloc(), kind, text.as_bytes(), &mut block)?;
-    let mut out = Vec::new(rt.alloc());
-    info(rt.alloc(), block.as_slice(), &mut out)?;
-    assert!(rt; out.as_slice() == said.as_bytes());
     Ok(())
 }
 
@@ -134,20 +118,6 @@ fn a_tree_answers_by_its_degrees(rt: HostRuntime) -> Result<(), Fail> {
         "2\nnone\n1\n1\nnone\nbad question\n",
         false,
     )
-}
-
-#[test]
-fn the_header_of_each_kind_is_said(rt: HostRuntime) -> Result<(), Fail> {
-    let said = "kind bits\nlen 101\nwidth 0\nbytes 448\nbits_per_item 35.48\n";
-    expect_info(&rt, Kind::Bits, "3\n9\n100", said)?;
-    let said = "kind sequence\nlen 5\nwidth 1\nbytes 512\nbits_per_item 819.20\n";
-    expect_info(&rt, Kind::Sequence, "2\n3\n5\n5\n11", said)?;
-    let said = "kind sparse\nlen 3\nwidth 5\nbytes 512\nbits_per_item 1365.33\n";
-    expect_info(&rt, Kind::Sparse, "3\n9\n100", said)?;
-    let said = "kind tree\nlen 4\nwidth 0\nbytes 448\nbits_per_item 896.00\n";
-    expect_info(&rt, Kind::Tree, "2\n0\n1\n0", said)?;
-    let said = "kind bits\nlen 0\nwidth 0\nbytes 256\nbits_per_item none\n";
-    expect_info(&rt, Kind::Bits, "", said)
 }
 
 #[test]

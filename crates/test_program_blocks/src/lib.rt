@@ -1,4 +1,4 @@
-//! Tests of the program `bitm` less its process: what it builds, checks, answers and says, worked out by hand.
+//! Tests of `bitm build` and `bitm query` less their process: what they build and answer, worked out by hand.
 //!
 //! They stand in a crate of their own, since a crate with tests is proved twice.
 #![tactic(auto)]

@@ -1,5 +1,5 @@
-//! A block that is built of a text, checked, queried and described; other texts and other bytes in its place.
-use program_blocks::{Failure, Kind, build, check, info, query, start};
+//! A block that is built of a text and queried; other texts and other bytes in its place.
+use program_blocks::{Failure, Kind, build, query, start};
 use std::fs;
 use std::io::Input;
 use std::process::Abort;
@@ -35,7 +35,6 @@ fn expect_answers(
 fn a_block_answers_by_the_numbers_of_its_text(rt: HostRuntime) -> Result<(), Fail> {
     let block = built(&rt, NUMBERS)?;
     assert_eq!(rt; block.len(), 640);
-    assert!(rt; check(rt.alloc(), block.as_slice())?);
     let text = "get 0\nget 5\nget 6\nrank 1 4\nrank 1 7\nselect 1 2\nselect 1 3\nselect 9 0\n";
     let answers = "3\n1\nnone\n2\nnone\n5\nnone\nnone\n";
     expect_answers(&rt, block.as_slice(), text, answers, true)
@@ -86,44 +85,19 @@ fn a_wrong_line_is_named_and_nothing_is_written(rt: HostRuntime) -> Result<(), F
     Ok(())
 }
 
-/// Bytes without the last one.
-fn all_but_one(bytes: &[u8]) -> &[u8] {
-    &bytes[..bytes.len().saturating_sub(1)]
-}
-
 #[test]
 fn other_bytes_are_a_wrong_block(rt: HostRuntime) -> Result<(), Fail> {
     let mut block = built(&rt, NUMBERS)?;
-    let mut out = Vec::new(rt.alloc());
+    let (text, mut out) = (b"get 0".as_slice(), Vec::new(rt.alloc()));
     for at in 0..block.len() {
         block[at] ^= 1;
-        assert!(rt; !check(rt.alloc(), block.as_slice())?, "at byte {at}");
+        let answer = query(rt.alloc(), block.as_slice(), text, &mut out);
+        assert!(rt; answer == Err(Failure::WrongBlock), "at byte {at}");
         block[at] ^= 1;
-        assert!(rt;
-            !check(rt.alloc(), &block.as_slice()[..at])?,
-            "at length {at}"
-        );
+        let answer = query(rt.alloc(), &block.as_slice()[..at], text, &mut out);
+        assert!(rt; answer == Err(Failure::WrongBlock), "at length {at}");
     }
-    let part = all_but_one(block.as_slice());
-    assert!(rt; part.len() == 639);
-    assert_eq!(rt;
-        query(rt.alloc(), part, b"get 0".as_slice(), &mut out),
-        Err(Failure::WrongBlock)
-    );
-    assert_eq!(rt; info(rt.alloc(), part, &mut out), Err(Failure::WrongBlock));
     assert!(rt; out.is_empty());
-    Ok(())
-}
-
-#[test]
-fn the_kind_and_the_sizes_are_said(rt: HostRuntime) -> Result<(), Fail> {
-    let block = built(&rt, NUMBERS)?;
-    let mut out = Vec::new(rt.alloc());
-    info(rt.alloc(), block.as_slice(), &mut out)?;
-    assert!(rt;
-        out.as_slice()
-            == b"kind matrix\nlen 6\nwidth 3\nbytes 640\nbits_per_item 853.33\n".as_slice()
-    );
     Ok(())
 }
 
@@ -140,10 +114,6 @@ fn a_write_that_fails_is_told(rt: HostRuntime) -> Result<(), Fail> {
     let question = b"get 0".as_slice();
     assert_eq!(rt;
         query(rt.alloc(), block, question, &mut out),
-        Err(Failure::CannotWrite)
-    );
-    assert_eq!(rt;
-        info(rt.alloc(), block, &mut out),
         Err(Failure::CannotWrite)
     );
     Ok(())
@@ -172,45 +142,34 @@ fn expect_start(
 #[test]
 fn start_ends_with_the_status_and_text_of_its_file(rt: HostRuntime) -> Result<(), Fail> {
     let usage = "usage: bitm build KIND | bitm query BLOCK | bitm check BLOCK | bitm info BLOCK\n\
-         KIND is bits, sequence, sparse, matrix or tree; bitm text says what it does with a text\n";
+         KIND is bits, sequence, sparse, matrix or tree; bitm text and bitm strings say what they do with a text\n";
     expect_start(&rt, ("build", "forest"), 2, "", usage)?;
     expect_start(&rt, ("show", "."), 2, "", usage)?;
-    expect_start(&rt, ("info", "."), 2, "", "bitm: cannot read\n")?;
-    expect_start(&rt, ("check", "no_such_file"), 2, "", "bitm: cannot read\n")?;
+    expect_start(&rt, ("query", "."), 2, "", "bitm: cannot read\n")?;
+    expect_start(&rt, ("query", "no_such_file"), 2, "", "bitm: cannot read\n")?;
 
     let path = "bitm_statuses.block";
     let mut block = built(&rt, NUMBERS)?;
     fs::write(&rt, path, block.as_slice())?;
-    expect_start(&rt, ("check", path), 0, "good\n", "")?;
-    expect_start(
-        &rt,
-        ("info", path),
-        0,
-        "kind matrix\nlen 6\nwidth 3\nbytes 640\nbits_per_item 853.33\n",
-        "",
-    )?;
+    expect_start(&rt, ("query", path), 0, "", "")?;
     assert!(rt; block.len() == 640);
     block[320] ^= 1;
     fs::write(&rt, path, block.as_slice())?;
-    expect_start(&rt, ("check", path), 1, "wrong\n", "")?;
     let wrong = "bitm: not a block of a kind that bitm queries, or not as it was written\n";
-    expect_start(&rt, ("info", path), 2, "", wrong)?;
+    expect_start(&rt, ("query", path), 2, "", wrong)?;
     fs::remove_file(&rt, path)?;
     Ok(())
 }
 
 #[test]
 fn start_tells_that_a_flush_failed(rt: HostRuntime) -> Result<(), Fail> {
-    let path = "bitm_flushes.block";
-    fs::write(&rt, path, built(&rt, NUMBERS)?.as_slice())?;
     let args = [
-        String::from_str(rt.alloc(), "info")?,
-        String::from_str(rt.alloc(), path)?,
+        String::from_str(rt.alloc(), "build")?,
+        String::from_str(rt.alloc(), "matrix")?,
     ];
-    let mut out = Failing::new(rt.alloc(), 100, false);
+    let mut out = Failing::new(rt.alloc(), 1000, false);
     let mut err = Vec::new(rt.alloc());
     assert_eq!(rt; start(&rt, &args, &mut out, &mut err), 2);
     assert!(rt; err.as_slice() == b"bitm: cannot write\n".as_slice());
-    fs::remove_file(&rt, path)?;
     Ok(())
 }

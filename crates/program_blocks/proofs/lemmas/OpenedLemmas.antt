@@ -3,7 +3,7 @@ use Rattle.std.proofs.Common.{◌≡◌, List, ℕ, Bool, Option, None, Some, Re
 use Rattle.program_blocks.specs.Bytes.{words_of_bytes}
 use Rattle.program_blocks.specs.Kind.{kind_in}
 use Rattle.program_blocks.specs.Query.{Told, WroteAnswers, WroteReplies}
-use Rattle.program_blocks.specs.Sound.{IsSound, IsSoundOf}
+use Rattle.program_blocks.specs.Sound.{IsSoundOf}
 use Rattle.program_blocks.specs.declared.kind.Kind.{Kind}
 use Rattle.program_blocks.specs.declared.question.Question.{Question}
 use Rattle.program_blocks.specs.declared.reply.Reply.{Reply}
@@ -11,13 +11,6 @@ use Rattle.program_blocks.specs.declared.reply.Reply.{Reply}
 pub opened_has : {T : Type 0} (o : Option T) (S : Type 0) (v : T) (P : T → Type 0) → SomeIff o S v → IsSomeAnd o P → S × P v
 opened_has None S v P iff some = absurd some
 opened_has (Some x) S v P iff some = (iff.0, subst P iff.1 some)
-
--- a block is sound where it is so as one of the kind that it says
-pub same_kind : (block : List ℕ) (kind : Kind) → kind_in block ≡ Some kind → IsSound block → IsSoundOf kind block
-same_kind block kind says h = let same : h.kind ≡ kind = cc in subst (λ k. IsSoundOf k block) same h.sound
-
-pub no_kind : (block : List ℕ) → kind_in block ≡ None → ¬ (IsSound block)
-no_kind block says h = cc
 
 -- what was written by an opened structure was written by what the block holds
 pub answers_kept : {E V : Type 0} (r : Result Bool E) (o : Option V) (S : Type 0) (v : V) (R : V → Question → Reply → Type 0) (lines : List (List ℕ))

@@ -4,11 +4,10 @@ use Rattle.std.proofs.KnownBytes.{Appends-kept}
 use Rattle.std.specs.Io.KnownBytes.{Keeps}
 use Rattle.program_runs.specs.Known.{IsKnownAs, Known}
 use Rattle.program_blocks.specs.Building.{WroteBlock}
-use Rattle.program_blocks.specs.Info.{WroteInfo}
-use Rattle.program_blocks.specs.Program.{Did, DidAsAsked, IsDone, WroteCheck}
+use Rattle.program_blocks.specs.Program.{Did, DidAsAsked, IsDone}
 use Rattle.program_blocks.specs.Query.{Told, WroteReplies}
 use Rattle.program_blocks.specs.declared.command.Command.{Command}
-use Rattle.program_blocks.specs.declared.command.Command.TheVariants.{Build, Query, Check, Info}
+use Rattle.program_blocks.specs.declared.command.Command.TheVariants.{Build, Query}
 use Rattle.program_blocks.specs.declared.kind.Kind.{Kind}
 use Rattle.program_blocks.specs.declared.question.Question.{Question}
 use Rattle.program_blocks.specs.declared.reply.Reply.{Reply}
@@ -21,14 +20,6 @@ pub did_query : (known : Known) (path bytes text : List ℕ) (before after : Opt
     → IsKnownAs known.input text → Told bytes text before after good → Did known Query path before after good
 did_query known path bytes text before after good is asked h = record { done = (bytes, text, is, asked, h) }
 
-pub did_check : (known : Known) (path bytes : List ℕ) (before after : Option (List ℕ)) (good : Bool) → IsKnownAs (known.files path) bytes
-    → WroteCheck bytes before after good → Did known Check path before after good
-did_check known path bytes before after good is h = record { done = (bytes, is, h) }
-
-pub did_info : (known : Known) (path bytes : List ℕ) (before after : Option (List ℕ)) → IsKnownAs (known.files path) bytes
-    → WroteInfo bytes before after → Did known Info path before after true
-did_info known path bytes before after is h = record { done = (bytes, is, h, refl) }
-
 -- what was done stays so by a flush
 block_kept : (kind : Kind) (text : List ℕ) (a b c : Option (List ℕ)) → Keeps b c → WroteBlock kind text a b → WroteBlock kind text a c
 block_kept kind text a b c k h = record { right = h.right; block = h.block; block_of = h.block_of; written = Appends-kept a b c _ h.written k }
@@ -40,24 +31,10 @@ replies_kept R lines a b c good k h = record { replies = h.replies; answers = h.
 told_kept : (bytes text : List ℕ) (a b c : Option (List ℕ)) (good : Bool) → Keeps b c → Told bytes text a b good → Told bytes text a c good
 told_kept bytes text a b c good k h = record { block = h.block; words = h.words; sound = h.sound; wrote = replies_kept _ _ a b c good k h.wrote }
 
-check_kept : (bytes : List ℕ) (a b c : Option (List ℕ)) (good : Bool) → Keeps b c → WroteCheck bytes a b good → WroteCheck bytes a c good
-check_kept bytes a b c good k h = record { told = h.told; written = Appends-kept a b c _ h.written k }
-
-info_kept : (bytes : List ℕ) (a b c : Option (List ℕ)) → Keeps b c → WroteInfo bytes a b → WroteInfo bytes a c
-info_kept bytes a b c k h = record {
-  block = h.block;
-  words = h.words;
-  description = h.description;
-  described = h.described;
-  written = Appends-kept a b c _ h.written k;
-}
-
 done_kept : (known : Known) (command : Command) (operand : List ℕ) (a b c : Option (List ℕ)) (good : Bool) → Keeps b c
     → IsDone known command operand a b good → IsDone known command operand a c good
 done_kept known (Build kind) operand a b c good k h = (h.0, h.1, block_kept kind h.0 a b c k h.2, h.3)
 done_kept known Query path a b c good k h = (h.0, h.1, h.2, h.3, told_kept h.0 h.1 a b c good k h.4)
-done_kept known Check path a b c good k h = (h.0, h.1, check_kept h.0 a b c good k h.2)
-done_kept known Info path a b c good k h = (h.0, h.1, info_kept h.0 a b c k h.2, h.3)
 
 did_kept : (known : Known) (command : Command) (operand : List ℕ) (a b c : Option (List ℕ)) (good : Bool)
     → Did known command operand a b good → Keeps b c → Did known command operand a c good

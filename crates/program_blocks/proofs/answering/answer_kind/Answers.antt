@@ -4,14 +4,13 @@ use Rattle.bitm_view.specs.Cut.{bits_of_cut, Cut}
 use Rattle.elias_fano.specs.LentParts.{Holds, LentParts}
 use Rattle.louds.specs.Counted.{degrees_in}
 use Rattle.louds_block.specs.Block as louds
-use Rattle.matrix_block.specs.Block.{items_in, matrix_in, MatrixParts}
+use Rattle.matrix_block.specs.Block as matrix
 use Rattle.sequence_block.specs.Block as sequence
 use Rattle.sparse_block.specs.Block as sparse
 use Rattle.program_text.specs.Text.{lines_of}
 use Rattle.program_blocks.specs.Bits.{IsBitsReply}
 use Rattle.program_blocks.specs.Matrix.{IsNumbersReply}
 use Rattle.program_blocks.specs.Sequence.{IsSequenceReply}
-use Rattle.program_blocks.specs.Sound.{IsSoundMatrix}
 use Rattle.program_blocks.specs.Tree.{IsTreeReply}
 use Rattle.program_blocks.specs.declared.question.Question.{Question}
 use Rattle.program_blocks.specs.declared.reply.Reply.{Reply}
@@ -46,8 +45,8 @@ pub returns-in-Matrix-clause-answers : goal.returns-in-Matrix-clause-answers
 returns-in-Matrix-clause-answers g c =
     let contents = g.W.Write.contents in
     rw c.in-Matrix.is
-    (answers_kept c.answer_opened-in-Matrix.result c.open_matrix.result (IsSoundMatrix c.args.block.now) (matrix_in c.args.block.now)
-    (λ (view : MatrixParts). IsNumbersReply (items_in view)) (lines_of c.args.text.now)
+    (answers_kept c.answer_opened-in-Matrix.result c.open_matrix.result (matrix.IsSoundBlock c.args.block.now) (matrix.matrix_in c.args.block.now)
+    (λ (view : matrix.MatrixParts). IsNumbersReply (matrix.items_in view)) (lines_of c.args.text.now)
     (contents c.args.out.now) (contents c.answer_opened-in-Matrix.new.out) c.open_matrix.ensures.opened c.answer_opened-in-Matrix.ensures.answers)
 
 pub returns-in-Tree-clause-answers : goal.returns-in-Tree-clause-answers

@@ -1,7 +1,6 @@
 use Rattle.std.proofs.Common.{drop, length, arith}
 use Rattle.std.proofs.lemmas.List.{take_at}
 use Rattle.bit_lists.specs.Bits.{bits_of}
-use Rattle.program_blocks.specs.Bits.{IsBitsOf}
 use Rattle.program_blocks.proofs.bits.block_of_bits.Goals as goal
 
 pub returns-in-Ok-clause-block : goal.returns-in-Ok-clause-block

@@ -1,6 +1,5 @@
 use Rattle.std.proofs.Common.{drop, length, arith}
 use Rattle.std.proofs.lemmas.List.{take_at}
-use Rattle.program_blocks.specs.Matrix.{IsMatrixOf}
 use Rattle.program_blocks.proofs.matrix.block_of_matrix.Goals as goal
 
 pub returns-in-Ok-clause-block : goal.returns-in-Ok-clause-block

@@ -1,0 +1,3 @@
+pub mod InfoLemmas
+pub mod ProgramLemmas
+pub mod SoundLemmas

@@ -1,0 +1,50 @@
+-- What is said of a block.
+use Rattle.std.specs.Prelude.{◌≡◌, ◌==◌, ℕ, ◌*◌, ◌/◌, ◌%◌, List, ◌++◌, codes, length, Option, Some, if◌then◌else◌}
+use Rattle.std.specs.Fmt.{decimal}
+use Rattle.std.specs.Io.KnownBytes.{Appends}
+use Rattle.bitm_block.specs.Header.{head_in}
+use Rattle.bitm_block.specs.declared.head.Head.{Head}
+use Rattle.program_blocks.specs.Bytes.{words_of_bytes}
+use Rattle.program_kinds.specs.Kind.{kind_in, kind_text}
+use Rattle.program_kinds.specs.Sound.{IsSound}
+use Rattle.program_kinds.specs.declared.describing.Description.{Description}
+use Rattle.program_kinds.specs.declared.kind.Kind.{Kind}
+
+-- a number of hundredths, with two digits after the point
+abbrev pub hundredths_text : ℕ → List ℕ
+hundredths_text n = decimal (n / 100) ++ codes "." ++ decimal (n % 100 / 10) ++ decimal (n % 100 % 10)
+
+-- how many bits of so many bytes there are for one of n items, cut to hundredths
+abbrev pub rate_text : ℕ → ℕ → List ℕ
+rate_text bytes n = if n == 0 then codes "none" else hundredths_text (800 * bytes / n)
+
+-- the line of the kind
+abbrev pub kind_line : Kind → List ℕ
+kind_line kind = codes "kind " ++ kind_text kind ++ codes "\n"
+
+-- the lines that say how many items there are, how many bits each has, and how many bytes the block has
+abbrev pub size_lines : Head → ℕ → List ℕ
+size_lines head bytes = codes "len " ++ decimal head.len ++ codes "\nwidth " ++ decimal head.width ++ codes "\nbytes " ++ decimal bytes ++ codes "\n"
+
+-- the line that says how many bits an item takes
+abbrev pub rate_line : ℕ → ℕ → List ℕ
+rate_line bytes len = codes "bits_per_item " ++ rate_text bytes len ++ codes "\n"
+
+-- all of these lines
+abbrev pub info_text : Kind → Head → ℕ → List ℕ
+info_text kind head bytes = kind_line kind ++ (size_lines head bytes ++ rate_line bytes head.len)
+
+-- that is to be said of a block that is as it was written and has so many bytes
+pub record IsDescribed (block : List ℕ) (bytes : ℕ) (d : Description) : Type 0 where
+  pub sound : IsSound block
+  pub kind : kind_in block ≡ Some d.kind
+  pub head : d.head ≡ head_in block
+  pub bytes_are : d.bytes ≡ bytes
+
+-- the bytes are those of a block that is as it was written, and its kind, what its header says and how many bytes it has
+-- were written
+pub record WroteInfo (bytes : List ℕ) (before after : Option (List ℕ)) : Type 0 where
+  pub block : List ℕ
+  pub words : words_of_bytes bytes ≡ Some block
+  pub sound : IsSound block
+  pub written : Appends before after (info_text sound.kind (head_in block) (length bytes))

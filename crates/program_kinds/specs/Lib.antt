@@ -1,0 +1,5 @@
+pub mod Command
+pub mod Info
+pub mod Kind
+pub mod Program
+pub mod Sound

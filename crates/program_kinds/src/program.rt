@@ -1,0 +1,110 @@
+//! The program without its process: its arguments, the file that it reads, and the statuses and texts.
+ghost use Rattle.std.specs.Prelude.{◌≡◌, ◌≤◌, IfOk, IsErr, None, map, nat_eq, string_bytes};
+ghost use Rattle.program_kinds.specs.Command.{command_in};
+ghost use Rattle.program_kinds.specs.Program.{Did, DidAsAsked, WroteCheck};
+
+use crate::checking::check;
+use crate::command::{Command, command_in};
+use crate::describing::info;
+use program_blocks::Failure;
+use program_runs::{Sources, Stop, end};
+use std::alloc::Global;
+use std::io::Write;
+
+/// What is written where the arguments are not those of a command.
+const USAGE: &str = "usage: bitm check BLOCK | bitm info BLOCK";
+
+/// Does what the two arguments say, and answers the status that the program ends with.
+///
+/// `args` are the arguments without the program's name: `check BLOCK` and `info BLOCK` read the file alone. The status
+/// is 0 where all went well, and 1 where `check` wrote `wrong`; then the command was done on the file that is named,
+/// and nothing was written to `err`.
+///
+/// # Errors
+/// The status is 2, and a text goes to `err`, where the arguments are no command, where the file can't be read, where
+/// there is no answer (`Failure`), and where a flush of `out` failed. A failed write to `err` changes nothing.
+///
+/// ```
+/// start(&rt, &[check, path], &mut out, &mut err);   // 0, and out has "good\n"
+/// ```
+pub fn start<R: Sources + AllocGlobal, W: Write, E: Write>(
+    rt: &R,
+    args: &[String],
+    out: &mut W,
+    err: &mut E,
+) -> u8
+    ensures status { result ≤ 2 }
+    ensures unknown { command_in (map string_bytes args.now) ≡ None
+        → (result ≡ 2) × (W.contents out.new ≡ W.contents out.old) }
+    ensures did { result ≤ 1 → DidAsAsked (R.known rt.now) (map string_bytes args.now)
+        (W.contents out.old) (W.contents out.new) (nat_eq result 0) }
+    ensures quiet { result ≤ 1 → E.contents err.new ≡ E.contents err.old }
+{
+    end(run(rt, args, out), out, err)
+}
+
+/// Does what the arguments say, and answers whether all went well.
+fn run<R: Sources + AllocGlobal, W: Write>(
+    rt: &R,
+    args: &[String],
+    out: &mut W,
+) -> Result<bool, Stop<Failure>>
+    ensures unknown { command_in (map string_bytes args.now) ≡ None → IsErr result × (out.new ≡ out.old) }
+    ensures did { IfOk result (DidAsAsked (R.known rt.now) (map string_bytes args.now)
+        (W.contents out.old) (W.contents out.new)) }
+{
+    match command_in(args) {
+        Some((command, path)) => perform(rt, command, path, out),
+        None => Err(Stop::Usage(USAGE)),
+    }
+}
+
+/// Does a command on its file, and answers whether all went well.
+fn perform<R: Sources + AllocGlobal, W: Write>(
+    rt: &R,
+    command: Command,
+    path: &str,
+    out: &mut W,
+) -> Result<bool, Stop<Failure>>
+    ensures { IfOk result (Did (R.known rt.now) command path.now (W.contents out.old) (W.contents out.new)) }
+{
+    match command {
+        Command::Check => check_file(rt, path, out),
+        Command::Info => info_file(rt, path, out),
+    }
+}
+
+/// Writes whether a file is a block that is as it was written.
+fn check_file<R: Sources + AllocGlobal, W: Write>(
+    rt: &R,
+    path: &str,
+    out: &mut W,
+) -> Result<bool, Stop<Failure>>
+    ensures { IfOk result (Did (R.known rt.now) Command.Check path.now (W.contents out.old) (W.contents out.new)) }
+{
+    Ok(write_check(rt.alloc(), rt.file(path)?.as_slice(), out)?)
+}
+
+/// Writes what the header of the block in a file says.
+fn info_file<R: Sources + AllocGlobal, W: Write>(
+    rt: &R,
+    path: &str,
+    out: &mut W,
+) -> Result<bool, Stop<Failure>>
+    ensures { IfOk result (Did (R.known rt.now) Command.Info path.now (W.contents out.old) (W.contents out.new)) }
+{
+    info(rt.alloc(), rt.file(path)?.as_slice(), out)?;
+    Ok(true)
+}
+
+/// Writes whether the bytes are a block that is as it was written, and answers that.
+fn write_check<W: Write>(alloc: Global, block: &[u8], out: &mut W) -> Result<bool, Failure>
+    ensures { IfOk result (λ good. WroteCheck block.now (W.contents out.old) (W.contents out.new) good) }
+{
+    let good = check(alloc, block)?;
+    let text = if good { "good" } else { "wrong" };
+    match writeln!(out, "{text}") {
+        Ok(()) => Ok(good),
+        Err(_) => Err(Failure::CannotWrite),
+    }
+}

@@ -1,0 +1,152 @@
+//! Runs with arguments, and what they write, over a source in memory that says what it holds.
+ghost use Rattle.std.specs.Prelude.{◌≡◌, IfOk, None, Some, if◌then◌else◌};
+ghost use Rattle.std.specs.Str.{bytes_eq};
+ghost use Rattle.program_runs.specs.Known.{Known};
+
+use crate::told::file_of;
+use program_blocks::Failure;
+use program_kinds::{info, start};
+use program_runs::{CannotRead, Sources};
+use std::alloc::{Alloc, Global};
+use std::process::Abort;
+use std::test::Fail;
+use test_writers::Failing;
+
+/// What is written where the arguments are no command.
+const USAGE: &str = "usage: bitm check BLOCK | bitm info BLOCK\n";
+
+/// A file at a path, and no other.
+#[derive(Drop)]
+struct Held<'a> {
+    alloc: Global,
+    path: &'a str,
+    file: &'a [u8],
+}
+
+impl Alloc for Held<'_> {
+    type A = Global;
+
+    fn alloc(&self) -> Global {
+        self.alloc
+    }
+}
+
+impl Sources for Held<'_> {
+    ghost known = { λ h. record {
+      files = λ path. if bytes_eq path h.path.now then Some h.file.now else None;
+      input = None;
+    } };
+
+    fn file(&self, path: &str) -> Result<Vec<u8>, CannotRead> {
+        if path != self.path {
+            return Err(CannotRead);
+        }
+        match Vec::from_slice(self.alloc, self.file) {
+            Ok(copy) => Ok(copy),
+            Err(_) => Err(CannotRead),
+        }
+    }
+
+    fn input(&self) -> Result<Vec<u8>, CannotRead> {
+        Err(CannotRead)
+    }
+}
+
+/// Runs `start` over a file at the path `held.block`, and compares its status and what it writes.
+fn expect_start(
+    rt: &(impl Abort + AllocGlobal),
+    file: &[u8],
+    args: &[&str],
+    status: u8,
+    (out_text, err_text): (&str, &str),
+) -> Result<(), Fail> {
+    let mut given = Vec::new(rt.alloc());
+    for arg in args {
+        given.push(String::from_str(rt.alloc(), *arg)?)?;
+    }
+    let held = Held {
+        alloc: rt.alloc(),
+        path: "held.block",
+        file,
+    };
+    let (mut out, mut err) = (Vec::new(rt.alloc()), Vec::new(rt.alloc()));
+    assert!(rt; start(&held, given.as_slice(), &mut out, &mut err) == status);
+    assert!(rt; out.as_slice() == out_text.as_bytes());
+    assert!(rt; err.as_slice() == err_text.as_bytes());
+    Ok(())
+}
+
+/// The file of a hash of three keys.
+fn hash(rt: &(impl Abort + AllocGlobal)) -> Result<Vec<u8>, Fail> {
+    let mut block = [0u64; 64];
+    let _ = hash_block::build(&[0b1101], &[1], 7, block.as_mut_slice());
+    file_of(rt, block.as_slice())
+}
+
+#[test]
+fn arguments_that_are_no_command_get_the_usage(rt: HostRuntime) -> Result<(), Fail> {
+    let none = b"".as_slice();
+    expect_start(&rt, none, &["check"], 2, ("", USAGE))?;
+    expect_start(&rt, none, &["info", "a", "b"], 2, ("", USAGE))?;
+    expect_start(&rt, none, &["query", "held.block"], 2, ("", USAGE))
+}
+
+#[test]
+fn the_file_that_is_named_is_told_of(rt: HostRuntime) -> Result<(), Fail> {
+    let mut file = hash(&rt)?;
+    expect_start(
+        &rt,
+        file.as_slice(),
+        &["check", "held.block"],
+        0,
+        ("good\n", ""),
+    )?;
+    let said = "kind hash\nlen 3\nwidth 0\nbytes 512\nbits_per_item 1365.33\n";
+    expect_start(&rt, file.as_slice(), &["info", "held.block"], 0, (said, ""))?;
+    let unread = ("", "bitm: cannot read\n");
+    expect_start(&rt, file.as_slice(), &["check", "other.block"], 2, unread)?;
+    file.push(0)?;
+    expect_start(
+        &rt,
+        file.as_slice(),
+        &["check", "held.block"],
+        1,
+        ("wrong\n", ""),
+    )?;
+    let wrong = "bitm: not a block of a kind that bitm queries, or not as it was written\n";
+    expect_start(
+        &rt,
+        file.as_slice(),
+        &["info", "held.block"],
+        2,
+        ("", wrong),
+    )
+}
+
+#[test]
+fn a_write_that_fails_is_told(rt: HostRuntime) -> Result<(), Fail> {
+    let file = hash(&rt)?;
+    let mut out = Failing::new(rt.alloc(), 0, true);
+    let said = info(rt.alloc(), file.as_slice(), &mut out);
+    assert!(rt; said == Err(Failure::CannotWrite));
+    Ok(())
+}
+
+#[test]
+fn a_flush_that_fails_is_told(rt: HostRuntime) -> Result<(), Fail> {
+    let file = hash(&rt)?;
+    let args = [
+        String::from_str(rt.alloc(), "info")?,
+        String::from_str(rt.alloc(), "held.block")?,
+    ];
+    let held = Held {
+        alloc: rt.alloc(),
+        path: "held.block",
+        file: file.as_slice(),
+    };
+    let mut out = Failing::new(rt.alloc(), 100, false);
+    let mut err = Vec::new(rt.alloc());
+    assert!(rt; start(&held, &args, &mut out, &mut err) == 2);
+    assert!(rt; err.as_slice() == b"bitm: cannot write\n".as_slice());
+    Ok(())
+}
