@@ -41,9 +41,9 @@ macro_rules! printed {
 /// What is no key is found about once in 2^8.
 macro_rules! strangers {
     ($numbers:expr, $hashes:expr, $random:expr) => {{
-        let (own, mut prints) = (drawn($hashes.len(), $random), vec![0; $hashes.len() / 8 + 1]);
-        assert_eq!($numbers.set_prints(&$hashes, &own, &mut prints, 8), Ok(true));
-        let found = (0..20_000).filter(|_| $numbers.find(&prints, 8, $random.next(), $random.next()).is_some());
+        let (numbers, own, mut prints) = (&$numbers, drawn($hashes.len(), $random), vec![0; $hashes.len() / 8 + 1]);
+        assert_eq!(numbers.set_prints(&$hashes, &own, &mut prints, 8), Ok(true));
+        let found = (0..20_000).filter(|_| numbers.find(&prints, 8, $random.next(), $random.next()).is_some());
         assert!(found.count() < 200);
     }};
 }
