@@ -126,10 +126,19 @@ static void fingerprints()
     const Words hashes = drawn(20000);
     const Hash h(hashes);
     strangers(h, hashes), strangers(bitm::perfect_hash(bitm::words_in(hashes)), hashes);
-    const Hash untried(hashes, 100, 0);
-    MUST(640 * h.block().size() < 20000 * 24 && 640 * untried.block().size() > 20000 * 25);
     Words none(1), own(1);
     MUST(!Hash().set_prints({own.data(), 1}, own, none, 8) && !Hash().find(none, 8, 7, 7) && none[0] == 0);
+}
+
+// Of many keys: 2.26 bits a key, and 2.8 without seeds.
+static void sizes()
+{
+    const Words hashes = drawn(200000);
+    const Hash h(hashes);
+    const bitm::perfect_hash plain{bitm::words_in(hashes)};
+    MUST(640 * h.block().size() < 23 * hashes.size() && 80 * plain.bytes().size() > 28 * hashes.size());
+    const Hash tried(hashes, 100, 256), untried(hashes, 100, 0);
+    MUST(tried.block().size() < h.block().size() && h.block().size() < untried.block().size());
 }
 
 static void refused()
@@ -202,7 +211,7 @@ static void threads()
 int main(int, char **argv)
 {
     const std::string path = argv[0] + std::string(".hash");
-    refused(), fingerprints(), other_blocks(), spoilt(), threads();
+    refused(), sizes(), fingerprints(), other_blocks(), spoilt(), threads();
     for (u64 count = 0; count < 25; count++) {
         const Words hashes = drawn(count * count);
         same(Hash(hashes), hashes), same(Hash(hashes, 200, 0, 99), hashes);

@@ -1,5 +1,5 @@
-// Minimal perfect hashes with a seed for each word of their levels, in one block of memory: 2.26 bits a key, where
-// bitm::perfect_hash takes 2.8; building takes more time. An owner, and a view of a block in memory of the caller's.
+// Minimal perfect hashes with a seed for each word of their levels, in one block of memory: of many keys 2.26 bits a key,
+// where bitm::perfect_hash takes 2.8; building takes more time. An owner, and a view of a block in memory of the caller's.
 //
 //     const std::vector<std::string> keys{"zero", "one", "two"};
 //     const std::hash<std::string> hash;

@@ -45,11 +45,11 @@ fn each_key_has_a_number_of_its_own() {
 
 #[test]
 fn seeds_save_memory() {
-    let hashes = drawn(50_000, &mut Random(82));
-    let bits = |made: SeededHash| 64 * made.block().len();
-    let plain = 8 * PerfectHash::build(hashes.clone()).expect("any").size_in_bytes();
-    assert!(bits(SeededHash::build(hashes.clone()).expect("any")) < 50_000 * 23 / 10);
-    assert!(plain > 50_000 * 27 / 10);
+    let keys = 200_000; // of many keys 2.26 bits a key, and 2.8 without seeds
+    let hashes = drawn(keys, &mut Random(82));
+    let plain = PerfectHash::build(hashes.clone()).expect("any").size_in_bytes();
+    let seeded = 8 * SeededHash::build(hashes.clone()).expect("any").block().len();
+    assert!(80 * seeded < 23 * keys && 80 * plain > 28 * keys);
     let most = |tries| SeededHash::build_with(hashes[..500].to_vec(), 100, tries, 0).expect("any").into_owner();
     assert_eq!(most(256), most(u16::MAX)); // there are 256 seeds
 }

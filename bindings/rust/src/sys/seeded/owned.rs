@@ -7,8 +7,8 @@ use crate::sys::seeded::{build, SeededHashView};
 use alloc::vec::Vec;
 use core::fmt;
 
-/// A minimal perfect hash with a seed for each word of its levels, and the owner of its block: 2.26 bits a key, where
-/// [`PerfectHash`](crate::PerfectHash) takes 2.8. Building takes more time.
+/// A minimal perfect hash with a seed for each word of its levels, and the owner of its block: of many keys 2.26 bits a
+/// key, where [`PerfectHash`](crate::PerfectHash) takes 2.8. Building takes more time.
 ///
 /// A key is its hash of 64 bits, by a function of yours; equal hashes are refused. No key is kept: a hash that was none
 /// of them may get any number below how many there are. The block is the file of the hash, the same in each language.
