@@ -4,7 +4,7 @@
 //     const std::vector<std::string> keys{"zero", "one", "two"};
 //     const std::hash<std::string> hash;
 //     const bitm::seeded_hash numbers(keys.begin(), keys.end(), hash); // or of hashes: bitm::seeded_hash(hashes)
-//     std::cout << (numbers(hash("two")).value() < numbers.size()) << '\n'; // 1: below 3
+//     std::cout << (numbers(hash("two")).value() < numbers.size()) << '\n'; // 1
 //     const bitm::seeded_hash_view same = bitm::seeded_hash_view::in(numbers.block());
 //     std::cout << (same(hash("one")) == numbers(hash("one"))) << '\n'; // 1
 //
