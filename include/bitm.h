@@ -2225,6 +2225,8 @@ BITM_MUST_USE uint32_t bitm_hash_block_check(const uint64_t *block, size_t block
  *                                                    seeded_len) != BITM_OK ||
  *         bitm_hash_block_check_seeded(of_seeded, seeded_len) != BITM_OK ||
  *         bitm_hash_block_open_seeded(of_seeded, seeded_len, &in_seeded, &hash_seed) != BITM_OK || hash_seed != 9 ||
+ *         bitm_hash_block_open_seeded_bytes(of_seeded, seeded_len, (const uint8_t *)of_seeded, 8 * seeded_len, &in_seeded,
+ *                                           &hash_seed) != BITM_OK ||
  *         bitm_hash_block_open(of_seeded, seeded_len, &hash_in_block, &hash_seed) != BITM_WRONG ||
  *         bitm_hash_get_seeded(&in_seeded, 0x13198a2e03707344, &value) != BITM_OK ||
  *         bitm_hash_get_seeded(&seeded, 0x13198a2e03707344, &number) != BITM_OK || value != number) return 1;

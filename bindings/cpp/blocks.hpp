@@ -77,6 +77,7 @@ template <class Owner, class Full> static void files_of(const Owner &given, cons
     MUST(apart<bitm::perfect_hash, Owner>(path) && apart<bitm::tree, Owner>(path));
     MUST(apart<bitm::wavelet_matrix, Owner>(path) && apart<bitm::sparse_bits, Owner>(path));
     MUST(apart<bitm::dictionary, Owner>(path) && apart<bitm::text_index, Owner>(path) && apart<bitm::trie, Owner>(path));
+    MUST(apart<bitm::strings, Owner>(path) && apart<bitm::seeded_hash, Owner>(path));
     Words file(given.block().begin(), given.block().end());
     file.resize(file.size() + 7, 5); // words after the block are not its own
     const View view = View::in(file);

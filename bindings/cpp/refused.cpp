@@ -14,6 +14,7 @@ bitm::rank_index made() { return bitm::rank_index(words(1000, 5)); }
 bitm::sequence numbers() { return {1, 2, 3}; }
 bitm::tree grown() { return {2, 0, 1, 0}; }
 bitm::wavelet_matrix listed() { return {3, 1, 4}; }
+bitm::seeded_hash hashed() { return bitm::seeded_hash(words(1, 5)); }
 struct held {
     words w;
     const std::uint64_t *data() const { return w.data(); }
@@ -70,6 +71,12 @@ bitm::cursor left()
 {
     const bitm::sequence s = numbers();
     return bitm::cursor(s);
+}
+#elif CASE == 111
+bitm::seeded_hash_view of_local()
+{
+    const bitm::seeded_hash h = hashed();
+    return h.view();
 }
 #elif CASE == 107
 void kept() { bitm::words_in w = words(5); (void)w; }
@@ -203,6 +210,18 @@ int main()
 #elif CASE == 53
     const std::vector<bitm::cursor> fixed;
     bitm::intersect(fixed, 0, bitm::words_out());
+#elif CASE == 54 // of hashes with seeds
+    auto v = hashed().view();
+#elif CASE == 55
+    auto w = hashed().block();
+#elif CASE == 56
+    auto &r = hashed().raw();
+#elif CASE == 57
+    auto v = bitm::seeded_hash_view::in(words(100));
+#elif CASE == 58
+    bitm::seeded_hash_view v = hashed();
+#elif CASE == 59 // hashes are given where a hash is made
+    bitm::seeded_hash h = words(1, 5);
 #elif CASE == 110 // an answer that is not looked at
     bitm::rank_index::try_load("a");
 #elif CASE >= 100

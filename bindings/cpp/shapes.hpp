@@ -20,6 +20,7 @@ static_assert(regular<bitm::trie>() && regular<bitm::trie_view>());
 static_assert(regular<bitm::sparse_bits>() && regular<bitm::sparse_bits_view>());
 static_assert(regular<bitm::text_index>() && regular<bitm::text_index_view>());
 static_assert(regular<bitm::dictionary>() && regular<bitm::dictionary_view>());
+static_assert(regular<bitm::seeded_hash>() && regular<bitm::seeded_hash_view>());
 static_assert(regular<bitm::wavelet_matrix>() && regular<bitm::wavelet_matrix_view>());
 // No owner is, or converts by itself to, a view.
 template <class Owner, class View>
@@ -29,7 +30,8 @@ static_assert(apart<bitm::bits, bitm::bits_view> && apart<bitm::rank_index, bitm
               apart<bitm::sequence, bitm::sequence_view> && apart<bitm::tree, bitm::tree_view> &&
               apart<bitm::wavelet_matrix, bitm::wavelet_matrix_view> &&
               apart<bitm::sparse_bits, bitm::sparse_bits_view> && apart<bitm::dictionary, bitm::dictionary_view> &&
-              apart<bitm::text_index, bitm::text_index_view> && apart<bitm::trie, bitm::trie_view>);
+              apart<bitm::text_index, bitm::text_index_view> && apart<bitm::trie, bitm::trie_view> &&
+              apart<bitm::seeded_hash, bitm::seeded_hash_view>);
 // Bits are no container of words: their size counts bits.
 static_assert(!std::is_convertible_v<bitm::bits &, bitm::words_in> &&
               !std::is_constructible_v<bitm::words_in, bitm::bits_view &> &&

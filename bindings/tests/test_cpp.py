@@ -9,7 +9,7 @@ MODES = ["c++17 -fno-exceptions -fno-rtti", "c++20", "c++20 -fno-exceptions -fno
 
 
 @pytest.mark.parametrize("way", WAYS)
-@pytest.mark.parametrize("program", ["check", "stored", "shards", "trees", "tries", "matrices", "sparse", "sections", "cursors", "dictionaries", "strings", "texts"])
+@pytest.mark.parametrize("program", ["check", "stored", "shards", "trees", "tries", "matrices", "sparse", "sections", "cursors", "dictionaries", "hashes", "strings", "texts"])
 def test_program(program, way, tmp_path):
     needs(WAYS[way].split()[0])
     it = compiled(WAYS[way], f"bindings/cpp/{program}.cpp", tmp_path)

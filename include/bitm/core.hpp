@@ -293,10 +293,11 @@ inline result<maybe_position> tried(std::uint32_t status, std::uint64_t out) noe
     if (status == BITM_NONE) return maybe_position();
     return error_of(status);
 }
+inline constexpr const char *wrong_room = "there is not room for one answer a query";
 // The status of a list, whose answers are written: fails where one of them says that the tables are wrong.
-inline void need_list(std::uint32_t status, const bitm_list_counts &counts)
+inline void need_list(std::uint32_t status, const bitm_list_counts &counts, const char *which = wrong_room)
 {
-    need(status, "there is not room for one answer a query");
+    need(status, which);
     if (BITM_RARELY(counts.wrong != 0)) fail_status(BITM_WRONG);
 }
 

@@ -21,9 +21,13 @@ BITM_NAMESPACE_BEGIN
 // The first role that no kind has.
 inline constexpr std::uint64_t own_role = 65536;
 
-// A section: what its items are, how many there are, and the words that hold them, in the block.
+// A section of a block.
 struct section {
-    std::uint64_t role = 0, count = 0;
+    // What its items are.
+    std::uint64_t role = 0;
+    // How many items it has.
+    std::uint64_t count = 0;
+    // The words that hold them, in the block.
     words_in words;
 };
 

@@ -72,7 +72,7 @@ pub(crate) use answers;
 macro_rules! by_view {
     ($kind:ident; $(
         $(#[$attribute:meta])*
-        pub fn $name:ident$(<$life:lifetime>)?(&self $(, $argument:ident: $type:ty)*) -> $answer:ty;
+        pub fn $name:ident$(<$life:lifetime>)?(&self $(, $argument:ident: $type:ty)* $(,)?) -> $answer:ty;
     )*) => {
         impl<O> $kind<O> { $(
             $(#[$attribute])*

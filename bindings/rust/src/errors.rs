@@ -96,6 +96,16 @@ pub enum StoredError {
     /// assert_eq!(Index::build([7u64]).to_stored(65).err(), Some(StoredError::WrongLength)); // 65 bits of 64
     /// ```
     WrongLength,
+    /// A block has 16 sections already, or a length does not fit: that of the items of a section, or of the block with it.
+    ///
+    /// ```
+    /// use bitm_proved::{sections, StoredError, Tree};
+    /// let tree = Tree::build(&[2, 0, 1, 0])?;
+    /// let refused = sections::extended(tree.block(), 65536, 9, &[7]); // nine bytes take two words
+    /// assert_eq!(refused, Err(StoredError::NoSection));
+    /// # Ok::<(), bitm_proved::BuildError>(())
+    /// ```
+    NoSection,
     /// Memory was refused.
     ///
     /// ```
@@ -113,6 +123,7 @@ impl fmt::Display for StoredError {
             StoredError::NotWhole => "this is not a file of this format, or not a whole one",
             StoredError::OtherKind => "this is a sequence where an index is expected, or an index where a sequence is",
             StoredError::WrongLength => "the length of a table, or of the bits, does not fit the words",
+            StoredError::NoSection => "the block has 16 sections, or a length does not fit the items of a section",
             StoredError::NoMemory(why) => return why.fmt(f),
         })
     }

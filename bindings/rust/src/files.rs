@@ -5,6 +5,7 @@ use crate::sys::index::Index;
 use crate::sys::mapped::Mapped;
 use crate::sys::matrix::owned::WaveletMatrix;
 use crate::sys::owned::Sequence;
+use crate::sys::seeded::owned::SeededHash;
 use crate::sys::sparse::owned::SparseBits;
 use crate::sys::strings::owned::Strings;
 use crate::sys::text::owned::TextIndex;
@@ -83,4 +84,7 @@ files! { DictionaryFile: Dictionary;
 }
 files! { StringsFile: Strings;
     "Strings", "Strings::build(&[\"ada\", \"bob\"])?.block()", "contains(b\"bob\")", "Strings"
+}
+files! { SeededHashFile: SeededHash;
+    "A hash with seeds", "SeededHash::build(vec![5])?.block()", "get(5) == Some(0)", "SeededHash"
 }

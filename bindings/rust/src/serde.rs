@@ -4,6 +4,7 @@ use crate::sys::dictionary::owned::Dictionary;
 use crate::sys::index::Index;
 use crate::sys::matrix::owned::WaveletMatrix;
 use crate::sys::owned::{EliasFano, Sequence};
+use crate::sys::seeded::owned::SeededHash;
 use crate::sys::sparse::owned::SparseBits;
 use crate::sys::strings::owned::Strings;
 use crate::sys::tree::owned::Tree;
@@ -34,7 +35,7 @@ macro_rules! serializes_its_block {
         }
     )* };
 }
-serializes_its_block!(Tree, Trie, WaveletMatrix, SparseBits, Dictionary, Strings);
+serializes_its_block!(Tree, Trie, WaveletMatrix, SparseBits, SeededHash, Dictionary, Strings);
 
 macro_rules! deserializes_what_is_right {
     ($($kind:ty),*) => { $(
@@ -47,4 +48,5 @@ macro_rules! deserializes_what_is_right {
         }
     )* };
 }
-deserializes_what_is_right!(Index<Vec<u64>>, EliasFano, Tree, Trie, WaveletMatrix, SparseBits, Dictionary, Strings);
+deserializes_what_is_right!(Index<Vec<u64>>, EliasFano, Tree, Trie, WaveletMatrix);
+deserializes_what_is_right!(SparseBits, SeededHash, Dictionary, Strings);

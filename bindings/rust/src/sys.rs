@@ -17,6 +17,8 @@ pub(crate) mod owned;
 pub(crate) mod owner;
 pub(crate) mod parts;
 pub(crate) mod reads;
+pub(crate) mod sections;
+pub(crate) mod seeded;
 pub(crate) mod sequence;
 pub(crate) mod shards;
 pub(crate) mod sparse;

@@ -31,13 +31,14 @@ fn source() -> Vec<(String, String)> {
 }
 
 /// How a line begins that calls a macro which makes items or impls.
-const BY_MACRO: [&str; 10] = [
+const BY_MACRO: [&str; 11] = [
     "answers",
     "by_view!",
     "combines!",
     "compares!",
     "deserializes",
     "files!",
+    "hash_queries!",
     "iterates!",
     "owners",
     "serializes",
@@ -54,8 +55,8 @@ fn begins(line: &str, in_trait: bool, in_enum: bool) -> bool {
 }
 
 /// Whether the text of an item is whole: up to its body, or its end.
-fn ends(line: &str) -> bool {
-    line.ends_with('{') || line.ends_with(';') || line.ends_with(',') && !line.contains('(') || line.ends_with('}')
+fn ends(item: &str) -> bool {
+    item.ends_with(['{', ';', ',', '}']) && item.matches('(').count() == item.matches(')').count()
 }
 
 /// What a line begins: a trait, or the methods of one in a macro without arguments, an enum, or neither.
@@ -77,8 +78,7 @@ fn items_of(name: &str, text: &str) -> Vec<String> {
             None if begins(line, block == "trait", block == "enum") => open = Some(line.to_string()),
             None => continue,
         }
-        if ends(line) {
-            let item = open.take().unwrap_or_default();
+        if let Some(item) = open.take_if(|it| ends(it)) {
             let item = item.trim_end_matches(['{', ';', ',', '}']).trim().replace("( ", "(").replace(", )", ")");
             // Of a method that a macro makes by another one: without that one, and not in the macro.
             let made_by = item.split_once(" = ").filter(|_| item.contains("fn "));

@@ -3,7 +3,7 @@
 #![cfg(target_os = "linux")]
 use bitm_proved::{
     BitVec, BuildError, CombinedSampling, EliasFano, Index, NoMemory, PerfectHash, Queries, RankSelect101111,
-    RankSimple, Sampling, StoredError, Tree, WaveletMatrix,
+    RankSimple, Sampling, SeededHash, StoredError, Tree, WaveletMatrix,
 };
 use std::process::Command;
 
@@ -70,7 +70,7 @@ fn under_a_limit() {
     assert_eq!(Box::<[u64]>::try_with_bitwords(1, 16, bits / 16).err(), Some(NoMemory { bytes: bits / 8 }));
     let words = Box::<[u64]>::try_with_64bit_segments(3, 1 << 24).expect("128 MiB");
     let hashes = || (0..1_000_000).map(|i: u64| i.wrapping_mul(0x9E37_79B9_7F4A_7C15)).collect::<Vec<_>>();
-    let (kept, index) = (hashes(), Index::build(&words[..1 << 20]));
+    let (kept, seeded, index) = (hashes(), hashes(), Index::build(&words[..1 << 20]));
     let mut rest = Vec::with_capacity(1 << 12);
     fill(&mut rest);
     refused("Index", Index::try_build(&words, 64 * words.len(), Sampling::default()));
@@ -79,7 +79,9 @@ fn under_a_limit() {
     refused("EliasFano", EliasFano::build(&words));
     refused("Tree", Tree::build(&words));
     refused("WaveletMatrix", WaveletMatrix::build(&words));
-    refused("PerfectHash", PerfectHash::build(kept)); // the last: it gives back the memory of its keys
+    refused("SeededHash", SeededHash::build(seeded)); // the last two: they give back the memory of their keys
+    fill(&mut rest);
+    refused("PerfectHash", PerfectHash::build(kept));
     assert!(matches!(index.to_stored(64 << 20), Err(StoredError::NoMemory(_))));
     rest.clear();
     assert_eq!(PerfectHash::build(hashes()).map(|it| it.len()).ok(), Some(1_000_000));

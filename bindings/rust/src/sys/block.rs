@@ -1,5 +1,5 @@
-//! Blocks: trees, tries, lists of numbers, sparse bits, dictionaries and indexes of texts are each one slice of words, which
-//! is also their file. What all views of blocks have.
+//! Blocks: trees, tries, lists of numbers, sparse bits, hashes with seeds, dictionaries, strings and indexes of texts are each
+//! one slice of words, which is also their file. What all views of blocks have.
 use crate::errors::{StoredError, WrongTables};
 use crate::sys::{query, OK};
 use core::mem::MaybeUninit;

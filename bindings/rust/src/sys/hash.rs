@@ -1,13 +1,15 @@
 //! Minimal perfect hashes: a number of its own below n for each of n keys, by the key's hash of 64 bits.
-use crate::errors::{sure, BuildError, ListError, WrongTables};
+mod queries;
+
+use crate::errors::{sure, BuildError, ListError, NoMemory, WrongTables};
 use crate::ffi::hashes::*;
-use crate::sys::lists::query_list;
-use crate::sys::memory::{as_u64_mut, copied, zeroed};
+use crate::sys::memory::{copied, zeroed};
 use crate::sys::tables::Tables;
 use crate::sys::view::IndexView;
-use crate::sys::{query, OK};
+use crate::sys::OK;
 use alloc::vec::Vec;
 use core::fmt;
+pub(crate) use queries::{fingerprint_width, hash_queries};
 
 /// A minimal perfect hash: each of n keys has a number of its own below n, in about three bits a key.
 ///
@@ -41,16 +43,67 @@ unsafe impl Send for PerfectHash {}
 // SAFETY: as of `Send`.
 unsafe impl Sync for PerfectHash {}
 
-/// Room for the words of all levels: those of n hashes have about n * g * e^(1/g) bits, with g = `percent` / 100, and
-/// at least one word each.
-fn room_of(keys: usize, percent: u32) -> usize {
-    let percent_of_all = (percent.max(50) as usize + 200).max(400);
-    let bits = (keys as u128 * percent_of_all as u128).div_ceil(90);
-    (bits / 64) as usize + 2 * LEVELS
+/// Memory for the levels of some hashes, how many levels and words of it are used, and how many hashes have no number.
+pub(crate) struct Levels {
+    pub(crate) words: Vec<u64>,
+    pub(crate) again: Vec<u64>,
+    pub(crate) sizes: Vec<u64>,
+    pub(crate) levels: u64,
+    pub(crate) used: u64,
+    pub(crate) left: u64,
 }
 
 /// No hash has more levels.
 const LEVELS: usize = 256;
+
+impl Levels {
+    /// The words of all levels of n hashes have about n * g * e^(1/g) bits, with g = `percent` / 100, and there is at
+    /// least one word for each level.
+    pub(crate) fn with_room(keys: usize, percent: u32) -> Result<Self, NoMemory> {
+        let percent_of_all = (percent.max(50) as usize + 200).max(400);
+        let bits = (keys as u128 * percent_of_all as u128).div_ceil(90);
+        let words = zeroed((bits / 64) as usize + 2 * LEVELS)?;
+        // SAFETY: numbers are passed.
+        let again = zeroed(unsafe { bitm_hash_level_len(keys, percent) })?;
+        Ok(Levels { words, again, sizes: zeroed(LEVELS)?, levels: 0, used: 0, left: 0 })
+    }
+
+    /// What a call has written of the levels of the given number of hashes, by its status; else why it has not.
+    pub(crate) fn written(mut self, status: u32, keys: usize) -> Result<Self, BuildError> {
+        match status {
+            OK if self.left > 0 => Err(BuildError::EqualHashes { left: self.left as usize }),
+            OK => {
+                self.words.truncate(self.used as usize);
+                self.sizes.truncate(self.levels as usize);
+                Ok(self)
+            }
+            _ => Err(BuildError::TooLong { len: keys }),
+        }
+    }
+
+    /// Those of the hashes, which are put into another order.
+    fn of(hashes: &mut [u64], percent: u32) -> Result<Self, BuildError> {
+        let mut all = Levels::with_room(hashes.len(), percent)?;
+        // SAFETY: four mutable slices that do not overlap, and room for three numbers.
+        let status = unsafe {
+            bitm_hash_build(
+                hashes.as_mut_ptr(),
+                hashes.len(),
+                percent,
+                all.words.as_mut_ptr(),
+                all.words.len(),
+                all.again.as_mut_ptr(),
+                all.again.len(),
+                all.sizes.as_mut_ptr(),
+                all.sizes.len(),
+                &mut all.levels,
+                &mut all.used,
+                &mut all.left,
+            )
+        };
+        all.written(status, hashes.len())
+    }
+}
 
 /// The struct that each query takes: of memory that stays where it is.
 fn raw(words: &[u64], tables: &Tables, sizes: &[u64], keys: usize) -> bitm_hash {
@@ -79,50 +132,12 @@ impl PerfectHash {
     /// ```
     pub fn build_with(mut hashes: Vec<u64>, percent: u32) -> Result<Self, BuildError> {
         let keys = hashes.len();
-        // SAFETY: numbers are passed.
-        let again_len = unsafe { bitm_hash_level_len(keys, percent) };
-        let (mut room, mut again) = (zeroed(room_of(keys, percent))?, zeroed(again_len)?);
-        let mut sizes = zeroed(LEVELS)?;
-        let made = Self::levels(&mut hashes, percent, &mut room, &mut again, &mut sizes);
-        let (levels, used, left) = made.ok_or(BuildError::TooLong { len: keys })?;
-        if left > 0 {
-            return Err(BuildError::EqualHashes { left });
-        }
-        drop((hashes, again));
-        let words = copied(&room[..used])?;
-        sizes.truncate(levels);
+        let Levels { words: room, sizes, .. } = Levels::of(&mut hashes, percent)?;
+        drop(hashes);
+        let words = copied(&room)?;
         let tables = Tables::of(&words)?;
         let raw = raw(&words, &tables, &sizes, keys);
         Ok(PerfectHash { raw, words, tables, sizes })
-    }
-
-    /// How many levels and words there are, and hashes that are left; `None` where there are too many words.
-    fn levels(
-        hashes: &mut [u64],
-        percent: u32,
-        words: &mut [u64],
-        again: &mut [u64],
-        sizes: &mut [u64],
-    ) -> Option<(usize, usize, usize)> {
-        let (mut levels, mut used, mut left) = (0, 0, 0);
-        // SAFETY: four mutable slices that do not overlap, and room for three numbers.
-        let status = unsafe {
-            bitm_hash_build(
-                hashes.as_mut_ptr(),
-                hashes.len(),
-                percent,
-                words.as_mut_ptr(),
-                words.len(),
-                again.as_mut_ptr(),
-                again.len(),
-                sizes.as_mut_ptr(),
-                sizes.len(),
-                &mut levels,
-                &mut used,
-                &mut left,
-            )
-        };
-        (status == OK).then_some((levels as usize, used as usize, left as usize))
     }
 
     /// The hash as C takes it, whose pointers are those of vectors of this value.
@@ -176,35 +191,26 @@ impl PerfectHash {
         sure(self.checked_get(hash))
     }
 
-    /// As `get`, with an error where the tables turn out to be wrong.
+    /// The number of a key, by its hash and its fingerprint; `None` where the fingerprint at that number is another, so a
+    /// value that is no key has a number once in 2^`width`.
+    ///
+    /// It panics where `width` is above 64, or there is no fingerprint at that number.
     ///
     /// ```
-    /// let numbers = bitm_proved::PerfectHash::build(vec![5])?;
-    /// assert_eq!(numbers.checked_get(5), Ok(Some(0))); // the only number below 1
+    /// let (numbers, mut prints) = (bitm_proved::PerfectHash::build(vec![5, 7])?, [0]);
+    /// assert_eq!(numbers.set_prints(&[5, 7], &[1, 2], &mut prints, 8), Ok(true));
+    /// assert_eq!((numbers.find(&prints, 8, 7, 2), numbers.find(&prints, 8, 7, 3)), (numbers.get(7), None));
     /// # Ok::<(), bitm_proved::BuildError>(())
     /// ```
-    pub fn checked_get(&self, hash: u64) -> Result<Option<usize>, WrongTables> {
-        // SAFETY: borrowed slices, and room for the number that the call writes where it returns OK.
-        let found = unsafe { query(|out| bitm_hash_get(&self.raw, hash, out)) };
-        Ok(found?.map(|it| it as usize))
+    #[track_caller]
+    pub fn find(&self, prints: &[u64], width: u32, hash: u64, key_print: u64) -> Option<usize> {
+        sure(self.checked_find(prints, width, hash, key_print))
     }
+}
 
-    /// The numbers of a list of hashes; how many have none, which `NO_ANSWER` stands for.
-    ///
-    /// ```
-    /// use bitm_proved::{ListError, PerfectHash};
-    /// let (numbers, mut out) = (PerfectHash::build(vec![5, 7])?, [9; 2]);
-    /// assert_eq!(numbers.get_list(&[5, 7], &mut out), Ok(0));
-    /// assert!(out == [0, 1] || out == [1, 0]);
-    /// assert_eq!(numbers.get_list(&[5], &mut out), Err(ListError::Lengths { queries: 1, room: 2 }));
-    /// # Ok::<(), bitm_proved::BuildError>(())
-    /// ```
-    pub fn get_list(&self, hashes: &[u64], out: &mut [usize]) -> Result<usize, ListError> {
-        query_list(hashes.len(), as_u64_mut(out), |to, room, counts| {
-            // SAFETY: borrowed slices that do not overlap, and room for the counts.
-            unsafe { bitm_hash_get_list(&self.raw, hashes.as_ptr(), hashes.len(), to, room, counts) }
-        })
-    }
+hash_queries! { PerfectHash;
+    |it| &it.raw, bitm_hash_get, bitm_hash_get_list, bitm_hash_set_prints, bitm_hash_find, bitm_hash_find_list;
+    "PerfectHash", "numbers"
 }
 
 impl fmt::Debug for PerfectHash {

@@ -1,0 +1,61 @@
+//! Hashes with seeds and the owner of their block.
+use crate::errors::{made, BuildError, StoredError};
+use crate::sys::held::Held;
+use crate::sys::memory::copied;
+use crate::sys::owner::owners_of_blocks;
+use crate::sys::seeded::{build, SeededHashView};
+use alloc::vec::Vec;
+use core::fmt;
+
+/// A minimal perfect hash with a seed for each word of its levels, and the owner of its block: of many keys 2.26 bits a
+/// key, where [`PerfectHash`](crate::PerfectHash) takes 2.8. Building takes more time.
+///
+/// A key is its hash of 64 bits, by a function of yours; equal hashes are refused. No key is kept: a hash that was none
+/// of them may get any number below how many there are. The block is the file of the hash, the same in each language.
+///
+/// ```
+/// use bitm_proved::SeededHash;
+/// let hashes: Vec<u64> = (1..=1000u64).map(|key| key.wrapping_mul(0x9E3779B97F4A7C15)).collect();
+/// let numbers = SeededHash::build(hashes.clone())?;
+/// let mut seen = vec![false; numbers.len()];
+/// for hash in &hashes {
+///     seen[numbers.get(*hash).unwrap()] = true;
+/// }
+/// assert!(seen.iter().all(|it| *it));
+/// # Ok::<(), bitm_proved::BuildError>(())
+/// ```
+pub struct SeededHash<O = Vec<u64>> {
+    view: SeededHashView<'static>,
+    held: Held<O>,
+}
+
+impl SeededHash {
+    /// Of the hashes of keys, with levels that take least memory, and 64 seeds that are tried for each word.
+    ///
+    /// ```
+    /// use bitm_proved::{BuildError, SeededHash};
+    /// assert_eq!(SeededHash::build(vec![5, 7, 9])?.len(), 3);
+    /// assert_eq!(SeededHash::build(vec![5, 7, 5]).err(), Some(BuildError::EqualHashes { left: 2 }));
+    /// # Ok::<(), BuildError>(())
+    /// ```
+    pub fn build(hashes: Vec<u64>) -> Result<Self, BuildError> {
+        Self::build_with(hashes, 100, 64, 0)
+    }
+
+    /// As `build`, with levels of `percent` bits for each 100 hashes that are left, and the best of the first `tries`
+    /// seeds, at most 256, for each word: more take less memory, and more time to build. The block keeps `seed`, which is
+    /// yours.
+    ///
+    /// ```
+    /// assert_eq!(bitm_proved::SeededHash::build_with(vec![1, 2, 3], 200, 8, 7)?.seed(), 7);
+    /// # Ok::<(), bitm_proved::BuildError>(())
+    /// ```
+    pub fn build_with(hashes: Vec<u64>, percent: u32, tries: u16, seed: u64) -> Result<Self, BuildError> {
+        let otherwise = BuildError::TooLong { len: hashes.len() };
+        Self::of_block(build(hashes, percent, tries, seed)?, otherwise)
+    }
+}
+
+owners_of_blocks! { SeededHash with SeededHashView;
+    "hash", "bitm_proved::SeededHash::build(vec![5, 7, 9])?", "3"
+}
