@@ -9,9 +9,9 @@ import { put } from "./stored.js";
 const LEVELS = 256;
 
 /**
- * Runs body(hash) over the hash of n hashes, which are moved: `at` is where its struct stands, seeds are where those of its words
- * stand, and words_len, sizes_len and seeds_len are how long its parts are. With tries each word has one of so many seeds, else
- * none. Answers whether it did: it does not where two hashes are equal.
+ * Runs body(hash) over the hash of n hashes, which are moved: `at` is where its struct stands, words, sizes and seeds are where
+ * these parts stand, and words_len, sizes_len and seeds_len are how long they are. With tries each word has one of so many seeds,
+ * which isSeeded says, else none. Answers whether it did: it does not where two hashes are equal.
  */
 export function withHash(hashes, n, { percent, tries }, body) {
     const first = calls.bitm_hash_level_len(n, within(percent, 50, 10000, "percent"));
@@ -25,14 +25,14 @@ export function withHash(hashes, n, { percent, tries }, body) {
             ? calls.bitm_hash_build_seeded(hashes, n, percent, seedsTried, ...rooms.before, seeds, most, again, first, sorted, n, ...rooms.after)
             : calls.bitm_hash_build(hashes, n, percent, ...rooms.before, again, first, ...rooms.after);
         if (orThrow(left, "keys", n) !== 0) return false;
-        const words_len = numberAt(BESIDE + 8), ofSeeds = isSeeded ? { seeds, seeds_len: words_len } : { seeds: 0, seeds_len: 0 };
-        withTables({ words, words_len, sizes, sizes_len: numberAt(BESIDE), keys: n, ...ofSeeds }, body);
+        const words_len = numberAt(BESIDE + 8), parts = { words, words_len, sizes, sizes_len: numberAt(BESIDE), seeds, seeds_len: isSeeded ? words_len : 0 };
+        withTables(parts, n, at => body({ at, isSeeded, ...parts }));
         return true;
     });
 }
 
-/** Builds the tables of the levels, and writes the struct, which begins with that of a hash without seeds. */
-function withTables({ words, words_len, sizes, sizes_len, keys, seeds, seeds_len }, body) {
+/** Builds the tables of the levels, and writes the struct, which begins with that of a hash without seeds: runs body(at). */
+function withTables({ words, words_len, sizes, sizes_len, seeds, seeds_len }, keys, body) {
     const upper_len = calls.bitm_index_upper_len(words_len), lower_len = calls.bitm_index_lower_len(words_len);
     withRoom(BITM_SEEDED_HASH.sizeof + 8 * (upper_len + lower_len), at => {
         const upper = at + BITM_SEEDED_HASH.sizeof, lower = upper + 8 * upper_len;
@@ -42,6 +42,6 @@ function withTables({ words, words_len, sizes, sizes_len, keys, seeds, seeds_len
             hash_index_lower: lower, hash_index_lower_len: lower_len, hash_index_bits_len: 64 * words_len, hash_sizes: sizes,
             hash_sizes_len: sizes_len, hash_keys: keys, seeds, seeds_len,
         });
-        body({ at, words, words_len, sizes, sizes_len, seeds, seeds_len });
+        body(at);
     });
 }

@@ -15,7 +15,7 @@ const out = new Int32Array(3);
 // a fingerprint, and the words of these. Its role says how keys are hashed: by hashKey, "bitmhjs1".
 const ROLE = 0x31736a686d746962n;
 /** Where numbers of ours stand, after the struct of the library. */
-const LAYOUT = { ...BITM_SEEDED_HASH, seed: 192, prints: 200, prints_len: 208, width: 216 };
+const LAYOUT = { ...BITM_SEEDED_HASH, seed: 192, prints: 200, prints_len: 208, width: 216, is_seeded: 224 };
 const KIND = { name: "PerfectHash", what: "a PerfectHash", open: opened, check: isWritten, layout: LAYOUT };
 
 /** Opens a block of a hash, with seeds or without: whether it is one that toBytes() gave. Writes the struct. */
@@ -23,16 +23,17 @@ function opened(block, words, at) {
     let seed = calls.bitm_hash_block_open_seeded_bytes(block, words, block, 8 * words, at);
     const isSeeded = seed >= 0;
     if (!isSeeded) seed = calls.bitm_hash_block_open(block, words, at);
-    return seed > 0 && seed < 2 ** 32 && calls.bitm_block_section(block, words, isSeeded ? 5 : 4, BESIDE) === 0 && isOurs(at, seed);
+    return seed > 0 && seed < 2 ** 32 && calls.bitm_block_section(block, words, isSeeded ? 5 : 4, BESIDE) === 0 && isOurs(at, seed, isSeeded);
 }
 
 /** Whether the section of which the struct stands at BESIDE has the fingerprints of the hash at `at`. */
-function isOurs(at, seed) {
+function isOurs(at, seed, isSeeded) {
     const of = name => numberAt(BESIDE + BITM_SECTION[name]), count = of("count"), from = of("words");
     if (wordsAt(BESIDE + BITM_SECTION.role, 1)[0] !== ROLE || count < 8) return false;
     const width = numberAt(from), prints_len = (count - 8) / 8;
     if (width > 32 || calls.bitm_bits_words_len(numberAt(at + LAYOUT.hash_keys) * width) !== prints_len) return false;
-    for (const [name, value] of Object.entries({ seed, prints: from + 8, prints_len, width })) wordsAt(at + LAYOUT[name], 1)[0] = BigInt(value);
+    const found = { seed, prints: from + 8, prints_len, width, is_seeded: isSeeded };
+    for (const [name, value] of Object.entries(found)) wordsAt(at + LAYOUT[name], 1)[0] = BigInt(value);
     return true;
 }
 
@@ -119,7 +120,7 @@ export class PerfectHash {
     get byteLength() { return this.#held.byteLength; }
 
     /** Whether its words have seeds. */
-    get hasSeeds() { return this.#held.member("seeds_len") > 0; }
+    get hasSeeds() { return this.#held.member("is_seeded") === 1; }
 
     /** The number of a key, below length; undefined for most values that are no key: all but one in 2^fingerprintBits. */
     get(key) {
@@ -157,7 +158,7 @@ const CALLS = [["bitm_hash_block_size", "bitm_hash_block_build"], ["bitm_hash_bl
 
 /** Runs body(block, words) over the block of a hash without fingerprints, which is words long. */
 function withBlockOf(hash, seed, body) {
-    const isSeeded = hash.seeds_len > 0, seeds = isSeeded ? [hash.seeds, hash.seeds_len] : [], [sizeOf, build] = CALLS[Number(isSeeded)];
+    const seeds = hash.isSeeded ? [hash.seeds, hash.seeds_len] : [], [sizeOf, build] = CALLS[Number(hash.isSeeded)];
     const size = orThrow(calls[sizeOf](hash.words_len, hash.sizes_len), "keys", hash.words_len);
     withRoom(8 * size, block => {
         must(calls[build](hash.words, hash.words_len, ...seeds, hash.sizes, hash.sizes_len, seed, block, size), "keys");

@@ -22,7 +22,7 @@ export class PerfectHash {
 
     readonly length: number;
     readonly byteLength: number;
-    /** Whether its words have seeds: never those of no keys. */
+    /** Whether its words have seeds. */
     readonly hasSeeds: boolean;
     get(key: Key): number | undefined;
     getList(keys: Iterable<Key>): (number | undefined)[];
