@@ -12,6 +12,9 @@ static PyMethodDef functions[] = {{"stored_load", stored_load, METH_O, NULL},
                                   {"parts", parts_of, METH_O, NULL},
                                   {"over", parts_over, METH_VARARGS, NULL},
                                   {"trie_of_sorted", trie_of_sorted, METH_VARARGS, NULL},
+                                  {"section_added", section_added, METH_VARARGS, NULL},
+                                  {"sections_of", sections_of, METH_O, NULL},
+                                  {"block_is_written", block_is_written, METH_O, NULL},
                                   {"sequence_window", sequence_window, METH_O, NULL},
                                   {"sequence_merged", sequence_merged, METH_VARARGS, NULL},
                                   {"cursors_merged", cursors_merged, METH_VARARGS, NULL},
@@ -26,7 +29,8 @@ static const char *missing_feature(void)
         return name;
     HAS("popcnt")
     HAS("sse3")
-    HAS("ssse3") HAS("sse4.1") HAS("sse4.2")
+    HAS("ssse3")
+    HAS("sse4.1") HAS("sse4.2")
 #endif
         return NULL;
 }
