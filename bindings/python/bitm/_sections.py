@@ -1,8 +1,11 @@
 """Sections of a caller's own in a block of any kind, after those of its kind: notes, samples and the like."""
 import operator
-from typing import Any, List, Mapping, NamedTuple, Optional
+from typing import TYPE_CHECKING, Any, Iterable, List, Mapping, NamedTuple, Optional, SupportsIndex, Tuple, Union
 
 from . import _core
+
+if TYPE_CHECKING:
+    from _typeshed import ReadableBuffer as Buffer
 
 # The first role that no kind has. From it on roles are a caller's, and their items are bytes.
 OWN_ROLE = 65536
@@ -25,27 +28,27 @@ def _format_of(role: int) -> str:
     return "B" if role >= OWN_ROLE else _ITEMS.get(role, "Q")
 
 
-def _role(given: Any) -> int:
+def _role(given: SupportsIndex) -> int:
     role = operator.index(given)
     if not 0 <= role < 2**64:
         raise OverflowError(f"a role is 0 to 2**64 - 1, not {role}")
     return role
 
 
-def _flat(block: Any) -> memoryview:
+def _flat(block: "Buffer") -> memoryview:
     """The bytes of a block, from a buffer that has no gaps."""
     with memoryview(block) as view:
         return view.cast("B")
 
 
-def _words(block: Any) -> memoryview:
+def _words(block: "Buffer") -> memoryview:
     flat = _flat(block)
     if flat.nbytes % 8:
         raise ValueError("it is no block, or not all of it")
     return flat
 
 
-def _extended(block: Any, role: int, data: Any) -> bytes:
+def _extended(block: "Buffer", role: int, data: "Buffer") -> bytes:
     with memoryview(data) as view:
         items = view.tobytes()
     size = memoryview(b"").cast(_format_of(role)).itemsize
@@ -54,7 +57,7 @@ def _extended(block: Any, role: int, data: Any) -> bytes:
     return _core.section_added(block, role, len(items) // size, items)
 
 
-def extend(block: Any, sections: Any, /) -> bytes:
+def extend(block: "Buffer", sections: "Union[Mapping[int, Buffer], Iterable[Tuple[SupportsIndex, Buffer]]]", /) -> bytes:
     """The bytes of a block with more sections after its own: `sections` maps roles to the items of each, in any buffer, or has
     pairs of these. A role from 65536 on is yours, and its items are bytes; docs/FORMAT.md has others. What the block held it holds
     still, and values over it step over the sections of yours.
@@ -67,7 +70,7 @@ def extend(block: Any, sections: Any, /) -> bytes:
     >>> len(Tree.over(noted)), bytes(section(noted, 65536))
     (3, b'3 nodes')
     """
-    pairs = sections.items() if isinstance(sections, Mapping) else sections
+    pairs: Any = sections.items() if isinstance(sections, Mapping) else sections
     added = [(_role(role), data) for role, data in pairs]
     words = _words(block)
     if not added and not _core.block_is_written(words):
@@ -77,7 +80,7 @@ def extend(block: Any, sections: Any, /) -> bytes:
     return words.tobytes()
 
 
-def sections(block: Any, /) -> List[Section]:
+def sections(block: "Buffer", /) -> List[Section]:
     """The sections of a block in their order, those of its kind first, read where they lie: the items of each are a view of bytes, of
     uint32 for the roles 7 and 8, or of uint64 for others below 65536 but 15. ValueError where header or directory of the block
     are not right; whether the sections are as they were written is for `is_written` to say.
@@ -94,7 +97,7 @@ def _section_of(role: int, count: int, window: Any) -> Section:
     return Section(role, items[:count])
 
 
-def section(block: Any, role: Any, /) -> Optional[memoryview]:
+def section(block: "Buffer", role: SupportsIndex, /) -> Optional[memoryview]:
     """The items of the first section with a role, as `sections` has them, or None where there is none. ValueError as there.
 
     >>> noted = extend(Tree([2, 0, 0]).block, [(65536, b"3 nodes"), (65537, b"")])
@@ -105,7 +108,7 @@ def section(block: Any, role: Any, /) -> Optional[memoryview]:
     return next((it.items for it in sections(block) if it.role == sought), None)
 
 
-def is_written(block: Any, /) -> bool:
+def is_written(block: "Buffer", /) -> bool:
     """Whether a block of any kind is as it was written: goes over all of it, while other threads run. Whether it holds what its
     kind says is for the `check` of that to say.
 
