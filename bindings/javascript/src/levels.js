@@ -10,7 +10,7 @@ const LEVELS = 256;
 
 /**
  * Runs body(hash) over the hash of n hashes, which are moved: `at` is where its struct stands, words, sizes and seeds are where
- * these parts stand, and words_len, sizes_len and seeds_len are how long they are. With tries each word has one of so many seeds,
+ * these parts stand, and words_len, sizes_len and seeds_len are how long they are. With tries each word has one of that many seeds,
  * which isSeeded says, else none. Answers whether it did: it does not where two hashes are equal.
  */
 export function withHash(hashes, n, { percent, tries }, body) {

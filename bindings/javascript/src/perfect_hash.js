@@ -66,7 +66,7 @@ export class PerfectHash {
     /**
      * The keys: strings, numbers, BigInts, Uint8Arrays; no two equal. A fingerprint of fingerprintBits (0 to 32) for each
      * says of most other values that they are no key. percent: 100 takes least memory, 200 less time. With tries, 1 to 256, each
-     * word of the hash has the best of so many seeds: with 64 a key takes 2.3 bits beside its fingerprint, for 2.8 without.
+     * word of the hash has the best of that many seeds: with 64 a key takes 2.3 bits beside its fingerprint, for 2.8 without.
      */
     constructor(keys, options = {}) {
         if (keys instanceof Copied) this.#held = new InBlock(KIND, this, keys);

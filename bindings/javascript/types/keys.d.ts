@@ -9,7 +9,7 @@ export interface PerfectHashOptions {
     fingerprintBits?: number;
     /** 50 to 10000, else 100: 100 takes least memory, 200 less time. */
     percent?: number;
-    /** 1 to 256: each word of the hash has the best of so many seeds, so a key takes less memory. Else there are no seeds. */
+    /** 1 to 256: each word of the hash has the best of that many seeds, so a key takes less memory. Else there are no seeds. */
     tries?: number;
 }
 

@@ -167,7 +167,7 @@ typedef struct {
 int wanted_take(Wanted *it, PyObject *percent, PyObject *seed);
 
 /* What the levels of `count` hashes are built in: rooms of words, of which `most` are for those of all levels; and with
- * tries above 0, so many seeds of which are tried for each word, one for the seeds, and one for the hashes in order. */
+ * tries above 0, that many seeds of which are tried for each word, one for the seeds, and one for the hashes in order. */
 enum { LEVELS = 256 };
 typedef struct {
     size_t count, most, first;

@@ -206,7 +206,7 @@ for a, b in ((tree, noted), (noted, tree), (noted, b""), (b"", noted)):
         try: print(call(Two(a, b)), end=" ")
         except ValueError: print("refused", end=" ")
 print("survived")
-""", ["True 3 384 3 True 4 5376 3 True 4 5376 3 False refused refused refused survived"])
+""", ["True 3 512 3 True 4 5632 3 True 4 5632 3 False refused refused refused survived"])
 
     def test_array_that_another_thread_shortens(self):
         self.run_program("""
