@@ -29,8 +29,7 @@ static const char *missing_feature(void)
         return name;
     HAS("popcnt")
     HAS("sse3")
-    HAS("ssse3")
-    HAS("sse4.1") HAS("sse4.2")
+    HAS("ssse3") HAS("sse4.1") HAS("sse4.2")
 #endif
         return NULL;
 }

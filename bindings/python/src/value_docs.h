@@ -17,9 +17,9 @@
     "and "                                                                                                             \
     "seed give the same numbers; without a seed it is 0, or 1 where the hashes of two keys are equal by 0. "           \
     "ValueError where keys are equal. hash='blake2b' is that of files of version 0.2.0.\n\n"                           \
-    "With tries, 1 to 256, each word of the hash has the best of that many seeds: with 64 a key takes 2.3 bits beside "  \
-    "its fingerprint, for 2.8 without. All of the hash is in one block of memory then, which is also its "             \
-    "file." EXAMPLE("numbers = PerfectHash(['zero', 'one', 'two'])")                                                   \
+    "With tries, 1 to 256, each word has the best of that many seeds: with 64 a key takes 2.3 bits beside its "        \
+    "fingerprint, for 2.8 without. All is in one block of memory then, which is also its file." EXAMPLE(               \
+        "numbers = PerfectHash(['zero', 'one', 'two'])")                                                               \
         THEN("sorted(numbers[key] for key in ('zero', 'one', 'two'))") PRINTS("[0, 1, 2]")                             \
             THEN("sorted(PerfectHash(range(3), tries=64).get_list(range(3)))") PRINTS("[0, 1, 2]")
 #define HASH_GET                                                                                                       \

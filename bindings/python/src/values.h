@@ -166,8 +166,9 @@ typedef struct {
 } Wanted;
 int wanted_take(Wanted *it, PyObject *percent, PyObject *seed);
 
-/* What the levels of `count` hashes are built in: rooms of words, of which `most` are for those of all levels; and with
- * tries above 0, that many seeds of which are tried for each word, one for the seeds, and one for the hashes in order. */
+/* What the levels of `count` hashes are built in: rooms of words, of which `most` are for those of all levels. Where
+ * tries is above 0, each word has the best of that many seeds: then there are rooms for these and for the hashes in
+ * order. */
 enum { LEVELS = 256 };
 typedef struct {
     size_t count, most, first;
