@@ -82,14 +82,14 @@ function itemsIn({ role, count, at }) {
 }
 
 /**
- * The sections of a block in their order, those of its kind first, each `{ role, items }`: the items are a Uint8Array, of the roles
- * 7 and 8 a Uint32Array, and of others below OWN_ROLE but 15 a BigUint64Array. WrongTables where the bytes are no block; whether
- * the sections are as they were written is for isWritten to say.
+ * The sections of a block in their order, those of its kind first: pairs of a role and of items, which are a Uint8Array, of the
+ * roles 7 and 8 a Uint32Array, and of others below OWN_ROLE but 15 a BigUint64Array. WrongTables where the bytes are no block;
+ * whether the sections are as they were written is for isWritten to say.
  *
  *     sections(new Tree([2, 0, 0]).toBytes()).length;        // 3
  */
 export function sections(block) {
-    return withBlock(bytesOf(block, "a block"), (at, words) => Array.from(sectionsIn(at, words), it => ({ role: it.role, items: itemsIn(it) })));
+    return withBlock(bytesOf(block, "a block"), (at, words) => Array.from(sectionsIn(at, words), it => [it.role, itemsIn(it)]));
 }
 
 /**

@@ -115,7 +115,7 @@ const names = new Strings(["ada", Uint8Array.of(98)], { percent: 150, seed: 3n }
 const spelled: Uint8Array | undefined = names.get(0n), spoken: string | undefined = Strings.open(names.toBytes(), { check: false }).text(0), each: Uint8Array[] = [...names];
 const few = new PerfectHash(new Set(["a", 1n]), { tries: 64, percent: 100, fingerprintBits: 8 }), again: PerfectHash = PerfectHash.open(few.toBytes().buffer, { check: false }), seeds: boolean = again.hasSeeds && again.check();
 const noted: Uint8Array = extend(few.toBytes(), [[OWN_ROLE, Uint8Array.of(1)], [7n, new Uint32Array(2)]]), more: Uint8Array = extend(noted.buffer, new Map([[OWN_ROLE + 1, new DataView(noted.buffer)]]));
-const items: Uint8Array | Uint32Array | BigUint64Array | undefined = section(noted, OWN_ROLE), roles: (number | bigint)[] = sections(more).map(it => it.role), fine: boolean = isWritten(more);
+const items: Uint8Array | Uint32Array | BigUint64Array | undefined = section(noted, OWN_ROLE), roles: (number | bigint)[] = sections(more).map(([role]) => role), fine: boolean = isWritten(extend(more, sections(noted)));
 void [seeds, items, roles, fine];
 void [numberOf, known, spelled, spoken, each, names.has("bob"), names.seed];
 const trie = new Trie([2, 0, 1n, 0], "abe", { width: 9, ends: BitVector.fromPositions([1], 4) }), node: number | undefined = trie.find([98n]), deepest: { node: number; count: number } = trie.longest("bee");

@@ -102,7 +102,7 @@ function ofNoKeys(seed) {
 }
 
 test("blocks whose keys were hashed in another way, or whose fingerprints are none", () => {
-    const role = bitm.sections(new PerfectHash([]).toBytes())[4].role, items = (...numbers) => BigUint64Array.from(numbers, BigInt);
+    const role = bitm.sections(new PerfectHash([]).toBytes())[4][0], items = (...numbers) => BigUint64Array.from(numbers, BigInt);
     const open = (seed, ...added) => PerfectHash.open(extend(ofNoKeys(seed), added));
     assert.deepEqual([open(3, [role, items(16)]).get("a"), open(2 ** 32 - 1, [role, items(0)]).length], [undefined, 0]);
     for (const seed of [0, 2 ** 32, 2 ** 53 - 1]) assert.throws(() => open(seed, [role, items(16)]), WrongTables);

@@ -30,7 +30,7 @@ test("each kind opens as before with sections of every length, and these are wha
             assert.deepEqual(ask(again), ask(value));
             assert.deepEqual([again.check(), isWritten(noted), noted.length % 8], [true, true, 0]);
             assert.deepEqual(all.slice(0, own.length), own);
-            assert.deepEqual(all.slice(own.length), [{ role: OWN_ROLE, items: drawn(n, n + 1) }, { role: MOST, items: drawn(n, 3) }]);
+            assert.deepEqual(all.slice(own.length), [[OWN_ROLE, drawn(n, n + 1)], [MOST, drawn(n, 3)]]);
             tally.list(section(noted, OWN_ROLE), drawn(n, n + 1), "a section");
             tally.list(section(noted, MOST), drawn(n, 3), "a section");
             assert.deepEqual(extend(extend(block, [[OWN_ROLE, drawn(n, n + 1)]]), [[MOST, drawn(n, 3)]]), noted);
@@ -47,7 +47,8 @@ test("items of four bytes, of eight and of one", () => {
     const block = new bitm.Tree([0]).toBytes(), halves = Uint32Array.of(1, 2, 2 ** 32 - 1), whole = BigUint64Array.of(5n, MOST);
     const noted = extend(block, new Map([[7, halves], [8n, halves.subarray(1)], [15, Uint8Array.of(1, 2, 3)], [99, whole], [OWN_ROLE, whole]]));
     assert.deepEqual([7, 8, 15, 99, OWN_ROLE].map(it => section(noted, it)), [halves, halves.slice(1), Uint8Array.of(1, 2, 3), whole, new Uint8Array(whole.buffer)]);
-    assert.deepEqual(section(noted, 1), sections(block)[0].items);
+    assert.deepEqual(section(noted, 1), sections(block)[0][1]);
+    assert.deepEqual(extend(block, sections(noted).slice(3)), noted);
     for (const [role, n] of [[7, 3], [8, 5], [99, 4], [0, 1]]) assert.throws(() => extend(block, [[role, new Uint8Array(n)]]), RangeError);
     const two = extend(block, [[OWN_ROLE, Uint8Array.of(1)], [OWN_ROLE, Uint8Array.of(2)]]);
     assert.deepEqual([section(two, OWN_ROLE), sections(two).length], [Uint8Array.of(1), 5]);

@@ -1,6 +1,6 @@
 """Sections of a caller's own in a block of any kind, after those of its kind: notes, samples and the like."""
 import operator
-from typing import TYPE_CHECKING, Any, Iterable, List, Mapping, NamedTuple, Optional, SupportsIndex, Tuple, Union
+from typing import TYPE_CHECKING, Any, Iterable, List, Mapping, Optional, SupportsIndex, Tuple, Union
 
 from . import _core
 
@@ -11,17 +11,6 @@ if TYPE_CHECKING:
 OWN_ROLE = 65536
 # The items of other roles, as docs/FORMAT.md says: numbers of 64 bits, but for these.
 _ITEMS = {7: "I", 8: "I", 15: "B"}
-
-
-class Section(NamedTuple):
-    """A section of a block: its role says what the items are.
-
-    >>> sections(Tree([2, 0, 0]).block)[0].role
-    1
-    """
-
-    role: int
-    items: memoryview
 
 
 def _format_of(role: int) -> str:
@@ -80,21 +69,21 @@ def extend(block: "Buffer", sections: "Union[Mapping[int, Buffer], Iterable[Tupl
     return words.tobytes()
 
 
-def sections(block: "Buffer", /) -> List[Section]:
-    """The sections of a block in their order, those of its kind first, read where they lie: the items of each are a view of bytes, of
-    uint32 for the roles 7 and 8, or of uint64 for others below 65536 but 15. ValueError where header or directory of the block
-    are not right; whether the sections are as they were written is for `is_written` to say.
+def sections(block: "Buffer", /) -> List[Tuple[int, memoryview]]:
+    """The sections of a block in their order, those of its kind first: pairs of a role and of items, which are read where they lie,
+    in a view of bytes, of uint32 for the roles 7 and 8, or of uint64 for others below 65536 but 15. ValueError where header or
+    directory of the block are not right; whether the sections are as they were written is for `is_written` to say.
 
-    >>> [it.role for it in sections(extend(Tree([2, 0, 0]).block, {65536: b"3 nodes"}))]
+    >>> [role for role, _ in sections(extend(Tree([2, 0, 0]).block, {65536: b"3 nodes"}))]
     [1, 2, 3, 65536]
     """
-    return [_section_of(*it) for it in _core.sections_of(_words(block))]
+    return [(role, _items(role, count, window)) for role, count, window in _core.sections_of(_words(block))]
 
 
-def _section_of(role: int, count: int, window: Any) -> Section:
+def _items(role: int, count: int, window: Any) -> memoryview:
     flat = memoryview(window).cast("B")
     items = flat.cast(_format_of(role))
-    return Section(role, items[:count])
+    return items[:count]
 
 
 def section(block: "Buffer", role: SupportsIndex, /) -> Optional[memoryview]:
@@ -105,7 +94,7 @@ def section(block: "Buffer", role: SupportsIndex, /) -> Optional[memoryview]:
     (51, None)
     """
     sought = _role(role)
-    return next((it.items for it in sections(block) if it.role == sought), None)
+    return next((items for found, items in sections(block) if found == sought), None)
 
 
 def is_written(block: "Buffer", /) -> bool:

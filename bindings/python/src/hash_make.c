@@ -176,7 +176,7 @@ static int block_built(Memory *it, const uint64_t *plain, size_t plain_len, uint
 static int seeded_in(Memory *it, const Keys *keys, const Settings *how, Levels *in)
 {
     struct bitm_seeded_hash hash = {.seeds = in->seeds};
-    size_t prints_len, plain_len;
+    size_t prints_len = 0, plain_len = 0;
     uint32_t status;
     Py_BEGIN_ALLOW_THREADS
     memcpy(in->hashes, keys->hashes, 8 * keys->count);

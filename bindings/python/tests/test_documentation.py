@@ -21,7 +21,6 @@ def items():
     for name in bitm.__all__:
         if inspect.isfunction(getattr(bitm, name)):
             yield name, getattr(bitm, name)
-    yield "Section", bitm.Section
 
 
 @pytest.mark.parametrize("name, item", items(), ids=lambda it: it if isinstance(it, str) else "")

@@ -10,7 +10,7 @@ from blocks import as_bytes, block as plain_block, tree_sections
 from hypothesis import given, settings, strategies as st
 
 import bitm
-from bitm import Section, extend, is_written, section, sections
+from bitm import extend, is_written, section, sections
 
 OWN = 65536
 TREE = bytes(bitm.Tree([2, 0, 0]).block)
@@ -27,9 +27,12 @@ VALUES = (
 )
 
 
+def spelled(block):
+    return [(role, bytes(items)) for role, items in sections(block)]
+
+
 @pytest.mark.parametrize("value, ask", VALUES, ids=[repr(value) for value, _ in VALUES])
 def test_each_kind_answers_as_before(value, ask, tmp_path):
-    own = sections(value.block)
     for count in (0, 1, 7, 8, 9, 1000):
         data = bytes(range(256)) * 4
         noted = extend(value.block, {OWN: data[:count], 2**64 - 1: data[: 2 * count]})
@@ -37,7 +40,7 @@ def test_each_kind_answers_as_before(value, ask, tmp_path):
         for other in (type(value).over(noted), bitm.loads(noted), bitm.load(tmp_path / "noted", mmap=True)):
             assert type(other) is type(value) and ask(other) == ask(value) and other.check() and bytes(other.block) == noted
         assert is_written(noted) and len(noted) % 64 == 0
-        assert [(it.role, bytes(it.items)) for it in sections(noted)] == [(it.role, bytes(it.items)) for it in own] + [(OWN, data[:count]), (2**64 - 1, data[: 2 * count])]
+        assert spelled(noted) == spelled(value.block) + [(OWN, data[:count]), (2**64 - 1, data[: 2 * count])]
         assert (bytes(section(noted, OWN)), bytes(section(noted, 2**64 - 1)), section(noted, OWN + 1)) == (data[:count], data[: 2 * count], None)
         assert extend(extend(value.block, {OWN: data[:count]}), [(2**64 - 1, data[: 2 * count])]) == noted
     assert extend(value.block, {}) == bytes(value.block) and is_written(value.block)
@@ -50,7 +53,7 @@ def test_a_block_is_that_of_the_documents(drawn, added):
     written = [(role, [int.from_bytes(data[at : at + 8], "little") for at in range(0, len(data), 8)], len(data)) for role, data in added]
     wanted = as_bytes(plain_block(7, len(degrees), 0, [*tree_sections(degrees), *written]))
     assert extend(bitm.Tree(degrees).block, added) == wanted
-    assert [(it.role, bytes(it.items)) for it in sections(wanted)[3:]] == added
+    assert spelled(wanted)[3:] == added
 
 
 def test_items_of_four_bytes_and_of_eight():
@@ -61,10 +64,10 @@ def test_items_of_four_bytes_and_of_eight():
     for role, count in ((7, 3), (8, 5), (99, 4), (0, 1)):
         with pytest.raises(ValueError, match=f"an item of role {role} has"):
             extend(TREE, {role: bytes(count)})
-    first = sections(noted)[0]
-    assert isinstance(first, Section) and first == (1, first.items) and first.items.readonly
+    role, items = sections(noted)[0]
+    assert (role, items.format, items.readonly) == (1, "Q", True) and extend(TREE, sections(noted)[3:]) == noted
     twice = extend(TREE, [(OWN, b"one"), (OWN, b"two")])
-    assert bytes(section(twice, OWN)) == b"one" and bytes(sections(twice)[4].items) == b"two"
+    assert bytes(section(twice, OWN)) == b"one" and spelled(twice)[4] == (OWN, b"two")
 
 
 def test_sixteen_sections_and_no_more():

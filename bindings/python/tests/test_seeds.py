@@ -134,7 +134,7 @@ def test_files_and_copies(tmp_path):
 
 def test_sections_of_ones_own_stay(tmp_path):
     numbers = PerfectHash(keys_of(30), tries=4)
-    noted = bitm.extend(numbers.block, {bitm.sections(numbers.block)[5].role: b"no fingerprints", 65536: b"note"})
+    noted = bitm.extend(numbers.block, {bitm.sections(numbers.block)[5][0]: b"no fingerprints", 65536: b"note"})
     (tmp_path / "noted").write_bytes(noted)
     for other in (bitm.load(tmp_path / "noted", mmap=True), PerfectHash.over(noted), bitm.loads(noted)):
         assert other.get_list(keys_of(30)) == numbers.get_list(keys_of(30)) and other.check() and bytes(bitm.section(other.block, 65536)) == b"note"

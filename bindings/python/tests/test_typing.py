@@ -33,7 +33,7 @@ bitm.Shards.build([bits, (b"", 0)], "x"); shards.count(); shards.folder
 bitm.intersect([sequence]); bitm.union(iter([sequence]), 3, limit=4); bitm.union([sequence], to_numpy=True); bitm.intersect([], 1, None, to_numpy=True)
 sequence.cursor(); sequence.cursor().next_geq(3); next(sequence.cursor()); sequence.cursor().number; sequence.cursor().index; list(sequence.cursor())
 bitm.PerfectHash(["a"], tries=64).has_seeds; bitm.PerfectHash({1: "a"}, tries=None).block; bitm.PerfectHash.over(b"")["a"]
-bitm.extend(b"", {65536: b"a"}); bitm.extend(bits.words, [(65536, b"a"), (7, bits.words)]); bitm.sections(b"")[0].role; bitm.sections(b"")[0].items
+bitm.extend(b"", {65536: b"a"}); bitm.extend(bits.words, [(65536, b"a"), (7, bits.words)]); bitm.sections(b"")[0]; dict(bitm.sections(b""))[1]
 bitm.section(b"", 65536); bitm.is_written(b"")
 bitm.load("x"); bitm.load("x").check(); bitm.loads(b""); bitm.tables_of(b""); bitm.Index(b"").over(b"", b"", b"")""".replace("\n", "; ").split("; ")
 
