@@ -61,8 +61,9 @@ const withOne = (block, { role, bytes, count }) => withBlock(block, (from, words
 export function extend(block, added) {
     if (typeof added !== "object" || added === null || typeof added[Symbol.iterator] !== "function")
         throw new TypeError("bitm: sections must be a Map or another iterable of pairs of a role and items");
-    const all = Array.from(added, addedOf); // first, for an iterable may run code that changes the block
-    return all.reduce(withOne, bytesOf(block, "a block").slice());
+    const all = Array.from(added, addedOf), bytes = bytesOf(block, "a block").slice(); // last, for an iterable may run code
+    if (all.length === 0 && !isWritten(bytes)) throw failure(-STATUS.WRONG);
+    return all.reduce(withOne, bytes);
 }
 
 /** The sections of a block of which a copy stands in memory, each `{ role, count, at }`: at is where its items stand. */

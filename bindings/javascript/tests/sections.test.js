@@ -86,7 +86,7 @@ test("each changed byte is seen, each prefix and each byte more", () => {
         const changed = block.slice();
         changed[at] ^= 1 << at % 8;
         assert.equal(isWritten(changed), false, `byte ${at}`);
-        assert.throws(() => extend(changed, [[OWN_ROLE, Uint8Array.of(1)]]), WrongTables, `byte ${at}`);
+        for (const added of [[[OWN_ROLE, Uint8Array.of(1)]], []]) assert.throws(() => extend(changed, added), WrongTables, `byte ${at}`);
         try {
             assert.equal(sections(changed).length, all);
         } catch (it) {
@@ -96,7 +96,7 @@ test("each changed byte is seen, each prefix and each byte more", () => {
     for (let n = 0; n < block.length; n++) {
         const less = block.subarray(0, n);
         assert.equal(isWritten(less), false);
-        for (const call of [() => sections(less), () => section(less, 1), () => extend(less, [[OWN_ROLE, new Uint8Array(1)]])]) assert.throws(call, WrongTables);
+        for (const call of [() => sections(less), () => section(less, 1), () => extend(less, [[OWN_ROLE, new Uint8Array(1)]]), () => extend(less, [])]) assert.throws(call, WrongTables);
     }
     for (const more of [1, 8]) assert.equal(isWritten(Uint8Array.from([...block, ...new Uint8Array(more)])), false);
     const r = random(9);
