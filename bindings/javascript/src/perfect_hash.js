@@ -1,11 +1,11 @@
 import { BESIDE, bytesAt, calls, halvesAt, numberAt, wordsAt } from "./core.js";
 import { Copied, InBlock, checked } from "./in_block.js";
 import { hashKey } from "./keys.js";
-import { BITM_SECTION, BITM_SEEDED_HASH } from "./layout.js";
+import { BITM_LIST_COUNTS, BITM_SECTION, BITM_SEEDED_HASH } from "./layout.js";
 import { withHash } from "./levels.js";
 import { copyOut } from "./lists.js";
 import { dispose, withRoom } from "./memory.js";
-import { answerOf, called, must, orThrow, refused, within } from "./numbers.js";
+import { WrongTables, answerOf, called, must, orThrow, refused, within } from "./numbers.js";
 
 /** The seeds by which keys are hashed: the first that gives no two one hash. */
 const SEEDS = [1, 2, 3, 4];
@@ -139,6 +139,7 @@ export class PerfectHash {
             const prints = list + 8 * n, to = prints + 8 * n;
             put(all, this.#seed, this.#prints[2], list, prints);
             must(calls.bitm_hash_find_list_seeded(this.#held.at, ...this.#prints, list, n, prints, n, to, n, BESIDE), "keys");
+            if (numberAt(BESIDE + BITM_LIST_COUNTS.wrong) !== 0) throw new WrongTables();
             return copyOut(to, n, "plain", true);
         });
     }

@@ -79,7 +79,7 @@ test("each changed byte is seen, and each prefix; in unchecked blocks each numbe
                 const number = unlessWrong(() => h.get(key));
                 assert.ok(number === undefined || (number >= 0 && number < h.length), `the number of ${key}`);
             }
-            unlessWrong(() => h.getList(keys));
+            for (const number of unlessWrong(() => h.getList(keys)) ?? []) assert.ok(number === undefined || (number >= 0 && number < h.length));
         });
     }
 });
