@@ -1,12 +1,10 @@
-/* bitm.PerfectHash: how one is made. Without seeds its parts are in memory of their own; with them all is in one block.
- */
+/* bitm.PerfectHash: how one is made. With seeds all of it is in one block. */
 #include "values.h"
 
 /* ---- opened */
 
-/* The block of a hash with seeds has the fingerprints in a section after those of the hash: a word with their width,
- * and their words. Its role is the mark, which says how keys are hashed. Fills in what lies in the block: whether it
- * does. */
+/* Fills in what lies in the block of a hash with seeds: whether it has all. The section after those of the hash has the
+ * fingerprints, a word with their width and their words, and its role is the mark, which says how keys are hashed. */
 enum { PRINTS_SECTION = 5 };
 static int block_taken(Memory *it)
 {
