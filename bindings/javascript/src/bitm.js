@@ -12,6 +12,7 @@ export { Trie } from "./trie.js";
 export { WaveletMatrix } from "./wavelet_matrix.js";
 export { TextIndex } from "./text_index.js";
 export { open } from "./open.js";
+export { OWN_ROLE, extend, isWritten, section, sections } from "./sections.js";
 export { NO_ANSWER } from "./lists.js";
 export { WrongTables } from "./numbers.js";
 export { memoryUse } from "./memory.js";

@@ -36,7 +36,7 @@ export class Dictionary {
             const hashes = keys + 8 * n, placed = hashes + 8 * n;
             copyIn(items, keys, "keys");
             putHashes(keys, n, salt, hashes);
-            if (!withHash(hashes, n, percent, hash => this.#of({ n, salt, keys, hashes, placed }, hash))) throw new RangeError("bitm: two keys are equal");
+            if (!withHash(hashes, n, { percent }, hash => this.#of({ n, salt, keys, hashes, placed }, hash))) throw new RangeError("bitm: two keys are equal");
         });
     }
 

@@ -1,5 +1,6 @@
 // What a block of memory holds, as the C library writes and opens it. kind says which: `{ name, what, open, check, layout }`,
-// the class, "a tree", two calls, and where the members of its struct stand.
+// the class, "a tree", two calls, and where the members of its struct stand. In place of the name of a call a function of the
+// same arguments says whether all is well.
 import { bytesAt, calls, numberAt } from "./core.js";
 import { bytesOf } from "./lists.js";
 import { Block, freed } from "./memory.js";
@@ -26,6 +27,9 @@ export class Made {
     }
 }
 
+/** Whether a call says that all is well. */
+const isFine = (call, ...given) => (typeof call === "function" ? call(...given) : calls[call](...given) === 0);
+
 /** An open block, and its struct before it: what a value of the package holds. */
 export class InBlock {
     #kind;
@@ -38,7 +42,7 @@ export class InBlock {
         this.#block = block.heldBy(owner, at => {
             fill(at + BEFORE);
             bytesAt(at, BEFORE).fill(0);
-            if (calls[kind.open](at + BEFORE, (block.bytes - BEFORE) / 8, at) !== 0) throw notOne(kind);
+            if (!isFine(kind.open, at + BEFORE, (block.bytes - BEFORE) / 8, at)) throw notOne(kind);
         });
     }
 
@@ -54,7 +58,7 @@ export class InBlock {
 
     get byteLength() { return this.#block.at === 0 ? 0 : this.#block.bytes - BEFORE; }
 
-    check() { return calls[this.#kind.check](this.at + BEFORE, this.byteLength / 8) === 0; }
+    check() { return isFine(this.#kind.check, this.at + BEFORE, this.byteLength / 8); }
 
     toBytes() { return bytesAt(this.at + BEFORE, this.byteLength).slice(); }
 

@@ -78,6 +78,9 @@ export function whole(it, name) {
     return typeof it === "bigint" ? smallest(big(it, name)) : place(it, name);
 }
 
+/** A call of the library by BigInts, since an argument may be any number of 64 bits: its status. */
+export const called = (name, ...given) => wasm[name](...given.map(BigInt));
+
 /** A call of the library by BigInts, whose answer stands at ANSWER: the answer, or minus the status. */
 export function byBigInts(name, at, ...given) {
     const status = wasm[name](BigInt(at), ...given.map(it => big(it, "value")), BigInt(ANSWER));

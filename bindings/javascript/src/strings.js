@@ -1,18 +1,15 @@
-import { BESIDE, bytesAt, calls, numberAt, wasm } from "./core.js";
+import { BESIDE, bytesAt, calls, numberAt } from "./core.js";
 import { Copied, InBlock, checked } from "./in_block.js";
 import { BITM_LIST_COUNTS, BITM_STRINGS } from "./layout.js";
 import { withHash } from "./levels.js";
 import { copyIn, copyOut } from "./lists.js";
 import { dispose, withRoom } from "./memory.js";
-import { WrongTables, big, must, orNone, orThrow, place } from "./numbers.js";
+import { WrongTables, big, called, must, orNone, orThrow, place } from "./numbers.js";
 import { encoded, withBytes } from "./patterns.js";
 
 const KIND = { name: "Strings", what: "strings", open: "bitm_strings_open", check: "bitm_strings_check", layout: BITM_STRINGS };
 /** The seeds that are tried where none is given. */
 const SEEDS = [0n, 1n];
-
-/** A call of the library by BigInts, since a seed is any number of 64 bits: its status. */
-const called = (name, ...given) => wasm[name](...given.map(BigInt));
 
 function bytesIn(string) {
     const bytes = encoded(string, "a string");
@@ -63,7 +60,7 @@ export class Strings {
         const [, length, , n] = spelled;
         return withRoom(8 * n, hashes => {
             must(called("bitm_strings_hashes", ...spelled, seed, hashes, n), "strings");
-            return withHash(hashes, n, percent, hash => {
+            return withHash(hashes, n, { percent }, hash => {
                 const words = orThrow(calls.bitm_strings_size(hash.words_len, hash.sizes_len, n, length), "strings", n);
                 this.#held = new InBlock(KIND, this, words, to => {
                     must(called("bitm_strings_build", hash.at, seed, ...spelled, to, words), "strings");

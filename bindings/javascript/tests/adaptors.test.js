@@ -5,7 +5,8 @@ import { readFileSync, readdirSync } from "node:fs";
 import { test } from "node:test";
 import { wasmType } from "../header.mjs";
 import * as layout from "../src/layout.js";
-import { ANSWER, adaptors, arena, argumentsOf, exported, library, load, prepare, structs, words } from "./arguments.js";
+import { ANSWER, adaptors, arena, exported, library, load, prepare, structs, words } from "./arena.js";
+import { argumentsOf } from "./arguments.js";
 import { Tally } from "./plain.js";
 
 const beside = new URL("../", import.meta.url), tally = new Tally();
@@ -75,16 +76,6 @@ const LEFT_OUT = {
     bitm_bytes_set25: "as bitm_bytes_get57",
     bitm_index_count: "a rank at the length gives the same number with fewer reads",
     bitm_hash_level: "bitm_hash_build builds all levels",
-    bitm_hash_build_seeded: "there are no seeds here yet",
-    bitm_hash_get_seeded: "as bitm_hash_build_seeded",
-    bitm_hash_get_list_seeded: "as bitm_hash_build_seeded",
-    bitm_hash_set_prints_seeded: "as bitm_hash_build_seeded",
-    bitm_hash_find_seeded: "as bitm_hash_build_seeded",
-    bitm_hash_find_list_seeded: "as bitm_hash_build_seeded",
-    bitm_hash_block_size_seeded: "as bitm_hash_build_seeded",
-    bitm_hash_block_build_seeded: "as bitm_hash_build_seeded",
-    bitm_hash_block_open_seeded_bytes: "as bitm_hash_build_seeded",
-    bitm_hash_block_check_seeded: "as bitm_hash_build_seeded",
     bitm_stored_index: "bitm_stored_build writes the header of an index",
     bitm_index_build_samples: "bitm_stored_build writes the samples too",
     bitm_index_samples_len: "bitm_stored_index_room says how long all parts are",
@@ -92,10 +83,6 @@ const LEFT_OUT = {
     bitm_index_block_build: "as bitm_index_block_size",
     bitm_sequence_block_size: "toBytes() writes the format of bitm_stored_",
     bitm_sequence_block_build: "as bitm_sequence_block_size",
-    bitm_block_extended_size: "no class adds sections of your own yet",
-    bitm_block_extend: "as bitm_block_extended_size",
-    bitm_block_section: "as bitm_block_extended_size",
-    bitm_block_check: "each class checks its own kind",
     bitm_prefix_sums: "there are no shards here yet",
     bitm_prefix_sums_check: "as bitm_prefix_sums",
     bitm_shards_find: "as bitm_prefix_sums",
@@ -105,11 +92,12 @@ const LEFT_OUT = {
     bitm_shards_previous: "as bitm_prefix_sums",
     bitm_shards_rank_list: "as bitm_prefix_sums",
     bitm_shards_select_list: "as bitm_prefix_sums",
-    bitm_hash_block_size: "a perfect hash has no file format here yet",
-    bitm_hash_block_build: "as bitm_hash_block_size",
-    bitm_hash_block_open: "as bitm_hash_block_size",
-    bitm_hash_block_check: "as bitm_hash_block_size",
-    bitm_hash_get: "bitm_hash_find looks at the fingerprint too",
+    bitm_hash_get: "bitm_hash_find_seeded looks at the fingerprint too",
+    bitm_hash_get_seeded: "as bitm_hash_get",
+    bitm_hash_get_list_seeded: "as bitm_hash_get",
+    bitm_hash_set_prints: "bitm_hash_set_prints_seeded takes hashes without seeds too",
+    bitm_hash_find: "as bitm_hash_set_prints",
+    bitm_hash_find_list: "as bitm_hash_set_prints",
     bitm_strings_hash: "bitm_strings_hashes hashes one string too",
     bitm_text_len: "the struct of an open block has the length",
     bitm_text_size: "a block of other widths than those of letters below a bound is not made here",

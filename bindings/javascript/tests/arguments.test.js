@@ -104,7 +104,8 @@ test("a buffer that is detached", () => {
     assert.throws(() => BitVector.fromBytes(bytes), TypeError);
 });
 
-const FREED = { BitVector: () => v.clone(), Index: () => new Index(v), EliasFano: () => new EliasFano([1, 2]), PerfectHash: () => new PerfectHash(["a"]) };
+const FREED = { BitVector: () => v.clone(), Index: () => new Index(v), EliasFano: () => new EliasFano([1, 2]), PerfectHash: () => new PerfectHash(["a"]),
+    "PerfectHash with seeds": () => new PerfectHash(["a"], { tries: 9 }) };
 const ARGUMENTS = { fillFragments: [1, 1, 1], setFragment: [0, 1, 1], swapFragments: [0, 1, 1], getFragment: [0, 1], getNumber: [0, 1], setNumber: [0, 1, 1], xorNumber: [0, 1, 1] };
 
 test("after free() every method throws a TypeError", () => {

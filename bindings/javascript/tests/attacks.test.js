@@ -4,7 +4,7 @@ import assert from "node:assert/strict";
 import { test } from "node:test";
 import { bitm, booleans, random, sorted, Tally } from "./plain.js";
 
-const { BitVector, EliasFano, Index, WrongTables, open } = bitm;
+const { BitVector, EliasFano, Index, PerfectHash, WrongTables, open } = bitm;
 const tally = new Tally();
 
 function answer(call) {
@@ -59,6 +59,30 @@ test("a sequence over spoilt parts", () => {
         answer(() => [...s.values(r() % n)].length);
         answer(() => s.intersection(s).length);
         s.free();
+    }
+});
+
+test("hashes over spoilt parts, with seeds and without", () => {
+    const keys = Array.from({ length: 3000 }, (_, k) => `key ${k}`), r = random(5);
+    for (const tries of [undefined, 9]) {
+        const file = new PerfectHash(keys, { tries, fingerprintBits: 3 }).toBytes();
+        for (let round = 0; round < 60; round++) {
+            const bad = file.slice();
+            for (let k = 0; k < 1 + round * 3; k++) bad[320 + (r() % (bad.length - 320))] = r();
+            let h;
+            try {
+                h = PerfectHash.open(bad, { check: false });
+            } catch (it) {
+                assert.ok(it instanceof WrongTables, it);
+                continue;
+            }
+            for (const key of keys.slice(0, 300)) {
+                const number = answer(() => h.get(key));
+                tally.same(number === undefined || (number >= 0 && number < h.length), true, () => `${key} has ${number}`);
+            }
+            for (const number of answer(() => h.getList(keys)) ?? []) assert.ok(number === undefined || (number >= 0 && number < h.length));
+            h.free();
+        }
     }
 });
 

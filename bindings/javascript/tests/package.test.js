@@ -94,6 +94,7 @@ test("the lines of README.md, against the packed package", { skip: !has("npm") &
 });
 
 const USE = `import { BitVector, Cursor, Dictionary, Index, EliasFano, SparseBits, PerfectHash, Strings, Trie, WaveletMatrix, TextIndex, intersect, open, union, NO_ANSWER, WrongTables } from "bitm";
+import { OWN_ROLE, extend, isWritten, section, sections } from "bitm";
 const index: Index = new Index(BitVector.fromPositions([1, 2n, 3], 10), { sampleLog2: 9 });
 const rank: number = index.rank(4), place: number | undefined = index.select(2n);
 const doubles: Float64Array = index.rankList(Uint32Array.of(1)), wide: BigUint64Array = index.selectList(BigUint64Array.of(1n));
@@ -112,6 +113,10 @@ const cursor: Cursor = numbers.cursor(), there: number | bigint | undefined = cu
 const words = new Dictionary([4, 9n], { percent: 150, seed: 3n }), which: number | undefined = words.get(4n), many: (number | undefined)[] = words.getList([4]), key9: number | bigint | undefined = words.keyOf(1);
 const names = new Strings(["ada", Uint8Array.of(98)], { percent: 150, seed: 3n }), numberOf: number | undefined = names.find("ada"), known: (number | undefined)[] = names.findList(new Set(["ada"]));
 const spelled: Uint8Array | undefined = names.get(0n), spoken: string | undefined = Strings.open(names.toBytes(), { check: false }).text(0), each: Uint8Array[] = [...names];
+const few = new PerfectHash(new Set(["a", 1n]), { tries: 64, percent: 100, fingerprintBits: 8 }), again: PerfectHash = PerfectHash.open(few.toBytes().buffer, { check: false }), seeds: boolean = again.hasSeeds && again.check();
+const noted: Uint8Array = extend(few.toBytes(), [[OWN_ROLE, Uint8Array.of(1)], [7n, new Uint32Array(2)]]), more: Uint8Array = extend(noted.buffer, new Map([[OWN_ROLE + 1, new DataView(noted.buffer)]]));
+const items: Uint8Array | Uint32Array | BigUint64Array | undefined = section(noted, OWN_ROLE), roles: (number | bigint)[] = sections(more).map(([role]) => role), fine: boolean = isWritten(extend(more, sections(noted)));
+void [seeds, items, roles, fine];
 void [numberOf, known, spelled, spoken, each, names.has("bob"), names.seed];
 const trie = new Trie([2, 0, 1n, 0], "abe", { width: 9, ends: BitVector.fromPositions([1], 4) }), node: number | undefined = trie.find([98n]), deepest: { node: number; count: number } = trie.longest("bee");
 const label: number | bigint | undefined = trie.label(3n), ends: boolean | undefined = Trie.open(trie.toBytes(), { check: false }).isEnd(1), letters: Uint8Array | (number | bigint)[] | undefined = trie.word(3);
@@ -125,7 +130,8 @@ void [rank, place, doubles, wide, list, all, least, flags, bytes, key, NO_ANSWER
 const WRONG = ["index.rank('1')", "index.rank()", "const x: number = index.select(1)", "const x: number = numbers.at(0)", "new EliasFano('12')",
     "new Index([1, 2])", "index.selectList([1]).byteLength", "open('name')", "new PerfectHash([{}])", "index.set(1)", "matrix.select(1)", "const y: number = matrix.get(0)", "TextIndex.of([1])",
     "TextIndex.ofLetters([1])", "new Cursor([1])", "cursor.nextGeq('1')", "const z: number = words.get(1)", "new Strings('ada')", "new Strings([1])", "const s: string = names.get(0)", "names.findList('ada')", "new Dictionary(['1'])", "intersect(numbers)", "union([index])",
-    "matrix.top()", "matrix.intersect(0, 1)", "new Trie([1, 0])", "trie.find(98)", "const w: number = trie.find('b')", "new Trie([1, 0], 'a', { ends: [1] })"];
+    "new PerfectHash(['a'], { tries: '64' })", "few.hasSeeds = true", "PerfectHash.open('a')", "extend(noted)", "extend(noted, { 65536: noted })", "extend(noted, [['7', noted]])", "extend('block', [])", "section(noted)",
+    "const b: Uint8Array = section(noted, OWN_ROLE)", "sections(few)", "isWritten('block')", "matrix.top()", "matrix.intersect(0, 1)", "new Trie([1, 0])", "trie.find(98)", "const w: number = trie.find('b')", "new Trie([1, 0], 'a', { ends: [1] })"];
 
 test("tsc takes the types, and refuses what is wrong", { skip: !(has("tsc") && has("npm")) && "tsc is not here" }, () => {
     const folder = installed(), base = ["--strict", "--noEmit", "--target", "es2022", "--lib", "es2022,dom"];

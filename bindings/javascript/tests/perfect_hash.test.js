@@ -1,8 +1,11 @@
+// Numbers of keys beside a plain array of those that are taken; with seeds and without; blocks of which bytes were changed.
 import assert from "node:assert/strict";
 import { test } from "node:test";
-import { Tally, bitm } from "./plain.js";
+import { bytesAt, calls } from "../src/core.js";
+import { withRoom } from "../src/memory.js";
+import { Tally, bitm, spoil, unlessWrong } from "./plain.js";
 
-const { PerfectHash } = bitm;
+const { OWN_ROLE, PerfectHash, WrongTables, extend } = bitm;
 const tally = new Tally();
 
 function compare(keys, strangers, options = {}) {
@@ -16,7 +19,22 @@ function compare(keys, strangers, options = {}) {
     tally.list(h.getList(strangers), strangers.map(it => h.get(it)), "getList of what is no key");
     const taken = strangers.filter(it => h.get(it) !== undefined).length, bits = options.fingerprintBits ?? 16;
     if (bits > 0) assert.ok(taken <= 8 + (8 * strangers.length) / 2 ** bits, `${taken} of ${strangers.length} are taken for keys`);
+    stays(h, [...keys.slice(0, 3000), ...strangers.slice(0, 30)]);
+    assert.equal(h.hasSeeds, options.tries !== undefined);
     h.free();
+}
+
+/** The bytes of a hash open as the same hash, with sections of a caller's own too, and are the same bytes again. */
+function stays(h, asked) {
+    const bytes = h.toBytes(), again = PerfectHash.open(bytes), noted = PerfectHash.open(extend(bytes, [[OWN_ROLE, Uint8Array.of(7)]]));
+    assert.deepEqual([h.check(), bytes.length], [true, h.byteLength]);
+    for (const it of [again, noted]) {
+        assert.deepEqual([it.length, it.hasSeeds, it.check()], [h.length, h.hasSeeds, true]);
+        tally.list(it.getList(asked), h.getList(asked), "getList of what was opened");
+    }
+    assert.deepEqual(again.toBytes(), bytes);
+    again.free();
+    noted.free();
 }
 
 const texts = (n, from = 0) => Array.from({ length: n }, (_, k) => `key ${k + from}`);
@@ -27,6 +45,14 @@ test("texts of every number up to 300, and many", () => {
     compare(texts(3000), texts(3000, 1e6), { fingerprintBits: 8, percent: 200 });
     compare(texts(3000), texts(3000, 1e6), { fingerprintBits: 32 });
     compare(texts(3000), texts(30, 1e6), { fingerprintBits: 0 });
+});
+
+test("seeds: of every number of keys up to 300, and many", () => {
+    for (let n = 0; n <= 300; n += n < 30 ? 1 : 17) compare(texts(n), texts(50, 1000), { tries: 1 + (n % 256) });
+    compare(texts(100000), texts(1000, 1e6), { tries: 64 });
+    for (const tries of [1, 256]) for (const percent of [50, 200]) compare(texts(3000), texts(3000, 1e6), { tries, percent, fingerprintBits: 32 });
+    const bits = tries => (8 * new PerfectHash(texts(100000), { tries, fingerprintBits: 0 }).byteLength) / 100000;
+    assert.ok(bits(64) < 2.35 && bits(undefined) > 2.8, `${bits(64)} bits a key with seeds, ${bits(undefined)} without`);
 });
 
 test("numbers, BigInts, bytes, and all of them together", () => {
@@ -41,5 +67,58 @@ test("equal keys are those of a Map", () => {
     assert.equal(new Set(h.getList([0, "0", 0n, NaN, "ä", "\ud800"])).size, 6);
     assert.throws(() => new PerfectHash([0, -0]), RangeError);
     assert.throws(() => new PerfectHash([Uint8Array.of(1), Uint8Array.of(1)]), RangeError);
+    assert.throws(() => new PerfectHash(["a", "a"], { tries: 9 }), RangeError);
     tally.atLeast(450000);
+});
+
+test("each changed byte is seen, and each prefix; in unchecked blocks each number is below how many keys there are", () => {
+    for (const tries of [undefined, 5]) {
+        const keys = texts(40), bytes = new PerfectHash(keys, { tries }).toBytes();
+        spoil(PerfectHash, bytes, 1 / 3, h => {
+            for (const key of keys) {
+                const number = unlessWrong(() => h.get(key));
+                assert.ok(number === undefined || (number >= 0 && number < h.length), `the number of ${key}`);
+            }
+            for (const number of unlessWrong(() => h.getList(keys)) ?? []) assert.ok(number === undefined || (number >= 0 && number < h.length));
+        });
+    }
+});
+
+test("blocks that are no PerfectHash of ours", () => {
+    const bytes = new PerfectHash(texts(9), { tries: 5 }).toBytes();
+    for (const it of [new bitm.Dictionary([1, 2]).toBytes(), new bitm.Strings(["a"]).toBytes(), new bitm.Tree([0]).toBytes(), new Uint8Array(800), new Uint8Array(0)])
+        assert.throws(() => PerfectHash.open(it), WrongTables);
+    for (const it of [undefined, null, 5, "block", [1], {}]) assert.throws(() => PerfectHash.open(it), TypeError);
+    for (const Kind of [bitm.Dictionary, bitm.Strings, bitm.Tree]) assert.throws(() => Kind.open(bytes), WrongTables);
+});
+
+/** The block of a hash of no keys, as the C library writes it: with a seed by which keys were hashed. */
+function ofNoKeys(seed) {
+    const words = calls.bitm_hash_block_size(0, 0);
+    return withRoom(8 * words, at => {
+        assert.equal(calls.bitm_hash_block_build(at, 0, at, 0, seed, at, words), 0);
+        return bytesAt(at, 8 * words).slice();
+    });
+}
+
+test("blocks whose keys were hashed in another way, or whose fingerprints are none", () => {
+    const role = bitm.sections(new PerfectHash([]).toBytes())[4][0], items = (...numbers) => BigUint64Array.from(numbers, BigInt);
+    const open = (seed, ...added) => PerfectHash.open(extend(ofNoKeys(seed), added));
+    assert.deepEqual([open(3, [role, items(16)]).get("a"), open(2 ** 32 - 1, [role, items(0)]).length], [undefined, 0]);
+    for (const seed of [0, 2 ** 32, 2 ** 53 - 1]) assert.throws(() => open(seed, [role, items(16)]), WrongTables);
+    for (const other of [[], [[OWN_ROLE, items(16)]], [[0x327361686d746962n, items(16)]], [[OWN_ROLE, items(16)], [role, items(16)]]]) assert.throws(() => open(3, ...other), WrongTables);
+    for (const wrong of [items(), items(33), items(2n ** 64n - 1n), items(16, 0), Uint8Array.of(16), new Uint8Array(9)]) assert.throws(() => open(3, [role, wrong]), WrongTables);
+});
+
+test("tries that are wrong, and a hash that was freed", () => {
+    for (const tries of [0, 257, -1, 0.5, NaN, Infinity, 2 ** 53]) assert.throws(() => new PerfectHash(["a"], { tries }), RangeError);
+    for (const tries of ["1", null, {}, true, 1n]) assert.throws(() => new PerfectHash(["a"], { tries }), TypeError);
+    const before = bitm.memoryUse().used, h = new PerfectHash(["a", "b"], { tries: 9 });
+    h.free();
+    h.free();
+    assert.equal(h.byteLength, 0);
+    for (const ask of [() => h.get("a"), () => h.getList(["a"]), () => h.hasSeeds, () => h.check(), () => h.toBytes()]) assert.throws(ask, TypeError);
+    const other = new PerfectHash(["a"], { tries: 9 });
+    assert.throws(() => other.getList({ *[Symbol.iterator]() { other.free(); yield "a"; } }), TypeError);
+    assert.equal(bitm.memoryUse().used, before);
 });

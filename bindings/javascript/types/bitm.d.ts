@@ -10,6 +10,7 @@ export * from "./bits.js";
 export * from "./numbers.js";
 export * from "./keys.js";
 export * from "./texts.js";
+export * from "./sections.js";
 
 /** What a list of answers in a BigUint64Array has where there is none: 2^64 - 1. In a Float64Array it is NaN. */
 export const NO_ANSWER: bigint;

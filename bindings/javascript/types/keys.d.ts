@@ -9,16 +9,28 @@ export interface PerfectHashOptions {
     fingerprintBits?: number;
     /** 50 to 10000, else 100: 100 takes least memory, 200 less time. */
     percent?: number;
+    /** 1 to 256: each word of the hash has the best of that many seeds, so a key takes less memory. Else there are no seeds. */
+    tries?: number;
 }
 
 /** Numbers for keys: each of n keys has one of its own below n. No key is kept. */
 export class PerfectHash {
     /** RangeError if two keys are equal. */
     constructor(keys: Iterable<Key>, options?: PerfectHashOptions);
+    /** The hash in the bytes of a block, as toBytes() gives them here, which are copied once. */
+    static open(bytes: Bytes, options?: OpenOptions): PerfectHash;
+
     readonly length: number;
     readonly byteLength: number;
+    /** Whether its words have seeds. */
+    readonly hasSeeds: boolean;
     get(key: Key): number | undefined;
     getList(keys: Iterable<Key>): (number | undefined)[];
+
+    /** Whether the block is as it was written and holds a hash, by going over all of it. */
+    check(): boolean;
+    /** The bytes of the block. */
+    toBytes(): Uint8Array;
     free(): void;
     [Symbol.dispose](): void;
 }

@@ -19,13 +19,15 @@ from . import _more, _shard_docs
 from ._core import BitVector, Cursor, Dictionary, EliasFano, Index, PerfectHash, SparseBits, Strings, TextIndex, Tree, Trie, WaveletMatrix, WrongTables
 from ._files import load, loads
 from ._more import tables_of
+from ._sections import extend, is_written, section, sections
 from ._sets import intersect, union
 from .shards import ShardError, Shards
 
 __version__ = "0.3.0"
 __all__ = [
     "BitVector", "Cursor", "Dictionary", "EliasFano", "Index", "PerfectHash", "ShardError", "Shards", "SparseBits", "Strings",
-    "TextIndex", "Tree", "Trie", "WaveletMatrix", "WrongTables", "intersect", "load", "loads", "tables_of", "union",
+    "TextIndex", "Tree", "Trie", "WaveletMatrix", "WrongTables", "extend", "intersect", "is_written", "load", "loads", "section", "sections",
+    "tables_of", "union",
 ]
 
 _more.complete()

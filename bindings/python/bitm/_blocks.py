@@ -13,6 +13,7 @@ BLOCKS = (
     (_core.SparseBits, "Sparse bits", "SparseBits([3, 100, 101, 4000], 5000)", 4, "rank(101)", 2),
     (_core.Dictionary, "A dictionary", "Dictionary([4, 9, 49])", 3, "get(50, -1)", -1),
     (_core.Strings, "Strings", 'Strings(["ada"])', 1, 'find("ada")', 0),
+    (_core.PerfectHash, "A perfect hash with seeds", 'PerfectHash(["zero"], tries=64)', 1, 'get("zero")', 0),
     (_core.WaveletMatrix, "A list of numbers", "WaveletMatrix([3, 1, 4, 1, 5, 1])", 6, "rank(1, 4)", 2),
     (_core.TextIndex, "The index of a text", 'TextIndex(b"banana")', 6, 'count(b"ana")', 2),
 )
@@ -27,7 +28,10 @@ def _over(text: str) -> Any:
 
 
 def _block(self: Any) -> memoryview:
-    return memoryview(_core.parts(self)[1][0])
+    _, windows = _core.parts(self)
+    if len(windows) != 1:
+        raise ValueError("a perfect hash without seeds is in no block")
+    return memoryview(windows[0])
 
 
 def text_open(cls: Any, path: Any) -> Any:

@@ -16,7 +16,6 @@ Stored = Union["_core.Index", "_core.EliasFano", "_core.SparseBits", "_core.Perf
                "_core.Trie", "_core.WaveletMatrix", "_core.TextIndex"]
 Piece = Tuple[int, Any]
 HEADER = 192
-ONE_BLOCK = (_core.Tree, _core.Trie, _core.WaveletMatrix, _core.SparseBits, _core.Dictionary, _core.Strings, _core.TextIndex)
 
 
 def _pieces(value: Any) -> Tuple[int, List[Piece]]:
@@ -26,7 +25,7 @@ def _pieces(value: Any) -> Tuple[int, List[Piece]]:
     if isinstance(value, _core.EliasFano):
         header, size, (words, upper, lower, low, *_) = _core.sequence_header(*numbers, *map(len, windows))
         return size, [(0, header), *zip((low, words, upper, lower), windows)]
-    if isinstance(value, ONE_BLOCK):
+    if len(windows) == 1:  # a block
         return 8 * len(windows[0]), [(0, windows[0])]
     if isinstance(value, _core.Index):
         return _index_pieces(numbers, windows)

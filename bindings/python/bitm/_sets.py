@@ -4,7 +4,8 @@ from typing import TYPE_CHECKING, Any, Iterable, List, Literal, Optional, Suppor
 from . import _core
 
 if TYPE_CHECKING:
-    from ._core import EliasFano, _Answers
+    from ._core import EliasFano
+    from ._core_types import _Answers
 
 
 def _answer(window: Any, to_numpy: bool) -> Any:

@@ -5,7 +5,7 @@ from typing import TYPE_CHECKING, Any, Callable, List, Literal, Optional, Suppor
 from ._core import Index, ShardSet
 
 if TYPE_CHECKING:
-    from ._core import _Answers, _Array, _Masked, _Plain
+    from ._core_types import _Answers, _Array, _Masked, _Plain
 
 ZEROS, ONES, POSITIONS = range(3)  # what is numbered, as bitm.h has it
 

@@ -168,14 +168,14 @@ typedef struct {
     struct bitm_sparse sparse;
     struct bitm_dictionary dictionary;
     struct bitm_strings strings;
-    struct bitm_hash hash;
+    struct bitm_seeded_hash seeded; /* a hash, whose words may have seeds */
     struct bitm_tree tree;
     struct bitm_trie trie;
     struct bitm_matrix matrix;
     struct bitm_text text;
     const uint64_t *block; /* the words of the block of a value over one */
     size_t block_len;
-    const uint64_t *prints; /* the fingerprints of a hash: hash.keys numbers of print_width bits */
+    const uint64_t *prints; /* the fingerprints of a hash: a number of print_width bits for each key */
     size_t prints_len;
     uint64_t print_width, seed, mark;
     uint64_t log2s[2]; /* of the samples of 1 bits and 0 bits, as numbers of 64 bits */

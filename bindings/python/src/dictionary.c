@@ -69,7 +69,7 @@ static int dictionary_init(PyObject *self, PyObject *args, PyObject *keywords)
     if (!PyArg_ParseTupleAndKeywords(args, keywords, "O|$OO:Dictionary", names, &from, &percent, &seed) ||
         wanted_take(&how, percent, seed) || (keys = integers_all(from, "a key", &count)) == NULL)
         return -1;
-    const int taken = levels_room(&levels, count, how.percent) == 0 && (placed = room_for(count)) != NULL;
+    const int taken = levels_room(&levels, count, how.percent, 0) == 0 && (placed = room_for(count)) != NULL;
     Memory *it = taken ? memory_new() : NULL;
     int is_made = it != NULL && built(it, keys, &levels, placed, &how) == 0;
     levels_drop(&levels);

@@ -1,4 +1,4 @@
-/* A minimal perfect hash of hashes, as the blocks of a dictionary and of strings have one. */
+/* A minimal perfect hash of hashes, as the blocks of a dictionary, of strings and of keys have one. */
 #include "values.h"
 
 int wanted_take(Wanted *it, PyObject *percent, PyObject *seed)
@@ -12,9 +12,9 @@ int wanted_take(Wanted *it, PyObject *percent, PyObject *seed)
 }
 
 /* All levels together have some e^(100 / percent) times the words of the first, and each has one at least. */
-int levels_room(Levels *it, size_t count, uint32_t percent)
+int levels_room(Levels *it, size_t count, uint32_t percent, uint16_t tries)
 {
-    *it = (Levels){.count = count, .percent = percent, .first = bitm_hash_level_len(count, percent)};
+    *it = (Levels){.count = count, .percent = percent, .tries = tries, .first = bitm_hash_level_len(count, percent)};
     if (it->first > (size_t)PY_SSIZE_T_MAX / 128) {
         PyErr_NoMemory();
         return -1;
@@ -25,21 +25,36 @@ int levels_room(Levels *it, size_t count, uint32_t percent)
     it->again = it->words == NULL ? NULL : room_for(it->first);
     it->upper = it->again == NULL ? NULL : room_for(bitm_index_upper_len(it->most));
     it->lower = it->upper == NULL ? NULL : room_for(bitm_index_lower_len(it->most));
-    return it->lower == NULL ? -1 : 0;
+    if (it->lower == NULL || tries == 0)
+        return it->lower == NULL ? -1 : 0;
+    it->sorted = room_for(count);
+    it->seeds = it->sorted == NULL ? NULL : (uint8_t *)room_for((it->most + 7) / 8);
+    return it->seeds == NULL ? -1 : 0;
 }
 
 void levels_drop(Levels *it)
 {
-    uint64_t *all[] = {it->hashes, it->words, it->again, it->upper, it->lower};
+    uint64_t *all[] = {it->hashes, it->words, it->again, it->upper, it->lower, it->sorted};
     for (size_t i = 0; i < sizeof all / sizeof *all; i++)
         free(all[i]);
+    free(it->seeds);
+}
+
+/* The words, with seeds or without. */
+static uint32_t words_built(Levels *it, uint64_t *levels, uint64_t *used, uint64_t *left)
+{
+    if (it->tries == 0)
+        return bitm_hash_build(it->hashes, it->count, it->percent, it->words, it->most, it->again, it->first, it->sizes,
+                               LEVELS, levels, used, left);
+    return bitm_hash_build_seeded(it->hashes, it->count, it->percent, it->tries, it->words, it->most, it->seeds,
+                                  it->most, it->again, it->first, it->sorted, it->count, it->sizes, LEVELS, levels,
+                                  used, left);
 }
 
 uint32_t levels_built(Levels *it, struct bitm_hash *out)
 {
     uint64_t levels, used, left, ones;
-    uint32_t status = bitm_hash_build(it->hashes, it->count, it->percent, it->words, it->most, it->again, it->first,
-                                      it->sizes, LEVELS, &levels, &used, &left);
+    uint32_t status = words_built(it, &levels, &used, &left);
     if (status != BITM_OK || left > 0)
         return status == BITM_OK ? BITM_NONE : status;
     *out = (struct bitm_hash){.index = {.words = it->words,

@@ -8,7 +8,7 @@ typedef struct {
     size_t size;
 } Part;
 
-/* Where the numbers and the parts of a kind of value stand in its memory. */
+/* Where the numbers and the parts of a kind of value stand in its memory: a hash may be in a block, or in parts. */
 typedef struct {
     int numbers_count, parts_count;
     uint64_t *numbers[4];
@@ -36,9 +36,9 @@ static int is_value(PyObject *type)
     return 0;
 }
 
-static void layout_of(PyObject *type, Memory *it, Layout *out)
+static void layout_of(PyObject *type, Memory *it, int is_block, Layout *out)
 {
-    struct bitm_index *index = &it->index, *words = &it->hash.index;
+    struct bitm_index *index = &it->index, *words = &it->seeded.hash.index;
     struct bitm_sequence *sequence = &it->sequence;
     Layout of_index = {3,
                        7,
@@ -56,16 +56,16 @@ static void layout_of(PyObject *type, Memory *it, Layout *out)
                            PART(sequence->lower, sequence->lower_len, 8)}};
     Layout of_hash = {4,
                       5,
-                      {&it->mark, &it->hash.keys, &it->print_width, &it->seed},
+                      {&it->mark, &it->seeded.hash.keys, &it->print_width, &it->seed},
                       {PART(words->words, words->words_len, 8), PART(words->upper, words->upper_len, 8),
-                       PART(words->lower, words->lower_len, 8), PART(it->hash.sizes, it->hash.sizes_len, 8),
-                       PART(it->prints, it->prints_len, 8)}};
+                       PART(words->lower, words->lower_len, 8),
+                       PART(it->seeded.hash.sizes, it->seeded.hash.sizes_len, 8), PART(it->prints, it->prints_len, 8)}};
     Layout of_block = {0, 1, {NULL}, {PART(it->block, it->block_len, 8)}};
     PyTypeObject *kind = (PyTypeObject *)type;
-    *out = PyType_IsSubtype(kind, Index_Type)      ? of_index
-           : PyType_IsSubtype(kind, Sequence_Type) ? of_sequence
-           : PyType_IsSubtype(kind, Hash_Type)     ? of_hash
-                                                   : of_block;
+    *out = PyType_IsSubtype(kind, Index_Type)               ? of_index
+           : PyType_IsSubtype(kind, Sequence_Type)          ? of_sequence
+           : PyType_IsSubtype(kind, Hash_Type) && !is_block ? of_hash
+                                                            : of_block;
 }
 
 /* parts(value): its numbers and windows of its memory, as two tuples, which are what over takes. */
@@ -79,7 +79,7 @@ PyObject *parts_of(PyObject *module, PyObject *self)
     Memory *it = memory_kept(self);
     if (it == NULL)
         return NULL;
-    layout_of(type, it, &layout);
+    layout_of(type, it, it->block != NULL, &layout);
     PyObject *numbers = PyTuple_New(layout.numbers_count),
              *windows = numbers == NULL ? NULL : PyTuple_New(layout.parts_count);
     for (int i = 0; windows != NULL && i < layout.numbers_count; i++) {
@@ -122,8 +122,8 @@ static int fill(Memory *it, const Layout *layout, PyObject *numbers, PyObject *b
 static const struct {
     PyTypeObject **type;
     opener opened;
-} KINDS[] = {{&Index_Type, index_opened},          {&Sequence_Type, sequence_opened}, {&Tree_Type, tree_opened},
-             {&Matrix_Type, matrix_opened},        {&Sparse_Type, sparse_opened},     {&Text_Type, text_opened},
+} KINDS[] = {{&Index_Type, index_opened},           {&Sequence_Type, sequence_opened}, {&Tree_Type, tree_opened},
+             {&Matrix_Type, matrix_opened},         {&Sparse_Type, sparse_opened},     {&Text_Type, text_opened},
              {&Dictionary_Type, dictionary_opened}, {&Trie_Type, trie_opened},         {&Strings_Type, strings_opened}};
 
 /* over(class, numbers, buffers): a value of the class over memory that others keep. Lengths alone are checked. */
@@ -137,7 +137,7 @@ PyObject *parts_over(PyObject *module, PyObject *args)
     Memory *it = is_value(type) ? memory_new() : NULL;
     if (it == NULL)
         return NULL;
-    layout_of(type, it, &layout);
+    layout_of(type, it, PyTuple_Size(buffers) == 1, &layout);
     if (fill(it, &layout, numbers, buffers)) {
         DROP(it);
         return NULL;

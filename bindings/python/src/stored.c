@@ -13,8 +13,8 @@ static const struct {
              {6, &Matrix_Type, matrix_opened}, {8, &Text_Type, text_opened},
              {9, &Trie_Type, trie_opened},     {10, &Strings_Type, strings_opened}};
 
-/* A perfect hash is stored as an index with these numbers after it: mark, keys, bits of a fingerprint, seed, number of
- * sizes, words of fingerprints; then the sizes and the fingerprints. */
+/* A perfect hash without seeds is stored as an index with these numbers after it: mark, keys, bits of a fingerprint,
+ * seed, number of sizes, words of fingerprints; then the sizes and the fingerprints. */
 enum { TAIL = 6 };
 
 static PyObject *not_whole(Memory *it)
@@ -30,15 +30,28 @@ static PyObject *load_hash(Memory *it, const uint64_t *tail, size_t left)
     if (tail[4] > left - TAIL || tail[5] > left - TAIL - tail[4])
         return not_whole(it);
     it->mark = tail[0];
-    it->hash.keys = tail[1];
+    it->seeded.hash.keys = tail[1];
     it->print_width = tail[2];
     it->seed = tail[3];
-    it->hash.index = it->index;
-    it->hash.sizes = tail + TAIL;
-    it->hash.sizes_len = tail[4];
+    it->seeded.hash.index = it->index;
+    it->seeded.hash.sizes = tail + TAIL;
+    it->seeded.hash.sizes_len = tail[4];
     it->prints = tail + TAIL + tail[4];
     it->prints_len = tail[5];
     return value_over(BORROWED(Hash_Type), it, hash_opened);
+}
+
+/* A hash with seeds has the kind of a dictionary, which has none. */
+static PyObject *load_block(Memory *it)
+{
+    struct bitm_seeded_hash hash = {.seeds = NULL};
+    uint64_t seed;
+    if (bitm_hash_block_open_seeded(it->block, it->block_len, &hash, &seed) == BITM_OK)
+        return value_over(BORROWED(Hash_Type), it, hash_opened);
+    for (size_t i = 0; i < sizeof KINDS / sizeof *KINDS; i++)
+        if (it->block_len > 1 && it->block[1] == KINDS[i].number)
+            return value_over(BORROWED(*KINDS[i].type), it, KINDS[i].opened);
+    return value_over(BORROWED(Tree_Type), it, tree_opened);
 }
 
 PyObject *stored_load(PyObject *module, PyObject *file)
@@ -55,10 +68,7 @@ PyObject *stored_load(PyObject *module, PyObject *file)
     if (words > 0 && *(const uint64_t *)at == BLOCK_MARK) {
         it->block = at;
         it->block_len = words;
-        for (size_t i = 0; i < sizeof KINDS / sizeof *KINDS; i++)
-            if (words > 1 && it->block[1] == KINDS[i].number)
-                return value_over(BORROWED(*KINDS[i].type), it, KINDS[i].opened);
-        return value_over(BORROWED(Tree_Type), it, tree_opened);
+        return load_block(it);
     }
     if (bitm_stored_read(at, words, &header) != BITM_OK)
         return not_whole(it);

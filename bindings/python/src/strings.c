@@ -166,7 +166,7 @@ static int strings_init(PyObject *self, PyObject *args, PyObject *keywords)
     if (!PyArg_ParseTupleAndKeywords(args, keywords, "O|$OO:Strings", names, &from, &percent, &seed) ||
         wanted_take(&how, percent, seed))
         return -1;
-    const int taken = spelled_take(&spelled, from) == 0 && levels_room(&levels, spelled.count, how.percent) == 0;
+    const int taken = spelled_take(&spelled, from) == 0 && levels_room(&levels, spelled.count, how.percent, 0) == 0;
     Memory *it = taken ? memory_new() : NULL;
     int is_made = it != NULL && built(it, &spelled, &levels, &how) == 0;
     levels_drop(&levels);

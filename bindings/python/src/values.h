@@ -22,6 +22,12 @@ int text_opened(Memory *it);
 int trie_opened(Memory *it);
 PyObject *trie_of_sorted(PyObject *module, PyObject *args);
 
+/* ---- hash_make.c, sections.c */
+int hash_init(PyObject *self, PyObject *args, PyObject *keywords);
+PyObject *section_added(PyObject *module, PyObject *args);
+PyObject *sections_of(PyObject *module, PyObject *block);
+PyObject *block_is_written(PyObject *module, PyObject *block);
+
 /* ---- values.c */
 
 /* A new value of a type over memory, whose reference it takes even where it does not open. */
@@ -150,7 +156,7 @@ static inline PyObject *ask_rank(PyObject *self, PyObject *query, query_call cal
     BIT_QUERY(class, previous_one, previous, true, "a position")                                                       \
     BIT_QUERY(class, previous_zero, previous, false, "a position")
 
-/* ---- levels.c: the hash of a dictionary and of strings */
+/* ---- levels.c: the hash of a dictionary, of strings, and of keys with a seed for each word */
 
 /* How it is wanted: bits of a level for 100 keys, and how many seeds are tried from the first on. -1 and an error. */
 typedef struct {
@@ -160,16 +166,20 @@ typedef struct {
 } Wanted;
 int wanted_take(Wanted *it, PyObject *percent, PyObject *seed);
 
-/* What the levels of `count` hashes are built in: rooms of words, of which `most` are for those of all levels. */
+/* What the levels of `count` hashes are built in: rooms of words, of which `most` are for those of all levels. Where
+ * tries is above 0, each word has the best of that many seeds: then there are rooms for these and for the hashes in
+ * order. */
 enum { LEVELS = 256 };
 typedef struct {
     size_t count, most, first;
     uint32_t percent;
-    uint64_t *hashes, *words, *again, *upper, *lower, sizes[LEVELS];
+    uint16_t tries;
+    uint64_t *hashes, *words, *again, *upper, *lower, *sorted, sizes[LEVELS];
+    uint8_t *seeds;
 } Levels;
 
 /* Takes the rooms: -1 and an error. Given back by levels_drop, also then. */
-int levels_room(Levels *it, size_t count, uint32_t percent);
+int levels_room(Levels *it, size_t count, uint32_t percent, uint16_t tries);
 void levels_drop(Levels *it);
 
 /* The hash of the hashes, which are moved, in the rooms: BITM_OK; BITM_NONE where two are equal. Needs no GIL. */

@@ -51,11 +51,13 @@ class Owner:
         if isinstance(self.it, bitm.Index): print(self.it.check(), self.it.select(7000000))
         elif isinstance(self.it, bitm.EliasFano): print(self.it.check(), self.it[5], sum(1 for _ in self.it))
         elif isinstance(self.it, bitm.PerfectHash): print(self.it.check(), sorted(self.it[k] for k in range(5))[0] >= 0)
+        elif isinstance(self.it, memoryview): print(bytes(self.it[:3]))
         else: print(next(self.it))
 Owner(bitm.Index(words)); Owner(bitm.EliasFano(range(300000))); Owner(bitm.PerfectHash(range(1000)))
 Owner(bitm.Index(words, sample_log2=7)); Owner(bitm.Index(words).ones(7)); Owner(iter(bitm.EliasFano([3, 4])))
+Owner(bitm.PerfectHash(range(1000), tries=16)); Owner(bitm.section(bitm.extend(bitm.Tree([0] * 1).block, {65536: b"abc" * 9999}), 65536))
 gc.collect(); print("survived")
-""", ["True 7000000", "True 5 300000", "True True", "True 7000000", "7", "3", "survived"])
+""", ["True 7000000", "True 5 300000", "True True", "True 7000000", "7", "3", "True True", "b'abc'", "survived"])
 
     def test_index_that_is_brought_back(self):
         self.run_program("""
@@ -112,11 +114,16 @@ for call, want in ((copy.copy, None), (lambda s: s.parts[0] >= 0, True), (lambda
     turn(sequence, call, want)
 for call, want in ((copy.copy, None), (lambda h: h.get_list([1, 2]) != [], True), (lambda h: len(pickle.dumps(h, 5)) > 100, True), (lambda h: h.save(io.BytesIO()), None)):
     turn(lambda: bitm.PerfectHash(range(100)), call, want)
+    turn(lambda: bitm.PerfectHash(range(100), tries=9), call, want)
+note = {65536: b"note"}
+for call, want in ((lambda t: len(bitm.Tree.over(bitm.extend(t.block, note))), 3), (lambda t: len(bitm.sections(t.block)), 3), (lambda t: bitm.section(t.block, 65536), None),
+                   (lambda t: bitm.is_written(t.block), True), (lambda t: bitm.PerfectHash(map(str, t.children(0)), tries=3).has_seeds, True)):
+    turn(lambda: bitm.Tree([2, 0, 0]), call, want)
 words = list(map(str, range(100)))
 for call, want in ((copy.copy, None), (lambda s: s.find_list(words[:2]) != [], True), (lambda s: len(s[1:50]), 49), (lambda s: len(list(s)), 100),
                    (lambda s: len(pickle.dumps(s, 5)) > 100, True), (lambda s: s.save(io.BytesIO()), None), (repr, None)):
     turn(lambda: bitm.Strings(words), call, want)
-gc.set_threshold(700); print(closed + right == 33 * 11, closed > 0)
+gc.set_threshold(700); print(closed + right == 42 * 11, closed > 0)
 """, ["True True"])
 
     def test_parts_that_their_owner_resizes(self):
@@ -162,11 +169,11 @@ print(bad, good > 0)
     def test_file_object_that_closes(self):
         self.run_program("""
 import io
-for made in (bitm.Index(b"\\xff" * (1 << 20), sample_log2=7), bitm.EliasFano(range(100000)), bitm.PerfectHash(range(1000))):
+for made in (bitm.Index(b"\\xff" * (1 << 20), sample_log2=7), bitm.EliasFano(range(100000)), bitm.PerfectHash(range(1000)), bitm.PerfectHash(range(1000), tries=9)):
     class File(io.BytesIO):
         def write(self, data): made.close(); gc.collect(); return super().write(data)
     file = File(); made.save(file); print(bitm.loads(file.getvalue()).check(), made.closed)
-""", ["True True"] * 3)
+""", ["True True"] * 4)
 
     # 3. length from one look, memory from another
 
@@ -184,6 +191,22 @@ print([len(bitm.Index(Two(a, b))) for a, b in ((long, short), (long, none), (sho
 print(list(bitm.EliasFano(Two(short, array.array("q", [-5, -4, 7])))))
 print(bitm.Index(short).rank_list(Two(array.array("Q", [64]), long)))
 """, ["[67108864, 67108864, 192, 0]", "[67108864, 67108864, 192, 0]", "[1, 2, 3]", "[1]"])
+
+    @unittest.skipIf(sys.version_info < (3, 12), "classes have no __buffer__")
+    def test_blocks_that_differ_at_each_look(self):
+        self.run_program("""
+class Two:
+    def __init__(self, *them): self.them, self.n = them, 0
+    def __buffer__(self, flags):
+        it = self.them[min(self.n, len(self.them) - 1)]; self.n += 1
+        return memoryview(it)
+tree = bytes(bitm.Tree([2, 0, 0]).block); noted = bitm.extend(tree, {65536: bytes(5000)})
+for a, b in ((tree, noted), (noted, tree), (noted, b""), (b"", noted)):
+    for call in (bitm.is_written, lambda it: len(bitm.sections(it)), lambda it: len(bitm.extend(it, {65536: Two(b"abc", noted)})), lambda it: len(bitm.Tree.over(it))):
+        try: print(call(Two(a, b)), end=" ")
+        except ValueError: print("refused", end=" ")
+print("survived")
+""", ["True 3 512 3 True 4 5632 3 True 4 5632 3 False refused refused refused survived"])
 
     def test_array_that_another_thread_shortens(self):
         self.run_program("""
@@ -218,7 +241,7 @@ def ask(it):
     for call in calls:
         try: call(it)
         except (TypeError, ValueError, IndexError, KeyError, AttributeError, StopIteration, OverflowError, BufferError, OSError, ImportError, bitm.WrongTables): pass
-makes = [lambda: bitm.Index(b"\\xff" * 80, sample_log2=7), lambda: bitm.EliasFano([1, 2, 3]), lambda: bitm.PerfectHash([1, 2, 3]), lambda: bitm.BitVector(5),
+makes = [lambda: bitm.Index(b"\\xff" * 80, sample_log2=7), lambda: bitm.EliasFano([1, 2, 3]), lambda: bitm.PerfectHash([1, 2, 3]), lambda: bitm.PerfectHash([1, 2, 3], tries=9), lambda: bitm.BitVector(5),
          lambda: bitm.Index(b"abc").ones(), lambda: iter(bitm.EliasFano([1])), lambda: memoryview(bitm.Index(b"abc").words).obj]
 kinds = [type(make()) for make in makes] + [t for t in (type(o) for o in gc.get_referents(makes[0]())) if "_Memory" in t.__name__]
 os.chdir(room); taken = 0
@@ -250,10 +273,11 @@ kind = bitm.Index; del sys.modules["bitm._core"]; importlib.import_module("bitm.
 b = bitm.BitVector.from_bits("0101")
 for make in (copy.copy, copy.deepcopy, bitm.BitVector.copy, lambda it: pickle.loads(pickle.dumps(it, 5)), lambda it: pickle.loads(pickle.dumps(it, 2))):
     c = make(b); assert c == b; c[0] = True; assert not b[0] and c[0]
-for it in (bitm.Index(b, sample_log2=7), bitm.EliasFano([1, 2, 3]), bitm.PerfectHash("abc")):
+for it in (bitm.Index(b, sample_log2=7), bitm.EliasFano([1, 2, 3]), bitm.PerfectHash("abc"), bitm.PerfectHash("abc", tries=9)):
     for make in (copy.copy, copy.deepcopy, lambda it: pickle.loads(pickle.dumps(it, 5)), lambda it: pickle.loads(pickle.dumps(it, 2))):
         made = make(it); assert made.check() and len(made) == len(it), made
         if not isinstance(it, bitm.PerfectHash): assert made == it
+        else: assert made.has_seeds is it.has_seeds
     other = copy.copy(it); it.close(); assert not other.closed and other.check()
 kept = []; data = pickle.dumps(bitm.Index(b"\\xff" * 80000), 5, buffer_callback=kept.append)
 assert len(data) < 1000 and len(kept) == 3, (len(data), len(kept))
@@ -327,7 +351,7 @@ for call in (lambda: v[Cut()], lambda: v.__setitem__(Cut(), 1), lambda: v.set_bi
 
     def test_queries_that_close_what_they_ask(self):
         self.run_program("""
-index, sequence, numbers = bitm.Index(b"\\xff" * 8), bitm.EliasFano([1, 2]), bitm.PerfectHash([1, 2])
+index, sequence, numbers, seeded = bitm.Index(b"\\xff" * 8), bitm.EliasFano([1, 2]), bitm.PerfectHash([1, 2]), bitm.PerfectHash([1, 2], tries=9)
 def closing(it):
     it.close()
     yield 1
@@ -337,15 +361,15 @@ class Closer:
     def __eq__(self, other): self.it.close(); return False
     __hash__ = None
 closed = 0
-for it in (index, sequence, numbers):
+for it in (index, sequence, numbers, seeded):
     for name in dir(it):
         if name.startswith("_") or name in ("close", "closed", "save", "check", "parts", "words", "to_numpy", "over"): continue
         for how in (closing, lambda it: [Closer(it)], Closer):
             made = copy.copy(it)
             try: getattr(made, name)(how(made))
             except (ValueError, TypeError): closed += made.closed
-print(closed > 30, index.check(), sequence.check(), numbers.check())
-""", ["True True True True"])
+print(closed > 30, index.check(), sequence.check(), numbers.check(), seeded.check())
+""", ["True True True True True"])
 
     def test_buffers_of_ctypes_are_bytes(self):
         self.run_program("""

@@ -11,6 +11,7 @@ INDEX = bitm.Index(bitm.BitVector.from_bits([1, 0] * 5000), sample_log2=7)
 VECTOR = bitm.BitVector(10000)
 SEQUENCE = bitm.EliasFano(range(5, 60000, 6))
 NUMBERS = bitm.PerfectHash([*range(1000), *map(str, range(1000)), b"key"])
+SEEDED = bitm.PerfectHash([*range(1000), *map(str, range(1000)), b"key"], tries=9)
 CALLS = {
     "rank": lambda: INDEX.rank(9000),
     "rank0": lambda: INDEX.rank0(9000),
@@ -31,6 +32,8 @@ CALLS = {
     "hash[int]": lambda: NUMBERS[77],
     "hash[str]": lambda: NUMBERS["77"],
     "hash[bytes]": lambda: NUMBERS[b"key"],
+    "hash with seeds[int]": lambda: SEEDED[77],
+    "hash with seeds[str]": lambda: SEEDED["77"],
     "hash.get": lambda: NUMBERS.get("none", 5),
 }
 

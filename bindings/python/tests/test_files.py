@@ -25,6 +25,8 @@ def values():
     yield EliasFano([])
     yield PerfectHash([f"key {it}" for it in range(300)], bits=9, seed=5)
     yield PerfectHash([], bits=0)
+    yield PerfectHash([f"key {it}" for it in range(300)], bits=9, seed=5, tries=16)
+    yield PerfectHash([], tries=1)
 
 
 def bytes_of(value):

@@ -32,6 +32,9 @@ names.find("a"); names.find(b"a"); names.find_list(["a", b"b"]); names.find_list
 bitm.Shards.build([bits, (b"", 0)], "x"); shards.count(); shards.folder
 bitm.intersect([sequence]); bitm.union(iter([sequence]), 3, limit=4); bitm.union([sequence], to_numpy=True); bitm.intersect([], 1, None, to_numpy=True)
 sequence.cursor(); sequence.cursor().next_geq(3); next(sequence.cursor()); sequence.cursor().number; sequence.cursor().index; list(sequence.cursor())
+bitm.PerfectHash(["a"], tries=64).has_seeds; bitm.PerfectHash({1: "a"}, tries=None).block; bitm.PerfectHash.over(b"")["a"]
+bitm.extend(b"", {65536: b"a"}); bitm.extend(bits.words, [(65536, b"a"), (7, bits.words)]); bitm.sections(b"")[0]; dict(bitm.sections(b""))[1]
+bitm.section(b"", 65536); bitm.is_written(b"")
 bitm.load("x"); bitm.load("x").check(); bitm.loads(b""); bitm.tables_of(b""); bitm.Index(b"").over(b"", b"", b"")""".replace("\n", "; ").split("; ")
 
 
@@ -83,7 +86,7 @@ def test_pyright_finds_nothing(tmp_path):
 
 
 def test_every_name_has_a_stub_and_a_text():
-    stub = pathlib.Path(bitm.__file__).with_name("_core.pyi").read_text()
+    stub = "\n".join(it.read_text() for it in pathlib.Path(bitm.__file__).parent.glob("_core*.pyi"))
     for kind in (bitm.BitVector, bitm.Index, bitm.EliasFano, bitm.Cursor, bitm.SparseBits, bitm.PerfectHash, bitm.Dictionary,
                  bitm.Strings, bitm.Tree, bitm.Trie, bitm.WaveletMatrix, bitm.TextIndex):
         body = re.search(rf"class {kind.__name__}.*?:\n(.*?)(\n\S|\Z)", stub, re.S)[1] + re.search(r"class _Value:\n(.*?)\n\S", stub, re.S)[1]

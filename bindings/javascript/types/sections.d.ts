@@ -1,0 +1,21 @@
+// Sections of a caller's own in the block of a value, as its toBytes() gives it.
+
+import type { Bytes, Whole } from "./common.js";
+
+/** The first role that no kind of block has: from it on roles are yours, and their items are bytes. */
+export const OWN_ROLE: number;
+
+/** What a section holds: bytes, numbers of 32 bits for the roles 7 and 8, or of 64 bits for others below OWN_ROLE but 15. */
+export type Items = Uint8Array | Uint32Array | BigUint64Array;
+
+/**
+ * The bytes of a block with more sections after its own, each given as a role and its items. RangeError where there would be more
+ * than 16, or the bytes do not fill the items of a role; WrongTables where a section of the block is not as it was written.
+ */
+export function extend(block: Bytes, sections: Iterable<readonly [Whole, Bytes]>): Uint8Array;
+/** The items of the first section with a role. WrongTables where the bytes are no block. */
+export function section(block: Bytes, role: Whole): Items | undefined;
+/** The sections of a block in their order, those of its kind first: roles and items. WrongTables where the bytes are no block. */
+export function sections(block: Bytes): [role: number | bigint, items: Items][];
+/** Whether the block of any kind is as it was written, by going over all of it. */
+export function isWritten(block: Bytes): boolean;

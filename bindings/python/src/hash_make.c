@@ -1,0 +1,284 @@
+/* bitm.PerfectHash: how one is made. With seeds all of it is in one block. */
+#include "values.h"
+
+/* ---- opened */
+
+/* Fills in what lies in the block of a hash with seeds: whether it has all. The section after those of the hash has the
+ * fingerprints, a word with their width and their words, and its role is the mark, which says how keys are hashed. */
+enum { PRINTS_SECTION = 5 };
+static int block_taken(Memory *it)
+{
+    struct bitm_section prints = {0};
+    if (bitm_hash_block_open_seeded(it->block, it->block_len, &it->seeded, &it->seed) != BITM_OK ||
+        bitm_block_section(it->block, it->block_len, PRINTS_SECTION, &prints) != BITM_OK || prints.words_len == 0 ||
+        prints.count != 8 * (uint64_t)prints.words_len)
+        return 0;
+    it->mark = prints.role;
+    it->print_width = prints.words[0];
+    it->prints = prints.words + 1;
+    it->prints_len = prints.words_len - 1;
+    return 1;
+}
+
+int hash_opened(Memory *it)
+{
+    const struct bitm_hash *hash = &it->seeded.hash;
+    uint64_t out;
+    int is_taken = it->block == NULL || block_taken(it), is_marked = it->mark == MARK_SIP || it->mark == MARK_BLAKE;
+    it->seeded.hash.index.bits_len = 64 * (uint64_t)hash->index.words_len;
+    /* No more keys than bits: so the bits of the fingerprints are far below 2^64. */
+    if (is_taken && is_marked && it->print_width <= 64 && hash->index.words_len <= (size_t)1 << 50 &&
+        hash->keys <= hash->index.bits_len) {
+        if (it->prints_len == bitm_bits_words_len(hash->keys * it->print_width) &&
+            bitm_hash_get_seeded(&it->seeded, 0, &out) != BITM_BAD_SIZE)
+            return 0;
+    }
+    PyErr_SetString(PyExc_ValueError, "it is not a perfect hash that was saved here, or not all of it");
+    return -1;
+}
+
+/* ---- without seeds */
+
+/* The words of all levels. -1 and an error; 1 where two hashes are equal. */
+static int build_levels(Memory *it, const Keys *keys, uint32_t percent)
+{
+    size_t count = it->seeded.hash.keys, first = bitm_hash_level_len(count, percent);
+    if (first > (size_t)PY_SSIZE_T_MAX / 128) {
+        PyErr_NoMemory();
+        return -1;
+    }
+    /* All levels together have some e^(100 / percent) times the words of the first, and each has one at least. */
+    size_t most = 8 * first + 2 * LEVELS;
+    uint64_t *hashes = room_for(count), *again = room_for(first), *words = memory_own(it, most, 8);
+    uint64_t *sizes = words == NULL ? NULL : memory_own(it, LEVELS, 8), levels = 0, used = 0, left = 0;
+    uint32_t status = BITM_BAD_SIZE;
+    if (hashes != NULL && again != NULL && sizes != NULL) {
+        Py_BEGIN_ALLOW_THREADS
+        memcpy(hashes, keys->hashes, 8 * count);
+        status =
+            bitm_hash_build(hashes, count, percent, words, most, again, first, sizes, LEVELS, &levels, &used, &left);
+        Py_END_ALLOW_THREADS
+    }
+    free(hashes);
+    free(again);
+    it->seeded.hash.sizes = sizes;
+    it->seeded.hash.sizes_len = (size_t)levels;
+    it->seeded.hash.index.words = words;
+    it->seeded.hash.index.words_len = (size_t)used;
+    it->seeded.hash.index.bits_len = 64 * used;
+    return PyErr_Occurred() ? -1 : status != BITM_OK || left > 0;
+}
+
+/* Gives back the room that no level took, and builds the tables and the fingerprints. -1 and an error. */
+static int build_tables(Memory *it, const Keys *keys)
+{
+    struct bitm_index *index = &it->seeded.hash.index;
+    uint64_t *words = aligned_resize(it->own[0], 8 * index->words_len, 8 * index->words_len + 8), ones;
+    if (words != NULL)
+        it->own[0] = words;
+    it->own_bytes = 8 * (index->words_len + LEVELS);
+    index->words = it->own[0];
+    index->upper_len = bitm_index_upper_len(index->words_len);
+    index->lower_len = bitm_index_lower_len(index->words_len);
+    it->prints_len = bitm_bits_words_len(it->seeded.hash.keys * it->print_width);
+    uint64_t *upper = memory_own(it, index->upper_len, 8),
+             *lower = upper == NULL ? NULL : memory_own(it, index->lower_len, 8);
+    uint64_t *prints = lower == NULL ? NULL : memory_own(it, it->prints_len, 8);
+    uint32_t status;
+    if (prints == NULL)
+        return -1;
+    memset(prints, 0, 8 * it->prints_len);
+    index->upper = upper;
+    index->lower = lower;
+    it->prints = prints;
+    Py_BEGIN_ALLOW_THREADS
+    status = bitm_index_build(index->words, index->words_len, upper, index->upper_len, lower, index->lower_len, &ones);
+    if (status == BITM_OK)
+        status = bitm_hash_set_prints(&it->seeded.hash, keys->hashes, keys->count, keys->prints, keys->count, prints,
+                                      it->prints_len, (uint32_t)it->print_width);
+    Py_END_ALLOW_THREADS
+    if (status == BITM_OK)
+        return 0;
+    (void)wrong();
+    return -1;
+}
+
+/* ---- with seeds */
+
+typedef struct {
+    uint64_t width, percent, seed, mark, tries;
+    int is_any_seed;
+} Settings;
+
+/* The words of the section of fingerprints, in a piece of malloc's. NULL and an error. */
+static uint64_t *prints_built(const struct bitm_seeded_hash *hash, const Keys *keys, uint64_t width, size_t *len)
+{
+    *len = 1 + bitm_bits_words_len(hash->hash.keys * width);
+    uint64_t *made = room_for(*len);
+    uint32_t status;
+    if (made == NULL)
+        return NULL;
+    memset(made, 0, 8 * *len);
+    made[0] = width;
+    Py_BEGIN_ALLOW_THREADS
+    status = bitm_hash_set_prints_seeded(hash, keys->hashes, keys->count, keys->prints, keys->count, made + 1, *len - 1,
+                                         (uint32_t)width);
+    Py_END_ALLOW_THREADS
+    if (status == BITM_OK)
+        return made;
+    free(made);
+    (void)wrong();
+    return NULL;
+}
+
+/* The words of the block of the hash without fingerprints, in a piece of malloc's. NULL and an error. */
+static uint64_t *plain_built(const struct bitm_seeded_hash *hash, uint64_t seed, size_t *len)
+{
+    const struct bitm_index *index = &hash->hash.index;
+    uint64_t wanted;
+    uint32_t status = bitm_hash_block_size_seeded(index->words_len, hash->hash.sizes_len, &wanted);
+    uint64_t *made = status == BITM_OK ? room_for(wanted) : NULL;
+    if (made == NULL)
+        return PyErr_Occurred() ? NULL : (uint64_t *)PyErr_NoMemory();
+    *len = (size_t)wanted;
+    Py_BEGIN_ALLOW_THREADS
+    status = bitm_hash_block_build_seeded(index->words, index->words_len, hash->seeds, hash->seeds_len,
+                                          hash->hash.sizes, hash->hash.sizes_len, seed, made, *len);
+    Py_END_ALLOW_THREADS
+    if (status == BITM_OK)
+        return made;
+    free(made);
+    (void)wrong();
+    return NULL;
+}
+
+/* Writes the block with fingerprints into memory of its own. -1 and an error. */
+static int block_built(Memory *it, const uint64_t *plain, size_t plain_len, uint64_t mark, const uint64_t *prints,
+                       size_t prints_len)
+{
+    uint64_t len, *block;
+    uint32_t status = bitm_block_extended_size(plain, plain_len, mark, 8 * (uint64_t)prints_len, &len);
+    if (status != BITM_OK || (block = block_room(it, len)) == NULL)
+        return PyErr_Occurred() ? -1 : (PyErr_NoMemory(), -1);
+    Py_BEGIN_ALLOW_THREADS
+    status =
+        bitm_block_extend(plain, plain_len, mark, 8 * (uint64_t)prints_len, prints, prints_len, block, (size_t)len);
+    Py_END_ALLOW_THREADS
+    if (status == BITM_OK)
+        return hash_opened(it);
+    (void)wrong();
+    return -1;
+}
+
+/* The hash of keys in rooms for its levels. -1 and an error; 1 where two hashes are equal. */
+static int seeded_in(Memory *it, const Keys *keys, const Settings *how, Levels *in)
+{
+    struct bitm_seeded_hash hash = {.seeds = in->seeds};
+    size_t prints_len = 0, plain_len = 0;
+    uint32_t status;
+    Py_BEGIN_ALLOW_THREADS
+    memcpy(in->hashes, keys->hashes, 8 * keys->count);
+    status = levels_built(in, &hash.hash);
+    Py_END_ALLOW_THREADS
+    if (status != BITM_OK)
+        return 1;
+    hash.seeds_len = hash.hash.index.words_len;
+    uint64_t *prints = prints_built(&hash, keys, how->width, &prints_len);
+    uint64_t *plain = prints == NULL ? NULL : plain_built(&hash, it->seed, &plain_len);
+    int made = plain == NULL ? -1 : block_built(it, plain, plain_len, how->mark, prints, prints_len);
+    free(prints);
+    free(plain);
+    return made;
+}
+
+static uint32_t percent_of(const Settings *how)
+{
+    return how->percent > UINT32_MAX ? UINT32_MAX : (uint32_t)how->percent;
+}
+
+static int build_seeded(Memory *it, const Keys *keys, const Settings *how)
+{
+    Levels levels;
+    int made = levels_room(&levels, keys->count, percent_of(how), (uint16_t)how->tries);
+    if (made == 0)
+        made = seeded_in(it, keys, how, &levels);
+    levels_drop(&levels);
+    return made;
+}
+
+/* ---- __init__ */
+
+/* The hash of keys by a seed: NULL and an error; NULL alone where two hashes are equal. */
+static Memory *built(PyObject *given, const Settings *how, uint64_t seed)
+{
+    Keys keys;
+    if (keys_hash(&keys, given, how->mark, seed))
+        return NULL;
+    Memory *it = memory_new();
+    int status = -1;
+    if (it != NULL) {
+        it->seeded.hash.keys = keys.count;
+        it->print_width = how->width;
+        it->seed = seed;
+        it->mark = how->mark;
+        status = how->tries > 0 ? build_seeded(it, &keys, how) : build_levels(it, &keys, percent_of(how));
+        if (status == 0 && how->tries == 0)
+            status = build_tables(it, &keys);
+    }
+    keys_drop(&keys);
+    if (status == 0)
+        return it;
+    DROP(it);
+    return NULL;
+}
+
+static int mark_of(PyObject *hash, uint64_t *mark)
+{
+    *mark = MARK_SIP;
+    if (hash == NULL || (PyUnicode_Check(hash) && PyUnicode_CompareWithASCIIString(hash, "siphash") == 0))
+        return 0;
+    *mark = MARK_BLAKE;
+    if (PyUnicode_Check(hash) && PyUnicode_CompareWithASCIIString(hash, "blake2b") == 0)
+        return 0;
+    PyErr_Format(PyExc_ValueError, "hash is 'siphash' or 'blake2b', not %R", hash);
+    return -1;
+}
+
+static int settings_take(Settings *it, PyObject *keys, PyObject *const given[5])
+{
+    const int is_seeded = given[4] != NULL && given[4] != Py_None;
+    if (number_or(given[0], 16, "bits", &it->width) || number_or(given[1], 100, "percent", &it->percent) ||
+        number_or(given[2], 0, "the seed", &it->seed) || mark_of(given[3], &it->mark) ||
+        number_or(given[4], 0, "tries", &it->tries))
+        return -1;
+    /* Of an iterator the keys come but once. */
+    it->is_any_seed = (given[2] == NULL || given[2] == Py_None) && !PyIter_Check(keys);
+    if (it->width > 64)
+        PyErr_SetString(PyExc_ValueError, "a fingerprint has at most 64 bits");
+    else if (is_seeded && (it->tries == 0 || it->tries > 256))
+        PyErr_SetString(PyExc_ValueError, "tries are 1 to 256 seeds, or None");
+    return PyErr_Occurred() ? -1 : 0;
+}
+
+int hash_init(PyObject *self, PyObject *args, PyObject *keywords)
+{
+    static char *names[] = {"keys", "bits", "percent", "seed", "hash", "tries", NULL};
+    PyObject *keys, *given[5] = {NULL, NULL, NULL, NULL, NULL};
+    Settings how;
+    if (!PyArg_ParseTupleAndKeywords(args, keywords, "O|$OOOOO:PerfectHash", names, &keys, &given[0], &given[1],
+                                     &given[2], &given[3], &given[4]) ||
+        settings_take(&how, keys, given))
+        return -1;
+    Memory *it = built(keys, &how, how.seed);
+    if (it == NULL && !PyErr_Occurred() && how.is_any_seed)
+        it = built(keys, &how, 1);
+    if (it == NULL) {
+        if (!PyErr_Occurred())
+            PyErr_SetString(PyExc_ValueError, how.is_any_seed
+                                                  ? "keys are equal"
+                                                  : "keys are equal, or their hashes are: try another seed");
+        return -1;
+    }
+    value_set(self, it);
+    return 0;
+}
