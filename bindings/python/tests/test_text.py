@@ -2,6 +2,7 @@
 which bytes were changed or cut off. What is built has the block that docs/FORMAT.md says."""
 import array
 import gc
+import os
 import random
 import subprocess
 import sys
@@ -162,6 +163,7 @@ def test_a_value_that_closes_or_changes_what_is_read():
     assert index[:] == b"anew"
 
 
+@pytest.mark.skipif("asan" in os.environ.get("LD_PRELOAD", ""), reason="a sanitizer takes more than the limit")
 def test_memory_that_is_refused():
     """A new value is not there then, and one that is stays as it was."""
     program = ("import resource, bitm\ntext = bytes(range(256)) * (1 << 16)\nindex = bitm.TextIndex(b'kept')\n"
