@@ -15,7 +15,8 @@ const out = new Int32Array(3);
 // a fingerprint, and the words of these. Its role says how keys are hashed: by hashKey, "bitmhjs1".
 const ROLE = 0x31736a686d746962n;
 /** Where numbers of ours stand, after the struct of the library. */
-const LAYOUT = { ...BITM_SEEDED_HASH, seed: 192, prints: 200, prints_len: 208, width: 216, is_seeded: 224 };
+const END = BITM_SEEDED_HASH.sizeof;
+const LAYOUT = { ...BITM_SEEDED_HASH, seed: END, prints: END + 8, prints_len: END + 16, width: END + 24, is_seeded: END + 32 };
 const KIND = { name: "PerfectHash", what: "a PerfectHash", open: opened, check: isWritten, layout: LAYOUT };
 
 /** Opens a block of a hash, with seeds or without: whether it is one that toBytes() gave. Writes the struct. */
