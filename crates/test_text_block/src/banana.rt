@@ -1,8 +1,6 @@
 //! The block of the index of banana, as bytes.
 
-/// As a program in Python made it from the tables of docs/FORMAT.md, with a sample each 32 letters; a is the letter 0,
-/// b 1 and n 2.
-pub(crate) const BANANA: [u64; 176] = [
+static WORDS: [u64; 176] = [
     0x036261746d746962,
     0x0000000000000008,
     0x0000000000000580,
@@ -180,3 +178,9 @@ pub(crate) const BANANA: [u64; 176] = [
     0x0000000000000000,
     0x0000000000000000,
 ];
+
+/// As a program in Python made it from the tables of docs/FORMAT.md, with a sample each 32 letters; a is the letter 0,
+/// b 1 and n 2.
+pub(crate) fn banana() -> &'static [u64; 176] {
+    &WORDS
+}

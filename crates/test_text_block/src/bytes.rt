@@ -1,5 +1,5 @@
 //! Texts of bytes: which bytes are letters, and what is answered of bytes.
-use crate::banana::BANANA;
+use crate::banana::banana;
 use matrix_block::{LevelsView, MatrixView};
 use std::alloc::Global;
 use std::process::Abort;
@@ -26,7 +26,7 @@ fn located(text: &TextView<'_>, pattern: &[u8], from: usize) -> [usize; 5] {
 
 #[test]
 fn patterns_of_bytes_are_counted(rt: HostRuntime) -> Result<(), Fail> {
-    let Some(text) = TextView::open_checked(BANANA.as_slice()) else {
+    let Some(text) = TextView::open_checked(banana().as_slice()) else {
         assert!(rt; false, "not opened");
         return Ok(());
     };
@@ -59,7 +59,7 @@ fn patterns_of_bytes_are_counted(rt: HostRuntime) -> Result<(), Fail> {
 
 #[test]
 fn patterns_of_bytes_are_located(rt: HostRuntime) -> Result<(), Fail> {
-    let Some(text) = TextView::open_checked(BANANA.as_slice()) else {
+    let Some(text) = TextView::open_checked(banana().as_slice()) else {
         assert!(rt; false, "not opened");
         return Ok(());
     };
@@ -73,7 +73,7 @@ fn patterns_of_bytes_are_located(rt: HostRuntime) -> Result<(), Fail> {
 
 #[test]
 fn bytes_are_extracted(rt: HostRuntime) -> Result<(), Fail> {
-    let Some(text) = TextView::open_checked(BANANA.as_slice()) else {
+    let Some(text) = TextView::open_checked(banana().as_slice()) else {
         assert!(rt; false, "not opened");
         return Ok(());
     };
@@ -116,7 +116,7 @@ fn with_used<'a>(text: &TextView<'a>, used: &'a [u64]) -> Option<TextView<'a>> {
 
 #[test]
 fn other_numbers_of_used_bytes_are_refused(rt: HostRuntime) -> Result<(), Fail> {
-    let Some(text) = TextView::open(BANANA.as_slice()) else {
+    let Some(text) = TextView::open(banana().as_slice()) else {
         assert!(rt; false, "not opened");
         return Ok(());
     };
@@ -147,30 +147,22 @@ fn other_numbers_of_used_bytes_are_refused(rt: HostRuntime) -> Result<(), Fail> 
     Ok(())
 }
 
-/// Whether a text of letters that stand for these bytes is checked, is extracted as the bytes, and has each byte as
-/// often as these.
-fn is_held(
-    alloc: Global,
-    letters: &[u64],
-    kinds: u32,
-    used: &[u64],
-    bytes: &[u8],
-) -> Result<bool, Fail> {
+/// The block of the index of a text of letters, or none where it has no size or is not written.
+fn block_of(alloc: Global, letters: &[u64], kinds: u32) -> Result<Option<Vec<u64>>, Fail> {
     let index = TextIndex::build(alloc, letters, kinds, 32)?;
     let (parts, _letters, _marks) = index.parts();
     let Some(len) = size(letters.len(), parts.width(), kinds as usize, 32) else {
-        return Ok(false);
+        return Ok(None);
     };
     let mut words = vec![in alloc; 7u64; len]?;
-    if write(&index, words.as_mut_slice()).is_err() {
-        return Ok(false);
+    match write(&index, words.as_mut_slice()) {
+        Ok(()) => Ok(Some(words)),
+        Err(_) => Ok(None),
     }
-    let Some(numbers) = TextView::open_checked(words.as_slice()) else {
-        return Ok(false);
-    };
-    let Some(text) = with_used(&numbers, used) else {
-        return Ok(false);
-    };
+}
+
+/// Whether a text is checked, is extracted as these bytes, and has each byte as often as these.
+fn has_bytes(alloc: Global, text: &TextView<'_>, bytes: &[u8]) -> Result<bool, Fail> {
     let mut room = vec![in alloc; 7u8; bytes.len()]?;
     let whole = text.extract_bytes(0, room.as_mut_slice()) == Some(Answer::Found(bytes.len()));
     let mut right = whole && room.as_slice() == bytes && text.check();
@@ -181,17 +173,48 @@ fn is_held(
     Ok(right)
 }
 
-#[test]
-fn all_bytes_one_byte_and_none_are_held(rt: HostRuntime) -> Result<(), Fail> {
+/// Whether a text of letters that stand for these bytes is checked, is extracted as the bytes, and has each byte as
+/// often as these.
+fn is_held(
+    alloc: Global,
+    letters: &[u64],
+    kinds: u32,
+    used: &[u64],
+    bytes: &[u8],
+) -> Result<bool, Fail> {
+    let Some(words) = block_of(alloc, letters, kinds)? else {
+        return Ok(false);
+    };
+    let Some(numbers) = TextView::open_checked(words.as_slice()) else {
+        return Ok(false);
+    };
+    match with_used(&numbers, used) {
+        Some(text) => has_bytes(alloc, &text, bytes),
+        None => Ok(false),
+    }
+}
+
+/// The letters 255 down to 0.
+fn letters() -> [u64; 256] {
     let mut letters = [0u64; 256];
-    let mut bytes = [0u8; 256];
     for byte in 0..256usize {
         letters[byte] = 255 - byte as u64;
+    }
+    letters
+}
+
+/// The bytes 255 down to 0.
+fn bytes() -> [u8; 256] {
+    let mut bytes = [0u8; 256];
+    for byte in 0..256usize {
         bytes[byte] = 255 - byte as u8;
     }
-    let all = [u64::MAX; 4];
-    let last = [0u64, 0, 0, 1 << 63];
-    let none = [0u64; 4];
+    bytes
+}
+
+#[test]
+fn all_bytes_are_held(rt: HostRuntime) -> Result<(), Fail> {
+    let (letters, bytes, all) = (letters(), bytes(), [u64::MAX; 4]);
     assert!(rt;
         is_held(
             rt.alloc(),
@@ -201,16 +224,6 @@ fn all_bytes_one_byte_and_none_are_held(rt: HostRuntime) -> Result<(), Fail> {
             bytes.as_slice()
         )?
     );
-    assert!(rt;
-        is_held(
-            rt.alloc(),
-            [0u64, 0, 0].as_slice(),
-            1,
-            last.as_slice(),
-            [255u8; 3].as_slice()
-        )?
-    );
-    assert!(rt; is_held(rt.alloc(), [].as_slice(), 0, none.as_slice(), [].as_slice())?);
     // Letters that are numbers are their own bytes.
     assert!(rt;
         is_held(
@@ -225,8 +238,24 @@ fn all_bytes_one_byte_and_none_are_held(rt: HostRuntime) -> Result<(), Fail> {
 }
 
 #[test]
+fn one_byte_and_none_are_held(rt: HostRuntime) -> Result<(), Fail> {
+    let (three, last, none) = ([0u64; 3], [0u64, 0, 0, 1 << 63], [0u64; 4]);
+    assert!(rt;
+        is_held(
+            rt.alloc(),
+            three.as_slice(),
+            1,
+            last.as_slice(),
+            [255u8; 3].as_slice()
+        )?
+    );
+    assert!(rt; is_held(rt.alloc(), [].as_slice(), 0, none.as_slice(), [].as_slice())?);
+    Ok(())
+}
+
+#[test]
 fn a_letter_without_a_byte_is_wrong(rt: HostRuntime) -> Result<(), Fail> {
-    let Some(text) = TextView::open(BANANA.as_slice()) else {
+    let Some(text) = TextView::open(banana().as_slice()) else {
         assert!(rt; false, "not opened");
         return Ok(());
     };

@@ -1,8 +1,8 @@
 //! Blocks that are checked: those of a program in Python are accepted, and changed ones refused.
-use crate::banana::BANANA;
-use crate::empty::EMPTY;
-use crate::mississippi::MISSISSIPPI;
-use crate::texts::TEXT;
+use crate::banana::banana;
+use crate::empty::empty;
+use crate::mississippi::mississippi;
+use crate::texts::small_text;
 use bitm_block::checksum_of;
 use std::process::Abort;
 use std::test::Fail;
@@ -30,16 +30,16 @@ fn accepted(words: &mut [u64]) -> usize {
 
 #[test]
 fn blocks_of_texts_are_accepted(rt: HostRuntime) -> Result<(), Fail> {
-    assert!(rt; is_accepted(EMPTY.as_slice()));
-    assert!(rt; is_accepted(TEXT.as_slice()));
-    assert!(rt; is_accepted(MISSISSIPPI.as_slice()));
-    assert!(rt; is_accepted(BANANA.as_slice()));
+    assert!(rt; is_accepted(empty().as_slice()));
+    assert!(rt; is_accepted(small_text().as_slice()));
+    assert!(rt; is_accepted(mississippi().as_slice()));
+    assert!(rt; is_accepted(banana().as_slice()));
     Ok(())
 }
 
 #[test]
 fn each_changed_byte_is_refused(rt: HostRuntime) -> Result<(), Fail> {
-    let mut words = TEXT;
+    let mut words = *small_text();
     assert!(rt; is_accepted(words.as_slice()));
     assert!(rt; accepted(words.as_mut_slice()) == 0);
     Ok(())
@@ -74,13 +74,13 @@ fn accepted_anew(words: &[u64; 168], from: usize, to: usize) -> usize {
 
 #[test]
 fn no_other_bits_hold_an_index(rt: HostRuntime) -> Result<(), Fail> {
-    let mut same = MISSISSIPPI;
+    let mut same = *mississippi();
     seal_anew(&mut same);
-    assert!(rt; same == MISSISSIPPI);
-    assert!(rt; accepted_anew(&TEXT, 8, 10) == 0);
-    assert!(rt; accepted_anew(&TEXT, 72, 168) == 0);
-    assert!(rt; accepted_anew(&MISSISSIPPI, 8, 10) == 0);
-    assert!(rt; accepted_anew(&MISSISSIPPI, 72, 168) == 0);
+    assert!(rt; same == *mississippi());
+    assert!(rt; accepted_anew(small_text(), 8, 10) == 0);
+    assert!(rt; accepted_anew(small_text(), 72, 168) == 0);
+    assert!(rt; accepted_anew(mississippi(), 8, 10) == 0);
+    assert!(rt; accepted_anew(mississippi(), 72, 168) == 0);
     Ok(())
 }
 
@@ -88,7 +88,7 @@ fn no_other_bits_hold_an_index(rt: HostRuntime) -> Result<(), Fail> {
 fn no_prefix_is_accepted(rt: HostRuntime) -> Result<(), Fail> {
     let mut opened = 0usize;
     for len in 0..168usize {
-        opened = opened.wrapping_add(is_accepted(&TEXT[..len]) as usize);
+        opened = opened.wrapping_add(is_accepted(&small_text()[..len]) as usize);
     }
     assert!(rt; opened == 0);
     Ok(())

@@ -1,7 +1,6 @@
 //! The block of the index of the empty text over one letter, with a sample for each position.
 
-/// As a program in Python made it from the tables of docs/FORMAT.md.
-pub(crate) const EMPTY: [u64; 144] = [
+static WORDS: [u64; 144] = [
     0x036261746d746962,
     0x0000000000000008,
     0x0000000000000480,
@@ -147,3 +146,8 @@ pub(crate) const EMPTY: [u64; 144] = [
     0x0000000000000000,
     0x0000000000000000,
 ];
+
+/// As a program in Python made it from the tables of docs/FORMAT.md.
+pub(crate) fn empty() -> &'static [u64; 144] {
+    &WORDS
+}

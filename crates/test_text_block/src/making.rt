@@ -3,10 +3,10 @@
 
 ghost use Rattle.std.specs.Prelude.{◌≤◌};
 
-use crate::banana::BANANA;
-use crate::empty::EMPTY;
-use crate::mississippi::MISSISSIPPI;
-use crate::texts::TEXT;
+use crate::banana::banana;
+use crate::empty::empty;
+use crate::mississippi::mississippi;
+use crate::texts::small_text;
 use std::alloc::Global;
 use std::process::Abort;
 use std::test::Fail;
@@ -46,12 +46,20 @@ fn is_built<T: Letters>(
 #[test]
 fn the_words_of_the_format_are_built(rt: HostRuntime) -> Result<(), Fail> {
     let text = [1u64, 0, 2, 0, 2, 0];
-    assert!(rt; is_built(rt.alloc(), text.as_slice(), 3, 4, TEXT.as_slice())?);
+    assert!(rt; is_built(rt.alloc(), text.as_slice(), 3, 4, small_text().as_slice())?);
     let text = [1u32, 0, 2, 0, 2, 0];
-    assert!(rt; is_built(rt.alloc(), text.as_slice(), 3, 4, TEXT.as_slice())?);
-    assert!(rt; is_built(rt.alloc(), LETTERS.as_slice(), 4, 3, MISSISSIPPI.as_slice())?);
+    assert!(rt; is_built(rt.alloc(), text.as_slice(), 3, 4, small_text().as_slice())?);
+    assert!(rt;
+        is_built(
+            rt.alloc(),
+            LETTERS.as_slice(),
+            4,
+            3,
+            mississippi().as_slice()
+        )?
+    );
     let none: [u8; 0] = [];
-    assert!(rt; is_built(rt.alloc(), none.as_slice(), 1, 1, EMPTY.as_slice())?);
+    assert!(rt; is_built(rt.alloc(), none.as_slice(), 1, 1, empty().as_slice())?);
     Ok(())
 }
 
@@ -120,7 +128,7 @@ fn errors_leave_block_and_scratch(rt: HostRuntime) -> Result<(), Fail> {
     assert!(rt; scratch == [9u32; 24]);
     assert!(rt; words == [7u64; 168]);
     assert!(rt; build(text, 4, 3, scratch.as_mut_slice(), words.as_mut_slice()) == Ok(()));
-    assert!(rt; words == MISSISSIPPI);
+    assert!(rt; words == *mississippi());
     Ok(())
 }
 
@@ -159,7 +167,7 @@ fn bananas_are_built(rt: HostRuntime) -> Result<(), Fail> {
     assert!(rt; scratch == [9u32; 14]);
     assert!(rt; words == [7u64; 176]);
     assert!(rt; build_bytes(text, 32, scratch.as_mut_slice(), words.as_mut_slice()) == Ok(()));
-    assert!(rt; words == BANANA);
+    assert!(rt; words == *banana());
     Ok(())
 }
 

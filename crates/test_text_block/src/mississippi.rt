@@ -1,7 +1,6 @@
 //! The block of the index of the text mississippi, with a sample each three letters.
 
-/// As a program in Python made it from the tables of docs/FORMAT.md; i is 0, m 1, p 2 and s 3.
-pub(crate) const MISSISSIPPI: [u64; 168] = [
+static WORDS: [u64; 168] = [
     0x036261746d746962,
     0x0000000000000008,
     0x0000000000000540,
@@ -171,3 +170,8 @@ pub(crate) const MISSISSIPPI: [u64; 168] = [
     0x0000000000000000,
     0x0000000000000000,
 ];
+
+/// As a program in Python made it from the tables of docs/FORMAT.md; i is 0, m 1, p 2 and s 3.
+pub(crate) fn mississippi() -> &'static [u64; 168] {
+    &WORDS
+}

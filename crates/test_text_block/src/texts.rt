@@ -3,9 +3,7 @@ use std::process::Abort;
 use std::test::Fail;
 use text_block::{Answer, TextView};
 
-/// The block of the index of the text 1, 0, 2, 0, 2, 0 with a sample each four letters, as a program in Python made it
-/// from the tables of docs/FORMAT.md.
-pub(crate) const TEXT: [u64; 168] = [
+static WORDS: [u64; 168] = [
     0x036261746d746962,
     0x0000000000000008,
     0x0000000000000540,
@@ -176,6 +174,12 @@ pub(crate) const TEXT: [u64; 168] = [
     0x0000000000000000,
 ];
 
+/// The block of the index of the text 1, 0, 2, 0, 2, 0 with a sample each four letters, as a program in Python made it
+/// from the tables of docs/FORMAT.md.
+pub(crate) fn small_text() -> &'static [u64; 168] {
+    &WORDS
+}
+
 /// The number that was found, or 100 for `Absent`, 101 for `Wrong`.
 fn told(answer: Answer<usize>) -> usize {
     match answer {
@@ -244,7 +248,7 @@ fn opened(words: &mut [u64]) -> usize {
 
 #[test]
 fn a_text_is_opened_and_counts(rt: HostRuntime) -> Result<(), Fail> {
-    let Some(text) = TextView::open(TEXT.as_slice()) else {
+    let Some(text) = TextView::open(small_text().as_slice()) else {
         assert!(rt; false, "not opened");
         return Ok(());
     };
@@ -257,14 +261,14 @@ fn a_text_is_opened_and_counts(rt: HostRuntime) -> Result<(), Fail> {
 
 #[test]
 fn no_other_words_of_header_and_directory_are_opened(rt: HostRuntime) -> Result<(), Fail> {
-    let mut words = TEXT;
+    let mut words = *small_text();
     assert!(rt; opened(words.as_mut_slice()) == 0);
     Ok(())
 }
 
 #[test]
 fn each_flipped_bit_of_the_sections_leaves_a_possible_count(rt: HostRuntime) -> Result<(), Fail> {
-    let mut words = TEXT;
+    let mut words = *small_text();
     assert!(rt; impossible_counts(words.as_mut_slice()) == 0);
     Ok(())
 }
@@ -278,7 +282,7 @@ fn located(text: &TextView<'_>, pattern: &[u64], from: usize) -> [usize; 5] {
 
 #[test]
 fn patterns_are_located(rt: HostRuntime) -> Result<(), Fail> {
-    let Some(text) = TextView::open(TEXT.as_slice()) else {
+    let Some(text) = TextView::open(small_text().as_slice()) else {
         assert!(rt; false, "not opened");
         return Ok(());
     };
@@ -294,7 +298,7 @@ fn patterns_are_located(rt: HostRuntime) -> Result<(), Fail> {
 
 #[test]
 fn parts_are_extracted(rt: HostRuntime) -> Result<(), Fail> {
-    let Some(text) = TextView::open(TEXT.as_slice()) else {
+    let Some(text) = TextView::open(small_text().as_slice()) else {
         assert!(rt; false, "not opened");
         return Ok(());
     };

@@ -1,9 +1,9 @@
 //! Blocks that are written: those of a program in Python word for word, and others that hold their text.
 ghost use Rattle.std.specs.Prelude.{◌≤◌};
 
-use crate::empty::EMPTY;
-use crate::mississippi::MISSISSIPPI;
-use crate::texts::TEXT;
+use crate::empty::empty;
+use crate::mississippi::mississippi;
+use crate::texts::small_text;
 use std::alloc::Global;
 use std::process::Abort;
 use std::test::Fail;
@@ -33,9 +33,17 @@ fn is_written(
 #[test]
 fn the_words_of_the_format_are_written(rt: HostRuntime) -> Result<(), Fail> {
     let text = [1u64, 0, 2, 0, 2, 0];
-    assert!(rt; is_written(rt.alloc(), text.as_slice(), 3, 4, TEXT.as_slice())?);
-    assert!(rt; is_written(rt.alloc(), LETTERS.as_slice(), 4, 3, MISSISSIPPI.as_slice())?);
-    assert!(rt; is_written(rt.alloc(), [].as_slice(), 1, 1, EMPTY.as_slice())?);
+    assert!(rt; is_written(rt.alloc(), text.as_slice(), 3, 4, small_text().as_slice())?);
+    assert!(rt;
+        is_written(
+            rt.alloc(),
+            LETTERS.as_slice(),
+            4,
+            3,
+            mississippi().as_slice()
+        )?
+    );
+    assert!(rt; is_written(rt.alloc(), [].as_slice(), 1, 1, empty().as_slice())?);
     Ok(())
 }
 
@@ -59,7 +67,7 @@ fn other_lengths_are_refused(rt: HostRuntime) -> Result<(), Fail> {
     assert!(rt; write(&index, longer.as_mut_slice()) == Err(BuildError::WrongLength));
     assert!(rt; longer == [7u64; 169]);
     assert!(rt; write(&index, words.as_mut_slice()) == Ok(()));
-    assert!(rt; words == MISSISSIPPI);
+    assert!(rt; words == *mississippi());
     Ok(())
 }
 
