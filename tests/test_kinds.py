@@ -1,5 +1,5 @@
-"""The program bitm beside docs/FORMAT.md: blocks of each kind that are written by that page alone are good, each is told
-of by its header, and one in which a bit was flipped is wrong."""
+"""The program bitm beside docs/FORMAT.md: `check` finds blocks of each kind good that are written by that page alone,
+and wrong once a bit is flipped; `info` says what their headers have."""
 import subprocess
 
 import pytest

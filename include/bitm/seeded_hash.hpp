@@ -8,8 +8,8 @@
 //     const bitm::seeded_hash_view same = bitm::seeded_hash_view::in(numbers.block());
 //     std::cout << (same(hash("one")) == numbers(hash("one"))) << '\n'; // 1
 //
-// No key is kept: what is no key has no number, or any. The file of such a hash is its block, the same bytes from each
-// language. A block of a hash without seeds is refused.
+// No key is kept, so a value that is no key may get a number too, that of some key. The file of such a hash is its
+// block, the same bytes from C, C++ and Rust. A block of a hash without seeds is refused.
 #ifndef BITM_SEEDED_HASH_HPP
 #define BITM_SEEDED_HASH_HPP
 

@@ -10,8 +10,9 @@ use core::fmt;
 /// A minimal perfect hash with a seed for each word of its levels, and the owner of its block: of many keys 2.26 bits a
 /// key, where [`PerfectHash`](crate::PerfectHash) takes 2.8. Building takes more time.
 ///
-/// A key is its hash of 64 bits, by a function of yours; equal hashes are refused. No key is kept: a hash that was none
-/// of them may get any number below how many there are. The block is the file of the hash, the same in each language.
+/// A key is its hash of 64 bits, by a function of yours; equal hashes are refused. No key is kept, so a hash that is
+/// none of these may get a number too, that of some key. The block is the file of the hash, the same from C, C++ and
+/// Rust.
 ///
 /// ```
 /// use bitm_proved::SeededHash;
