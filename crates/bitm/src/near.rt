@@ -1,6 +1,6 @@
 //! The first 0 bit from a position on, where it is near.
-ghost use Rattle.std.specs.Prelude.{false, IfSome};
-ghost use Rattle.bit_lists.specs.Bits.{IsShort};
+ghost use Rattle.std.specs.Prelude.{◌≡◌, ◌+◌, ◌/◌, ◌<◌, ◌≤◌, ℕ, true, false, length, MatchOption};
+ghost use Rattle.bit_lists.specs.Bits.{item, IsShort};
 ghost use Rattle.bit_lists.specs.Count.{IsFirstFrom};
 ghost use Rattle.bitm_tables.specs.Reads.{OnlyReads};
 ghost use Rattle.bitm_tables.specs.Tables.{bits_in};
@@ -8,8 +8,8 @@ ghost use Rattle.bitm_tables.specs.Tables.{bits_in};
 use bit_words::words;
 use bitm_tables::source::TableSource;
 
-/// The position of the first 0 bit from `from` on among `WORDS` words, of which the first has position `from`; `None`
-/// where these have no such bit.
+/// The position of the first 0 bit from `from` on; `None` only where the `WORDS` words of which the first has position
+/// `from`, or those of them that there are, have no such bit.
 ///
 /// # Conditions
 /// There are fewer than 2^58 words.
@@ -21,7 +21,9 @@ pub fn near_zero_on<const WORDS: usize, T: TableSource>(
     from: usize,
 ) -> Option<usize>
     requires { IsShort (T.lists source.old).words }
-    ensures zero { IfSome result (IsFirstFrom (bits_in (T.lists source.old)) false from) }
+    ensures zero { let b = bits_in (T.lists source.old) in MatchOption result
+        ((p : ℕ) → from ≤ p → p / 64 < from / 64 + WORDS → p < length b → item b p ≡ true)
+        (IsFirstFrom b false from) }
     ensures reads { OnlyReads T.lists T.reads source.old source.new 0 0 WORDS }
 {
     let mut start = from;

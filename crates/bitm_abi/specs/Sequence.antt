@@ -7,10 +7,9 @@ use Rattle.bitm_view.specs.Queries.{selected_by}
 use Rattle.lent_tables.specs.Sizes.{lists_of}
 use Rattle.elias_fano.specs.Answers.{IsLast, IsPlaceOf}
 use Rattle.elias_fano.specs.LentParts.{parts_of, HasLengths, LentParts, Holds}
-use Rattle.elias_fano_view.specs.Lists.{written_count}
 use Rattle.elias_fano.specs.Told.{IfLast, TellsAtMost, TellsLess}
 use Rattle.elias_fano_view.specs.declared.lists.ListAnswer.{ListAnswer}
-use Rattle.elias_fano_view.specs.declared.lists.ListAnswer.TheVariants.{WrongLength}
+use Rattle.elias_fano_view.specs.declared.lists.ListAnswer.TheVariants.{All, AbsentAt, WrongAt, WrongLength}
 use Rattle.elias_fano_view.specs.declared.sizes.Sizes.{Sizes}
 use Rattle.bitm_abi.specs.declared.sequence.SequenceLens.{SequenceLens}
 use Rattle.bitm_abi.specs.declared.sequence.Sequence.{Sequence}
@@ -32,10 +31,12 @@ pub record IsSized (sequence : Sequence) : Type 0 where
 abbrev pub sought_by : ℕ → Answer ℕ
 sought_by = selected_by
 
--- how far a list of n indices was answered: a status, and the number before and after the call
+-- how far a list of n indices was answered, and why no farther: a status, and the number before and after the call
 abbrev pub IsListTold : ListAnswer → ℕ → ℕ → ℕ → ℕ → Type 0
+IsListTold All n status old new = (status ≡ 0) × (new ≡ n)
+IsListTold (AbsentAt k) n status old new = (status ≡ 1) × (new ≡ k)
+IsListTold (WrongAt k) n status old new = (status ≡ 3) × (new ≡ k)
 IsListTold WrongLength n status old new = (status ≡ 2) × (new ≡ old)
-IsListTold l n status old new = (status ≡ 0) × (new ≡ written_count n l)
 
 -- the predecessor of value: the index of the last number that is at most value; whatever the parts hold, they claim
 -- that all numbers up to that index are at most value, or that none is where the answer is that there is none

@@ -2,7 +2,7 @@
 ghost use Rattle.std.specs.Prelude.{SomeIff};
 ghost use Rattle.bitm_abi.specs.Sequence.{lent_parts, IsListTold, IsSized};
 
-use crate::answer::{BAD_SIZE, OK};
+use crate::answer::{BAD_SIZE, NONE, OK, WRONG};
 use crate::samples::Samples;
 use elias_fano_view::{LentSequence, ListAnswer};
 use lent_tables::{Lent, LentSamples};
@@ -67,16 +67,17 @@ fn samples_at<'a>(list: &[Samples<'a>], at: usize) -> LentSamples<'a> {
     }
 }
 
-/// Reports how many numbers of a list were written.
+/// Reports how many numbers of a list were written, and by the status why no more.
 #[inline(always)]
 pub fn tell_list(answer: ListAnswer, len: usize, written: &mut usize) -> u32
     ensures { IsListTold answer len result written.old written.new }
 {
-    *written = match answer {
-        ListAnswer::All => len,
-        ListAnswer::AbsentAt(at) => at,
-        ListAnswer::WrongAt(at) => at,
+    let (count, status) = match answer {
+        ListAnswer::All => (len, OK),
+        ListAnswer::AbsentAt(at) => (at, NONE),
+        ListAnswer::WrongAt(at) => (at, WRONG),
         ListAnswer::WrongLength => return BAD_SIZE,
     };
-    OK
+    *written = count;
+    status
 }

@@ -13,7 +13,7 @@ no_error : {V : Type 0} (v : V) (e : BuildError) → ¬ (◌≡◌ {A = Result V
 no_error {V = V} v e is = subst (λ (r : Result V BuildError). IfErr r (λ _. ⊥)) is tt
 
 pub can_hold : {V : Type 0} (r : Result V BuildError) (xs : List ℕ) (n : ℕ) (block : List ℕ) → (2 ^ 56 ≤ length xs → IsErrOf r TooLong)
-    → ((length xs < 2 ^ 56) × ArePlaces n 0 xs × (length block ≢ end_of (sections_of xs)) → IsErrOf r WrongLength)
+    → ((length xs < 2 ^ 56) × (length block ≢ end_of (sections_of xs)) → IsErrOf r WrongLength)
     → IfOk r (λ _. ArePlaces n 0 xs → CanHold xs n block)
 can_hold (Err e) xs n block long other = tt
 can_hold (Ok v) xs n block long other = λ places.
@@ -22,6 +22,6 @@ can_hold (Ok v) xs n block long other = λ places.
     let room : length block ≡ end_of (sections_of xs) =
     elim (cases_eq (length block) (end_of (sections_of xs))) [
       | inl is ↦ is
-      | inr is_not ↦ absurd (no_error v WrongLength (other (short, places, is_not)))
+      | inr is_not ↦ absurd (no_error v WrongLength (other (short, is_not)))
     ] in
     record { short = short; places = places; room = room }

@@ -26,7 +26,8 @@ pub extern "C" fn bitm_tree_size(nodes: usize, out: &mut usize) -> u32
 #[unsafe(no_mangle)]
 pub extern "C" fn bitm_tree_build(degrees: &[usize], block: &mut [u64]) -> u32
     ensures ok { (result ≡ 0) ↔ CanHold degrees.now block.old }
-    ensures wrong { (result ≡ 3) ↔ (length degrees.now < 2 ^ 60) × (¬ (IsTree degrees.now)) }
+    ensures wrong { (result ≡ 3) ↔ ((length degrees.now < 2 ^ 60)
+        × (length block.old ≡ end_of (tree_sections (length degrees.now))) × (¬ (IsTree degrees.now))) }
     ensures status { (result ≡ 0) ⊎ (result ≡ 2) ⊎ (result ≡ 3) }
     ensures block { result ≡ 0 → IsBlockOf degrees.now block.new }
     ensures kept { result ≢ 0 → block.new ≡ block.old }

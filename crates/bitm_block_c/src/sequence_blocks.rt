@@ -4,7 +4,7 @@ ghost use Rattle.bitm_block.specs.Header.{count_in};
 ghost use Rattle.bitm_block.specs.Layout.{end_of};
 ghost use Rattle.elias_fano.specs.Sequence.{HasFall};
 ghost use Rattle.elias_fano_view.specs.Sizes.{IsLargest};
-ghost use Rattle.sequence_block.specs.Block.{sequence_in, sequence_sections, CanHold};
+ghost use Rattle.sequence_block.specs.Block.{sections_of, sequence_in, sequence_sections, CanHold};
 ghost use Rattle.sequence_block.specs.Block.{IsBlockOf, IsSequenceBlock, IsSoundBlock};
 ghost use Rattle.bitm_abi.specs.Sequence.{lent_parts};
 
@@ -33,7 +33,8 @@ pub extern "C" fn bitm_sequence_block_size(len: usize, largest: u64, out: &mut u
 #[unsafe(no_mangle)]
 pub extern "C" fn bitm_sequence_block_build(items: &[u64], block: &mut [u64]) -> u32
     ensures ok { (result ≡ 0) ↔ CanHold items.now block.old }
-    ensures unsorted { (result ≡ 4) ↔ ((length items.now < 2 ^ 56) × HasFall items.now) }
+    ensures unsorted { (result ≡ 4) ↔ ((length items.now < 2 ^ 56)
+        × (length block.old ≡ end_of (sections_of items.now)) × HasFall items.now) }
     ensures status { (result ≡ 0) ⊎ (result ≡ 2) ⊎ (result ≡ 4) }
     ensures block { result ≡ 0 → IsBlockOf items.now block.new }
     ensures kept { result ≢ 0 → block.new ≡ block.old }

@@ -2,7 +2,7 @@
 ghost use Rattle.std.specs.Prelude.{◌≡◌, ◌≢◌, ◌^◌, ◌<◌, ◌↔◌, ◌⊎◌, length};
 ghost use Rattle.bitm_block.specs.Layout.{end_of};
 ghost use Rattle.elias_fano_view.specs.Sizes.{IsLargest};
-ghost use Rattle.sequence_block.specs.Block.{sequence_sections};
+ghost use Rattle.sequence_block.specs.Block.{sections_of, sequence_sections};
 ghost use Rattle.sparse_bits.specs.Positions.{HasNoRise, HasPast, Rises};
 ghost use Rattle.sparse_block.specs.Block.{sparse_in, CanHold, IsBlockOf, IsSoundBlock, IsSparseBlock};
 ghost use Rattle.bitm_block_c.specs.Sparse.{sparse_parts};
@@ -34,9 +34,11 @@ pub extern "C" fn bitm_sparse_size(ones: usize, last: u64, out: &mut usize) -> u
 #[unsafe(no_mangle)]
 pub extern "C" fn bitm_sparse_build(positions: &[u64], bits_len: usize, block: &mut [u64]) -> u32
     ensures ok { (result ≡ 0) ↔ CanHold positions.now bits_len block.old }
-    ensures wrong { (result ≡ 3) ↔ ((length positions.now < 2 ^ 56) × Rises positions.now
+    ensures unsorted { (result ≡ 4) ↔ ((length positions.now < 2 ^ 56)
+        × (length block.old ≡ end_of (sections_of positions.now)) × HasNoRise positions.now) }
+    ensures wrong { (result ≡ 3) ↔ ((length positions.now < 2 ^ 56)
+        × (length block.old ≡ end_of (sections_of positions.now)) × Rises positions.now
         × HasPast positions.now bits_len) }
-    ensures unsorted { (result ≡ 4) ↔ ((length positions.now < 2 ^ 56) × HasNoRise positions.now) }
     ensures status { (result ≡ 0) ⊎ (result ≡ 2) ⊎ (result ≡ 3) ⊎ (result ≡ 4) }
     ensures block { result ≡ 0 → IsBlockOf positions.now bits_len block.new }
     ensures kept { result ≢ 0 → block.new ≡ block.old }
@@ -44,9 +46,9 @@ pub extern "C" fn bitm_sparse_build(positions: &[u64], bits_len: usize, block: &
     match build(positions, bits_len, block) {
         Ok(()) => OK,
         Err(BuildError::TooLong) => BAD_SIZE,
+        Err(BuildError::WrongLength) => BAD_SIZE,
         Err(BuildError::NotRising) => UNSORTED,
         Err(BuildError::PastEnd) => WRONG,
-        Err(BuildError::WrongLength) => BAD_SIZE,
     }
 }
 

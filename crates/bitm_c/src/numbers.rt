@@ -1,6 +1,6 @@
 //! More queries of a sequence: the predecessor of a value, whether a value is one of the numbers, and the numbers in
 //! order.
-ghost use Rattle.std.specs.Prelude.{◌≡◌, ◌≢◌, ◌-◌, ◌≤◌, ◌↔◌, ℕ, List, length, min};
+ghost use Rattle.std.specs.Prelude.{◌≡◌, ◌≢◌, ◌-◌, ◌≤◌, ◌↔◌, ◌⊎◌, ℕ, List, length, min};
 ghost use Rattle.elias_fano.specs.LentParts.{Holds};
 ghost use Rattle.elias_fano_view.specs.Lists.{AreItemsFrom, IsKeptFrom};
 ghost use Rattle.bitm_c.specs.Numbers.{ContainsAnswered, LastAnswered};
@@ -40,7 +40,8 @@ pub extern "C" fn bitm_sequence_contains(sequence: &Sequence<'_>, value: u64, ou
     }
 }
 
-/// Writes the numbers from number `from` on until none is left or `out` is full, and how many were written.
+/// Writes the numbers from number `from` on until none is left or `out` is full, and how many were written; the status
+/// says whether there are fewer than that.
 #[unsafe(no_mangle)]
 pub extern "C" fn bitm_sequence_items(
     sequence: &Sequence<'_>,
@@ -48,19 +49,26 @@ pub extern "C" fn bitm_sequence_items(
     out: &mut [u64],
     written: &mut usize,
 ) -> u32
-    ensures ok { (result ≡ 0) ↔ IsSized sequence.now }
-    ensures most { result ≡ 0 → written.new ≤ min (length out.old) (sequence.now.len - from) }
-    ensures all { result ≡ 0 → (xs : List ℕ) → Holds xs (lent_parts sequence.now)
+    ensures bad { (result ≡ 2) ↔ ¬ (IsSized sequence.now) }
+    ensures full { result ≢ 2
+        → (result ≡ 0) ↔ written.new ≡ min (length out.old) (sequence.now.len - from) }
+    ensures status { (result ≡ 0) ⊎ (result ≡ 2) ⊎ (result ≡ 3) }
+    ensures most { result ≢ 2 → written.new ≤ min (length out.old) (sequence.now.len - from) }
+    ensures all { result ≢ 2 → (xs : List ℕ) → Holds xs (lent_parts sequence.now)
         → written.new ≡ min (length out.old) (length xs - from) }
-    ensures items { result ≡ 0 → (xs : List ℕ) → Holds xs (lent_parts sequence.now)
+    ensures items { result ≢ 2 → (xs : List ℕ) → Holds xs (lent_parts sequence.now)
         → AreItemsFrom xs from written.new out.new }
-    ensures behind { result ≡ 0 → IsKeptFrom written.new out.old out.new }
-    ensures kept { result ≢ 0 → (result ≡ 2) × (out.new ≡ out.old)
-        × (written.new ≡ written.old) }
+    ensures behind { result ≢ 2 → IsKeptFrom written.new out.old out.new }
+    ensures kept { result ≡ 2 → (out.new ≡ out.old) × (written.new ≡ written.old) }
 {
     let Some(lent) = sequence.lent() else {
         return BAD_SIZE;
     };
-    *written = lent.items_from(from, out);
-    OK
+    let count = lent.items_from(from, &mut *out);
+    *written = count;
+    if count == out.len().min(sequence.len.saturating_sub(from)) {
+        OK
+    } else {
+        WRONG
+    }
 }

@@ -7,6 +7,7 @@ ghost use Rattle.elias_fano.specs.LentParts.{parts_of, AreParts, Holds};
 ghost use Rattle.elias_fano_view.specs.Lists.{AreItems, IsKeptFrom};
 ghost use Rattle.elias_fano_view.specs.Sizes.{sizes_of, HasRoom, IsLargest};
 ghost use Rattle.bitm_c.specs.Sequence.{ItemAnswered, PlaceAnswered};
+ghost use Rattle.bitm_abi.specs.Lists.{IsStopped};
 ghost use Rattle.bitm_abi.specs.Sequence.{lent_parts, sizes_in_c, IsSized};
 
 use bitm_abi::{BAD_SIZE, OK, Sequence, SequenceLens, UNSORTED, WRONG, report, tell_list};
@@ -105,7 +106,8 @@ pub extern "C" fn bitm_sequence_first_at_least(
     }
 }
 
-/// Writes the numbers at a list of indices, up to the first that is not found, and how many were written.
+/// Writes the numbers at a list of indices, up to the first that is not found, and how many were written; the status
+/// says why there are no more.
 #[unsafe(no_mangle)]
 pub extern "C" fn bitm_sequence_get_list(
     sequence: &Sequence<'_>,
@@ -113,18 +115,20 @@ pub extern "C" fn bitm_sequence_get_list(
     out: &mut [u64],
     written: &mut usize,
 ) -> u32
-    ensures ok { (result ≡ 0) ↔ IsSized sequence.now × (length out.old ≡ length indices.now) }
-    ensures kept { result ≢ 0 → (result ≡ 2) × (out.new ≡ out.old)
-        × (written.new ≡ written.old) }
-    ensures most { result ≡ 0 → written.new ≤ length indices.now }
-    ensures inside { result ≡ 0 → (j : ℕ) → j < written.new
+    ensures bad { (result ≡ 2)
+        ↔ ¬ (IsSized sequence.now × (length out.old ≡ length indices.now)) }
+    ensures kept { result ≡ 2 → (out.new ≡ out.old) × (written.new ≡ written.old) }
+    ensures stopped { result ≢ 2
+        → IsStopped sequence.now.len indices.now written.new result }
+    ensures most { result ≢ 2 → written.new ≤ length indices.now }
+    ensures inside { result ≢ 2 → (j : ℕ) → j < written.new
         → slice_index indices.now j < sequence.now.len }
-    ensures items { result ≡ 0 → (xs : List ℕ) → Holds xs (lent_parts sequence.now)
+    ensures items { result ≢ 2 → (xs : List ℕ) → Holds xs (lent_parts sequence.now)
         → AreItems xs indices.now written.new out.new }
-    ensures whole { result ≡ 0 → (xs : List ℕ) → Holds xs (lent_parts sequence.now)
+    ensures whole { result ≢ 2 → (xs : List ℕ) → Holds xs (lent_parts sequence.now)
         → written.new < length indices.now
         → length xs ≤ slice_index indices.now written.new }
-    ensures behind { result ≡ 0 → IsKeptFrom written.new out.old out.new }
+    ensures behind { result ≢ 2 → IsKeptFrom written.new out.old out.new }
 {
     match sequence.lent() {
         Some(lent) => tell_list(lent.get_list(indices, out), indices.len(), written),

@@ -23,6 +23,10 @@ spot_of cursor = record { at = cursor.index; one = cursor.position; number = cur
 abbrev pub left_in : Cursor → List ℕ
 left_in cursor = drop cursor.index (items_in cursor.sequence)
 
+-- its sequence has the right lengths
+abbrev pub HasSizes : Cursor → Type 0
+HasSizes cursor = IsSized cursor.sequence
+
 -- the parts are those of a sequence, and the cursor stands at one of its numbers or at its end
 pub record IsRight (cursor : Cursor) : Type 0 where
   pub sized : IsSized cursor.sequence

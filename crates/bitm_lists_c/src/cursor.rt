@@ -80,6 +80,7 @@ impl<'a> Cursor<'a> {
 }
 
 impl<'a> TotalCursor for Cursor<'a> {
+    ghost use Rattle.bitm_abi.specs.declared.sequence.Sequence.{Sequence};
     ghost use Rattle.bitm_lists_c.specs.Cursor.{left_in, IsRight};
 
     ghost left = { left_in };
@@ -87,6 +88,12 @@ impl<'a> TotalCursor for Cursor<'a> {
     ghost right = { IsRight };
 
     ghost calls = { λ c. 0 };
+
+    ghost wrong = { λ c. 0 };
+
+    ghost Kept = { Sequence };
+
+    ghost kept = { λ c. c.sequence };
 
     #[inline]
     fn total_next_geq(&mut self, v: u64) -> Answer<u64> {

@@ -1,12 +1,19 @@
 //! The intersection and the union of the sequences of several cursors.
-ghost use Rattle.std.specs.Prelude.{◌≡◌, ◌≢◌, ◌<◌, ◌≤◌, ◌↔◌, ◌⊎◌, ℕ, All, map, length, slice_index};
+ghost use Rattle.std.specs.Prelude.{◌≡◌, ◌≢◌, ◌<◌, ◌≤◌, ◌↔◌, ◌⊎◌, ℕ, All, IsTrue, map, length, slice_index};
 ghost use Rattle.postings.specs.Joined.{AreJoined, IsInSome};
 ghost use Rattle.postings.specs.Shared.{AreShared, IsInAll, IsKeptFrom};
-ghost use Rattle.bitm_lists_c.specs.Cursor.{left_in, IsMergeStatus, IsRight};
+ghost use Rattle.bitm_lists_c.specs.Cursor.{left_in, HasSizes, IsMergeStatus, IsRight};
 
 use crate::cursor::Cursor;
 use bitm_abi::{BAD_SIZE, OK, WRONG};
 use postings::{Merged, total_intersect, total_union};
+
+/// Whether the sequence of each cursor has the right lengths.
+fn are_sized(cursors: &[Cursor<'_>]) -> bool
+    ensures { IsTrue result ↔ All HasSizes cursors.now }
+{
+    cursors.iter().all(|cursor| cursor.upper().is_some())
+}
 
 /// Reports how a merge ended, and writes how many numbers it wrote where no list turned out wrong.
 #[inline(always)]
@@ -22,7 +29,8 @@ fn tell_merged(merged: Merged, written: &mut usize) -> u32
     }
 }
 
-/// Writes the numbers from `from` on that stand in the sequence of each cursor, from the cursors on, and how many.
+/// Writes the numbers from `from` on that stand in the sequence of each cursor, from the cursors on, and how many. A
+/// wrong length of a sequence is found before anything is written or a cursor moves.
 #[unsafe(no_mangle)]
 pub extern "C" fn bitm_cursors_intersect(
     cursors: &mut [Cursor<'_>],
@@ -32,6 +40,9 @@ pub extern "C" fn bitm_cursors_intersect(
 ) -> u32
     ensures bad { (result ≡ 2) ↔ (length cursors.old ≡ 0) }
     ensures status { (result ≡ 0) ⊎ (result ≡ 2) ⊎ (result ≡ 3) }
+    ensures sizes { ¬ All HasSizes cursors.old
+        → (result ≡ 3) × (cursors.new ≡ cursors.old) × (out.new ≡ out.old) }
+    ensures sequences { map (λ c. c.sequence) cursors.new ≡ map (λ c. c.sequence) cursors.old }
     ensures shared { All IsRight cursors.old → result ≢ 2 → (result ≡ 0)
         × AreShared (map left_in cursors.old) from written.new (length out.old) out.new }
     ensures most { result ≡ 0 → written.new ≤ length out.old }
@@ -44,10 +55,14 @@ pub extern "C" fn bitm_cursors_intersect(
     if cursors.is_empty() {
         return BAD_SIZE;
     }
+    if !are_sized(cursors) {
+        return WRONG;
+    }
     tell_merged(total_intersect(cursors, from, out), written)
 }
 
-/// Writes the numbers from `from` on that stand in the sequence of any cursor, from the cursors on, and how many.
+/// Writes the numbers from `from` on that stand in the sequence of any cursor, from the cursors on, and how many. A
+/// wrong length of a sequence is found before anything is written or a cursor moves.
 #[unsafe(no_mangle)]
 pub extern "C" fn bitm_cursors_union(
     cursors: &mut [Cursor<'_>],
@@ -56,6 +71,9 @@ pub extern "C" fn bitm_cursors_union(
     written: &mut usize,
 ) -> u32
     ensures status { (result ≡ 0) ⊎ (result ≡ 3) }
+    ensures sizes { ¬ All HasSizes cursors.old
+        → (result ≡ 3) × (cursors.new ≡ cursors.old) × (out.new ≡ out.old) }
+    ensures sequences { map (λ c. c.sequence) cursors.new ≡ map (λ c. c.sequence) cursors.old }
     ensures joined { All IsRight cursors.old → (result ≡ 0)
         × AreJoined (map left_in cursors.old) from written.new (length out.old) out.new }
     ensures most { result ≡ 0 → written.new ≤ length out.old }
@@ -65,5 +83,8 @@ pub extern "C" fn bitm_cursors_union(
     ensures right { All IsRight cursors.old → All IsRight cursors.new }
     ensures kept { result ≢ 0 → written.new ≡ written.old }
 {
+    if !are_sized(cursors) {
+        return WRONG;
+    }
     tell_merged(total_union(cursors, from, out), written)
 }

@@ -1,14 +1,14 @@
 //! Lists of queries of a matrix in a block.
 ghost use Rattle.std.specs.Prelude.{◌≡◌, ◌≢◌, ◌<◌, ◌≤◌, ◌↔◌, ℕ, length, slice_index};
 ghost use Rattle.bitm_tables.specs.declared.answer.Answer.TheVariants.{Found};
-ghost use Rattle.bitm_abi.specs.Lists.{AreCounted};
+ghost use Rattle.bitm_abi.specs.Lists.{AreCounted, IsStopped};
 ghost use Rattle.bitm_view.specs.Queries.{selected_by};
 ghost use Rattle.elias_fano_view.specs.Lists.{IsKeptFrom};
 ghost use Rattle.matrix_block.specs.Block.{HasLengths};
 ghost use Rattle.bitm_abi.specs.Matrix.{matrix_parts};
 ghost use Rattle.bitm_matrix_c.specs.Matrix.{IsIndex, IsNumber, IsRank, IsUnanswered, Seeks};
 
-use bitm_abi::{BAD_SIZE, ListCounts, Matrix, OK, code_of, report_list};
+use bitm_abi::{BAD_SIZE, ListCounts, Matrix, NONE, OK, WRONG, code_of, report_list};
 use bitm_tables::answer::Answer;
 use matrix_block::MatrixView;
 use tuning::RANKS_SIDE_BY_SIDE;
@@ -22,7 +22,23 @@ pub enum Sought {
     Index,
 }
 
-/// Writes the numbers at a list of indices, up to the first that is not found, and how many were written.
+/// The status of a list of indices of a matrix: why no more than the numbers at the first `written` were written.
+#[inline(always)]
+fn stop_status(view: &MatrixView<'_>, indices: &[usize], written: usize) -> u32
+    requires { written ≤ length indices.now }
+    ensures { IsStopped view.now.levels.len indices.now written result }
+{
+    if written == indices.len() {
+        OK
+    } else if indices[written] < view.len() {
+        WRONG
+    } else {
+        NONE
+    }
+}
+
+/// Writes the numbers at a list of indices, up to the first that is not found, and how many were written; the status
+/// says why there are no more.
 #[unsafe(no_mangle)]
 pub extern "C" fn bitm_matrix_get_list(
     matrix: &Matrix<'_>,
@@ -30,15 +46,17 @@ pub extern "C" fn bitm_matrix_get_list(
     out: &mut [u64],
     written: &mut usize,
 ) -> u32
-    ensures ok { (result ≡ 0) ↔ HasLengths (matrix_parts matrix.now) × (length out.old ≡ length indices.now) }
-    ensures kept { result ≢ 0 → (result ≡ 2) × (out.new ≡ out.old)
-        × (written.new ≡ written.old) }
-    ensures most { result ≡ 0 → written.new ≤ length indices.now }
-    ensures numbers { result ≡ 0 → (j : ℕ) → j < written.new → IsNumber
+    ensures bad { (result ≡ 2)
+        ↔ ¬ (HasLengths (matrix_parts matrix.now) × (length out.old ≡ length indices.now)) }
+    ensures kept { result ≡ 2 → (out.new ≡ out.old) × (written.new ≡ written.old) }
+    ensures stopped { result ≢ 2
+        → IsStopped (matrix_parts matrix.now).levels.len indices.now written.new result }
+    ensures most { result ≢ 2 → written.new ≤ length indices.now }
+    ensures numbers { result ≢ 2 → (j : ℕ) → j < written.new → IsNumber
         (slice_index indices.now j) (matrix_parts matrix.now) (Found (slice_index out.new j)) }
-    ensures last { result ≡ 0 → written.new < length indices.now
+    ensures last { result ≢ 2 → written.new < length indices.now
         → IsUnanswered (slice_index indices.now written.new) (matrix_parts matrix.now) }
-    ensures behind { result ≡ 0 → IsKeptFrom written.new out.old out.new }
+    ensures behind { result ≢ 2 → IsKeptFrom written.new out.old out.new }
 {
     let Some(view) = matrix.view() else {
         return BAD_SIZE;
@@ -47,7 +65,7 @@ pub extern "C" fn bitm_matrix_get_list(
         return BAD_SIZE;
     }
     *written = view.get_list(indices, out);
-    OK
+    stop_status(&view, indices, *written)
 }
 
 /// How often each number stands before an index, of a group that goes from level to level together, with as many places

@@ -3,7 +3,7 @@ ghost use Rattle.std.specs.Prelude.{◌≡◌, ◌≢◌, ◌*◌, ◌^◌, ◌<
 ghost use Rattle.bitm_block.specs.Layout.{end_of};
 ghost use Rattle.lent_levels.specs.Levels.{AreNumbers};
 ghost use Rattle.matrix_block.specs.Block.{has_quarters, matrix_in, sections_with};
-ghost use Rattle.matrix_block.specs.Block.{CanHold, IsBlockOf, IsMatrixBlock, IsSoundBlock};
+ghost use Rattle.matrix_block.specs.Block.{CanHold, HasRoom, IsBlockOf, IsMatrixBlock, IsSoundBlock};
 ghost use Rattle.bitm_abi.specs.Matrix.{matrix_parts};
 
 use bitm_abi::{BAD_SIZE, Matrix, OK, WRONG};
@@ -41,7 +41,8 @@ pub extern "C" fn bitm_matrix_build(
         × (length block.old ≡ end_of (sections_with (length numbers.now) width quarters))
         × (length scratch.old ≡ 2 * length numbers.now)) }
     ensures wrong { (result ≡ 3)
-        ↔ (AreNumbers (length numbers.now) width × (¬ (All (λ x. x < 2 ^ width) numbers.now))) }
+        ↔ (HasRoom (length numbers.now) width quarters (length scratch.old) (length block.old)
+        × (¬ (All (λ x. x < 2 ^ width) numbers.now))) }
     ensures status { (result ≡ 0) ⊎ (result ≡ 2) ⊎ (result ≡ 3) }
     ensures block { result ≡ 0 → IsBlockOf numbers.now width block.new }
     ensures quarters { result ≡ 0 → has_quarters block.new ≡ quarters }
@@ -52,11 +53,11 @@ pub extern "C" fn bitm_matrix_build(
     }
     match build(numbers, width as u8, quarters, scratch, block) {
         Ok(()) => OK,
-        Err(BuildError::TooWide) => WRONG,
         Err(BuildError::WrongWidth) => BAD_SIZE,
         Err(BuildError::TooLong) => BAD_SIZE,
         Err(BuildError::WrongLength) => BAD_SIZE,
         Err(BuildError::WrongScratch) => BAD_SIZE,
+        Err(BuildError::TooWide) => WRONG,
     }
 }
 

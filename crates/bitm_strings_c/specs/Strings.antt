@@ -8,12 +8,13 @@ use Rattle.string_block.specs.Block.{CanHold}
 use Rattle.string_block.specs.Parts.{AreStrings, HasStarts, IsFound, IsHeld, IsNotWrong, IsPiece, StringParts}
 use Rattle.bitm_strings_c.specs.declared.strings.Strings.{Strings}
 
--- A status is 0 where the answer was written, 1 where there is no such string or number, 2 where a length is wrong, and 3
--- where the parts are not those of strings.
+-- A status is 0 where the answer was written, 1 where there is no such string or number, 2 where a length or the kind is
+-- wrong, and 3 where the parts are not those of strings.
 
--- a hash, where strings begin, and their bytes
+-- the kind, a hash, where strings begin, and their bytes
 abbrev pub string_parts : Strings → StringParts
 string_parts strings = record {
+  kind = strings.kind;
   hash = hash_parts strings.hash strings.seed;
   starts = strings.starts.now;
   bytes = strings.bytes.now;

@@ -1,7 +1,7 @@
 //! The hashes of strings.
 ghost use Rattle.std.specs.Prelude.{◌≡◌, ◌≢◌, ◌<◌, ◌↔◌, ℕ, length, slice_index};
-ghost use Rattle.string_block.specs.Bytes.{hash_of};
 ghost use Rattle.string_block.specs.Given.{given, len_of, AreGiven};
+ghost use Rattle.string_block.specs.SipHash.{hash_of};
 
 use bitm_abi::{BAD_SIZE, OK};
 use string_block::{hash, hashes};

@@ -79,7 +79,8 @@ fn strings_of<'a>(view: &StringsView<'a>, hash: Hash<'a>) -> Strings<'a>
         starts: view.starts(),
         bytes: view.bytes(),
         seed: view.hash().seed(),
-        reserved: [0; 2],
+        kind: view.kind(),
+        reserved: [0; 1],
     }
 }
 

@@ -7,7 +7,7 @@ use bitm_abi::{Hash, hash_view};
 use string_block::StringsView;
 
 /// Strings of bytes in the caller's memory: a hash, where the string of each number begins and the last one ends, the
-/// words of the bytes, and the seed of their hashes.
+/// words of the bytes, the seed of their hashes, and the kind of their block, which says how they are hashed.
 #[repr(C)]
 #[derive(Clone, Copy)]
 pub struct Strings<'a> {
@@ -19,17 +19,19 @@ pub struct Strings<'a> {
     pub bytes: &'a [u64],
     /// The seed of the hashes.
     pub seed: u64,
+    /// The kind of the block.
+    pub kind: u64,
     /// Room for later versions; this one does not read it.
-    pub reserved: [u64; 2],
+    pub reserved: [u64; 1],
 }
 
 impl<'a> Strings<'a> {
-    /// The strings as the library queries them; `None` exactly where a length is not right.
+    /// The strings as the library queries them; `None` exactly where a length or the kind is not right.
     #[inline(always)]
     pub(crate) fn view(&self) -> Option<StringsView<'a>>
         ensures { SomeIff result (HasStarts (string_parts self.now)) (string_parts self.now) }
     {
         let hash = hash_view(&self.hash, self.seed)?;
-        StringsView::over(hash, self.starts, self.bytes)
+        StringsView::over(self.kind, hash, self.starts, self.bytes)
     }
 }

@@ -48,19 +48,21 @@ pub extern "C" fn bitm_text_build(
     ensures ok { (result ≡ 0) ↔ (IsIndexable text.now letters step
         × (length block.old ≡ end_of (text_sections (length text.now) (width_of_kinds letters) letters step 0))
         × (length scratch.old ≡ scratch_for (length text.now) letters)) }
-    ensures wrong { (result ≡ 3)
-        ↔ ((length text.now + 1 < 2 ^ 32) × (¬ (All (λ x. x < letters) text.now))) }
+    ensures wrong { (result ≡ 3) ↔ ((length text.now + 1 < 2 ^ 32) × (1 ≤ step)
+        × (length block.old ≡ end_of (text_sections (length text.now) (width_of_kinds letters) letters step 0))
+        × (length scratch.old ≡ scratch_for (length text.now) letters)
+        × (¬ (All (λ x. x < letters) text.now))) }
     ensures status { (result ≡ 0) ⊎ (result ≡ 2) ⊎ (result ≡ 3) }
     ensures block { result ≡ 0 → IsMadeBlock text.now letters (width_of_kinds letters) step [] block.new }
     ensures kept { result ≢ 0 → (block.new ≡ block.old) × (scratch.new ≡ scratch.old) }
 {
     match build(text, letters, step, scratch, block) {
         Ok(()) => OK,
-        Err(BuildError::LetterOutside) => WRONG,
         Err(BuildError::TooLarge) => BAD_SIZE,
         Err(BuildError::TooLong) => BAD_SIZE,
         Err(BuildError::WrongStep) => BAD_SIZE,
         Err(BuildError::WrongLength) => BAD_SIZE,
         Err(BuildError::WrongScratch) => BAD_SIZE,
+        Err(BuildError::LetterOutside) => WRONG,
     }
 }

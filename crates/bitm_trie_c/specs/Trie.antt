@@ -5,28 +5,34 @@ use Rattle.louds.specs.Labels.{AreLabels}
 use Rattle.louds.specs.Tree.{IsTree}
 use Rattle.louds_block.specs.Answers.{IsChildWithin}
 use Rattle.trie_block.specs.Answers.{IsChildByLabelOf, IsEndOf, IsLabelOf, IsLongestOf, IsLongestWithin, IsNodeOf, IsNodeWithin, IsWordOf, IsWordWithin}
-use Rattle.trie_block.specs.Block.{degrees_of_parts, labels_of_parts, trie_of, HasTrieLengths, HoldsTrie, TrieParts}
-use Rattle.trie_block.specs.Labels.{IsShape}
+use Rattle.trie_block.specs.Block.{degrees_of_parts, labels_of_parts, trie_of, HasTrieLengths, HasTrieRoom, HoldsTrie, TrieParts}
 use Rattle.bitm_abi.specs.Status.{truth_of, Exported, IsFoundBelow}
 use Rattle.bitm_abi.specs.Tree.{tree_parts}
-use Rattle.trie_words.specs.Words.{words_in, AreSorted, AreWords}
+use Rattle.trie_words.specs.Building.{HasBlockRoom}
+use Rattle.trie_words.specs.Words.{nodes_of, words_in, AreSorted, AreWords}
 use Rattle.bitm_trie_c.specs.declared.trie.Trie.{Trie}
 
 -- A status is 0 where the answer was written, 1 where there is no such node, label, end or word, 2 where a length is
--- wrong, and 3 where the sections are not those of a trie.
+-- wrong, 3 where the sections are not those of a trie, and 4 where words do not rise.
 
 -- the tree, the words of the labels, the bits of a label, and the words of the ends
 abbrev pub trie_parts : Trie → TrieParts
 trie_parts trie = trie_of (tree_parts trie.tree) trie.labels.now trie.width trie.ends.now
 
--- the degrees are those of no tree, or the labels are none for its nodes
-abbrev pub IsNoTrie : List ℕ → List ℕ → ℕ → Type 0
-IsNoTrie degrees labels width =
-    IsShape (length degrees) width × ((¬ (IsTree degrees)) ⊎ (IsTree degrees × (¬ (AreLabels degrees (0 ∷ labels) width))))
+-- the lengths are those of a trie, and the degrees are those of no tree, or the labels are none for its nodes
+abbrev pub IsNoTrie : List ℕ → List ℕ → ℕ → List ℕ → List ℕ → Type 0
+IsNoTrie degrees labels width ends block =
+    HasTrieRoom (length degrees) width labels ends block
+    × ((¬ (IsTree degrees)) ⊎ (IsTree degrees × (¬ (AreLabels degrees (0 ∷ labels) width))))
 
 -- there are words, and one does not stand after the one before it
 abbrev pub AreUnsorted : List ℕ → List ℕ → Type 0
 AreUnsorted bytes starts = AreWords bytes starts × (¬ (AreSorted (words_in bytes starts)))
+
+-- so it is, and the lengths are those of the trie of words
+abbrev pub AreUnsortedInRoom : List ℕ → List ℕ → List ℕ → List ℕ → Type 0
+AreUnsortedInRoom bytes starts scratch block =
+    AreUnsorted bytes starts × HasBlockRoom (nodes_of (words_in bytes starts)) (length scratch) (length block)
 
 -- whether a word ends at a node, as 0 or 1, whatever the sections hold
 pub record IsEnd (node : ℕ) (parts : TrieParts) (answer : Answer ℕ) : Type 0 where

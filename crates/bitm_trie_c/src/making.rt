@@ -41,7 +41,7 @@ pub extern "C" fn bitm_trie_build(
     block: &mut [u64],
 ) -> u32
     ensures ok { (result ≡ 0) ↔ CanHold degrees.now labels.now width ends.now block.old }
-    ensures wrong { (result ≡ 3) ↔ IsNoTrie degrees.now labels.now width }
+    ensures wrong { (result ≡ 3) ↔ IsNoTrie degrees.now labels.now width ends.now block.old }
     ensures status { (result ≡ 0) ⊎ (result ≡ 2) ⊎ (result ≡ 3) }
     ensures block { result ≡ 0 → IsBlockOf degrees.now labels.now width ends.now block.new }
     ensures kept { result ≢ 0 → block.new ≡ block.old }
@@ -51,12 +51,13 @@ pub extern "C" fn bitm_trie_build(
     }
     match build(degrees, labels, width as u8, ends, block) {
         Ok(()) => OK,
-        Err(BuildError::NotATree) => WRONG,
-        Err(BuildError::NotLabels) => WRONG,
         Err(BuildError::TooLong) => BAD_SIZE,
         Err(BuildError::WrongWidth) => BAD_SIZE,
+        Err(BuildError::WrongLabels) => BAD_SIZE,
         Err(BuildError::WrongEnds) => BAD_SIZE,
         Err(BuildError::WrongLength) => BAD_SIZE,
+        Err(BuildError::NotATree) => WRONG,
+        Err(BuildError::NotLabels) => WRONG,
     }
 }
 

@@ -1,20 +1,20 @@
 //! The block of the trie of sorted words.
 ghost use Rattle.std.specs.Prelude.{◌≡◌, ◌≢◌, ◌↔◌, ◌⊎◌};
-ghost use Rattle.bitm_trie_c.specs.Trie.{AreUnsorted};
+ghost use Rattle.bitm_trie_c.specs.Trie.{AreUnsorted, AreUnsortedInRoom};
 ghost use Rattle.trie_words.specs.Building.{CanBuild};
 ghost use Rattle.trie_words.specs.Room.{AreSortedWords};
 ghost use Rattle.trie_words.specs.Trie.{IsBlockOfWords};
 ghost use Rattle.trie_words.specs.Words.{nodes_of, words_in};
 
-use bitm_abi::{BAD_SIZE, OK, WRONG};
+use bitm_abi::{BAD_SIZE, OK, UNSORTED};
 use trie_words::{WordsError, build, nodes};
 
 /// Writes how many nodes the trie of these words has.
 #[unsafe(no_mangle)]
 pub extern "C" fn bitm_trie_nodes_of_words(bytes: &[u8], starts: &[usize], out: &mut usize) -> u32
     ensures ok { (result ≡ 0) ↔ AreSortedWords bytes.now starts.now }
-    ensures wrong { (result ≡ 3) ↔ AreUnsorted bytes.now starts.now }
-    ensures status { (result ≡ 0) ⊎ (result ≡ 2) ⊎ (result ≡ 3) }
+    ensures unsorted { (result ≡ 4) ↔ AreUnsorted bytes.now starts.now }
+    ensures status { (result ≡ 0) ⊎ (result ≡ 2) ⊎ (result ≡ 4) }
     ensures nodes { result ≡ 0 → out.new ≡ nodes_of (words_in bytes.now starts.now) }
     ensures kept { result ≢ 0 → out.new ≡ out.old }
 {
@@ -23,9 +23,9 @@ pub extern "C" fn bitm_trie_nodes_of_words(bytes: &[u8], starts: &[usize], out: 
             *out = count;
             OK
         }
-        Err(WordsError::NotSorted) => WRONG,
         Err(WordsError::NotWords) => BAD_SIZE,
         Err(WordsError::WrongLength) => BAD_SIZE,
+        Err(WordsError::NotSorted) => UNSORTED,
     }
 }
 
@@ -38,15 +38,16 @@ pub extern "C" fn bitm_trie_build_words(
     block: &mut [u64],
 ) -> u32
     ensures ok { (result ≡ 0) ↔ CanBuild bytes.now starts.now scratch.old block.old }
-    ensures wrong { (result ≡ 3) ↔ AreUnsorted bytes.now starts.now }
-    ensures status { (result ≡ 0) ⊎ (result ≡ 2) ⊎ (result ≡ 3) }
+    ensures unsorted { (result ≡ 4)
+        ↔ AreUnsortedInRoom bytes.now starts.now scratch.old block.old }
+    ensures status { (result ≡ 0) ⊎ (result ≡ 2) ⊎ (result ≡ 4) }
     ensures block { result ≡ 0 → IsBlockOfWords (words_in bytes.now starts.now) block.new }
     ensures kept { result ≢ 0 → block.new ≡ block.old }
 {
     match build(bytes, starts, scratch, block) {
         Ok(()) => OK,
-        Err(WordsError::NotSorted) => WRONG,
         Err(WordsError::NotWords) => BAD_SIZE,
         Err(WordsError::WrongLength) => BAD_SIZE,
+        Err(WordsError::NotSorted) => UNSORTED,
     }
 }

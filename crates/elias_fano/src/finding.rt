@@ -11,9 +11,11 @@ impl<S: SelectForRank101111, S0: Select0ForRank101111> Sequence<S, S0> {
     /// The least index whose number is at least `v` (the successor); `None` exactly where there is none.
     ///
     /// # Cost
-    /// One selection of a 0 bit in the upper vector, then at most eight words, or, where the numbers that share the
-    /// high bits of `v` do not end in these, a second selection; and at most one fragment of the low vector for each
-    /// binary digit of how many these are. What comes after the first selection is counted by `first_from_on`.
+    /// One selection of a 0 bit in the upper vector by the sequence's own strategy, then at most eight words, or, where
+    /// the numbers that share the high bits of `v` do not end in these, a second selection; and at most one fragment of
+    /// the low vector for each binary digit of how many these are. After the first selection that is at most `digits +
+    /// 1` upper entries, where the number of them has `digits` binary digits, 23 lower entries and 16 words: evident
+    /// from the code. `first_at_least_on` has clauses for all of its reads.
     #[inline]
     pub fn first_at_least(&self, v: u64) -> Option<usize>
         ensures { IsFirstAtLeast self.now.items v result }

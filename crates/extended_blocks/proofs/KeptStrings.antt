@@ -1,5 +1,5 @@
 -- Strings in a block that is extended are those of before.
-use Rattle.std.proofs.Common.{◌≡◌, ℕ, ◌≤◌, List, ap, sym, subst, ◌∙◌, arith}
+use Rattle.std.proofs.Common.{◌≡◌, ℕ, ◌≤◌, List, slice_index, ap, sym, subst, ◌∙◌, arith}
 use Rattle.bitm_block.specs.Header.{count_in, section_in}
 use Rattle.bitm_block.specs.declared.head.Head.{Head}
 use Rattle.bitm_block.specs.declared.layout.Section.{Section}
@@ -10,24 +10,30 @@ use Rattle.extended_blocks.specs.Strings.{KeepsString}
 use Rattle.hash_block.specs.Block.{hash_in, IsHashBlock}
 use Rattle.string_block.specs.Block.{strings_in, IsSoundBlock, IsStringBlock}
 use Rattle.string_block.specs.Given.{given, len_of}
-use Rattle.string_block.specs.Parts.{string_number, AreStrings, HasStarts, IsString, StringParts}
+use Rattle.string_block.specs.Kinds.{IsStringKind}
+use Rattle.string_block.specs.Parts.{number_in, AreStrings, HasStarts, IsString, StringParts}
 
-abbrev strings_with : List ℕ → List ℕ → List ℕ → StringParts
-strings_with hash starts bytes = record { hash = hash_in hash; starts = starts; bytes = bytes }
+abbrev strings_with : ℕ → List ℕ → List ℕ → List ℕ → StringParts
+strings_with kind hash starts bytes = record { kind = kind; hash = hash_in hash; starts = starts; bytes = bytes }
 
 module _ (block : List ℕ) (added : Section) (words new : List ℕ) (is : IsExtended block added words new) where
+  kind_is : slice_index new 1 ≡ slice_index block 1
+  kind_is = ap (λ (h : Head). h.kind) is.head_is
+
   strings_are : 3 ≤ count_in block → strings_in new ≡ strings_in block
   strings_are three =
-      ap (λ h. strings_with h (section_in new 1) (section_in new 2)) (is.kept 0 (omega (arith, three)))
-      ∙ ap (λ s. strings_with (section_in block 0) s (section_in new 2)) (is.kept 1 (omega (arith, three)))
-      ∙ ap (λ b. strings_with (section_in block 0) (section_in block 1) b) (is.kept 2 (omega (arith, three)))
+      let kind : ℕ = slice_index block 1 in
+      ap (λ k. strings_with k (section_in new 0) (section_in new 1) (section_in new 2)) kind_is
+      ∙ ap (λ h. strings_with kind h (section_in new 1) (section_in new 2)) (is.kept 0 (omega (arith, three)))
+      ∙ ap (λ s. strings_with kind (section_in block 0) s (section_in new 2)) (is.kept 1 (omega (arith, three)))
+      ∙ ap (λ b. strings_with kind (section_in block 0) (section_in block 1) b) (is.kept 2 (omega (arith, three)))
 
   opened_strings : IsStringBlock block → IsStringBlock new
   opened_strings old =
       let three = old.sections.three in record {
         is_block = is.is_block;
         sections = record {
-          kind = ap (λ (h : Head). h.kind) is.head_is ∙ old.sections.kind;
+          kind = subst IsStringKind (sym kind_is) old.sections.kind;
           three = omega (arith, three, count_is block added words new is);
           hash = role_is block added words new is 0 (omega (arith, three)) ∙ old.sections.hash;
           starts = role_is block added words new is 1 (omega (arith, three)) ∙ old.sections.starts;
@@ -53,7 +59,7 @@ module _ (block : List ℕ) (added : Section) (words new : List ℕ) (is : IsExt
     strings = λ number bytes ends old.
         let same = strings_are old.sound.string_block.sections.three in record {
           sound = sound_strings old.sound;
-          numbers = λ string len. ap (λ (p : StringParts). string_number p.hash string len) same ∙ old.numbers string len;
+          numbers = λ string len. ap (λ (p : StringParts). number_in p string len) same ∙ old.numbers string len;
           count = ap (λ (p : StringParts). p.hash.keys) same ∙ old.count;
           all = λ i v less some.
               subst (λ (p : StringParts). IsString p v (given bytes ends i) (len_of ends i)) (sym same) (old.all i v less some);

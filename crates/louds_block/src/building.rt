@@ -80,9 +80,9 @@ fn write_block(degrees: &[usize], block: &mut [u64])
 /// Writes the block of the tree of these degrees, which `LoudsView::open` opens and `check` accepts.
 ///
 /// # Errors
-/// `TooLong` exactly where there are 2^60 degrees or more; else `NotATree` exactly where they are those of no tree;
-/// else `WrongLength` exactly where the words are not as many as the block takes (`size`). The words stay as they are
-/// then.
+/// `TooLong` exactly where there are 2^60 degrees or more; else `WrongLength` exactly where the words are not as many
+/// as the block takes (`size`); else `NotATree` exactly where the degrees are those of no tree. The words stay as they
+/// are then.
 /// # Cost
 /// Two passes over the degrees, one over the block, and two over its words (evident from the code). Nothing is
 /// allocated.
@@ -93,10 +93,10 @@ fn write_block(degrees: &[usize], block: &mut [u64])
 /// ```
 pub fn build(degrees: &[usize], block: &mut [u64]) -> Result<(), BuildError>
     ensures too_long { IsErrOf result BuildError.TooLong ↔ (2 ^ 60 ≤ length degrees.now) }
-    ensures not_a_tree { IsErrOf result BuildError.NotATree
-        ↔ ((length degrees.now < 2 ^ 60) × (¬ (IsTree degrees.now))) }
     ensures wrong_length { IsErrOf result BuildError.WrongLength ↔ ((length degrees.now < 2 ^ 60)
-        × IsTree degrees.now × (length block.old ≢ end_of (tree_sections (length degrees.now)))) }
+        × (length block.old ≢ end_of (tree_sections (length degrees.now)))) }
+    ensures not_a_tree { IsErrOf result BuildError.NotATree ↔ ((length degrees.now < 2 ^ 60)
+        × (length block.old ≡ end_of (tree_sections (length degrees.now))) × (¬ (IsTree degrees.now))) }
     ensures ok { IsOk result ↔ CanHold degrees.now block.old }
     ensures block { IfOk result (λ _. IsBlockOf degrees.now block.new) }
     ensures kept { IfErr result (λ _. block.new ≡ block.old) }
@@ -104,11 +104,11 @@ pub fn build(degrees: &[usize], block: &mut [u64]) -> Result<(), BuildError>
     if degrees.len() >= 1 << 60 {
         return Err(BuildError::TooLong);
     }
-    if !is_tree(degrees) {
-        return Err(BuildError::NotATree);
-    }
     if block.len() != size(degrees.len()) {
         return Err(BuildError::WrongLength);
+    }
+    if !is_tree(degrees) {
+        return Err(BuildError::NotATree);
     }
     write_block(degrees, block);
     Ok(())

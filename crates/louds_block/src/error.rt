@@ -8,10 +8,10 @@ use std::fmt;
 pub enum BuildError {
     /// There are 2^60 degrees or more.
     TooLong,
-    /// The degrees are those of no tree.
-    NotATree,
     /// The words are not as many as the block takes.
     WrongLength,
+    /// The degrees are those of no tree.
+    NotATree,
 }
 
 impl fmt::Display for BuildError {
@@ -23,8 +23,8 @@ impl fmt::Display for BuildError {
     fn fmt<W: fmt::Write>(&self, f: &mut fmt::Formatter<W>) -> fmt::Result {
         match self {
             BuildError::TooLong => write!(f, "there are 2^60 degrees or more"),
-            BuildError::NotATree => write!(f, "the degrees are those of no tree"),
             BuildError::WrongLength => write!(f, "not as long as the block"),
+            BuildError::NotATree => write!(f, "the degrees are those of no tree"),
         }
     }
 }

@@ -1,10 +1,10 @@
 -- A block that holds a wavelet matrix.
-use Rattle.std.specs.Prelude.{◌≡◌, ℕ, ◌+◌, ◌^◌, ◌<◌, ◌≤◌, ◌==◌, ◌&&◌, nat_le, Bool, if◌then◌else◌, List, [], ◌∷◌, ◌++◌, length, slice_index, slice_range, All}
+use Rattle.std.specs.Prelude.{◌≡◌, ℕ, ◌+◌, ◌*◌, ◌^◌, ◌<◌, ◌≤◌, ◌==◌, ◌&&◌, nat_le, Bool, if◌then◌else◌, List, [], ◌∷◌, ◌++◌, length, slice_index, slice_range, All}
 use Rattle.std.specs.Int.{div_ceil}
 use Rattle.bitm_tables.specs.Quarters.{AreQuartersOf}
 use Rattle.bitm_tables.specs.Tables.{HasSizes, Lists, bits_in}
 use Rattle.bitm_block.specs.Header.{count_in, section_in, IsBlock, IsVerified}
-use Rattle.bitm_block.specs.Layout.{aligned}
+use Rattle.bitm_block.specs.Layout.{aligned, end_of}
 use Rattle.bitm_block.specs.declared.head.Head.{Head}
 use Rattle.bitm_block.specs.declared.layout.Section.{Section}
 use Rattle.lent_tables.specs.Sizes.{lists_of}
@@ -121,6 +121,12 @@ items_in parts = numbers_in parts.levels parts.lists
 pub record CanHold (xs : List ℕ) (w : ℕ) : Type 0 where
   pub numbers : AreNumbers (length xs) w
   pub fit : All (λ x. x < 2 ^ w) xs
+
+-- the lengths of the scratch and of a block are those of n numbers of w bits, with quarters or without
+pub record HasRoom (n w : ℕ) (quarters : Bool) (scratch block : ℕ) : Type 0 where
+  pub numbers : AreNumbers n w
+  pub block_len : block ≡ end_of (sections_with n w quarters)
+  pub scratch_len : scratch ≡ 2 * n
 
 -- words and tables that hold these numbers of w bits
 pub record AreParts (numbers : List ℕ) (w : ℕ) (words upper lower ones zeros : List ℕ) : Type 0 where

@@ -10,12 +10,12 @@ pub enum BuildError {
     WrongWidth,
     /// The numbers have 2^63 bits or more in all.
     TooLong,
-    /// A number has more bits than the width.
-    TooWide,
     /// The words are not as many as the block takes.
     WrongLength,
     /// The scratch is not two words for each number.
     WrongScratch,
+    /// A number has more bits than the width.
+    TooWide,
 }
 
 impl fmt::Display for BuildError {
@@ -28,9 +28,9 @@ impl fmt::Display for BuildError {
         match self {
             BuildError::WrongWidth => write!(f, "the width is not 1 to 64"),
             BuildError::TooLong => write!(f, "there are 2^63 bits or more"),
-            BuildError::TooWide => write!(f, "a number has more bits than the width"),
             BuildError::WrongLength => write!(f, "not as long as the block"),
             BuildError::WrongScratch => write!(f, "the scratch is not two words for each number"),
+            BuildError::TooWide => write!(f, "a number has more bits than the width"),
         }
     }
 }

@@ -5,7 +5,7 @@ ghost use Rattle.std.specs.List.Sorted.{IsStrictlyIncreasing};
 ghost use Rattle.matrix_block.specs.Block.{items_in, HoldsMatrix};
 ghost use Rattle.matrix_block.specs.RangeLists.{AreDistinctOf, AreDistinctWithin, AreFrequentOf, AreFrequentWithin};
 
-use crate::kept::{insert_tally, place_for};
+use crate::kept::{keep_tally, sort_kept};
 use crate::matrix::MatrixView;
 use bitm_tables::answer::Answer;
 
@@ -92,8 +92,9 @@ impl<'a> MatrixView<'a> {
     /// # Conditions
     /// There is room for as many counts as numbers.
     /// # Cost
-    /// For each distinct number of the range `quantile_and_count`, and a step for each number that is less frequent
-    /// among those that are kept (evident from the code).
+    /// For each distinct number of the range `quantile_and_count`; whatever the block holds, no more than once for each
+    /// of its numbers. With room for k numbers each takes at most log2(k) steps down a heap of those that are kept, and
+    /// twice as many to sort these (evident from the code).
     ///
     /// ```
     /// let (mut numbers, mut counts) = ([0u64; 2], [0usize; 2]);
@@ -124,10 +125,10 @@ impl<'a> MatrixView<'a> {
                 Answer::Absent => return Answer::Wrong,
                 Answer::Wrong => return Answer::Wrong,
             };
-            let place = place_for(&counts[..kept], count);
-            kept = insert_tally(&mut *numbers, &mut *counts, kept, place, number, count);
+            kept = keep_tally(&mut *numbers, &mut *counts, kept, number, count);
             less += count;
         }
+        sort_kept(&mut *numbers, &mut *counts, kept);
         Answer::Found(kept)
     }
 }

@@ -1,3 +1,4 @@
 pub mod DistinctLemmas
 pub mod FrequentLemmas
+pub mod HeapLemmas
 pub mod SharedFromLemmas

@@ -8,6 +8,12 @@ use Rattle.postings.specs.Next.{IsNextAtLeast}
 use Rattle.postings.specs.Spot.{IsSpot}
 use Rattle.postings.specs.declared.spot.Spot.{Spot}
 
+-- P, unless the answer is Wrong
+abbrev pub UnlessWrong : {T : Type 0} → Answer T → Type 0 → Type 0
+UnlessWrong (Found x) P = P
+UnlessWrong Absent P = P
+UnlessWrong Wrong P = ⊤
+
 -- P of what was found, if something was
 abbrev pub IfFound : {T : Type 0} → Answer T → (T → Type 0) → Type 0
 IfFound (Found x) P = P x

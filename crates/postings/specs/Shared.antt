@@ -58,6 +58,13 @@ IfNext (Next x) P = P x
 IfNext Ended P = ⊤
 IfNext Unknown P = ⊤
 
+-- P, unless some list turned out wrong
+abbrev pub UnlessUnknown : Agreed → Type 0 → Type 0
+UnlessUnknown All P = P
+UnlessUnknown (Next x) P = P
+UnlessUnknown Ended P = P
+UnlessUnknown Unknown P = ⊤
+
 -- the lists after the first agreed on v or not, the first stays, and each other was asked at most once
 pub record IsAsked (old : List (List ℕ)) (asked : List ℕ) (v : ℕ) (answer : Agreed) (new : List (List ℕ)) (calls : List ℕ) : Type 0 where
   pub agreed : IsAgreed old v answer

@@ -1,6 +1,6 @@
 //! What a cursor is, and how its calls are counted.
 ghost use Rattle.std.specs.Prelude.{◌≡◌, ◌≤◌, ◌+◌, ℕ, List};
-ghost use Rattle.postings.specs.Moves.{IfFound, IsAnswered};
+ghost use Rattle.postings.specs.Moves.{IfFound, IsAnswered, UnlessWrong};
 ghost use Rattle.postings.specs.Next.{IsNextAtLeast};
 
 use bitm_tables::answer::Answer;
@@ -34,23 +34,40 @@ pub trait TotalCursor {
     /// How often it was called, of what is counted.
     ghost calls: { Self → ℕ };
 
+    /// How often it answered `Wrong`, of what is counted.
+    ghost wrong: { Self → ℕ };
+
+    /// The type of what no call changes.
+    ghost Kept: { Type 0 };
+
+    /// What no call changes, such as the memory that it reads.
+    ghost kept: { Self → Kept };
+
     /// Moves as `next_geq` of a `Cursor` where the cursor is right, and stays right. Whatever the memory holds, a
-    /// number that is found is at least `v`, and the answer may be `Wrong`.
+    /// number that is found is at least `v`, and the answer may be `Wrong`: no other answer counts as one.
     fn total_next_geq(&mut self, v: u64) -> Answer<u64>
         ensures next { right self.old → IsAnswered (left self.old) v result (left self.new) }
         ensures stays { right self.old → right self.new }
         ensures at_least { IfFound result (λ x. v ≤ x) }
-        ensures counted { calls self.new ≤ calls self.old + 1 };
+        ensures counted { calls self.new ≤ calls self.old + 1 }
+        ensures sound { UnlessWrong result (wrong self.new ≡ wrong self.old) }
+        ensures same { kept self.new ≡ kept self.old };
 }
 
 impl<C: Cursor> TotalCursor for C {
-    ghost use Rattle.std.specs.Prelude.{⊤};
+    ghost use Rattle.std.specs.Prelude.{⊤, ℕ};
 
     ghost left = { C.Cursor.left };
 
     ghost right = { λ c. ⊤ };
 
     ghost calls = { C.Cursor.calls };
+
+    ghost wrong = { λ c. 0 };
+
+    ghost Kept = { ℕ };
+
+    ghost kept = { λ c. 0 };
 
     #[inline(always)]
     fn total_next_geq(&mut self, v: u64) -> Answer<u64> {

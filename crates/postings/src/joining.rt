@@ -1,7 +1,8 @@
 //! The union of lists: the numbers that stand in any of them.
 ghost use Rattle.std.specs.Prelude.{◌≡◌, ℕ, ◌+◌, ◌<◌, ◌≤◌, All, map, length, slice_index, Some};
 ghost use Rattle.postings.specs.Joined.{AreJoined, IsInSome, IsLeastAnswer, IsLesser};
-ghost use Rattle.postings.specs.Merged.{written_in, IsDone};
+ghost use Rattle.postings.specs.Merged.{written_in, IfDone, IsDone};
+ghost use Rattle.postings.specs.Moves.{UnlessWrong};
 ghost use Rattle.postings.specs.Shared.{AskedAtMost, IsKeptFrom, KeepsFrom};
 
 use crate::cursor::{Cursor, TotalCursor};
@@ -26,6 +27,8 @@ fn least_from<C: TotalCursor>(lists: &mut [C], v: u64) -> Answer<u64>
     ensures keeps { All C.right lists.old → KeepsFrom (map C.left lists.old) (map C.left lists.new) v }
     ensures asked { AskedAtMost (map C.calls lists.old) (map C.calls lists.new) 1 }
     ensures right { All C.right lists.old → All C.right lists.new }
+    ensures sound { UnlessWrong result (map C.wrong lists.new ≡ map C.wrong lists.old) }
+    ensures same { map C.kept lists.new ≡ map C.kept lists.old }
 {
     let mut least = None;
     for i in 0..lists.len() {
@@ -42,7 +45,8 @@ fn least_from<C: TotalCursor>(lists: &mut [C], v: u64) -> Answer<u64>
 }
 
 /// The union of lists in memory that may hold anything: what `union` writes where all are right, up to where one turns
-/// out wrong. Whatever the memory holds, what is after the numbers that are written stays as it was.
+/// out wrong. Whatever the memory holds, it is `Done` only if no call of a cursor answered `Wrong`, and what is after
+/// the numbers that are written stays as it was.
 ///
 /// # Cost
 /// Each list is queried at most once for each number that is written, and once more, whatever they hold.
@@ -63,6 +67,8 @@ pub fn total_union<C: TotalCursor>(lists: &mut [C], from: u64, out: &mut [u64]) 
         → ((k : ℕ) → k < written_in result → slice_index out.new k < x)
         → IsInSome (map C.left lists.new) x }
     ensures right { All C.right lists.old → All C.right lists.new }
+    ensures sound { IfDone result (map C.wrong lists.new ≡ map C.wrong lists.old) }
+    ensures same { map C.kept lists.new ≡ map C.kept lists.old }
 {
     let mut low = from;
     let mut count = 0;

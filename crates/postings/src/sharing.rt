@@ -1,7 +1,8 @@
 //! The intersection of lists: the numbers that all of them share.
 ghost use Rattle.std.specs.Prelude.{◌≡◌, ℕ, ◌+◌, ◌<◌, ◌≤◌, All, map, length, slice_index};
-ghost use Rattle.postings.specs.Merged.{written_in, IsDone};
-ghost use Rattle.postings.specs.Shared.{list_at, AreShared, AskedAtMost, IfNext, IsAsked, IsInAll, IsKeptFrom};
+ghost use Rattle.postings.specs.Merged.{written_in, IfDone, IsDone};
+ghost use Rattle.postings.specs.Shared.{list_at, AreShared, AskedAtMost, IfNext, IsAsked, IsInAll};
+ghost use Rattle.postings.specs.Shared.{IsKeptFrom, UnlessUnknown};
 
 use crate::cursor::{Cursor, TotalCursor};
 use crate::merged::Merged;
@@ -26,6 +27,8 @@ fn ask_others<C: TotalCursor>(lists: &mut [C], v: u64) -> Agreed
         v result (map C.left lists.new) (map C.calls lists.new) }
     ensures right { All C.right lists.old → All C.right lists.new }
     ensures later { IfNext result (λ x. v < x) }
+    ensures sound { UnlessUnknown result (map C.wrong lists.new ≡ map C.wrong lists.old) }
+    ensures same { map C.kept lists.new ≡ map C.kept lists.old }
 {
     for i in 1..lists.len() {
         match lists[i].total_next_geq(v) {
@@ -42,7 +45,8 @@ fn ask_others<C: TotalCursor>(lists: &mut [C], v: u64) -> Agreed
 }
 
 /// The intersection of lists in memory that may hold anything: what `intersect` writes where all are right, up to where
-/// one turns out wrong. Whatever the memory holds, what is after the numbers that are written stays as it was.
+/// one turns out wrong. Whatever the memory holds, it is `Done` only if no call of a cursor answered `Wrong`, and what
+/// is after the numbers that are written stays as it was.
 ///
 /// # Conditions
 /// There is a list.
@@ -66,6 +70,8 @@ pub fn total_intersect<C: TotalCursor>(lists: &mut [C], from: u64, out: &mut [u6
         → ((k : ℕ) → k < written_in result → slice_index out.new k < x)
         → IsInAll (map C.left lists.new) x }
     ensures right { All C.right lists.old → All C.right lists.new }
+    ensures sound { IfDone result (map C.wrong lists.new ≡ map C.wrong lists.old) }
+    ensures same { map C.kept lists.new ≡ map C.kept lists.old }
 {
     let mut low = from;
     let mut count = 0;

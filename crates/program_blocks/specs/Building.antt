@@ -14,7 +14,7 @@ use Rattle.program_blocks.specs.Sparse.{IsSparseOf}
 use Rattle.program_blocks.specs.declared.kind.Kind.{Kind}
 use Rattle.program_blocks.specs.declared.kind.Kind.TheVariants.{Bits, Sequence, Sparse, Matrix, Tree}
 use Rattle.program_blocks.specs.declared.failure.Failure.{Failure}
-use Rattle.program_blocks.specs.declared.failure.Failure.TheVariants.{WrongLine, OutOfOrder, NotATree, TooLarge, WrongBlock, NoMemory, CannotWrite}
+use Rattle.program_blocks.specs.declared.failure.Failure.TheVariants.{WrongLine, OutOfOrder, NotATree, TooLarge, Unmarked, OtherVersion, WrongBlock, NoMemory, CannotWrite}
 
 -- the block is that of these numbers, of the kind
 abbrev pub IsBlockOf : Kind → List ℕ → List ℕ → Type 0
@@ -48,6 +48,8 @@ IsTextFailure kind text (WrongLine line) = wrong_line text ≡ Some line
 IsTextFailure kind text (OutOfOrder line) = (wrong_line text ≡ None) × (first_out kind text ≡ Some line)
 IsTextFailure kind text NotATree = (wrong_line text ≡ None) × (kind ≡ Tree) × (¬ (IsTree (numbers_of text)))
 IsTextFailure kind text TooLarge = (wrong_line text ≡ None) × (first_out kind text ≡ None)
+IsTextFailure kind text Unmarked = ⊥
+IsTextFailure kind text (OtherVersion version) = ⊥
 IsTextFailure kind text WrongBlock = ⊥
 IsTextFailure kind text NoMemory = wrong_line text ≡ None
 IsTextFailure kind text CannotWrite = (wrong_line text ≡ None) × (first_out kind text ≡ None)

@@ -9,7 +9,7 @@ use Rattle.program_text.specs.declared.list.ListError.TheVariants as list
 use Rattle.program_blocks.specs.declared.kind.Kind.{Kind}
 use Rattle.program_blocks.specs.declared.kind.Kind.TheVariants.{Tree}
 use Rattle.program_blocks.specs.declared.failure.Failure.{Failure}
-use Rattle.program_blocks.specs.declared.failure.Failure.TheVariants.{WrongLine, OutOfOrder, NotATree, TooLarge, WrongBlock, NoMemory, CannotWrite}
+use Rattle.program_blocks.specs.declared.failure.Failure.TheVariants.{WrongLine, OutOfOrder, NotATree, TooLarge, Unmarked, OtherVersion, WrongBlock, NoMemory, CannotWrite}
 
 -- the characters of its text
 abbrev pub failure_text : Failure → List ℕ
@@ -17,6 +17,8 @@ failure_text (WrongLine line) = list_error_text (list.WrongLine line)
 failure_text (OutOfOrder line) = codes "line " ++ decimal (line + 1) ++ codes ": out of order"
 failure_text NotATree = codes "the degrees are those of no tree"
 failure_text TooLarge = codes "the numbers are too many for a block"
+failure_text Unmarked = codes "not a file of bitm"
+failure_text (OtherVersion version) = codes "a file of version " ++ decimal version ++ codes ", which this bitm does not read"
 failure_text WrongBlock = codes "not a block of a kind that bitm queries, or not as it was written"
 failure_text NoMemory = no_memory_text
 failure_text CannotWrite = cannot_write_text
@@ -29,3 +31,11 @@ failure_of list.NoMemory = NoMemory
 -- why there is no block of the kind of these numbers
 abbrev pub IsBlockFailure : Kind → List ℕ → Failure → Type 0
 IsBlockFailure kind xs e = (e ≡ TooLarge) ⊎ ((e ≡ NoMemory) ⊎ ((e ≡ NotATree) × (kind ≡ Tree) × (¬ (IsTree xs))))
+
+-- why a file of a format that the program reads is not answered
+abbrev pub IsAnswerFailure : Failure → Type 0
+IsAnswerFailure e = (e ≡ WrongBlock) ⊎ ((e ≡ NoMemory) ⊎ (e ≡ CannotWrite))
+
+-- whether a failure refuses the bytes of a file for what they are
+abbrev pub IsRefusal : Failure → Type 0
+IsRefusal e = ¬ ((e ≡ NoMemory) ⊎ (e ≡ CannotWrite))

@@ -3,8 +3,10 @@ pub mod Building
 pub mod Bytes
 pub mod Command
 pub mod Failure
+pub mod Format
 pub mod Kind
 pub mod Matrix
+pub mod Old
 pub mod Program
 pub mod Query
 pub mod Question

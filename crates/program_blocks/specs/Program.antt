@@ -3,17 +3,17 @@ use Rattle.std.specs.Prelude.{◌≡◌, ℕ, List, Bool, true, Option, Some}
 use Rattle.program_runs.specs.Known.{IsKnownAs, Known}
 use Rattle.program_blocks.specs.Building.{WroteBlock}
 use Rattle.program_blocks.specs.Command.{command_in}
-use Rattle.program_blocks.specs.Query.{Told}
+use Rattle.program_blocks.specs.Old.{ToldOfFile}
 use Rattle.program_blocks.specs.declared.command.Command.{Command}
 use Rattle.program_blocks.specs.declared.command.Command.TheVariants.{Build, Query}
 
 -- the command was done on what follows its word, and good says that all went well: the block of the numbers in the
--- standard input was written, or the replies of the block in a file to the questions there
+-- standard input was written, or the replies of what a file holds to the questions there
 abbrev pub IsDone : Known → Command → List ℕ → Option (List ℕ) → Option (List ℕ) → Bool → Type 0
 IsDone known (Build kind) operand before after good =
     (text : List ℕ) × IsKnownAs known.input text × WroteBlock kind text before after × (good ≡ true)
 IsDone known Query path before after good =
-    (bytes : List ℕ) × (text : List ℕ) × IsKnownAs (known.files path) bytes × IsKnownAs known.input text × Told bytes text before after good
+    (bytes : List ℕ) × (text : List ℕ) × IsKnownAs (known.files path) bytes × IsKnownAs known.input text × ToldOfFile bytes text before after good
 
 -- the same as one fact
 pub record Did (known : Known) (command : Command) (operand : List ℕ) (before after : Option (List ℕ)) (good : Bool) : Type 0 where

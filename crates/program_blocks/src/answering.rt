@@ -1,14 +1,19 @@
 //! The answers to the lines of a text.
-ghost use Rattle.std.specs.Prelude.{◌≡◌, IfOk, IfSome, IsErrOf, IsNone, IsSomeAnd};
+ghost use Rattle.std.specs.Prelude.{◌≡◌, ◌⊎◌, Err, IfErr, IfOk, IfSome, IsErrOf, IsNone, IsSomeAnd};
 ghost use Rattle.program_text.specs.Text.{lines_of};
+ghost use Rattle.program_blocks.specs.Failure.{IsAnswerFailure, IsRefusal};
+ghost use Rattle.program_blocks.specs.Format.{format_in};
+ghost use Rattle.program_blocks.specs.Old.{IsOld, IsOldFile, ToldOfFile, ToldOld, WroteOldBits, WroteOldSequence};
 ghost use Rattle.program_blocks.specs.Query.{Told, WroteAnswers, WroteReplies, WroteReply};
 ghost use Rattle.program_blocks.specs.Sound.{IsSoundFile, IsSoundOf};
 
 use crate::bits::open_bits;
 use crate::bytes::words_of_bytes;
 use crate::failure::Failure;
+use crate::format::{Format, format_in};
 use crate::kind::{Kind, kind_in};
 use crate::matrix::open_matrix;
+use crate::old::{open_old_bits, open_old_sequence};
 use crate::queryable::Queryable;
 use crate::question::asked;
 use crate::reply::Reply;
@@ -20,12 +25,13 @@ use program_text::Lines;
 use std::alloc::Global;
 use std::io::Write;
 
-/// Writes the answers of a block to the lines of a text, in their order and each with a line feed, and answers whether
-/// each line was a question. Empty lines have no answer.
+/// Writes the answers of a block, or a file of version 2, to the lines of a text, in their order and each with a line
+/// feed, and answers whether each line was a question. Empty lines have no answer.
 ///
 /// # Errors
-/// `WrongBlock` only where the bytes are no block that the program reads, or it is not as it was written; nothing is
-/// written then. `NoMemory` where memory was refused. `CannotWrite` where a write failed.
+/// `Unmarked` and `OtherVersion` exactly where `format_in` refuses the bytes. `WrongBlock` only where they are no block
+/// that the program reads, or it is not as it was written, and no file of version 2 whose parts fit each other
+/// (`is_old`). Nothing is written then. `NoMemory` where memory was refused. `CannotWrite` where a write failed.
 ///
 /// ```
 /// query(alloc, bytes, b"get 4\nrank 1 4\n".as_slice(), &mut out);   // Ok(true): out has "5\n2\n"
@@ -36,8 +42,31 @@ pub fn query<W: Write>(
     text: &[u8],
     out: &mut W,
 ) -> Result<bool, Failure>
+    ensures answers { IfOk result (λ good. ToldOfFile block.now text.now
+        (W.contents out.old) (W.contents out.new) good) }
+    ensures refused { IfErr (format_in block.now) (λ e. result ≡ Err e) }
+    ensures failure { IfOk (format_in block.now) (λ _. IfErr result IsAnswerFailure) }
+    ensures wrong { IfErr result (λ e. IsRefusal e
+        → (¬ (IsSoundFile block.now)) × (¬ (IsOldFile block.now))) }
+    ensures nothing { IfErr result (λ e. IsRefusal e → out.new ≡ out.old) }
+{
+    match format_in(block) {
+        Ok(Format::Block) => query_block(alloc, block, text, out),
+        Ok(Format::Old) => query_old(alloc, block, text, out),
+        Err(failure) => Err(failure),
+    }
+}
+
+/// Writes what a block answers to the lines of a text, and answers whether each was a question.
+fn query_block<W: Write>(
+    alloc: Global,
+    block: &[u8],
+    text: &[u8],
+    out: &mut W,
+) -> Result<bool, Failure>
     ensures answers { IfOk result (λ good. Told block.now text.now
         (W.contents out.old) (W.contents out.new) good) }
+    ensures failure { IfErr result IsAnswerFailure }
     ensures wrong { IsErrOf result Failure.WrongBlock → ¬ (IsSoundFile block.now) }
     ensures nothing { IsErrOf result Failure.WrongBlock → out.new ≡ out.old }
 {
@@ -47,6 +76,40 @@ pub fn query<W: Write>(
     match kind_in(words.as_slice()) {
         Some(kind) => answer_kind(kind, words.as_slice(), text, out),
         None => Err(Failure::WrongBlock),
+    }
+}
+
+/// Writes what a file of version 2 answers to the lines of a text, and answers whether each was a question.
+fn query_old<W: Write>(
+    alloc: Global,
+    file: &[u8],
+    text: &[u8],
+    out: &mut W,
+) -> Result<bool, Failure>
+    ensures answers { IfOk result (λ good. ToldOld file.now text.now
+        (W.contents out.old) (W.contents out.new) good) }
+    ensures failure { IfErr result IsAnswerFailure }
+    ensures wrong { IsErrOf result Failure.WrongBlock → ¬ (IsOldFile file.now) }
+    ensures nothing { IsErrOf result Failure.WrongBlock → out.new ≡ out.old }
+{
+    let Some(words) = words_of_bytes(alloc, file)? else {
+        return Err(Failure::WrongBlock);
+    };
+    answer_old(words.as_slice(), text, out)
+}
+
+/// Writes what the words of a file of version 2 answer to the lines of a text, and answers whether each was a question.
+fn answer_old<W: Write>(file: &[u64], text: &[u8], out: &mut W) -> Result<bool, Failure>
+    ensures answers { IfOk result (λ good.
+        WroteOldBits file.now text.now (W.contents out.old) (W.contents out.new) good
+        ⊎ WroteOldSequence file.now text.now (W.contents out.old) (W.contents out.new) good) }
+    ensures failure { IfErr result IsAnswerFailure }
+    ensures wrong { IsErrOf result Failure.WrongBlock → ¬ (IsOld file.now) }
+    ensures nothing { IsErrOf result Failure.WrongBlock → out.new ≡ out.old }
+{
+    match open_old_bits(file) {
+        Some(bits) => Ok(answer_lines(&bits, text, out)?),
+        None => answer_opened(open_old_sequence(file), text, out),
     }
 }
 
@@ -60,6 +123,7 @@ fn answer_kind<W: Write>(
     ensures sound { IfOk result (λ _. IsSoundOf kind block.now) }
     ensures answers { IfOk result (λ good. WroteAnswers kind block.now text.now
         (W.contents out.old) (W.contents out.new) good) }
+    ensures failure { IfErr result IsAnswerFailure }
     ensures wrong { IsErrOf result Failure.WrongBlock → ¬ (IsSoundOf kind block.now) }
     ensures nothing { IsErrOf result Failure.WrongBlock → out.new ≡ out.old }
 {
@@ -81,6 +145,7 @@ fn answer_opened<Q: Queryable, W: Write>(
     requires { IfSome opened Q.holds }
     ensures answers { IfOk result (λ good. IsSomeAnd opened (λ view. WroteReplies (Q.replies view)
         (lines_of text.now) (W.contents out.old) (W.contents out.new) good)) }
+    ensures failure { IfErr result IsAnswerFailure }
     ensures wrong { IsErrOf result Failure.WrongBlock → IsNone opened }
     ensures nothing { IsErrOf result Failure.WrongBlock → out.new ≡ out.old }
 {

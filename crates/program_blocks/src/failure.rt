@@ -17,6 +17,10 @@ pub enum Failure {
     NotATree,
     /// The numbers are too many, or too large, for a block.
     TooLarge,
+    /// The bytes do not begin with the mark of a file of this format, of any version.
+    Unmarked,
+    /// The bytes begin with the mark of this version, which the program does not read.
+    OtherVersion(u64),
     /// The bytes are no block that the program reads, or are not as they were written.
     WrongBlock,
     /// Memory was refused.
@@ -73,6 +77,13 @@ impl fmt::Display for Failure {
             Failure::OutOfOrder(line) => write!(f, "line {}: out of order", *line as u128 + 1),
             Failure::NotATree => write!(f, "the degrees are those of no tree"),
             Failure::TooLarge => write!(f, "the numbers are too many for a block"),
+            Failure::Unmarked => write!(f, "not a file of bitm"),
+            Failure::OtherVersion(version) => {
+                write!(
+                    f,
+                    "a file of version {version}, which this bitm does not read"
+                )
+            }
             Failure::WrongBlock => write!(
                 f,
                 "not a block of a kind that bitm queries, or not as it was written"

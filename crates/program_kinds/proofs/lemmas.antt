@@ -1,3 +1,4 @@
+pub mod FormatLemmas
 pub mod InfoLemmas
 pub mod ProgramLemmas
 pub mod SoundLemmas

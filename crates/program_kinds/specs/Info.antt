@@ -1,10 +1,14 @@
 -- What is said of a block.
-use Rattle.std.specs.Prelude.{◌≡◌, ◌==◌, ℕ, ◌*◌, ◌/◌, ◌%◌, List, ◌++◌, codes, length, Option, Some, if◌then◌else◌}
+use Rattle.std.specs.Prelude.{◌≡◌, ◌⊎◌, ◌==◌, ℕ, ◌*◌, ◌/◌, ◌%◌, List, ◌++◌, codes, length, Option, Some, if◌then◌else◌}
 use Rattle.std.specs.Fmt.{decimal}
 use Rattle.std.specs.Io.KnownBytes.{Appends}
 use Rattle.bitm_block.specs.Header.{head_in}
 use Rattle.bitm_block.specs.declared.head.Head.{Head}
 use Rattle.program_blocks.specs.Bytes.{words_of_bytes}
+use Rattle.program_blocks.specs.Kind as kinds
+use Rattle.program_blocks.specs.Old.{old_head_in, IsOld}
+use Rattle.program_blocks.specs.declared.kind.Kind.{Kind as NumberKind}
+use Rattle.program_blocks.specs.declared.old.OldHead.{OldHead}
 use Rattle.program_kinds.specs.Kind.{kind_in, kind_text}
 use Rattle.program_kinds.specs.Sound.{IsSound}
 use Rattle.program_kinds.specs.declared.describing.Description.{Description}
@@ -22,9 +26,9 @@ rate_text bytes n = if n == 0 then codes "none" else hundredths_text (800 * byte
 abbrev pub kind_line : Kind → List ℕ
 kind_line kind = codes "kind " ++ kind_text kind ++ codes "\n"
 
--- the lines that say how many items there are, how many bits each has, and how many bytes the block has
-abbrev pub size_lines : Head → ℕ → List ℕ
-size_lines head bytes = codes "len " ++ decimal head.len ++ codes "\nwidth " ++ decimal head.width ++ codes "\nbytes " ++ decimal bytes ++ codes "\n"
+-- the lines that say how many items there are, how many bits each has, and how many bytes the file has
+abbrev pub size_lines : ℕ → ℕ → ℕ → List ℕ
+size_lines len width bytes = codes "len " ++ decimal len ++ codes "\nwidth " ++ decimal width ++ codes "\nbytes " ++ decimal bytes ++ codes "\n"
 
 -- the line that says how many bits an item takes
 abbrev pub rate_line : ℕ → ℕ → List ℕ
@@ -32,7 +36,15 @@ rate_line bytes len = codes "bits_per_item " ++ rate_text bytes len ++ codes "\n
 
 -- all of these lines
 abbrev pub info_text : Kind → Head → ℕ → List ℕ
-info_text kind head bytes = kind_line kind ++ (size_lines head bytes ++ rate_line bytes head.len)
+info_text kind head bytes = kind_line kind ++ (size_lines head.len head.width bytes ++ rate_line bytes head.len)
+
+-- the line of the kind of a file of version 2
+abbrev pub old_line : NumberKind → List ℕ
+old_line kind = codes "kind " ++ kinds.kind_text kind ++ codes " (version 2)\n"
+
+-- all that is said of such a file
+abbrev pub old_text : OldHead → ℕ → List ℕ
+old_text head bytes = old_line head.kind ++ (size_lines head.len head.width bytes ++ rate_line bytes head.len)
 
 -- that is to be said of a block that is as it was written and has so many bytes
 pub record IsDescribed (block : List ℕ) (bytes : ℕ) (d : Description) : Type 0 where
@@ -48,3 +60,14 @@ pub record WroteInfo (bytes : List ℕ) (before after : Option (List ℕ)) : Typ
   pub words : words_of_bytes bytes ≡ Some block
   pub sound : IsSound block
   pub written : Appends before after (info_text sound.kind (head_in block) (length bytes))
+
+-- the bytes are those of a file of version 2 whose parts fit each other, and what its header says was written
+pub record WroteOldInfo (bytes : List ℕ) (before after : Option (List ℕ)) : Type 0 where
+  pub file : List ℕ
+  pub words : words_of_bytes bytes ≡ Some file
+  pub fits : IsOld file
+  pub written : Appends before after (old_text (old_head_in file) (length bytes))
+
+-- the one or the other
+abbrev pub WroteInfoOfFile : List ℕ → Option (List ℕ) → Option (List ℕ) → Type 0
+WroteInfoOfFile bytes before after = WroteInfo bytes before after ⊎ WroteOldInfo bytes before after

@@ -32,6 +32,7 @@ other_kind_of n block =
     else if n == 8 then Some Text
     else if n == 9 then Some Trie
     else if n == 10 then Some Strings
+    else if n == 12 then Some Strings
     else None
 
 -- the kind that such a block says it is of

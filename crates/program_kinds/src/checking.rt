@@ -1,12 +1,13 @@
 //! Whether a block is as it was written.
 ghost use Rattle.std.specs.Prelude.{◌↔◌, IfOk, IsTrue};
+ghost use Rattle.program_blocks.specs.Old.{IsOldFile};
 ghost use Rattle.program_blocks.specs.Sound as numbers;
 ghost use Rattle.program_kinds.specs.Sound.{IsSound, IsSoundFile, IsSoundOf};
 
 use crate::kind::{Kind, kind_in};
 use louds_block::LoudsView;
 use matrix_block::MatrixView;
-use program_blocks::words_of_bytes;
+use program_blocks::{is_old, words_of_bytes};
 use std::alloc::{AllocError, Global};
 use text_block::TextView;
 use trie_block::TrieView;
@@ -28,6 +29,26 @@ pub fn check(alloc: Global, block: &[u8]) -> Result<bool, AllocError>
 {
     match words_of_bytes(alloc, block)? {
         Some(words) => Ok(is_sound(words.as_slice())),
+        None => Ok(false),
+    }
+}
+
+/// Whether the bytes are a file of version 2 with bits and the tables of their words, or with the parts of a sequence
+/// (`program_blocks::is_old`): all that can be said of one, which has no checksum but that of its header.
+///
+/// # Errors
+/// `AllocError` where memory was refused.
+/// # Cost
+/// A copy of the bytes, and three passes over it (evident from the code).
+///
+/// ```
+/// check_old(alloc, bytes);   // Ok(true) of an index that a release before 0.3.0 wrote
+/// ```
+pub fn check_old(alloc: Global, file: &[u8]) -> Result<bool, AllocError>
+    ensures { IfOk result (λ good. IsTrue good ↔ IsOldFile file.now) }
+{
+    match words_of_bytes(alloc, file)? {
+        Some(words) => Ok(is_old(words.as_slice())),
         None => Ok(false),
     }
 }

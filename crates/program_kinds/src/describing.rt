@@ -1,25 +1,31 @@
-//! What a block's header says.
-ghost use Rattle.std.specs.Prelude.{◌≡◌, IfSome, IsErrOf, IsNone, OnOk};
+//! What the header of a block, or of a file of version 2, says.
+ghost use Rattle.std.specs.Prelude.{◌≡◌, Err, IfErr, IfOk, IfSome, IsErrOf, IsNone, OnOk};
 ghost use Rattle.std.specs.Io.KnownBytes.{Appends};
-ghost use Rattle.program_kinds.specs.Info.{info_text, kind_line, rate_line, size_lines, IsDescribed, WroteInfo};
+ghost use Rattle.program_blocks.specs.Failure.{IsAnswerFailure, IsRefusal};
+ghost use Rattle.program_blocks.specs.Format.{format_in};
+ghost use Rattle.program_blocks.specs.Old.{IsOldFile};
+ghost use Rattle.program_kinds.specs.Info.{info_text, kind_line, old_line, old_text, rate_line, size_lines};
+ghost use Rattle.program_kinds.specs.Info.{IsDescribed, WroteInfo, WroteInfoOfFile, WroteOldInfo};
 ghost use Rattle.program_kinds.specs.Sound.{IsSound, IsSoundFile};
 
 use crate::checking::is_sound;
 use crate::kind::{Kind, kind_in};
 use bitm_block::{Block, Head};
-use program_blocks::{Failure, words_of_bytes};
+use program_blocks::{Failure, Format, OldHead, format_in, old_head, words_of_bytes};
 use program_runs::CannotWrite;
 use std::alloc::Global;
 use std::fmt;
 use std::io::Write;
 
-/// Writes what a block's header says, a line each: its kind, how many items it has, how many bits an item has (0 where
-/// the kind has no such width), how many bytes the block has, and how many bits that is for an item, cut to hundredths.
-/// The whole block is checked first.
+/// Writes what the header of a block, or of a file of version 2, says, a line each: its kind, how many items it has,
+/// how many bits an item has (0 where the kind has no such width), how many bytes the file has, and how many bits that
+/// is for an item, cut to hundredths. The whole file is checked first.
 ///
 /// # Errors
-/// `WrongBlock` only where the bytes are no block of the kind that it says, or it is not as it was written; nothing is
-/// written then. `NoMemory` where memory was refused. `CannotWrite` where a write failed.
+/// `Unmarked` and `OtherVersion` exactly where `program_blocks::format_in` refuses the bytes. `WrongBlock` only where
+/// they are no block of the kind that it says, as it was written (`check`), and no file of version 2 whose parts fit
+/// each other (`check_old`). Nothing is written then. `NoMemory` where memory was refused. `CannotWrite` where a write
+/// failed.
 /// # Cost
 /// That of `check` (evident from the code).
 ///
@@ -27,7 +33,24 @@ use std::io::Write;
 /// info(alloc, bytes, &mut out);   // Ok(()): out has "kind matrix\nlen 6\nwidth 3\nbytes 640\nbits_per_item 853.33\n"
 /// ```
 pub fn info<W: Write>(alloc: Global, block: &[u8], out: &mut W) -> Result<(), Failure>
+    ensures written { OnOk result (WroteInfoOfFile block.now (W.contents out.old) (W.contents out.new)) }
+    ensures refused { IfErr (format_in block.now) (λ e. result ≡ Err e) }
+    ensures failure { IfOk (format_in block.now) (λ _. IfErr result IsAnswerFailure) }
+    ensures wrong { IfErr result (λ e. IsRefusal e
+        → (¬ (IsSoundFile block.now)) × (¬ (IsOldFile block.now))) }
+    ensures nothing { IfErr result (λ e. IsRefusal e → out.new ≡ out.old) }
+{
+    match format_in(block) {
+        Ok(Format::Block) => info_of_block(alloc, block, out),
+        Ok(Format::Old) => info_of_old(alloc, block, out),
+        Err(failure) => Err(failure),
+    }
+}
+
+/// Writes what the header of a block says.
+fn info_of_block<W: Write>(alloc: Global, block: &[u8], out: &mut W) -> Result<(), Failure>
     ensures written { OnOk result (WroteInfo block.now (W.contents out.old) (W.contents out.new)) }
+    ensures failure { IfErr result IsAnswerFailure }
     ensures wrong { IsErrOf result Failure.WrongBlock → ¬ (IsSoundFile block.now) }
     ensures nothing { IsErrOf result Failure.WrongBlock → out.new ≡ out.old }
 {
@@ -38,6 +61,40 @@ pub fn info<W: Write>(alloc: Global, block: &[u8], out: &mut W) -> Result<(), Fa
         Some(description) => Ok(write_description(&description, out)?),
         None => Err(Failure::WrongBlock),
     }
+}
+
+/// Writes what the header of a file of version 2 says.
+fn info_of_old<W: Write>(alloc: Global, file: &[u8], out: &mut W) -> Result<(), Failure>
+    ensures written { OnOk result (WroteOldInfo file.now (W.contents out.old) (W.contents out.new)) }
+    ensures failure { IfErr result IsAnswerFailure }
+    ensures wrong { IsErrOf result Failure.WrongBlock → ¬ (IsOldFile file.now) }
+    ensures nothing { IsErrOf result Failure.WrongBlock → out.new ≡ out.old }
+{
+    let Some(words) = words_of_bytes(alloc, file)? else {
+        return Err(Failure::WrongBlock);
+    };
+    match old_head(words.as_slice()) {
+        Some(head) => Ok(write_old(&head, file.len(), out)?),
+        None => Err(Failure::WrongBlock),
+    }
+}
+
+/// Writes what is said of a file of version 2.
+fn write_old<W: Write>(head: &OldHead, bytes: usize, out: &mut W) -> Result<(), CannotWrite>
+    ensures { OnOk result (Appends (W.contents out.old) (W.contents out.new) (old_text head.now bytes)) }
+{
+    let OldHead { kind, len, width } = *head;
+    write_old_kind(kind, &mut *out)?;
+    write_sizes(len, width, bytes, &mut *out)?;
+    write_rate(len, bytes, out)
+}
+
+/// Writes the line of the kind of a file of version 2.
+fn write_old_kind<W: Write>(kind: program_blocks::Kind, out: &mut W) -> Result<(), CannotWrite>
+    ensures { OnOk result (Appends (W.contents out.old) (W.contents out.new) (old_line kind)) }
+{
+    writeln!(out, "kind {kind} (version 2)")?;
+    Ok(())
 }
 
 /// What is said of a block that has this number of bytes, and is as it was written.
@@ -67,7 +124,7 @@ fn write_description<W: Write>(description: &Description, out: &mut W) -> Result
 {
     let Description { kind, head, bytes } = *description;
     write_kind(kind, &mut *out)?;
-    write_sizes(&head, bytes, &mut *out)?;
+    write_sizes(head.len, head.width, bytes, &mut *out)?;
     write_rate(head.len, bytes, out)
 }
 
@@ -80,10 +137,9 @@ fn write_kind<W: Write>(kind: Kind, out: &mut W) -> Result<(), CannotWrite>
 }
 
 /// Writes the lines of the sizes.
-fn write_sizes<W: Write>(head: &Head, bytes: usize, out: &mut W) -> Result<(), CannotWrite>
-    ensures { OnOk result (Appends (W.contents out.old) (W.contents out.new) (size_lines head.now bytes)) }
+fn write_sizes<W: Write>(len: u64, width: u64, bytes: usize, out: &mut W) -> Result<(), CannotWrite>
+    ensures { OnOk result (Appends (W.contents out.old) (W.contents out.new) (size_lines len width bytes)) }
 {
-    let (len, width) = (head.len, head.width);
     write!(out, "len {len}\nwidth {width}\nbytes {bytes}\n")?;
     Ok(())
 }

@@ -64,6 +64,7 @@ fn other_kind_in(block: &[u64]) -> Option<Kind>
         8 => Some(Kind::Text),
         9 => Some(Kind::Trie),
         10 => Some(Kind::Strings),
+        12 => Some(Kind::Strings),
         _ => None,
     }
 }

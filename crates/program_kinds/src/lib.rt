@@ -14,6 +14,6 @@ mod describing;
 mod kind;
 mod program;
 
-pub use checking::check;
+pub use checking::{check, check_old};
 pub use describing::info;
 pub use program::start;

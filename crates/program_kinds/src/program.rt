@@ -1,18 +1,24 @@
 //! The program without its process: its arguments, the file that it reads, and the statuses and texts.
-ghost use Rattle.std.specs.Prelude.{◌≡◌, ◌≤◌, IfOk, IsErr, None, map, nat_eq, string_bytes};
+ghost use Rattle.std.specs.Prelude.{◌≡◌, ◌≤◌, IfOk, IsErr, None, OnOk, map, nat_eq, string_bytes};
+ghost use Rattle.std.specs.Io.KnownBytes.{Appends};
+ghost use Rattle.program_blocks.specs.Format.{format_in};
 ghost use Rattle.program_kinds.specs.Command.{command_in};
-ghost use Rattle.program_kinds.specs.Program.{Did, DidAsAsked, WroteCheck};
+ghost use Rattle.program_kinds.specs.Program.{verdict_text, Did, DidAsAsked, WroteCheck};
 
-use crate::checking::check;
+use crate::checking::{check, check_old};
 use crate::command::{Command, command_in};
 use crate::describing::info;
-use program_blocks::Failure;
-use program_runs::{Sources, Stop, end};
+use program_blocks::{Failure, Format, format_in};
+use program_runs::{CannotWrite, Sources, Stop, end};
 use std::alloc::Global;
 use std::io::Write;
 
 /// What is written where the arguments are not those of a command.
 const USAGE: &str = "usage: bitm check BLOCK | bitm info BLOCK";
+
+/// What is written of a file of version 2 that is right.
+const OLD_IS_GOOD: &str =
+    "good: the parts fit each other (version 2, which has no checksum of them)";
 
 /// Does what the two arguments say, and answers the status that the program ends with.
 ///
@@ -74,7 +80,7 @@ fn perform<R: Sources + AllocGlobal, W: Write>(
     }
 }
 
-/// Writes whether a file is a block that is as it was written.
+/// Writes whether a file is a block that is as it was written, or one of version 2 whose parts fit each other.
 fn check_file<R: Sources + AllocGlobal, W: Write>(
     rt: &R,
     path: &str,
@@ -97,14 +103,34 @@ fn info_file<R: Sources + AllocGlobal, W: Write>(
     Ok(true)
 }
 
-/// Writes whether the bytes are a block that is as it was written, and answers that.
+/// Writes whether the bytes are a block that is as it was written, or a file of version 2 whose parts fit each other,
+/// and answers that.
+#[tactic(auto, using(crate::proofs::lemmas::FormatLemmas::right_of_old, crate::proofs::lemmas::FormatLemmas::right_of_others))]
 fn write_check<W: Write>(alloc: Global, block: &[u8], out: &mut W) -> Result<bool, Failure>
     ensures { IfOk result (λ good. WroteCheck block.now (W.contents out.old) (W.contents out.new) good) }
 {
-    let good = check(alloc, block)?;
-    let text = if good { "good" } else { "wrong" };
-    match writeln!(out, "{text}") {
-        Ok(()) => Ok(good),
-        Err(_) => Err(Failure::CannotWrite),
-    }
+    let format = format_in(block);
+    let good = match format {
+        Ok(Format::Old) => check_old(alloc, block)?,
+        _ => check(alloc, block)?,
+    };
+    write_verdict(format, good, out)?;
+    Ok(good)
+}
+
+/// Writes whether a file of a format is right.
+fn write_verdict<W: Write>(
+    format: Result<Format, Failure>,
+    good: bool,
+    out: &mut W,
+) -> Result<(), CannotWrite>
+    ensures { OnOk result (Appends (W.contents out.old) (W.contents out.new) (verdict_text format good)) }
+{
+    let text = match (format, good) {
+        (Ok(Format::Old), true) => OLD_IS_GOOD,
+        (_, true) => "good",
+        (_, false) => "wrong",
+    };
+    writeln!(out, "{text}")?;
+    Ok(())
 }

@@ -84,9 +84,9 @@ fn write_block(kind: u64, b: u64, items: &[u64], sizes: &Sizes, block: &mut [u64
 /// Writes the block of the given numbers, which `open` opens and `check` accepts.
 ///
 /// # Errors
-/// `TooLong` exactly where there are 2^56 numbers or more; else `NotSorted` exactly where some number is less than the
-/// one before it; else `WrongLength` exactly where the words are not as many as the block takes (`size` of the number
-/// of numbers and the last of them). The words stay as they are then.
+/// `TooLong` exactly where there are 2^56 numbers or more; else `WrongLength` exactly where the words are not as many
+/// as the block takes (`size` of the number of numbers and the last of them); else `NotSorted` exactly where some
+/// number is less than the one before it. The words stay as they are then.
 /// # Cost
 /// Four passes over the numbers, and three over the block (evident from the code). Nothing is allocated.
 ///
@@ -97,10 +97,10 @@ fn write_block(kind: u64, b: u64, items: &[u64], sizes: &Sizes, block: &mut [u64
 /// ```
 pub fn build(items: &[u64], block: &mut [u64]) -> Result<(), BuildError>
     ensures too_long { IsErrOf result BuildError.TooLong ↔ (2 ^ 56 ≤ length items.now) }
-    ensures not_sorted { IsErrOf result BuildError.NotSorted
-        ↔ ((length items.now < 2 ^ 56) × HasFall items.now) }
-    ensures wrong_length { IsErrOf result BuildError.WrongLength ↔ ((length items.now < 2 ^ 56)
-        × IsNonDecreasing items.now × (length block.old ≢ end_of (sections_of items.now))) }
+    ensures wrong_length { IsErrOf result BuildError.WrongLength
+        ↔ ((length items.now < 2 ^ 56) × (length block.old ≢ end_of (sections_of items.now))) }
+    ensures not_sorted { IsErrOf result BuildError.NotSorted ↔ ((length items.now < 2 ^ 56)
+        × (length block.old ≡ end_of (sections_of items.now)) × HasFall items.now) }
     ensures block { IfOk result (λ _. IsBlockOf items.now block.new) }
     ensures kept { IfErr result (λ _. block.new ≡ block.old) }
 {
@@ -120,10 +120,10 @@ pub fn build(items: &[u64], block: &mut [u64]) -> Result<(), BuildError>
 /// ```
 pub fn build_as(kind: u64, b: u64, items: &[u64], block: &mut [u64]) -> Result<(), BuildError>
     ensures too_long { IsErrOf result BuildError.TooLong ↔ (2 ^ 56 ≤ length items.now) }
-    ensures not_sorted { IsErrOf result BuildError.NotSorted
-        ↔ ((length items.now < 2 ^ 56) × HasFall items.now) }
-    ensures wrong_length { IsErrOf result BuildError.WrongLength ↔ ((length items.now < 2 ^ 56)
-        × IsNonDecreasing items.now × (length block.old ≢ end_of (sections_of items.now))) }
+    ensures wrong_length { IsErrOf result BuildError.WrongLength
+        ↔ ((length items.now < 2 ^ 56) × (length block.old ≢ end_of (sections_of items.now))) }
+    ensures not_sorted { IsErrOf result BuildError.NotSorted ↔ ((length items.now < 2 ^ 56)
+        × (length block.old ≡ end_of (sections_of items.now)) × HasFall items.now) }
     ensures block { IfOk result (λ _. HoldsNumbers kind b items.now block.new) }
     ensures kept { IfErr result (λ _. block.new ≡ block.old) }
 {
@@ -132,11 +132,11 @@ pub fn build_as(kind: u64, b: u64, items: &[u64], block: &mut [u64]) -> Result<(
     else {
         return Err(BuildError::TooLong);
     };
-    if !is_rising(items) {
-        return Err(BuildError::NotSorted);
-    }
     if block.len() != words {
         return Err(BuildError::WrongLength);
+    }
+    if !is_rising(items) {
+        return Err(BuildError::NotSorted);
     }
     write_block(kind, b, items, &sizes, block);
     Ok(())

@@ -8,10 +8,10 @@ use std::fmt;
 pub enum BuildError {
     /// There are 2^56 numbers or more.
     TooLong,
-    /// Some number is less than the one before it.
-    NotSorted,
     /// The words are not as many as the block takes.
     WrongLength,
+    /// Some number is less than the one before it.
+    NotSorted,
 }
 
 impl fmt::Display for BuildError {
@@ -23,8 +23,8 @@ impl fmt::Display for BuildError {
     fn fmt<W: fmt::Write>(&self, f: &mut fmt::Formatter<W>) -> fmt::Result {
         match self {
             BuildError::TooLong => write!(f, "there are 2^56 numbers or more"),
-            BuildError::NotSorted => write!(f, "a number is less than the one before it"),
             BuildError::WrongLength => write!(f, "not as long as the block"),
+            BuildError::NotSorted => write!(f, "a number is less than the one before it"),
         }
     }
 }

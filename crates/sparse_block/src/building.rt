@@ -7,7 +7,8 @@ ghost use Rattle.sparse_block.specs.Block.{IsBlockOf};
 
 use crate::error::BuildError;
 use crate::view::SPARSE_BITS;
-use sequence_block::build_as;
+use elias_fano::building::largest_of;
+use sequence_block::{build_as, size};
 use sparse_bits::{SparseError, check_positions};
 
 /// Tests numbers that are to be the positions of the 1 bits among `len` bits.
@@ -30,14 +31,32 @@ fn check_ones(positions: &[u64], len: usize) -> Result<(), BuildError>
     }
 }
 
+/// Writes the block of bits for which there is room, if the numbers are positions of 1 bits.
+fn write_checked(positions: &[u64], len: usize, block: &mut [u64]) -> Result<(), BuildError>
+    requires short { length positions.now < 2 ^ 56 }
+    requires room { length block.old ≡ end_of (sections_of positions.now) }
+    ensures lengths { ¬ (IsErrOf result BuildError.TooLong) × (¬ (IsErrOf result BuildError.WrongLength)) }
+    ensures not_rising { IsErrOf result BuildError.NotRising ↔ HasNoRise positions.now }
+    ensures past_end { IsErrOf result BuildError.PastEnd
+        ↔ (Rises positions.now × HasPast positions.now len) }
+    ensures block { IfOk result (λ _. IsBlockOf positions.now len block.new) }
+    ensures kept { IfErr result (λ _. block.new ≡ block.old) }
+{
+    check_ones(positions, len)?;
+    match build_as(SPARSE_BITS, len as u64, positions, block) {
+        Ok(()) => Ok(()),
+        Err(_) => unreachable!(),
+    }
+}
+
 /// Writes the block of `len` bits, of which those at the given positions are 1 bits. `SparseView::open` opens it and
 /// `check` accepts it.
 ///
 /// # Errors
-/// `TooLong` exactly where there are 2^56 positions or more; else `NotRising` exactly where some position is not
-/// greater than the one before it; else `PastEnd` exactly where some position is not less than `len`; else
-/// `WrongLength` exactly where the words are not as many as the block takes (`size` of the number of positions and the
-/// last of them). The words stay as they are then.
+/// `TooLong` exactly where there are 2^56 positions or more; else `WrongLength` exactly where the words are not as many
+/// as the block takes (`size` of the number of positions and the last of them); else `NotRising` exactly where some
+/// position is not greater than the one before it; else `PastEnd` exactly where some position is not less than `len`.
+/// The words stay as they are then.
 /// # Cost
 /// Six passes over the positions, and three over the block (evident from the code). Nothing is allocated.
 ///
@@ -48,18 +67,21 @@ fn check_ones(positions: &[u64], len: usize) -> Result<(), BuildError>
 /// ```
 pub fn build(positions: &[u64], len: usize, block: &mut [u64]) -> Result<(), BuildError>
     ensures too_long { IsErrOf result BuildError.TooLong ↔ (2 ^ 56 ≤ length positions.now) }
-    ensures not_rising { IsErrOf result BuildError.NotRising
-        ↔ ((length positions.now < 2 ^ 56) × HasNoRise positions.now) }
-    ensures past_end { IsErrOf result BuildError.PastEnd
-        ↔ ((length positions.now < 2 ^ 56) × Rises positions.now × HasPast positions.now len) }
     ensures wrong_length { IsErrOf result BuildError.WrongLength ↔ ((length positions.now < 2 ^ 56)
-        × ArePlaces len 0 positions.now × (length block.old ≢ end_of (sections_of positions.now))) }
+        × (length block.old ≢ end_of (sections_of positions.now))) }
+    ensures not_rising { IsErrOf result BuildError.NotRising ↔ ((length positions.now < 2 ^ 56)
+        × (length block.old ≡ end_of (sections_of positions.now)) × HasNoRise positions.now) }
+    ensures past_end { IsErrOf result BuildError.PastEnd ↔ ((length positions.now < 2 ^ 56)
+        × (length block.old ≡ end_of (sections_of positions.now)) × Rises positions.now
+        × HasPast positions.now len) }
     ensures block { IfOk result (λ _. IsBlockOf positions.now len block.new) }
     ensures kept { IfErr result (λ _. block.new ≡ block.old) }
 {
-    check_ones(positions, len)?;
-    match build_as(SPARSE_BITS, len as u64, positions, block) {
-        Ok(()) => Ok(()),
-        Err(_) => Err(BuildError::WrongLength),
+    let Some(words) = size(positions.len(), largest_of(positions)) else {
+        return Err(BuildError::TooLong);
+    };
+    if block.len() != words {
+        return Err(BuildError::WrongLength);
     }
+    write_checked(positions, len, block)
 }

@@ -8,12 +8,12 @@ use std::fmt;
 pub enum BuildError {
     /// There are 2^56 1 bits or more.
     TooLong,
+    /// The words are not as many as the block takes.
+    WrongLength,
     /// Some position is not greater than the one before it.
     NotRising,
     /// Some position is not less than the number of bits.
     PastEnd,
-    /// The words are not as many as the block takes.
-    WrongLength,
 }
 
 impl fmt::Display for BuildError {
@@ -25,9 +25,9 @@ impl fmt::Display for BuildError {
     fn fmt<W: fmt::Write>(&self, f: &mut fmt::Formatter<W>) -> fmt::Result {
         match self {
             BuildError::TooLong => write!(f, "there are 2^56 1 bits or more"),
+            BuildError::WrongLength => write!(f, "not as long as the block"),
             BuildError::NotRising => write!(f, "a position is not greater than the one before it"),
             BuildError::PastEnd => write!(f, "a position is not less than the number of bits"),
-            BuildError::WrongLength => write!(f, "not as long as the block"),
         }
     }
 }

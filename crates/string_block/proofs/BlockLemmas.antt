@@ -1,5 +1,5 @@
 -- What is written for strings is their block.
-use Rattle.std.proofs.Common.{◌≡◌, ℕ, ◌+◌, ◌-◌, ◌<◌, List, [], ◌∷◌, ◌++◌, length, get_or, slice_index, Some, sym, ap, ◌∙◌, subst, arith}
+use Rattle.std.proofs.Common.{◌≡◌, ℕ, ◌+◌, ◌-◌, ◌<◌, List, [], ◌∷◌, ◌++◌, length, get_or, slice_index, Some, inl, refl, sym, ap, ◌∙◌, subst, arith}
 use Rattle.std.proofs.lemmas.List.{append-nil}
 use Rattle.std.specs.Int.{div_ceil}
 use Rattle.bitm_tables.specs.Tables.{bits_in}
@@ -14,14 +14,15 @@ use Rattle.hash_levels.specs.Numbers.{number_by}
 use Rattle.hash_block.specs.Block.{hash_in, IsHashBlock}
 use Rattle.hash_block.specs.Parts.{HashParts}
 use Rattle.string_block.specs.Block.{sections_with, string_head, strings_in, AreFewOf, ArePartsOf, IsBlockOf, NumberStrings, RoundTrip, StandsIn}
-use Rattle.string_block.specs.Bytes.{hash_of, stored_from, AreZeroFrom}
+use Rattle.string_block.specs.Bytes.{stored_from, AreZeroFrom}
 use Rattle.string_block.specs.Given.{given, len_of, StandsAtNumber}
-use Rattle.string_block.specs.Parts.{given_number, start_of, string_number, AreStrings, HasStarts, IsOwn, IsString, StringParts}
+use Rattle.string_block.specs.Parts.{given_number, number_in, start_of, string_number, AreStrings, HasStarts, IsOwn, IsString, StringParts}
+use Rattle.string_block.specs.SipHash.{hash_of}
 use Rattle.string_block.proofs.ViewLemmas.{only_found, same_number}
 
 -- the parts of these sections
 abbrev parts_of : List ℕ → List ℕ → List ℕ → StringParts
-parts_of hash_block starts words = record { hash = hash_in hash_block; starts = starts; bytes = words }
+parts_of hash_block starts words = record { kind = 12; hash = hash_in hash_block; starts = starts; bytes = words }
 
 -- parts that are written one after another stand where the sections of the strings are
 pub stands : (hash : HashParts) (bytes ends head hash_block gap starts gap2 words tail : List ℕ) → length head ≡ 32
@@ -87,6 +88,7 @@ module _ (hash : HashParts) (bytes ends hash_block starts words : List ℕ) (few
 
     pub has_starts : HasStarts (parts_of hash_block starts words)
     has_starts = record {
+      kind = inl refl;
       lengths = are.hash_is.sound.hash_block.lengths;
       count = omega (arith, are.count, keys_are);
       short = omega (arith, are.tight, few.bytes_few);
@@ -119,8 +121,10 @@ block_is hash bytes ends old new few number sealed are =
     let starts = part_in ss old 1 in
     let words = part_in ss old 2 in
     let at : (i : ℕ) → i < 3 → section_in new i ≡ part_in ss old i = λ i less. section_is head ss old new sealed i less in
+    let kind : slice_index new 1 ≡ 12 = ap (λ (h : Head). h.kind) sealed.head_is in
     let parts : strings_in new ≡ parts_of hash_block starts words =
-    ap (λ h. parts_of h (section_in new 1) (section_in new 2)) (at 0 (omega arith))
+    ap (λ (k : ℕ). record { kind = k; hash = hash_in (section_in new 0); starts = section_in new 1; bytes = section_in new 2 }) kind
+    ∙ ap (λ h. parts_of h (section_in new 1) (section_in new 2)) (at 0 (omega arith))
     ∙ ap (λ s. parts_of hash_block s (section_in new 2)) (at 1 (omega arith))
     ∙ ap (parts_of hash_block starts) (at 2 (omega arith)) in
     record {
@@ -128,7 +132,7 @@ block_is hash bytes ends old new few number sealed are =
         string_block = record {
           is_block = sealed.is_block;
           sections = record {
-            kind = ap (λ (h : Head). h.kind) sealed.head_is;
+            kind = inl kind;
             three = omega (arith, count_is head ss old new sealed);
             hash = ap (λ (s : Section). s.role) (entry_is head ss old new sealed 0 (omega arith));
             starts = ap (λ (s : Section). s.role) (entry_is head ss old new sealed 1 (omega arith));
@@ -145,7 +149,7 @@ block_is hash bytes ends old new few number sealed are =
         strings = subst (λ (p : StringParts). AreStrings p) (sym parts) (are_strings hash bytes ends hash_block starts words few number are);
       };
       numbers = λ string len.
-          ap (λ (p : StringParts). string_number p.hash string len) parts
+          ap (λ (p : StringParts). number_in p string len) parts
           ∙ numbers_are hash bytes ends hash_block starts words few number are string len;
       count = ap (λ (p : StringParts). p.hash.keys) parts ∙ keys_are hash bytes ends hash_block starts words few number are;
       all = λ i v less is.

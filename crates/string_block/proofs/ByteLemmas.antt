@@ -1,30 +1,11 @@
--- Bytes in words, and hashes of strings.
-use Rattle.std.proofs.Common.{◌≡◌, ◌≢◌, ℕ, zero, suc, ◌+◌, ◌*◌, ◌^◌, ◌<◌, ◌≤◌, inl, inr, List, length, replicate, slice_index, refl, sym, ap, ◌∙◌, ⊎_elim, arith}
+-- Bytes in words.
+use Rattle.std.proofs.Common.{◌≡◌, ◌≢◌, ℕ, ◌+◌, ◌*◌, ◌^◌, ◌<◌, ◌≤◌, inl, inr, List, length, replicate, slice_index, sym, ap, ◌∙◌, ⊎_elim, arith}
 use Rattle.std.proofs.lemmas.Bool.{cases_lt}
 use Rattle.bit_lists.specs.Bits.{bits_of, item}
 use Rattle.bit_lists.specs.Number.{number_at, with_number}
 use Rattle.bit_lists.proofs.BitLaws.{bits_are_counted, number_beside_is_kept, read_after_write, zeros_are_zero}
 use Rattle.bit_lists.proofs.lemmas.BesideLemmas.{item-zeros}
-use Rattle.string_block.specs.Bytes.{byte_of, bytes_from, hash_of, mixed, AreZeroFrom, StandsAt}
-
--- one more byte is hashed
-pub hash_more : (seed : ℕ) (string : ℕ → ℕ) (n hash byte next : ℕ) → hash ≡ hash_of seed string n → byte ≡ string n → next ≡ mixed hash byte
-    → next ≡ hash_of seed string (n + 1)
-unfolding hash_of
-hash_more seed string n hash byte next hash_is byte_is next_is =
-    let more : suc n ≡ n + 1 = omega arith in
-    next_is
-    ∙ ap (λ h. mixed h byte) hash_is
-    ∙ ap (mixed (hash_of seed string n)) byte_is
-    ∙ ap (hash_of seed string) more
-
--- equal bytes have one hash
-pub same_hash : (seed : ℕ) (string other : ℕ → ℕ) (n : ℕ) → ((j : ℕ) → j < n → string j ≡ other j) → hash_of seed string n ≡ hash_of seed other n
-unfolding hash_of
-same_hash seed string other zero same = refl
-same_hash seed string other (suc n) same =
-    ap (λ h. mixed h (string n)) (same_hash seed string other n (λ j less. same j (omega (arith, less))))
-    ∙ ap (mixed (hash_of seed other n)) (same n (omega arith))
+use Rattle.string_block.specs.Bytes.{byte_of, bytes_from, AreZeroFrom, StandsAt}
 
 -- a byte that is written stands there, and the others stay
 pub byte_written : (old new : List ℕ) (k byte : ℕ) → k < 8 * length old → byte < 2 ^ 8 → bits_of new ≡ with_number (bits_of old) (k * 8) 8 byte

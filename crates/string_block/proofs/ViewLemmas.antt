@@ -5,19 +5,21 @@ use Rattle.bitm_tables.specs.declared.answer.Answer.{Answer}
 use Rattle.bitm_tables.specs.declared.answer.Answer.TheVariants.{Found, Absent, Wrong}
 use Rattle.hash_levels.specs.Numbers.{number_by}
 use Rattle.perfect_hash.specs.Asking.{IsNumbered}
-use Rattle.string_block.specs.Bytes.{hash_of, stored_from}
-use Rattle.string_block.specs.Parts.{start_of, string_number, AreStrings, IsFound, IsHeld, IsInside, IsKept, IsNotWrong, IsPiece, IsString, StringParts}
-use Rattle.string_block.proofs.ByteLemmas.{same_hash}
+use Rattle.string_block.specs.Bytes.{stored_from}
+use Rattle.string_block.specs.Kinds.{hash_by}
+use Rattle.string_block.specs.Parts.{number_in, start_of, AreStrings, IsFound, IsHeld, IsKept, IsString, StringParts}
+use Rattle.string_block.proofs.HashLemmas.{same_hash}
 
 -- equal bytes have one number
 pub same_number : (parts : StringParts) (string other : ℕ → ℕ) (len n : ℕ) → len ≡ n → ((j : ℕ) → j < len → string j ≡ other j)
-    → string_number parts.hash string len ≡ string_number parts.hash other n
+    → number_in parts string len ≡ number_in parts other n
 same_number parts string other len n len_is same =
-    ap (number_by parts.hash.sizes (bits_in parts.hash.lists)) (same_hash parts.hash.seed string other len same ∙ ap (hash_of parts.hash.seed other) len_is)
+    ap (number_by parts.hash.sizes (bits_in parts.hash.lists))
+    (same_hash parts.kind parts.hash.seed string other len same ∙ ap (hash_by parts.kind parts.hash.seed other) len_is)
 
 -- a string that stands at a number has it
 pub own_number : (parts : StringParts) (v : ℕ) (string : ℕ → ℕ) (len : ℕ) → AreStrings parts → IsString parts v string len
-    → string_number parts.hash string len ≡ Some v
+    → number_in parts string len ≡ Some v
 own_number parts v string len are is =
     same_number parts string (stored_from parts.bytes (start_of parts v)) len (start_of parts (v + 1) - start_of parts v)
     (omega (arith, is.len_is)) (λ j less. sym (is.same j less))
@@ -40,7 +42,7 @@ held_of parts string len Wrong answer kept = subst (λ (a : Answer ℕ). IsHeld 
 
 -- and found, where the number is that of the hash
 pub found_of : (parts : StringParts) (string : ℕ → ℕ) (len : ℕ) (number answer : Answer ℕ) → AreStrings parts
-    → IsNumbered (string_number parts.hash string len) number → IsKept parts string len number answer → IsFound parts string len answer
+    → IsNumbered (number_in parts string len) number → IsKept parts string len number answer → IsFound parts string len answer
 found_of parts string len (Found v) (Found w) are is kept = subst (λ (x : ℕ). IsString parts x string len) kept.0 kept.1
 found_of parts string len (Found v) Absent are is kept = λ u other.
     let same = one_number u v (sym (own_number parts u string len are other) ∙ is) in

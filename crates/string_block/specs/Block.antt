@@ -12,13 +12,14 @@ use Rattle.block_tables.specs.Sections.{section_of}
 use Rattle.hash_block.specs.Block.{hash_in, hash_sections, IsHashBlock, IsBlockOf as IsHashOf}
 use Rattle.hash_block.specs.Parts.{HashParts, IsHash}
 use Rattle.string_block.specs.Given.{given, len_of, AreGiven, HaveNumbers}
-use Rattle.string_block.specs.Parts.{given_number, string_number, AreStored, AreStrings, HasStarts, IsFound, IsString, StringParts}
+use Rattle.string_block.specs.Kinds.{IsStringKind}
+use Rattle.string_block.specs.Parts.{given_number, number_in, AreStored, AreStrings, HasStarts, IsFound, IsString, StringParts}
 use Rattle.string_block.specs.declared.error.BuildError.{BuildError}
 use Rattle.string_block.specs.declared.error.BuildError.TheVariants.{TooLong, NotGiven, WrongLength, NotNumbered}
 
 -- the numbers of the header of n strings
 abbrev pub string_head : ℕ → Head
-string_head n = record { kind = 10; len = n; width = 0; ones_log2 = 0; zeros_log2 = 0; a = 0; b = 0; c = 0 }
+string_head n = record { kind = 12; len = n; width = 0; ones_log2 = 0; zeros_log2 = 0; a = 0; b = 0; c = 0 }
 
 -- how many words the block of the hash has
 abbrev pub hash_len : ℕ → ℕ → ℕ
@@ -39,13 +40,18 @@ pub record AreFew (words levels n bytes : ℕ) : Type 0 where
   pub strings_few : n < 2 ^ 57
   pub bytes_few : bytes < 2 ^ 60
 
--- the strings whose parts are the first three sections
+-- the strings of this kind whose parts are the first three sections
 abbrev pub strings_in : List ℕ → StringParts
-strings_in block = record { hash = hash_in (section_in block 0); starts = section_in block 1; bytes = section_in block 2 }
+strings_in block = record {
+  kind = slice_index block 1;
+  hash = hash_in (section_in block 0);
+  starts = section_in block 1;
+  bytes = section_in block 2;
+}
 
--- the block is of the kind of strings, and its first three sections are those
+-- the block is of a kind of strings, and its first three sections are those
 pub record HasStringSections (block : List ℕ) : Type 0 where
-  pub kind : slice_index block 1 ≡ 10
+  pub kind : IsStringKind (slice_index block 1)
   pub three : 3 ≤ count_in block
   pub hash : slice_index block 16 ≡ 21
   pub starts : slice_index block 20 ≡ 19
@@ -113,7 +119,7 @@ StandsIn hash bytes ends block =
 -- the block is that of the given strings, by a hash that gives strings these numbers
 pub record IsBlockOf (number : (ℕ → ℕ) → ℕ → Option ℕ) (bytes ends block : List ℕ) : Type 0 where
   pub sound : IsSoundBlock block
-  pub numbers : (string : ℕ → ℕ) (len : ℕ) → string_number (strings_in block).hash string len ≡ number string len
+  pub numbers : (string : ℕ → ℕ) (len : ℕ) → number_in (strings_in block) string len ≡ number string len
   pub count : (strings_in block).hash.keys ≡ length ends
   pub all : (i v : ℕ) → i < length ends → number (given bytes ends i) (len_of ends i) ≡ Some v
       → IsString (strings_in block) v (given bytes ends i) (len_of ends i)

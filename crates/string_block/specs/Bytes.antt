@@ -1,20 +1,11 @@
--- Bytes in words, and the hash of a string of them.
-use Rattle.std.specs.Prelude.{◌≡◌, ℕ, zero, suc, ◌+◌, ◌*◌, ◌%◌, ◌^◌, ◌<◌, ◌≤◌, bit_xor, List, length, slice_index}
+-- Bytes in words.
+use Rattle.std.specs.Prelude.{◌≡◌, ℕ, ◌+◌, ◌*◌, ◌<◌, ◌≤◌, List, length, slice_index}
 use Rattle.bit_lists.specs.Bits.{bits_of}
 use Rattle.bit_lists.specs.Number.{number_at}
 
 -- byte k of words: eight bits, the lowest of a word first
 abbrev pub byte_of : List ℕ → ℕ → ℕ
 byte_of words k = number_at (bits_of words) (k * 8) 8
-
--- a hash with one more byte, by FNV-1a of 64 bits
-unfoldable pub mixed : ℕ → ℕ → ℕ
-mixed hash byte = bit_xor hash byte * 0x100_0000_01b3 % 2 ^ 64
-
--- the hash of the first n bytes of a string, by a seed: FNV-1a, where the seed is 0
-unfoldable pub hash_of : ℕ → (ℕ → ℕ) → ℕ → ℕ
-hash_of seed string zero = bit_xor 0xcbf2_9ce4_8422_2325 seed
-hash_of seed string (suc n) = mixed (hash_of seed string n) (string n)
 
 -- the bytes of a list from `begin` on
 abbrev pub bytes_from : List ℕ → ℕ → ℕ → ℕ

@@ -6,24 +6,34 @@ use Rattle.bitm_tables.specs.declared.answer.Answer.{Answer}
 use Rattle.bitm_tables.specs.declared.answer.Answer.TheVariants.{Found, Absent, Wrong}
 use Rattle.hash_levels.specs.Numbers.{number_by}
 use Rattle.hash_block.specs.Parts.{HasLengths, HashParts, IsHash}
-use Rattle.string_block.specs.Bytes.{hash_of, stored_from, AreZeroFrom, StandsAt}
+use Rattle.string_block.specs.Bytes.{stored_from, AreZeroFrom, StandsAt}
 use Rattle.string_block.specs.Given.{given, len_of, StandsAtNumber}
+use Rattle.string_block.specs.Kinds.{hash_by, IsStringKind}
+use Rattle.string_block.specs.SipHash.{hash_of}
 
--- a hash, where the string of each number begins and the last one ends, and the words of the bytes
+-- the kind of block, a hash, where the string of each number begins and the last one ends, and the words of the bytes
 pub record StringParts : Type 0 where
+  pub kind : ℕ
   pub hash : HashParts
   pub starts : List ℕ
   pub bytes : List ℕ
 
--- the hash has the right lengths, and there is a start for each number and one more: they may hold anything
+-- the kind is one of strings, the hash has the right lengths, and there is a start for each number and one more: they may
+-- hold anything
 pub record HasStarts (parts : StringParts) : Type 0 where
+  pub kind : IsStringKind parts.kind
   pub lengths : HasLengths parts.hash
   pub count : length parts.starts ≡ parts.hash.keys + 1
   pub short : length parts.bytes < 2 ^ 58
 
--- the number of a string by a hash
+-- the number of a string by a hash of what `hash_of` gives
 abbrev pub string_number : HashParts → (ℕ → ℕ) → ℕ → Option ℕ
 string_number hash string len = number_by hash.sizes (bits_in hash.lists) (hash_of hash.seed string len)
+
+-- that of a string in a block, by the hash of its kind
+abbrev pub number_in : StringParts → (ℕ → ℕ) → ℕ → Option ℕ
+number_in parts string len =
+    number_by parts.hash.sizes (bits_in parts.hash.lists) (hash_by parts.kind parts.hash.seed string len)
 
 -- that of string i of those that are given
 abbrev pub given_number : HashParts → List ℕ → List ℕ → ℕ → Option ℕ
@@ -48,7 +58,7 @@ pub record IsString (parts : StringParts) (v : ℕ) (string : ℕ → ℕ) (len 
 pub record IsOwn (parts : StringParts) (v : ℕ) : Type 0 where
   pub rise : start_of parts v ≤ start_of parts (v + 1)
   pub within : start_of parts (v + 1) ≤ start_of parts parts.hash.keys
-  pub own : string_number parts.hash (stored_from parts.bytes (start_of parts v)) (start_of parts (v + 1) - start_of parts v) ≡ Some v
+  pub own : number_in parts (stored_from parts.bytes (start_of parts v)) (start_of parts (v + 1) - start_of parts v) ≡ Some v
 
 -- the words are as many as the bytes take, and the bytes after the last string are 0
 pub record IsFull (parts : StringParts) : Type 0 where

@@ -1,8 +1,7 @@
-//! Bytes in words: read, compared, hashed and written.
-ghost use Rattle.std.specs.Prelude.{◌≡◌, ◌≢◌, ◌+◌, ◌-◌, ◌*◌, ◌^◌, ◌<◌, ◌≤◌, ◌↔◌, IsTrue, ℕ, length, slice_index};
-ghost use Rattle.string_block.specs.Bytes.{byte_of, bytes_from, hash_of, stored_from, AreZeroFrom, StandsAt};
+//! Bytes in words: read, compared and written.
+ghost use Rattle.std.specs.Prelude.{◌≡◌, ◌≢◌, ◌+◌, ◌*◌, ◌^◌, ◌<◌, ◌≤◌, ◌↔◌, IsTrue, ℕ, length, slice_index};
+ghost use Rattle.string_block.specs.Bytes.{byte_of, bytes_from, AreZeroFrom, StandsAt};
 
-use crate::hashing::{BASIS, mix};
 use bit_words::words;
 
 /// Byte `k` of words.
@@ -10,7 +9,8 @@ use bit_words::words;
 pub(crate) fn byte_at(words: &[u64], k: usize) -> u64
     requires short { length words.now < 2 ^ 58 }
     requires inside { k < 8 * length words.now }
-    ensures { result ≡ byte_of words.now k }
+    ensures value { result ≡ byte_of words.now k }
+    ensures bound { result < 256 }
 {
     words::get_fragment(words, k, 8)
 }
@@ -68,18 +68,4 @@ pub(crate) fn are_zero_from(words: &[u64], first: usize) -> bool
         }
     }
     true
-}
-
-/// The hash of the bytes of words from `begin` on and before `end`.
-pub(crate) fn hash_stored(seed: u64, words: &[u64], begin: usize, end: usize) -> u64
-    requires short { length words.now < 2 ^ 58 }
-    requires order { begin ≤ end }
-    requires inside { end ≤ 8 * length words.now }
-    ensures { result ≡ hash_of seed (stored_from words.now begin) (end - begin) }
-{
-    let mut hash = BASIS ^ seed;
-    for j in 0..end - begin {
-        hash = mix(hash, byte_at(words, begin + j));
-    }
-    hash
 }

@@ -1,21 +1,10 @@
-//! How strings are hashed: FNV-1a of 64 bits, with a seed.
-ghost use Rattle.std.specs.Prelude.{◌≡◌, ◌-◌, ◌≤◌, length, slice_index};
-ghost use Rattle.string_block.specs.Bytes.{bytes_from, hash_of, mixed};
+//! How strings are hashed: SipHash-1-3, keyed by the seed.
+ghost use Rattle.std.specs.Prelude.{◌≡◌, ◌-◌, ◌*◌, ◌^◌, ◌<◌, ◌≤◌, length, slice_index};
+ghost use Rattle.string_block.specs.Bytes.{bytes_from, stored_from};
+ghost use Rattle.string_block.specs.SipHash.{hash_of};
 
-/// What a hash begins with, by FNV.
-pub(crate) const BASIS: u64 = 0xcbf2_9ce4_8422_2325;
-
-/// What each step of a hash multiplies by, by FNV.
-const PRIME: u64 = 0x100_0000_01b3;
-
-/// A hash with one more byte.
-#[inline(always)]
-#[tactic(auto, unfolding(crate::specs::Bytes::mixed))]
-pub(crate) fn mix(hash: u64, byte: u64) -> u64
-    ensures { result ≡ mixed hash byte }
-{
-    (hash ^ byte).wrapping_mul(PRIME)
-}
+use crate::numbers::{last_word, rest_from, stored_number, word_from};
+use crate::sip::Sip;
 
 /// The hash of the bytes of a list from `begin` on and before `end`.
 pub(crate) fn hash_between(seed: u64, bytes: &[u8], begin: usize, end: usize) -> u64
@@ -23,23 +12,41 @@ pub(crate) fn hash_between(seed: u64, bytes: &[u8], begin: usize, end: usize) ->
     requires inside { end ≤ length bytes.now }
     ensures { result ≡ hash_of seed (bytes_from bytes.now begin) (end - begin) }
 {
-    let mut hash = BASIS ^ seed;
-    for j in 0..end - begin {
-        hash = mix(hash, bytes[begin + j] as u64);
+    let len = end - begin;
+    let mut state = Sip::keyed(seed, 0);
+    for i in 0..len / 8 {
+        state = state.with_word(word_from(bytes, begin, 8 * i));
     }
-    hash
+    let rest = rest_from(bytes, begin, 8 * (len / 8), len % 8);
+    state.with_word(last_word(rest, len)).finish()
 }
 
-/// The hash of a string: FNV-1a of 64 bits, which begins with its basis where the seed is 0, and else with the two by
-/// exclusive or.
+/// The hash of the bytes of words from `begin` on and before `end`.
+pub(crate) fn hash_stored(seed: u64, words: &[u64], begin: usize, end: usize) -> u64
+    requires short { length words.now < 2 ^ 58 }
+    requires order { begin ≤ end }
+    requires inside { end ≤ 8 * length words.now }
+    ensures { result ≡ hash_of seed (stored_from words.now begin) (end - begin) }
+{
+    let len = end - begin;
+    let mut state = Sip::keyed(seed, 0);
+    for i in 0..len / 8 {
+        state = state.with_word(stored_number(words, begin, 8 * i, 8));
+    }
+    let rest = stored_number(words, begin, 8 * (len / 8), len % 8);
+    state.with_word(last_word(rest, len)).finish()
+}
+
+/// The hash of a string by a seed: SipHash-1-3 with the key (seed, 0), of the bytes of the string and nothing else.
+/// Every bit of the hash depends on every bit of the seed.
 ///
 /// # Cost
-/// Each byte is read once (evident from the code).
+/// A round for each eight bytes and four more; each byte is read once (evident from the code).
 /// # Source
-/// Fowler, Noll and Vo, 'The FNV Non-Cryptographic Hash Algorithm' (Internet-Draft draft-eastlake-fnv).
+/// Aumasson and Bernstein, 'SipHash: a fast short-input PRF' (INDOCRYPT 2012).
 ///
 /// ```
-/// hash(0, b"foobar");   // 0x8594_4171_f739_67e8
+/// hash(0, b"foobar");   // 0x7738_ae0a_5df0_9b34
 /// ```
 pub fn hash(seed: u64, string: &[u8]) -> u64
     ensures { result ≡ hash_of seed (slice_index string.now) (length string.now) }

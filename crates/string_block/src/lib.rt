@@ -18,32 +18,41 @@
 //! ```
 //!
 //! # Source
-//! Fowler, Noll and Vo, 'The FNV Non-Cryptographic Hash Algorithm' (Internet-Draft draft-eastlake-fnv); Müller,
-//! Sanders, Schulze and Zhou, 'Retrieval and perfect hashing using fingerprinting' (SEA 2014).
+//! Aumasson and Bernstein, 'SipHash: a fast short-input PRF' (INDOCRYPT 2012); Fowler, Noll and Vo, 'The FNV
+//! Non-Cryptographic Hash Algorithm' (Internet-Draft draft-eastlake-fnv), for blocks of kind 10; Müller, Sanders,
+//! Schulze and Zhou, 'Retrieval and perfect hashing using fingerprinting' (SEA 2014).
 #![tactic(auto)]
 
 // What is in each file:
 // - `arranging`: strings written one after another, in the order of their numbers
 // - `building`: the block of strings, written into the caller's memory
-// - `bytes`: bytes in words: read, compared, hashed and written
+// - `bytes`: bytes in words: read, compared and written
 // - `error`: why no block of strings was written
+// - `fnv`: how the strings of blocks of kind 10 are hashed
 // - `given`: strings that are given one after another
 // - `hashing`: how strings are hashed
+// - `kinds`: the kinds of blocks of strings, and how the strings of each are hashed
 // - `listing`: the hashes of strings that are given one after another
+// - `numbers`: up to eight bytes of a string as a number
 // - `opening`: the view of a block, and whether the block holds what it says
 // - `placing`: which string has which number
 // - `sections`: the sections of the block of strings
+// - `sip`: the state of SipHash
 // - `view`: strings in memory that may hold anything
 mod arranging;
 mod building;
 mod bytes;
 mod error;
+mod fnv;
 mod given;
 mod hashing;
+mod kinds;
 mod listing;
+mod numbers;
 mod opening;
 mod placing;
 mod sections;
+mod sip;
 mod view;
 
 pub use bitm_tables::answer::Answer;
@@ -51,7 +60,8 @@ pub use building::{build, round_trip};
 pub use error::BuildError;
 pub use given::are_given;
 pub use hashing::hash;
+pub use kinds::{FNV_STRINGS, STRINGS};
 pub use listing::hashes;
 pub use opening::{check, open};
-pub use sections::{STRINGS, size};
+pub use sections::size;
 pub use view::StringsView;

@@ -1,7 +1,7 @@
 //! The hashes of strings that are given one after another.
 ghost use Rattle.std.specs.Prelude.{◌≡◌, ◌<◌, ◌↔◌, IsTrue, ℕ, false, length, slice_index};
-ghost use Rattle.string_block.specs.Bytes.{hash_of};
 ghost use Rattle.string_block.specs.Given.{given, len_of, AreGiven};
+ghost use Rattle.string_block.specs.SipHash.{hash_of};
 
 use crate::given::{are_given, begin_at};
 use crate::hashing::hash_between;

@@ -3,17 +3,18 @@ ghost use Rattle.std.specs.Prelude.{◌↔◌, IsTrue, SomeIff};
 ghost use Rattle.bitm_block.specs.Header.{IsBlock, IsVerified};
 ghost use Rattle.string_block.specs.Block.{strings_in, HasStringSections, IsSoundBlock, IsStringBlock};
 
-use crate::sections::{BYTES, HASH_BLOCK, STARTS, STRINGS};
+use crate::kinds::is_string_kind;
+use crate::sections::{BYTES, HASH_BLOCK, STARTS};
 use crate::view::StringsView;
 use bitm_block::Block;
 
-/// Whether a block is of the kind of strings, and its first three sections are the block of a hash, starts and bytes.
+/// Whether a block is of a kind of strings, and its first three sections are the block of a hash, starts and bytes.
 #[inline(always)]
 fn has_strings(block: &Block<'_>) -> bool
     ensures { IsTrue result ↔ HasStringSections block.now }
 {
     let words = block.words();
-    if words[1] != STRINGS || words[11] < 3 {
+    if !is_string_kind(words[1]) || words[11] < 3 {
         return false;
     }
     words[16] == HASH_BLOCK && words[20] == STARTS && words[24] == BYTES
@@ -44,7 +45,7 @@ pub fn open(block: &[u64]) -> Option<StringsView<'_>>
     if block[3] as usize != hash.keys() {
         return None;
     }
-    StringsView::over(hash, opened.section(1)?, opened.section(2)?)
+    StringsView::over(block[1], hash, opened.section(1)?, opened.section(2)?)
 }
 
 /// Whether the block is opened, is as it was written, and holds strings: then `find` answers by these.

@@ -4,10 +4,8 @@ ghost use Rattle.std.specs.Int.{div_ceil};
 ghost use Rattle.bitm_block.specs.Layout.{end_of};
 ghost use Rattle.string_block.specs.Block.{hash_len, sections_of, string_head, string_sections, AreFew};
 
+use crate::kinds::STRINGS;
 use bitm_block::{Head, Section, aligned};
-
-/// The kind of strings.
-pub const STRINGS: u64 = 10;
 
 /// The role of a start for each string and the end of the last.
 pub(crate) const STARTS: u64 = 19;

@@ -5,19 +5,20 @@ ghost use Rattle.hash_block.specs.Parts.{IsHash};
 ghost use Rattle.perfect_hash.specs.Asking.{IsBelow, IsNumbered};
 ghost use Rattle.string_block.specs.Bytes.{bytes_from};
 ghost use Rattle.string_block.specs.Given.{given, len_of, AreGiven};
+ghost use Rattle.string_block.specs.Kinds.{IsStringKind};
 ghost use Rattle.string_block.specs.Parts.{IsFound, IsFull, IsHeld, IsKept, IsNotWrong, IsOwn, IsPiece, IsString};
-ghost use Rattle.string_block.specs.Parts.{start_of, string_number, AreStrings};
+ghost use Rattle.string_block.specs.Parts.{number_in, start_of, AreStrings};
 
-use crate::bytes::{are_zero_from, hash_stored, is_at};
+use crate::bytes::{are_zero_from, is_at};
 use crate::given::begin_at;
-use crate::hashing::hash_between;
+use crate::kinds::{hash_by, is_string_kind, stored_by};
 use bitm_tables::answer::Answer;
 use bitm_tables::source::counts::ReadCounts;
 use hash_block::HashView;
 use std::marker::Model;
 
-/// Strings with a number each, in memory that may hold anything: a perfect hash, where the string of each number
-/// begins and the last one ends, and the words of their bytes.
+/// Strings with a number each, in memory that may hold anything: the kind of their block, which says how they are
+/// hashed, a perfect hash, where the string of each number begins and the last one ends, and the words of their bytes.
 ///
 /// Contracts see these. A call says what it answers where they are those of strings, and what it answers otherwise.
 ///
@@ -28,6 +29,7 @@ use std::marker::Model;
 /// ```
 #[derive(Drop)]
 pub struct StringsView<'a> {
+    kind: u64,
     hash: HashView<'a>,
     starts: &'a [u64],
     bytes: &'a [u64],
@@ -38,32 +40,56 @@ impl<'a> Model for StringsView<'a> {
 
     ghost Value = { StringParts };
 
-    ghost view = { λ s. record { hash = s.hash; starts = s.starts.now; bytes = s.bytes.now } };
+    ghost view = { λ s. record { kind = s.kind; hash = s.hash; starts = s.starts.now; bytes = s.bytes.now } };
 
-    ghost invariant = { λ s. HasStarts (record { hash = s.hash; starts = s.starts.now; bytes = s.bytes.now }) };
+    ghost invariant = { λ s. HasStarts
+        (record { kind = s.kind; hash = s.hash; starts = s.starts.now; bytes = s.bytes.now }) };
 }
 
 impl<'a> StringsView<'a> {
-    /// Strings over a hash, where each begins and the last one ends, and the words of their bytes; `None` exactly where
-    /// there is not one start more than the hash announces keys, or there are 2^58 words or more.
+    /// Strings over the kind of a block, a hash, where each begins and the last one ends, and the words of their bytes;
+    /// `None` exactly where the kind is none of strings (`STRINGS`, `FNV_STRINGS`), there is not one start more than
+    /// the hash announces keys, or there are 2^58 words or more.
     ///
     /// ```
-    /// StringsView::over(hash, &[0, 3, 8], &[0x6f65_7261_6461, 0]);   // Some(..) where hash.keys() is 2
+    /// StringsView::over(STRINGS, hash, &[0, 3, 8], &[0x6f65_7261_6461, 0]);   // Some(..) where hash.keys() is 2
     /// ```
     #[inline(always)]
-    pub fn over(hash: HashView<'a>, starts: &'a [u64], bytes: &'a [u64]) -> Option<StringsView<'a>>
+    pub fn over(
+        kind: u64,
+        hash: HashView<'a>,
+        starts: &'a [u64],
+        bytes: &'a [u64],
+    ) -> Option<StringsView<'a>>
         ensures { SomeIff result
-            ((length starts.now ≡ hash.entry.keys + 1) × (length bytes.now < 2 ^ 58))
-            (record { hash = hash.entry; starts = starts.now; bytes = bytes.now }) }
+            (IsStringKind kind × (length starts.now ≡ hash.entry.keys + 1) × (length bytes.now < 2 ^ 58))
+            (record { kind = kind; hash = hash.entry; starts = starts.now; bytes = bytes.now }) }
     {
-        if starts.len() == 0 || starts.len() - 1 != hash.keys() || bytes.len() >= 1 << 58 {
+        if !is_string_kind(kind) || bytes.len() >= 1 << 58 {
+            return None;
+        }
+        if starts.len() == 0 || starts.len() - 1 != hash.keys() {
             return None;
         }
         Some(StringsView {
+            kind,
             hash,
             starts,
             bytes,
         })
+    }
+
+    /// The kind of the block, which says how the strings are hashed: `STRINGS` by SipHash-1-3, `FNV_STRINGS` by FNV-1a.
+    ///
+    /// ```
+    /// names.kind();   // STRINGS of a block that `build` wrote
+    /// ```
+    #[inline(always)]
+    pub fn kind(&self) -> u64
+        ensures kind { result ≡ self.now.kind }
+        ensures strings { IsStringKind result }
+    {
+        self.kind
     }
 
     /// The hash.
@@ -195,10 +221,10 @@ impl<'a> StringsView<'a> {
         requires inside { end ≤ length bytes.now }
         ensures below { IsBelow self.now.hash.keys result.0 }
         ensures number { IsHash self.now.hash → IsNumbered
-            (string_number self.now.hash (bytes_from bytes.now begin) (end - begin)) result.0 }
+            (number_in self.now (bytes_from bytes.now begin) (end - begin)) result.0 }
         ensures reads { ReadsAtMost none_read result.1 1 1 (length self.now.hash.sizes + 8) }
     {
-        let sum = hash_between(self.hash.seed(), bytes, begin, end);
+        let sum = hash_by(self.kind, self.hash.seed(), bytes, begin, end);
         self.hash.get_counted(sum)
     }
 
@@ -319,7 +345,7 @@ impl<'a> StringsView<'a> {
         if begin > end || end > self.starts[self.hash.keys()] as usize {
             return false;
         }
-        let hash = hash_stored(self.hash.seed(), self.bytes, begin, end);
+        let hash = stored_by(self.kind, self.hash.seed(), self.bytes, begin, end);
         match self.hash.get(hash) {
             Answer::Found(number) => number == v,
             _ => false,

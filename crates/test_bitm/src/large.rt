@@ -1,7 +1,7 @@
 //! A bit vector of 2^20 words with 1 bits at the even positions, queried at each step of 256 bits. By hand: half of the
 //! bits before an even position are 1 bits, and each two positions have one bit of each kind. So the compiled code runs
 //! over tables of many entries.
-use crate::walk::Sampled;
+use crate::walk::{Sampled, one_agrees, rank_agrees, zero_agrees};
 use bitm::{
     BinaryRankSearch, BitVec, Rank, RankSelect101111, RankSimple, Select, Select0,
     Select0ForRank101111, SelectForRank101111,
@@ -17,18 +17,18 @@ fn even_ones(alloc: Global) -> Result<Words, AllocError> {
     Words::with_64bit_segments(alloc, 0x5555_5555_5555_5555, 0x10_0000)
 }
 
-/// Half of the bits before each position are 1 bits.
+/// Half of the bits before each position are 1 bits, by the calls that answer `None` and by those that do not.
 fn expect_ranks<I: Rank>(rt: &impl Abort, index: &I) {
     for k in 0..0x4_0000usize {
-        assert!(rt; index.try_rank(256 * k) == Some(128 * k));
+        assert!(rt; rank_agrees(index, 256 * k, Some(128 * k)));
     }
 }
 
-/// Each two places have one bit of each kind.
+/// Each two places have one bit of each kind, by the calls that answer `None` and by those that do not.
 fn expect_places<I: Select + Select0>(rt: &impl Abort, index: &I) {
     for k in 0..0x4_0000usize {
-        assert!(rt; index.try_select(128 * k) == Some(256 * k));
-        assert!(rt; index.try_select0(128 * k) == Some(256 * k + 1));
+        assert!(rt; one_agrees(index, 128 * k, Some(256 * k)));
+        assert!(rt; zero_agrees(index, 128 * k, Some(256 * k + 1)));
     }
 }
 

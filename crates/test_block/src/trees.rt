@@ -171,3 +171,13 @@ fn no_tree_is_written_where_there_is_none(rt: HostRuntime) -> Result<(), Fail> {
     assert!(rt; words == [7u64; 56]);
     Ok(())
 }
+
+#[test]
+fn a_wrong_length_is_told_before_degrees_of_no_tree(rt: HostRuntime) -> Result<(), Fail> {
+    let mut words = [7u64; 40];
+    assert!(rt;
+        build([1usize, 1].as_slice(), words.as_mut_slice()) == Err(BuildError::WrongLength)
+    );
+    assert!(rt; words == [7u64; 40]);
+    Ok(())
+}

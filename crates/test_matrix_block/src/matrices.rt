@@ -296,6 +296,11 @@ fn no_matrix_is_written_where_there_is_none(rt: HostRuntime) -> Result<(), Fail>
     assert!(rt; wrong == Err(BuildError::WrongWidth));
     let wrong = build(numbers, 2, false, &mut *room, &mut *block);
     assert!(rt; wrong == Err(BuildError::TooWide));
+    // whatever the numbers are, a wrong length comes first
+    let wrong = build(numbers, 2, false, &mut *room, &mut block[..72]);
+    assert!(rt; wrong == Err(BuildError::WrongLength));
+    let wrong = build(numbers, 2, false, &mut room[..11], &mut *block);
+    assert!(rt; wrong == Err(BuildError::WrongScratch));
     let wrong = build(numbers, 3, false, &mut *room, &mut block[..72]);
     assert!(rt; wrong == Err(BuildError::WrongLength));
     let wrong = build(numbers, 3, true, &mut *room, &mut *block);

@@ -7,21 +7,25 @@
 #![tactic(auto)]
 
 // What is in each file:
+// - `collections`: the calls of a collection of texts that take memory
 // - `numbers`: the calls of a matrix, of a perfect hash and of a dictionary that take memory
 // - `outcome`: what is handed to the calls, and how they end
 // - `packed`: the calls of the packed index and of its strategies that take memory
 // - `sequences`: the calls of a sequence that take memory, and those of its users
 // - `simple`: the calls of a simple rank that take memory
+// - `sparse`: the calls of sparse bits that take memory
 // - `texts`: the calls of a text index that take memory
 // - `trees`: the calls of a tree that take memory
 // - `tries`: the calls of trees by their parents and of trees with labels that take memory
 // - `uncopied`: a bit vector as a user writes it, which cannot be copied
 // - `words`: the constructors of words, and copies of words
+mod collections;
 mod numbers;
 mod outcome;
 mod packed;
 mod sequences;
 mod simple;
+mod sparse;
 mod texts;
 mod trees;
 mod tries;
@@ -42,6 +46,8 @@ fn main(rt: HostRuntime) -> io::Result<ExitCode> {
     wrong |= report(&rt, texts::ended(alloc).as_slice())?;
     wrong |= report(&rt, trees::ended(alloc).as_slice())?;
     wrong |= report(&rt, tries::ended(alloc).as_slice())?;
+    wrong |= report(&rt, sparse::ended(alloc).as_slice())?;
+    wrong |= report(&rt, collections::ended(alloc).as_slice())?;
     Ok(ExitCode::from(wrong as u8))
 }
 

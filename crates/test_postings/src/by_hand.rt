@@ -31,11 +31,14 @@ fn a_cursor_moves_forward_only(rt: HostRuntime) -> Result<(), Fail> {
     Ok(())
 }
 
-/// Cursors at the first of 2, 5, 9, 9, 12, of 5, 7, 9, 12 and of 1, 5, 9, 30.
+/// Three lists, of which 5 and 9 stand in each.
+pub(crate) const LISTS: [&[u64]; 3] = [&[2, 5, 9, 9, 12], &[5, 7, 9, 12], &[1, 5, 9, 30]];
+
+/// Cursors at the first number of each list.
 fn three<'a>() -> Option<[SliceCursor<'a>; 3]> {
-    let one = SliceCursor::over([2u64, 5, 9, 9, 12].as_slice())?;
-    let two = SliceCursor::over([5u64, 7, 9, 12].as_slice())?;
-    let three = SliceCursor::over([1u64, 5, 9, 30].as_slice())?;
+    let one = SliceCursor::over(LISTS[0])?;
+    let two = SliceCursor::over(LISTS[1])?;
+    let three = SliceCursor::over(LISTS[2])?;
     Some([one, two, three])
 }
 

@@ -90,12 +90,23 @@ fn other_bytes_are_a_wrong_block(rt: HostRuntime) -> Result<(), Fail> {
     let mut block = built(&rt, NUMBERS)?;
     let (text, mut out) = (b"get 0".as_slice(), Vec::new(rt.alloc()));
     for at in 0..block.len() {
+        // the first seven bytes are the letters of the mark, and the eighth the version, which becomes 2
+        let flipped = if at < 7 {
+            Failure::Unmarked
+        } else {
+            Failure::WrongBlock
+        };
         block[at] ^= 1;
         let answer = query(rt.alloc(), block.as_slice(), text, &mut out);
-        assert!(rt; answer == Err(Failure::WrongBlock), "at byte {at}");
+        assert!(rt; answer == Err(flipped), "at byte {at}");
         block[at] ^= 1;
+        let cut = if at < 8 {
+            Failure::Unmarked
+        } else {
+            Failure::WrongBlock
+        };
         let answer = query(rt.alloc(), &block.as_slice()[..at], text, &mut out);
-        assert!(rt; answer == Err(Failure::WrongBlock), "at length {at}");
+        assert!(rt; answer == Err(cut), "at length {at}");
     }
     assert!(rt; out.is_empty());
     Ok(())

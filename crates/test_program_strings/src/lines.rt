@@ -40,13 +40,13 @@ fn expect_failure(
 #[test]
 fn each_line_has_a_number_of_its_own(rt: HostRuntime) -> Result<(), Fail> {
     let names = b"ada\nbob\neve\n".as_slice();
-    expect_numbers(&rt, names, names, "2\n0\n1\n")?;
-    expect_numbers(&rt, names, b"eve".as_slice(), "1\n")?;
+    expect_numbers(&rt, names, names, "1\n2\n0\n")?;
+    expect_numbers(&rt, names, b"eve".as_slice(), "0\n")?;
     expect_numbers(
         &rt,
         names,
         b"bo\nadabob\nAda\nada\n".as_slice(),
-        "none\nnone\nnone\n2\n",
+        "none\nnone\nnone\n1\n",
     )
 }
 
@@ -69,7 +69,7 @@ fn a_string_is_any_bytes_but_line_feeds(rt: HostRuntime) -> Result<(), Fail> {
         &rt,
         bytes.as_slice(),
         [255u8, 10, 0].as_slice(),
-        "0\nnone\n",
+        "2\nnone\n",
     )
 }
 
@@ -77,7 +77,7 @@ fn a_string_is_any_bytes_but_line_feeds(rt: HostRuntime) -> Result<(), Fail> {
 #[test]
 fn equal_lines_are_refused_and_equal_hashes_are_not(rt: HostRuntime) -> Result<(), Fail> {
     expect_failure(&rt, b"ada\nbob\nada".as_slice(), Failure::EqualLines)?;
-    let two = b"8yn0iYCKYHlIj4-BwPqk\nGReLUrM4wMqfg9yzV3KQ\n".as_slice();
+    let two = b"DfPggx7rn3H\nt_0e0z8MQ6G\n".as_slice();
     expect_numbers(&rt, two, two, "0\n1\n")
 }
 

@@ -84,7 +84,7 @@ fn the_file_that_is_named_answers_the_input(rt: HostRuntime) -> Result<(), Fail>
     let file = built(&rt, b"ada\nbob\neve\n".as_slice())?;
     let (none, input) = (b"".as_slice(), b"eve\nmallory\n".as_slice());
     let (status, out) = started(&rt, (file.as_slice(), input), &["find", "held.block"])?;
-    assert!(rt; status == 0 && out.as_slice() == b"1\nnone\n".as_slice());
+    assert!(rt; status == 0 && out.as_slice() == b"0\nnone\n".as_slice());
     let (status, out) = started(&rt, (file.as_slice(), input), &["find", "other.block"])?;
     assert!(rt; status == 2 && out.is_empty());
     let names = b"ada\nbob\neve\n".as_slice();

@@ -184,9 +184,18 @@ fn other_words_are_no_sequence(rt: HostRuntime) -> Result<(), Fail> {
 }
 
 #[test]
+fn a_wrong_length_is_told_before_numbers_that_fall(rt: HostRuntime) -> Result<(), Fail> {
+    let mut longer = [7u64; 64];
+    assert!(rt; build([3u64, 2].as_slice(), longer.as_mut_slice()) == Err(BuildError::WrongLength));
+    let mut block = [7u64; 56];
+    assert!(rt; build([3u64, 2].as_slice(), block.as_mut_slice()) == Err(BuildError::NotSorted));
+    assert!(rt; longer == [7u64; 64] && block == [7u64; 56]);
+    Ok(())
+}
+
+#[test]
 fn nothing_is_written_where_there_is_no_block(rt: HostRuntime) -> Result<(), Fail> {
     let mut block = [7u64; 64];
-    assert!(rt; build([3u64, 2].as_slice(), block.as_mut_slice()) == Err(BuildError::NotSorted));
     assert!(rt;
         build(NUMBERS.as_slice(), &mut block.as_mut_slice()[..56]) == Err(BuildError::WrongLength)
     );

@@ -246,9 +246,13 @@ fn other_words_are_no_sparse_bits(rt: HostRuntime) -> Result<(), Fail> {
 fn nothing_is_written_where_there_is_no_block(rt: HostRuntime) -> Result<(), Fail> {
     let mut block = [7u64; 64];
     let all = block.as_mut_slice();
-    assert!(rt; build([3u64, 3].as_slice(), 5000, &mut *all) == Err(BuildError::NotRising));
+    assert!(rt; build([3u64, 3].as_slice(), 5000, &mut all[..56]) == Err(BuildError::NotRising));
+    assert!(rt; build([3u64, 3].as_slice(), 2, &mut all[..56]) == Err(BuildError::NotRising));
     assert!(rt; build(POSITIONS.as_slice(), 4000, &mut *all) == Err(BuildError::PastEnd));
+    // whatever the positions are, a wrong length comes first
     assert!(rt; build(POSITIONS.as_slice(), 5000, &mut all[..56]) == Err(BuildError::WrongLength));
+    assert!(rt; build(POSITIONS.as_slice(), 4000, &mut all[..56]) == Err(BuildError::WrongLength));
+    assert!(rt; build([3u64, 3].as_slice(), 2, &mut *all) == Err(BuildError::WrongLength));
     assert!(rt; block == [7u64; 64]);
     Ok(())
 }

@@ -5,8 +5,11 @@
 #![tactic(auto)]
 
 // What is in each file:
-// - `hashing`: hashes beside those that FNV's authors published
+// - `blocks`: the blocks of five strings, of either kind
+// - `hashing`: hashes beside those of Rust's standard library
 // - `strings`: the block of five strings
+#[cfg(test)]
+mod blocks;
 #[cfg(test)]
 mod hashing;
 #[cfg(test)]

@@ -1,127 +1,13 @@
 //! The block of five strings: its words, its answers, and those of other words in its place.
+use crate::blocks::{BLOCK, FNV_BLOCK};
 use bitm_block::checksum_of;
 use hash_block::{Added, HashView, build_of};
 use perfect_hash::build as build_hash;
 use std::process::Abort;
 use std::test::Fail;
-use string_block::{Answer, BuildError, StringsView, build, check, hash, hashes, open, size};
-
-/// Their block, as a program in Python made it from the tables of docs/FORMAT.md: ada, the empty string, bob, a longer
-/// name and eve, hashed with the seed 1, at 100 per cent.
-const BLOCK: [u64; 112] = [
-    0x036261746d746962,
-    0x000000000000000a,
-    0x0000000000000380,
-    0x0000000000000005,
-    0x0000000000000000,
-    0x0000000000000000,
-    0x0000000000000000,
-    0x0000000000000000,
-    0x0000000000000000,
-    0x0000000000000000,
-    0x0000000000000000,
-    0x0000000000000003,
-    0x0000000000000000,
-    0x0000000000000000,
-    0xd91b2f0e8325fcae,
-    0x0aca7e59397820eb,
-    0x0000000000000015,
-    0x0000000000000100,
-    0x0000000000000040,
-    0x0553d92d342885da,
-    0x0000000000000013,
-    0x0000000000000300,
-    0x0000000000000006,
-    0xbd8aaddd7623c571,
-    0x0000000000000014,
-    0x0000000000000340,
-    0x0000000000000003,
-    0xe85df3d40199e85d,
-    0x0000000000000000,
-    0x0000000000000000,
-    0x0000000000000000,
-    0x0000000000000000,
-    0x036261746d746962,
-    0x0000000000000005,
-    0x0000000000000200,
-    0x0000000000000005,
-    0x0000000000000000,
-    0x0000000000000000,
-    0x0000000000000000,
-    0x0000000000000000,
-    0x0000000000000001,
-    0x0000000000000000,
-    0x0000000000000000,
-    0x0000000000000004,
-    0x0000000000000000,
-    0x0000000000000000,
-    0x4571b53bfadea6d5,
-    0x551b1ce752bd1a68,
-    0x0000000000000001,
-    0x0000000000000100,
-    0x0000000000000001,
-    0xa1b5b3ef005c32ba,
-    0x0000000000000002,
-    0x0000000000000140,
-    0x0000000000000001,
-    0x9e3779b9e17d05ac,
-    0x0000000000000003,
-    0x0000000000000180,
-    0x0000000000000001,
-    0xd84f2e22a7055237,
-    0x0000000000000004,
-    0x00000000000001c0,
-    0x0000000000000001,
-    0x0000000000000000,
-    0x0080080110000040,
-    0x0000000000000000,
-    0x0000000000000000,
-    0x0000000000000000,
-    0x0000000000000000,
-    0x0000000000000000,
-    0x0000000000000000,
-    0x0000000000000000,
-    0x0000000000000000,
-    0x0000000000000000,
-    0x0000000000000000,
-    0x0000000000000000,
-    0x0000000000000000,
-    0x0000000000000000,
-    0x0000000000000000,
-    0x0000000000000000,
-    0x0140280500000000,
-    0x0000000000000000,
-    0x0000000000000000,
-    0x0000000000000000,
-    0x0000000000000000,
-    0x0000000000000000,
-    0x0000000000000000,
-    0x0000000000000000,
-    0x0000000000000001,
-    0x0000000000000000,
-    0x0000000000000000,
-    0x0000000000000000,
-    0x0000000000000000,
-    0x0000000000000000,
-    0x0000000000000000,
-    0x0000000000000000,
-    0x0000000000000000,
-    0x000000000000000d,
-    0x0000000000000010,
-    0x0000000000000013,
-    0x0000000000000013,
-    0x0000000000000016,
-    0x0000000000000000,
-    0x0000000000000000,
-    0x7265676e6f6c2061,
-    0x657665656d616e20,
-    0x0000626f62616461,
-    0x0000000000000000,
-    0x0000000000000000,
-    0x0000000000000000,
-    0x0000000000000000,
-    0x0000000000000000,
-];
+use string_block::{
+    Answer, BuildError, FNV_STRINGS, STRINGS, StringsView, build, check, hash, hashes, open, size,
+};
 
 /// The strings one after another.
 const NAMES: [u8; 22] = *b"adaboba longer nameeve";
@@ -225,6 +111,7 @@ fn strings_are_written_and_found(rt: HostRuntime) -> Result<(), Fail> {
         assert!(rt; false, "not opened");
         return Ok(());
     };
+    assert!(rt; strings.kind() == STRINGS);
     assert!(rt; strings.len() == 5 && found_of(&strings, NAMES.as_slice(), ENDS.as_slice()) == 5);
     assert!(rt; found_of_one_byte(&strings) == 0);
     assert!(rt; strings.get(5) == Answer::Absent);
@@ -262,6 +149,37 @@ fn what_is_not_numbered_is_refused(rt: HostRuntime) -> Result<(), Fail> {
 fn each_flipped_bit_is_seen(rt: HostRuntime) -> Result<(), Fail> {
     let mut words = BLOCK;
     assert!(rt; unseen_flips(words.as_mut_slice()) == 0);
+    let mut words = FNV_BLOCK;
+    assert!(rt; unseen_flips(words.as_mut_slice()) == 0);
+    Ok(())
+}
+
+#[test]
+fn strings_of_kind_10_are_checked_and_found(rt: HostRuntime) -> Result<(), Fail> {
+    assert!(rt; check(FNV_BLOCK.as_slice()));
+    let Some(strings) = open(FNV_BLOCK.as_slice()) else {
+        assert!(rt; false, "not opened");
+        return Ok(());
+    };
+    assert!(rt; strings.kind() == FNV_STRINGS && strings.len() == 5);
+    assert!(rt; found_of(&strings, NAMES.as_slice(), ENDS.as_slice()) == 5);
+    assert!(rt; found_of_one_byte(&strings) == 0);
+    Ok(())
+}
+
+#[test]
+fn strings_of_another_kind_have_other_numbers(rt: HostRuntime) -> Result<(), Fail> {
+    let mut words = FNV_BLOCK;
+    words[1] = STRINGS;
+    sum_up(&mut words);
+    assert!(rt; open(words.as_slice()).is_some() && !check(words.as_slice()));
+    let mut words = BLOCK;
+    words[1] = FNV_STRINGS;
+    sum_up(&mut words);
+    assert!(rt; open(words.as_slice()).is_some() && !check(words.as_slice()));
+    words[1] = 11;
+    sum_up(&mut words);
+    assert!(rt; open(words.as_slice()).is_none());
     Ok(())
 }
 
@@ -292,7 +210,7 @@ fn words_that_hold_no_strings_are_refused_by_check(rt: HostRuntime) -> Result<()
         return Ok(());
     };
     assert!(rt; strings.get(1) == Answer::Wrong && strings.get(2) == Answer::Wrong);
-    assert!(rt; strings.get(3) == Answer::Found((19, 0)));
+    assert!(rt; strings.get(3) == Answer::Found((16, 3)));
     Ok(())
 }
 

@@ -114,9 +114,6 @@ fn errors_leave_block_and_scratch(rt: HostRuntime) -> Result<(), Fail> {
     assert!(rt; scratch_len(11, 4) == Some(24));
     // The first that applies, in this order.
     assert!(rt;
-        build(text, 3, 0, &mut scratch[..23], &mut words[..167]) == Err(BuildError::LetterOutside)
-    );
-    assert!(rt;
         build(text, 4, 0, &mut scratch[..23], &mut words[..167]) == Err(BuildError::WrongStep)
     );
     assert!(rt;
@@ -129,6 +126,24 @@ fn errors_leave_block_and_scratch(rt: HostRuntime) -> Result<(), Fail> {
     assert!(rt; words == [7u64; 168]);
     assert!(rt; build(text, 4, 3, scratch.as_mut_slice(), words.as_mut_slice()) == Ok(()));
     assert!(rt; words == *mississippi());
+    Ok(())
+}
+
+#[test]
+fn wrong_lengths_are_told_before_letters_outside(rt: HostRuntime) -> Result<(), Fail> {
+    let (mut short, mut fewer) = ([9u32; 23], [7u64; 167]);
+    let (mut scratch, mut words) = ([9u32; 24], [7u64; 168]);
+    let text = LETTERS.as_slice();
+    let step_0 = build(text, 3, 0, short.as_mut_slice(), fewer.as_mut_slice());
+    assert!(rt; step_0 == Err(BuildError::WrongStep));
+    let too_few = build(text, 3, 3, short.as_mut_slice(), fewer.as_mut_slice());
+    assert!(rt; too_few == Err(BuildError::WrongLength));
+    let too_short = build(text, 3, 3, short.as_mut_slice(), words.as_mut_slice());
+    assert!(rt; too_short == Err(BuildError::WrongScratch));
+    let outside = build(text, 3, 3, scratch.as_mut_slice(), words.as_mut_slice());
+    assert!(rt; outside == Err(BuildError::LetterOutside));
+    assert!(rt; short == [9u32; 23] && fewer == [7u64; 167]);
+    assert!(rt; scratch == [9u32; 24] && words == [7u64; 168]);
     Ok(())
 }
 

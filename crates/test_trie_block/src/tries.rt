@@ -334,14 +334,23 @@ fn no_trie_is_written_where_there_is_none(rt: HostRuntime) -> Result<(), Fail> {
     let ends = ends.as_slice();
     assert!(rt; refused(degrees, labels, 0, ends, 80) == Some(BuildError::WrongWidth));
     assert!(rt; refused(degrees, labels, 64, ends, 80) == Some(BuildError::WrongWidth));
-    assert!(rt; refused([1usize, 1].as_slice(), labels, 8, ends, 80) == Some(BuildError::NotATree));
+    let own = [1usize, 1];
+    let own = own.as_slice();
+    let label = [97u64];
+    let label = label.as_slice();
+    assert!(rt; refused(own, label, 8, ends, 80) == Some(BuildError::NotATree));
     assert!(rt; refused(degrees, labels, 6, ends, 80) == Some(BuildError::NotLabels));
     assert!(rt;
         refused(degrees, [97u64, 97, 1].as_slice(), 8, ends, 80) == Some(BuildError::NotLabels)
     );
     assert!(rt;
-        refused(degrees, [97u64, 98].as_slice(), 8, ends, 80) == Some(BuildError::NotLabels)
+        refused(degrees, [97u64, 98].as_slice(), 8, ends, 80) == Some(BuildError::WrongLabels)
     );
+    // whatever the degrees and the labels are, a wrong length comes first
+    assert!(rt; refused(own, labels, 8, ends, 80) == Some(BuildError::WrongLabels));
+    assert!(rt; refused(own, label, 8, [2u64, 0].as_slice(), 80) == Some(BuildError::WrongEnds));
+    assert!(rt; refused(own, label, 8, ends, 79) == Some(BuildError::WrongLength));
+    assert!(rt; refused(degrees, labels, 6, ends, 79) == Some(BuildError::WrongLength));
     assert!(rt;
         refused(degrees, labels, 8, [14u64, 0].as_slice(), 80) == Some(BuildError::WrongEnds)
     );

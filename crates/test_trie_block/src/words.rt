@@ -125,6 +125,19 @@ fn what_are_no_sorted_words_is_refused(rt: HostRuntime) -> Result<(), Fail> {
     assert!(rt; nodes(bytes, [1usize, 2, 3].as_slice()) == Err(WordsError::NotSorted));
     assert!(rt; nodes(bytes, [0usize, 2, 3].as_slice()) == Err(WordsError::NotSorted));
     assert!(rt; nodes(bytes, [2usize, 2, 2].as_slice()) == Err(WordsError::NotSorted));
+    // whatever the words are, a wrong length comes first: b and a would have three nodes
+    let starts = [1usize, 2, 3];
+    let starts = starts.as_slice();
+    let mut scratch = [7u64; 8];
+    let mut words = [7u64; 80];
+    let (room, block) = (scratch.as_mut_slice(), words.as_mut_slice());
+    assert!(rt; build(bytes, starts, &mut *room, &mut *block) == Err(WordsError::NotSorted));
+    assert!(rt; build(bytes, starts, &mut room[..7], &mut *block) == Err(WordsError::WrongLength));
+    assert!(rt; build(bytes, starts, &mut *room, &mut block[..72]) == Err(WordsError::WrongLength));
+    let starts = [0usize, 5];
+    let refused = build(bytes, starts.as_slice(), &mut room[..7], &mut *block);
+    assert!(rt; refused == Err(WordsError::NotWords));
+    assert!(rt; words == [7u64; 80]);
     Ok(())
 }
 

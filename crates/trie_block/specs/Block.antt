@@ -1,5 +1,5 @@
 -- A block that holds a trie: a tree, a label for each node but the root, and a bit for each node.
-use Rattle.std.specs.Prelude.{◌≡◌, ◌≢◌, ◌⊎◌, ℕ, ◌^◌, ◌<◌, ◌≤◌, List, [], ◌∷◌, length, slice_index}
+use Rattle.std.specs.Prelude.{◌≡◌, ◌≢◌, ◌⊎◌, ℕ, ◌-◌, ◌^◌, ◌<◌, ◌≤◌, List, [], ◌∷◌, length, slice_index}
 use Rattle.std.specs.Int.{div_ceil}
 use Rattle.bitm_block.specs.Header.{count_in, section_in, IsBlock, IsVerified}
 use Rattle.bitm_block.specs.Layout.{end_of, part_in}
@@ -13,7 +13,7 @@ use Rattle.louds.specs.Tree.{IsTree}
 use Rattle.louds_block.specs.Block.{lower_of_nodes, tree_in, upper_of_nodes, HasLengths, IsTreeOf, TreeParts}
 use Rattle.trie_block.specs.Labels.{label_words, labels_of, IsShape, IsWidth}
 use Rattle.trie_block.specs.declared.error.BuildError.{BuildError}
-use Rattle.trie_block.specs.declared.error.BuildError.TheVariants.{TooLong, WrongWidth, NotATree, NotLabels, WrongEnds, WrongLength}
+use Rattle.trie_block.specs.declared.error.BuildError.TheVariants.{TooLong, WrongWidth, WrongLabels, WrongEnds, WrongLength, NotATree, NotLabels}
 
 -- how many words a bit for each of n nodes takes
 abbrev pub end_words : ℕ → ℕ
@@ -101,21 +101,26 @@ pub record CanHold (degrees labels : List ℕ) (width : ℕ) (ends block : List 
   pub trie : IsTrie degrees labels width ends
   pub room : length block ≡ end_of (trie_sections (length degrees) width (length ends))
 
--- why these are the parts of no trie: the first of these that holds
-abbrev pub IsFault : List ℕ → List ℕ → ℕ → List ℕ → BuildError → Type 0
-IsFault d labels width ends TooLong = 2 ^ 57 ≤ length d
-IsFault d labels width ends WrongWidth = (length d < 2 ^ 57) × (¬ (IsWidth width))
-IsFault d labels width ends NotATree = IsShape (length d) width × (¬ (IsTree d))
-IsFault d labels width ends NotLabels = IsShape (length d) width × IsTree d × (¬ (AreLabels d (0 ∷ labels) width))
-IsFault d labels width ends WrongEnds =
-    IsShape (length d) width × IsTree d × AreLabels d (0 ∷ labels) width × (¬ (HasEnds ends (length d)))
-IsFault d labels width ends WrongLength = ⊥
+-- the lengths of a trie of n nodes: of labels, ends and a block
+pub record HasTrieRoom (n width : ℕ) (labels ends block : List ℕ) : Type 0 where
+  pub shape : IsShape n width
+  pub labels_len : length labels ≡ n - 1
+  pub has_ends : HasEnds ends n
+  pub block_len : length block ≡ end_of (trie_sections n width (length ends))
 
--- why no block was written: the first of these that holds
+-- why no block was written: the first of these that holds, a length before what is in the lists
 abbrev pub IsReason : List ℕ → List ℕ → ℕ → List ℕ → List ℕ → BuildError → Type 0
+IsReason d labels width ends block TooLong = 2 ^ 57 ≤ length d
+IsReason d labels width ends block WrongWidth = (length d < 2 ^ 57) × (¬ (IsWidth width))
+IsReason d labels width ends block WrongLabels = IsShape (length d) width × (length labels ≢ length d - 1)
+IsReason d labels width ends block WrongEnds =
+    IsShape (length d) width × (length labels ≡ length d - 1) × (¬ (HasEnds ends (length d)))
 IsReason d labels width ends block WrongLength =
-    IsTrie d labels width ends × (length block ≢ end_of (trie_sections (length d) width (length ends)))
-IsReason d labels width ends block error = IsFault d labels width ends error
+    IsShape (length d) width × (length labels ≡ length d - 1) × HasEnds ends (length d)
+    × (length block ≢ end_of (trie_sections (length d) width (length ends)))
+IsReason d labels width ends block NotATree = HasTrieRoom (length d) width labels ends block × (¬ (IsTree d))
+IsReason d labels width ends block NotLabels =
+    HasTrieRoom (length d) width labels ends block × IsTree d × (¬ (AreLabels d (0 ∷ labels) width))
 
 -- words that hold these labels of the nodes from 1 on
 pub record AreLabelsOf (degrees labels : List ℕ) (width : ℕ) (words : List ℕ) : Type 0 where

@@ -4,7 +4,7 @@ ghost use Rattle.bitm_block.specs.Layout.{end_of};
 ghost use Rattle.bitm_block.specs.Written.{IsSealed};
 ghost use Rattle.louds.specs.Labels.{HasRoom, numbers_of};
 ghost use Rattle.trie_block.specs.Block.{trie_head, trie_sections};
-ghost use Rattle.trie_block.specs.Block.{CanHold, HasEnds, IsBlockOf, IsFault, IsReason, IsTrie, StandsIn};
+ghost use Rattle.trie_block.specs.Block.{CanHold, HasEnds, IsBlockOf, IsReason, StandsIn};
 ghost use Rattle.trie_block.specs.Labels.{IsShape};
 
 use crate::error::BuildError;
@@ -83,10 +83,16 @@ pub(crate) fn has_ends(ends: &[u64], nodes: usize) -> bool
     ends.len() == 0 || ends.len() == nodes.div_ceil(64)
 }
 
-/// Why these are the parts of no trie; `None` where they are those of one.
-fn refusal(degrees: &[usize], labels: &[u64], width: u8, ends: &[u64]) -> Option<BuildError>
-    ensures { MatchOption result (IsTrie degrees.now labels.now width ends.now)
-        (IsFault degrees.now labels.now width ends.now) }
+/// Why no block is written; `None` where these are the parts of a trie, and the block is as long as theirs.
+fn refusal(
+    degrees: &[usize],
+    labels: &[u64],
+    width: u8,
+    ends: &[u64],
+    block: &[u64],
+) -> Option<BuildError>
+    ensures { MatchOption result (CanHold degrees.now labels.now width ends.now block.now)
+        (IsReason degrees.now labels.now width ends.now block.now) }
 {
     if degrees.len() >= 1 << 57 {
         return Some(BuildError::TooLong);
@@ -94,14 +100,20 @@ fn refusal(degrees: &[usize], labels: &[u64], width: u8, ends: &[u64]) -> Option
     if !is_shape(degrees.len(), width as usize) {
         return Some(BuildError::WrongWidth);
     }
+    if labels.len() != degrees.len().saturating_sub(1) {
+        return Some(BuildError::WrongLabels);
+    }
+    if !has_ends(ends, degrees.len()) {
+        return Some(BuildError::WrongEnds);
+    }
+    if block.len() != block_len(degrees.len(), width as usize, ends.len()) {
+        return Some(BuildError::WrongLength);
+    }
     if !is_tree(degrees) {
         return Some(BuildError::NotATree);
     }
     if !are_labels(degrees, labels, width) {
         return Some(BuildError::NotLabels);
-    }
-    if !has_ends(ends, degrees.len()) {
-        return Some(BuildError::WrongEnds);
     }
     None
 }
@@ -113,10 +125,11 @@ fn refusal(degrees: &[usize], labels: &[u64], width: u8, ends: &[u64]) -> Option
 ///
 /// # Errors
 /// `TooLong` exactly where there are 2^57 degrees or more; else `WrongWidth` exactly where the width is not 1 to 63;
-/// else `NotATree` exactly where the degrees are those of no tree; else `NotLabels` exactly where these are no labels
-/// for its nodes; else `WrongEnds` exactly where the ends are neither no words nor as many as a bit for each node
-/// takes; else `WrongLength` exactly where the words of the block are not as many as it takes (`size`). These stay as
-/// they are then.
+/// else `WrongLabels` exactly where there is not one label for each degree but the first; else `WrongEnds` exactly
+/// where the ends are neither no words nor as many as a bit for each node takes; else `WrongLength` exactly where the
+/// words of the block are not as many as it takes (`size`); else `NotATree` exactly where the degrees are those of no
+/// tree; else `NotLabels` exactly where a label has more bits than the width, or those of the children of a node do not
+/// rise. The words of the block stay as they are then.
 /// # Cost
 /// Three passes over the degrees and the labels, and four over the block (evident from the code). Nothing is allocated.
 ///
@@ -138,11 +151,8 @@ pub fn build(
     ensures block { IfOk result (λ _. IsBlockOf degrees.now labels.now width ends.now block.new) }
     ensures kept { IfErr result (λ _. block.new ≡ block.old) }
 {
-    if let Some(error) = refusal(degrees, labels, width, ends) {
+    if let Some(error) = refusal(degrees, labels, width, ends, &*block) {
         return Err(error);
-    }
-    if block.len() != block_len(degrees.len(), width as usize, ends.len()) {
-        return Err(BuildError::WrongLength);
     }
     write_block(degrees, labels, width, ends, block);
     Ok(())

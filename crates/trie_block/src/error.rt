@@ -10,15 +10,16 @@ pub enum BuildError {
     TooLong,
     /// The width is not 1 to 63 bits.
     WrongWidth,
-    /// The degrees are those of no tree.
-    NotATree,
-    /// There is not one label for each node but the root, or one has more bits than the width, or those of the children
-    /// of a node do not rise.
-    NotLabels,
+    /// There is not one label for each node but the root.
+    WrongLabels,
     /// The ends are neither no words, nor as many as a bit for each node takes.
     WrongEnds,
     /// The words are not as many as the block takes.
     WrongLength,
+    /// The degrees are those of no tree.
+    NotATree,
+    /// A label has more bits than the width, or those of the children of a node do not rise.
+    NotLabels,
 }
 
 impl fmt::Display for BuildError {
@@ -31,10 +32,11 @@ impl fmt::Display for BuildError {
         match self {
             BuildError::TooLong => write!(f, "there are 2^57 degrees or more"),
             BuildError::WrongWidth => write!(f, "the width is not 1 to 63"),
-            BuildError::NotATree => write!(f, "the degrees are those of no tree"),
-            BuildError::NotLabels => write!(f, "the labels are none for this tree"),
+            BuildError::WrongLabels => write!(f, "not one label for each node but the root"),
             BuildError::WrongEnds => write!(f, "the ends are not a bit for each node"),
             BuildError::WrongLength => write!(f, "not as long as the block"),
+            BuildError::NotATree => write!(f, "the degrees are those of no tree"),
+            BuildError::NotLabels => write!(f, "the labels are none for this tree"),
         }
     }
 }

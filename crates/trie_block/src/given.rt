@@ -1,5 +1,5 @@
 //! Whether the labels that are given are those of a tree.
-ghost use Rattle.std.specs.Prelude.{◌≡◌, ◌+◌, ◌^◌, ◌<◌, ◌≤◌, ◌↔◌, ◌∷◌, All, IsTrue, ℕ, length, slice_index};
+ghost use Rattle.std.specs.Prelude.{◌≡◌, ◌+◌, ◌-◌, ◌^◌, ◌<◌, ◌≤◌, ◌↔◌, ◌∷◌, All, IsTrue, ℕ, length, slice_index};
 ghost use Rattle.louds.specs.Labels.{AreLabels, Rise};
 ghost use Rattle.louds.specs.Tree.{IsTree};
 
@@ -51,16 +51,14 @@ fn rise(degrees: &[usize], labels: &[u64]) -> bool
     true
 }
 
-/// Whether these are labels for the nodes of a tree from 1 on: one of at most `width` bits for each, and those of
-/// siblings rise.
+/// Whether these are labels for the nodes of a tree from 1 on: each has at most `width` bits, and those of siblings
+/// rise.
 pub(crate) fn are_labels(degrees: &[usize], labels: &[u64], width: u8) -> bool
     requires tree { IsTree degrees.now }
+    requires count { length labels.now ≡ length degrees.now - 1 }
     requires width { width ≤ 63 }
     ensures { IsTrue result ↔ AreLabels degrees.now (0 ∷ labels.now) width }
 {
-    if labels.len() != degrees.len() - 1 {
-        return false;
-    }
     if !all_fit(labels, width) {
         return false;
     }

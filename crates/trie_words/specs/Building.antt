@@ -2,10 +2,10 @@
 use Rattle.std.specs.Prelude.{◌≡◌, ℕ, ◌+◌, ◌*◌, ◌^◌, ◌<◌, List, length}
 use Rattle.bitm_block.specs.Layout.{end_of}
 use Rattle.trie_block.specs.Block.{end_words, trie_sections}
-use Rattle.trie_words.specs.Room.{AreSortedWords, IsFault}
-use Rattle.trie_words.specs.Words.{nodes_of, words_in}
+use Rattle.trie_words.specs.Room.{AreSortedWords}
+use Rattle.trie_words.specs.Words.{nodes_of, words_in, AreSorted, AreWords}
 use Rattle.trie_words.specs.declared.error.WordsError.{WordsError}
-use Rattle.trie_words.specs.declared.error.WordsError.TheVariants.{WrongLength}
+use Rattle.trie_words.specs.declared.error.WordsError.TheVariants.{NotWords, WrongLength, NotSorted}
 
 -- n nodes are few enough, the scratch has as many words as they have degrees, parents and labels, and as their ends take,
 -- and the block as many as it takes
@@ -19,9 +19,11 @@ pub record CanBuild (bytes starts scratch block : List ℕ) : Type 0 where
   pub are : AreSortedWords bytes starts
   pub room : HasBlockRoom (nodes_of (words_in bytes starts)) (length scratch) (length block)
 
--- why no block is written: the first of these that holds
+-- why no block is written: the first of these that holds, a length before what is in the lists
 abbrev pub IsBuildReason : List ℕ → List ℕ → List ℕ → List ℕ → WordsError → Type 0
+IsBuildReason bytes starts scratch block NotWords = ¬ (AreWords bytes starts)
 IsBuildReason bytes starts scratch block WrongLength =
-    AreSortedWords bytes starts
-    × (¬ (HasBlockRoom (nodes_of (words_in bytes starts)) (length scratch) (length block)))
-IsBuildReason bytes starts scratch block error = IsFault bytes starts error
+    AreWords bytes starts × (¬ (HasBlockRoom (nodes_of (words_in bytes starts)) (length scratch) (length block)))
+IsBuildReason bytes starts scratch block NotSorted =
+    AreWords bytes starts × HasBlockRoom (nodes_of (words_in bytes starts)) (length scratch) (length block)
+    × (¬ (AreSorted (words_in bytes starts)))

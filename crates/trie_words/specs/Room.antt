@@ -4,7 +4,7 @@ use Rattle.std.specs.Int.{div_ceil}
 use Rattle.trie_words.specs.Levels.{above}
 use Rattle.trie_words.specs.Words.{nodes_of, words_in, AreSorted, AreWords, Words}
 use Rattle.trie_words.specs.declared.error.WordsError.{WordsError}
-use Rattle.trie_words.specs.declared.error.WordsError.TheVariants.{NotWords, NotSorted, WrongLength}
+use Rattle.trie_words.specs.declared.error.WordsError.TheVariants.{NotWords, WrongLength, NotSorted}
 
 -- words in bytes, in the order of a dictionary
 pub record AreSortedWords (bytes starts : List ℕ) : Type 0 where
@@ -37,8 +37,10 @@ IsFault bytes starts NotWords = ¬ (AreWords bytes starts)
 IsFault bytes starts NotSorted = AreWords bytes starts × (¬ (AreSorted (words_in bytes starts)))
 IsFault bytes starts WrongLength = ⊥
 
--- why no trie is grown of them: the first of these that holds
+-- why no trie is grown of them: the first of these that holds, a length before what is in the lists
 abbrev pub IsReason : List ℕ → List ℕ → List ℕ → List ℕ → List ℕ → List ℕ → WordsError → Type 0
+IsReason bytes starts degrees labels ends parents NotWords = ¬ (AreWords bytes starts)
 IsReason bytes starts degrees labels ends parents WrongLength =
-    AreSortedWords bytes starts × (¬ (HasRoom (nodes_of (words_in bytes starts)) degrees labels ends parents))
-IsReason bytes starts degrees labels ends parents error = IsFault bytes starts error
+    AreWords bytes starts × (¬ (HasRoom (nodes_of (words_in bytes starts)) degrees labels ends parents))
+IsReason bytes starts degrees labels ends parents NotSorted =
+    AreWords bytes starts × HasRoom (nodes_of (words_in bytes starts)) degrees labels ends parents × (¬ (AreSorted (words_in bytes starts)))

@@ -6,7 +6,7 @@ ghost use Rattle.trie_words.specs.Words.{nodes_of, words_in};
 
 use crate::error::WordsError;
 use crate::growing::write_parts;
-use crate::words::nodes;
+use crate::words::{are_sorted, count_of};
 use block_tables::as_entries_mut;
 use trie_block::size;
 
@@ -47,14 +47,14 @@ fn write_block(bytes: &[u8], starts: &[usize], count: usize, scratch: &mut [u64]
 /// Writes the block of the trie of sorted words, with labels of 8 bits, which `TrieView::open` opens and `check`
 /// accepts. A word of bytes leads from its root to a node at which a word ends exactly where it is one of the words.
 ///
-/// The words stand in `bytes` as for `nodes`, which says how many nodes there are, n. The scratch has
-/// 3 n - 2 + ceil(n / 64) words: for the degrees of the nodes, their parents, their labels and where words end. What it
-/// holds afterwards is not said.
+/// The words stand in `bytes` as for `nodes`, which says how many nodes there are, n: one, and one for each letter that
+/// a word does not share with the word before it. The scratch has 3 n - 2 + ceil(n / 64) words: for the degrees of the
+/// nodes, their parents, their labels and where words end. What it holds afterwards is not said.
 ///
 /// # Errors
-/// `NotWords` and `NotSorted` exactly where `nodes` answers them; else `WrongLength` exactly where n is 2^57 or more,
-/// the scratch is not that long, or the block has not `trie_block::size(n, 8, true)` words. The block stays as it was
-/// then.
+/// `NotWords` exactly where `nodes` answers it; else `WrongLength` exactly where n is 2^57 or more, the scratch is not
+/// that long, or the block has not `trie_block::size(n, 8, true)` words; else `NotSorted` exactly where a word does not
+/// stand after the one before it. The block stays as it was then.
 /// # Cost
 /// That of `grow` and of `trie_block::build`. Nothing is allocated.
 ///
@@ -76,9 +76,14 @@ pub fn build(
     ensures block { IfOk result (λ _. IsBlockOfWords (words_in bytes.now starts.now) block.new) }
     ensures kept { IfErr result (λ _. block.new ≡ block.old) }
 {
-    let count = nodes(bytes, starts)?;
+    let Some(count) = count_of(bytes, starts) else {
+        return Err(WordsError::NotWords);
+    };
     if !has_block_room(count, scratch.len(), block.len()) {
         return Err(WordsError::WrongLength);
+    }
+    if !are_sorted(bytes, starts) {
+        return Err(WordsError::NotSorted);
     }
     write_block(bytes, starts, count, scratch, block);
     Ok(())

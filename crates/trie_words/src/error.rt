@@ -8,10 +8,10 @@ use std::fmt;
 pub enum WordsError {
     /// The starts are none, or one is before the one before it, or the last one is past the end of the bytes.
     NotWords,
-    /// A word does not stand after the one before it in the order of a dictionary.
-    NotSorted,
     /// The numbers or words that are written are not as many as the trie takes.
     WrongLength,
+    /// A word does not stand after the one before it in the order of a dictionary.
+    NotSorted,
 }
 
 impl fmt::Display for WordsError {
@@ -23,8 +23,8 @@ impl fmt::Display for WordsError {
     fn fmt<W: fmt::Write>(&self, f: &mut fmt::Formatter<W>) -> fmt::Result {
         match self {
             WordsError::NotWords => write!(f, "not the starts of words in these bytes"),
-            WordsError::NotSorted => write!(f, "the words do not rise"),
             WordsError::WrongLength => write!(f, "not as long as the trie takes"),
+            WordsError::NotSorted => write!(f, "the words do not rise"),
         }
     }
 }

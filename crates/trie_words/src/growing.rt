@@ -11,7 +11,7 @@ ghost use Rattle.trie_words.specs.Words.{words_in};
 use crate::error::WordsError;
 use crate::levels::{begin_levels, clear_numbers};
 use crate::placing::place_words;
-use crate::words::nodes;
+use crate::words::{are_sorted, count_of};
 use lent_tables::clear;
 
 /// Whether there is room for the parts of a trie of that many nodes.
@@ -82,9 +82,10 @@ pub(crate) fn write_parts(
 /// one of the words. `parents` is room for the number of each node's parent but the root's; it holds these afterwards.
 ///
 /// # Errors
-/// `NotWords` and `NotSorted` exactly where `nodes` answers them; else `WrongLength` exactly where there is not a
-/// degree for each node, a label and a parent for each but the root, and a word of ends for each 64 nodes that are
-/// begun. What was given stays as it was then.
+/// `NotWords` exactly where `nodes` answers it; else `WrongLength` exactly where there is not a degree for each node, a
+/// label and a parent for each but the root, and a word of ends for each 64 nodes that are begun, of one node and one
+/// for each letter that a word does not share with the word before it; else `NotSorted` exactly where a word does not
+/// stand after the one before it. What was given stays as it was then.
 /// # Cost
 /// Five passes over the starts and four over the bytes, and six over the numbers that are written (evident from the
 /// code). Nothing is allocated.
@@ -122,9 +123,14 @@ pub fn grow(
     ensures kept { IfErr result (λ _. (degrees.new ≡ degrees.old) × (labels.new ≡ labels.old)
         × (ends.new ≡ ends.old) × (parents.new ≡ parents.old)) }
 {
-    let count = nodes(bytes, starts)?;
+    let Some(count) = count_of(bytes, starts) else {
+        return Err(WordsError::NotWords);
+    };
     if !has_room(count, &*degrees, &*labels, &*ends, &*parents) {
         return Err(WordsError::WrongLength);
+    }
+    if !are_sorted(bytes, starts) {
+        return Err(WordsError::NotSorted);
     }
     write_parts(bytes, starts, degrees, labels, ends, parents);
     Ok(())

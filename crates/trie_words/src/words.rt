@@ -1,5 +1,5 @@
 //! Words that stand one after another in bytes.
-ghost use Rattle.std.specs.Prelude.{◌≡◌, ◌+◌, ◌-◌, ◌<◌, ◌≤◌, ◌↔◌, IfErr, IfOk, IsOk, IsTrue};
+ghost use Rattle.std.specs.Prelude.{◌≡◌, ◌+◌, ◌-◌, ◌<◌, ◌≤◌, ◌↔◌, IfErr, IfOk, IfSome, IsOk, IsSome, IsTrue};
 ghost use Rattle.std.specs.Prelude.{length, slice_index, slice_range};
 ghost use Rattle.trie_words.specs.Room.{AreSortedWords, IsFault};
 ghost use Rattle.trie_words.specs.Words.{common, nodes_of, shared_of, word_of, words_in};
@@ -83,7 +83,7 @@ fn are_words(bytes: &[u8], starts: &[usize]) -> bool
 }
 
 /// Whether each word stands before the next one.
-fn are_sorted(bytes: &[u8], starts: &[usize]) -> bool
+pub(crate) fn are_sorted(bytes: &[u8], starts: &[usize]) -> bool
     requires { AreWords bytes.now starts.now }
     ensures { IsTrue result ↔ AreSorted (words_in bytes.now starts.now) }
 {
@@ -105,6 +105,18 @@ fn count_nodes(bytes: &[u8], starts: &[usize]) -> usize
         nodes += starts[j + 1] - starts[j] - shared_len(bytes, starts, j);
     }
     nodes
+}
+
+/// How many nodes the trie of words has, whether they are sorted or not; `None` where these are no words.
+pub(crate) fn count_of(bytes: &[u8], starts: &[usize]) -> Option<usize>
+    ensures some { IsSome result ↔ AreWords bytes.now starts.now }
+    ensures nodes { IfSome result (λ n. n ≡ nodes_of (words_in bytes.now starts.now)) }
+{
+    if are_words(bytes, starts) {
+        Some(count_nodes(bytes, starts))
+    } else {
+        None
+    }
 }
 
 /// How many nodes the trie of these words has: the root, and one for each letter that a word does not share with the
@@ -129,11 +141,11 @@ pub fn nodes(bytes: &[u8], starts: &[usize]) -> Result<usize, WordsError>
     ensures ok { IsOk result ↔ AreSortedWords bytes.now starts.now }
     ensures nodes { IfOk result (λ n. n ≡ nodes_of (words_in bytes.now starts.now)) }
 {
-    if !are_words(bytes, starts) {
+    let Some(count) = count_of(bytes, starts) else {
         return Err(WordsError::NotWords);
-    }
+    };
     if !are_sorted(bytes, starts) {
         return Err(WordsError::NotSorted);
     }
-    Ok(count_nodes(bytes, starts))
+    Ok(count)
 }

@@ -1,10 +1,11 @@
 -- Each command is one that the program does.
-use Rattle.std.proofs.Common.{ℕ, List, Bool, true, Option, refl}
+use Rattle.std.proofs.Common.{◌⊎◌, ℕ, List, Bool, true, Option, refl, inl, inr}
 use Rattle.std.proofs.KnownBytes.{Appends-kept}
 use Rattle.std.specs.Io.KnownBytes.{Keeps}
 use Rattle.program_runs.specs.Known.{IsKnownAs, Known}
 use Rattle.program_blocks.specs.Building.{WroteBlock}
 use Rattle.program_blocks.specs.Program.{Did, DidAsAsked, IsDone}
+use Rattle.program_blocks.specs.Old.{ToldOfFile, WroteOldBits, WroteOldSequence}
 use Rattle.program_blocks.specs.Query.{Told, WroteReplies}
 use Rattle.program_blocks.specs.declared.command.Command.{Command}
 use Rattle.program_blocks.specs.declared.command.Command.TheVariants.{Build, Query}
@@ -17,7 +18,7 @@ pub did_build : (known : Known) (kind : Kind) (operand text : List ℕ) (before 
 did_build known kind operand text before after is h = record { done = (text, is, h, refl) }
 
 pub did_query : (known : Known) (path bytes text : List ℕ) (before after : Option (List ℕ)) (good : Bool) → IsKnownAs (known.files path) bytes
-    → IsKnownAs known.input text → Told bytes text before after good → Did known Query path before after good
+    → IsKnownAs known.input text → ToldOfFile bytes text before after good → Did known Query path before after good
 did_query known path bytes text before after good is asked h = record { done = (bytes, text, is, asked, h) }
 
 -- what was done stays so by a flush
@@ -31,10 +32,19 @@ replies_kept R lines a b c good k h = record { replies = h.replies; answers = h.
 told_kept : (bytes text : List ℕ) (a b c : Option (List ℕ)) (good : Bool) → Keeps b c → Told bytes text a b good → Told bytes text a c good
 told_kept bytes text a b c good k h = record { block = h.block; words = h.words; sound = h.sound; wrote = replies_kept _ _ a b c good k h.wrote }
 
+old_kept : (file text : List ℕ) (a b c : Option (List ℕ)) (good : Bool) → Keeps b c → WroteOldBits file text a b good ⊎ WroteOldSequence file text a b good
+    → WroteOldBits file text a c good ⊎ WroteOldSequence file text a c good
+old_kept file text a b c good k (inl h) = inl (record { fits = h.fits; wrote = replies_kept _ _ a b c good k h.wrote })
+old_kept file text a b c good k (inr h) = inr (record { fits = h.fits; wrote = replies_kept _ _ a b c good k h.wrote })
+
+file_kept : (bytes text : List ℕ) (a b c : Option (List ℕ)) (good : Bool) → Keeps b c → ToldOfFile bytes text a b good → ToldOfFile bytes text a c good
+file_kept bytes text a b c good k (inl h) = inl (told_kept bytes text a b c good k h)
+file_kept bytes text a b c good k (inr h) = inr (record { file = h.file; words = h.words; wrote = old_kept h.file text a b c good k h.wrote })
+
 done_kept : (known : Known) (command : Command) (operand : List ℕ) (a b c : Option (List ℕ)) (good : Bool) → Keeps b c
     → IsDone known command operand a b good → IsDone known command operand a c good
 done_kept known (Build kind) operand a b c good k h = (h.0, h.1, block_kept kind h.0 a b c k h.2, h.3)
-done_kept known Query path a b c good k h = (h.0, h.1, h.2, h.3, told_kept h.0 h.1 a b c good k h.4)
+done_kept known Query path a b c good k h = (h.0, h.1, h.2, h.3, file_kept h.0 h.1 a b c good k h.4)
 
 did_kept : (known : Known) (command : Command) (operand : List ℕ) (a b c : Option (List ℕ)) (good : Bool)
     → Did known command operand a b good → Keeps b c → Did known command operand a c good

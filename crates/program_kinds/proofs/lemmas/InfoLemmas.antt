@@ -1,8 +1,10 @@
 -- What is said of a block is that of the kind that it says.
-use Rattle.std.proofs.Common.{◌≡◌, List, ℕ, Option, Some, length}
+use Rattle.std.proofs.Common.{◌≡◌, List, ℕ, Option, Some, length, subst, SomeIff, IsSomeAnd}
 use Rattle.std.specs.Io.KnownBytes.{Appends}
 use Rattle.program_blocks.specs.Bytes.{words_of_bytes}
-use Rattle.program_kinds.specs.Info.{info_text, IsDescribed, WroteInfo}
+use Rattle.program_blocks.specs.Old.{old_head_in, IsOld, IsOldFile}
+use Rattle.program_blocks.specs.declared.old.OldHead.{OldHead}
+use Rattle.program_kinds.specs.Info.{info_text, old_text, IsDescribed, WroteInfo, WroteOldInfo}
 use Rattle.program_kinds.specs.declared.describing.Description.{Description}
 use Rattle.program_kinds.proofs.lemmas.SoundLemmas.{same_kind}
 
@@ -14,3 +16,17 @@ wrote_info bytes block d a b words h wrote = record {
   sound = record { kind = d.kind; says = h.kind; sound = same_kind block d.kind h.kind h.sound };
   written = rw (h.head, h.bytes_are) at wrote;
 }
+
+-- what was said of the head of a file of version 2 is what its header says
+pub wrote_old : (bytes file : List ℕ) (head : OldHead) (a b : Option (List ℕ)) → words_of_bytes bytes ≡ Some file → SomeIff (Some head) (IsOld file) (old_head_in file)
+    → Appends a b (old_text head (length bytes)) → WroteOldInfo bytes a b
+wrote_old bytes file head a b words iff wrote = record {
+  file = file;
+  words = words;
+  fits = iff.0;
+  written = subst (λ (h : OldHead). Appends a b (old_text h (length bytes))) iff.1 wrote;
+}
+
+-- bytes of a file of version 2 have its words
+pub old_words : (bytes file : List ℕ) → words_of_bytes bytes ≡ Some file → IsOldFile bytes → IsOld file
+old_words bytes file words old = subst (λ (o : Option (List ℕ)). IsSomeAnd o IsOld) words old

@@ -1,9 +1,9 @@
 -- Each command is one that the program does.
-use Rattle.std.proofs.Common.{ℕ, List, Bool, true, Option, refl}
+use Rattle.std.proofs.Common.{ℕ, List, Bool, true, Option, refl, inl, inr}
 use Rattle.std.proofs.KnownBytes.{Appends-kept}
 use Rattle.std.specs.Io.KnownBytes.{Keeps}
 use Rattle.program_runs.specs.Known.{IsKnownAs, Known}
-use Rattle.program_kinds.specs.Info.{WroteInfo}
+use Rattle.program_kinds.specs.Info.{WroteInfoOfFile}
 use Rattle.program_kinds.specs.Program.{Did, DidAsAsked, IsDone, WroteCheck}
 use Rattle.program_kinds.specs.declared.command.Command.{Command}
 use Rattle.program_kinds.specs.declared.command.Command.TheVariants.{Check, Info}
@@ -13,15 +13,16 @@ pub did_check : (known : Known) (path bytes : List ℕ) (before after : Option (
 did_check known path bytes before after good is h = record { done = (bytes, is, h) }
 
 pub did_info : (known : Known) (path bytes : List ℕ) (before after : Option (List ℕ)) → IsKnownAs (known.files path) bytes
-    → WroteInfo bytes before after → Did known Info path before after true
+    → WroteInfoOfFile bytes before after → Did known Info path before after true
 did_info known path bytes before after is h = record { done = (bytes, is, h, refl) }
 
 -- what was done stays so by a flush
 check_kept : (bytes : List ℕ) (a b c : Option (List ℕ)) (good : Bool) → Keeps b c → WroteCheck bytes a b good → WroteCheck bytes a c good
 check_kept bytes a b c good k h = record { told = h.told; written = Appends-kept a b c _ h.written k }
 
-info_kept : (bytes : List ℕ) (a b c : Option (List ℕ)) → Keeps b c → WroteInfo bytes a b → WroteInfo bytes a c
-info_kept bytes a b c k h = record { block = h.block; words = h.words; sound = h.sound; written = Appends-kept a b c _ h.written k }
+info_kept : (bytes : List ℕ) (a b c : Option (List ℕ)) → Keeps b c → WroteInfoOfFile bytes a b → WroteInfoOfFile bytes a c
+info_kept bytes a b c k (inl h) = inl (record { block = h.block; words = h.words; sound = h.sound; written = Appends-kept a b c _ h.written k })
+info_kept bytes a b c k (inr h) = inr (record { file = h.file; words = h.words; fits = h.fits; written = Appends-kept a b c _ h.written k })
 
 done_kept : (known : Known) (command : Command) (path : List ℕ) (a b c : Option (List ℕ)) (good : Bool) → Keeps b c
     → IsDone known command path a b good → IsDone known command path a c good

@@ -1,9 +1,7 @@
 -- What is known of a block that is of the kind that it says, or is not.
 use Rattle.std.proofs.Common.{◌≡◌, ◌↔◌, List, ℕ, Option, None, Some, is_some, refl, subst, IsTrue, SomeIff}
 use Rattle.bitm_block.specs.Header.{IsBlock}
-use Rattle.program_blocks.specs.Sound as numbers
-use Rattle.program_blocks.specs.declared.kind.Kind.{Kind as NumberKind}
-use Rattle.program_blocks.specs.declared.kind.Kind.TheVariants.{Bits, Sequence, Sparse, Matrix, Tree}
+use Rattle.program_blocks.proofs.lemmas.RefusalLemmas.{numbers_block}
 use Rattle.program_kinds.specs.Kind.{kind_in}
 use Rattle.program_kinds.specs.Sound.{IsSound, IsSoundOf}
 use Rattle.program_kinds.specs.declared.kind.Kind.{Kind}
@@ -22,13 +20,6 @@ some_where (Some x) S v opened = (λ _. opened.0, λ _. refl)
 some_where None S v opened = (λ some. cc, λ holds. absurd (opened holds))
 
 -- header and directory of a sound block are right
-numbers_block : (kind : NumberKind) (block : List ℕ) → numbers.IsSoundOf kind block → IsBlock block
-numbers_block Bits block h = h.bits_block.is_block
-numbers_block Sequence block h = h.sequence_block.is_block
-numbers_block Sparse block h = h.sequence.sequence_block.is_block
-numbers_block Matrix block h = h.matrix_block.is_block
-numbers_block Tree block h = h.tree_block.is_block
-
 kind_block : (kind : Kind) (block : List ℕ) → IsSoundOf kind block → IsBlock block
 kind_block (Numbers kind) block h = numbers_block kind block h
 kind_block Hash block h = h.hash_block.is_block

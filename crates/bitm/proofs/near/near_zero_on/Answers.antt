@@ -2,6 +2,7 @@
 use Rattle.std.proofs.Common.{◌≡◌, ◌/◌, ◌<◌, [], ◌∷◌, length, get_or, ap, ◌∙◌, arith}
 use Rattle.bitm_tables.specs.Tables.{Lists}
 use Rattle.bit_lists.proofs.lemmas.BitsLemmas.{length-bits_of}
+use Rattle.bit_lists.proofs.BitLaws.{bits_are_counted}
 use Rattle.bitm.proofs.lemmas.NearLemmas.{near-found, near-none}
 use Rattle.bitm.proofs.near.near_zero_on.Goals as goal
 use Rattle.bitm.proofs.near.near_zero_on.Goals.{After-word-word}
@@ -25,12 +26,30 @@ returns-in-Some-clause-zero g c =
     near-found (g.T.TableSource.lists c.args.source.now).words (c.loop.start / 64) c.word-word.result (inside g at) (word g at)
     c.args.from c.loop.start (omega arith) h.order h.ones c.in-Some.place c.in-Some.ensures
 
+pub returns-then-at-words_len-clause-zero : goal.returns-then-at-words_len-clause-zero
+returns-then-at-words_len-clause-zero g c = λ p order near inside.
+    let h = c.loop.invariant in
+    h.ones p order (omega (
+      arith,
+      inside,
+      bits_are_counted (g.T.TableSource.lists c.args.source.now).words,
+      c.if-at-words_len.true,
+      c.words_len.ensures,
+      ap (λ (l : Lists). length l.words) h.same,
+    ))
+
+pub returns-clause-zero : goal.returns-clause-zero
+returns-clause-zero g c = λ p order near inside.
+    let h = c.loop.invariant in
+    h.ones p order (omega (arith, near, h.on))
+
 pub loop-preserved : goal.loop-preserved
 loop-preserved g c =
     let at = (goal.at.loop-preserved g c).After-word-word in
     let h = c.loop.invariant in
     record {
       order = omega (arith, h.order);
+      on = omega (arith, h.on);
       ones = near-none (g.T.TableSource.lists c.args.source.now).words (c.loop.start / 64) c.word-word.result (inside g at) (word g at)
           c.args.from c.loop.start (omega arith) h.order h.ones c.in_default.ensures;
       same = c.word-word.ensures.same ∙ h.same;

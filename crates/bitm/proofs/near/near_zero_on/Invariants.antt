@@ -1,4 +1,4 @@
-use Rattle.std.proofs.Common.{◌≡◌, ℕ, ◌<◌, ◌≤◌, true}
+use Rattle.std.proofs.Common.{◌≡◌, ℕ, ◌+◌, ◌/◌, ◌<◌, ◌≤◌, true}
 use Rattle.bit_lists.specs.Bits.{item}
 use Rattle.bitm_tables.specs.Reads.{ReadsAtMost}
 use Rattle.bitm_tables.specs.Tables.{bits_in}
@@ -10,6 +10,7 @@ invariant-loop g l =
     let lists = g.T.TableSource.lists l.fn.source in
     record {
       order : l.fn.from ≤ l.start;
+      on : l.start / 64 ≡ l.fn.from / 64 + l.counter;
       ones : (i : ℕ) → l.fn.from ≤ i → i < l.start → item (bits_in lists) i ≡ true;
       same : g.T.TableSource.lists l.source ≡ lists;
       reads : ReadsAtMost (g.T.TableSource.reads l.fn.source) (g.T.TableSource.reads l.source) 0 0 l.counter;

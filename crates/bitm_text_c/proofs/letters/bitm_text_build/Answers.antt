@@ -7,4 +7,4 @@ returns-in-Ok-clause-ok c = ((λ _. c.in-Ok.ensures.ok.0 refl), (λ _. refl))
 
 pub returns-in-Ok-clause-wrong : goal.returns-in-Ok-clause-wrong
 returns-in-Ok-clause-wrong c =
-    ((λ h. absurd (omega (arith, h))), (λ h. absurd (h.1 (c.in-Ok.ensures.ok.0 refl).0.known)))
+    ((λ h. absurd (omega (arith, h))), (λ h. absurd (h.4 (c.in-Ok.ensures.ok.0 refl).0.known)))

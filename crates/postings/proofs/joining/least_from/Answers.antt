@@ -1,6 +1,7 @@
 -- A list that was asked has its least number from v on at its cursor.
 use Rattle.std.proofs.Common.{List, Option, sym, ◌≡◌, ◌≢◌, ℕ, ◌+◌, ◌<◌, All, Some, None, map, length, refl, subst, ◌∙◌, arith, get_or, set}
 use Rattle.std.proofs.lemmas.List.{length-map}
+use Rattle.std.proofs.Math.Seq.{map-set_same}
 use Rattle.std.proofs.lemmas.List.Elements.{All-set, All-get_or}
 use Rattle.postings.specs.Joined.{IsLeastFrom}
 use Rattle.postings.proofs.LeastLemmas.{least_none, least_with, lesser_none}
@@ -18,6 +19,8 @@ loop-i-init g c =
       right = λ r. r;
       asked = λ j. omega arith;
       fresh = λ j past. refl;
+      sound = refl;
+      same = refl;
     }
 
 inside : (g : _) (c : After-total_next_geq g) → c.loop-i.i < length c.loop-i.lists
@@ -29,6 +32,15 @@ was_right g c r = All-get_or g.C.TotalCursor.right c.loop-i.lists c.loop-i.i c.i
 
 stays : (g : _) (c : After-total_next_geq g) → All g.C.TotalCursor.right c.args.lists.now → All g.C.TotalCursor.right (set c.loop-i.lists c.loop-i.i c.total_next_geq.new.self)
 stays g c r = All-set g.C.TotalCursor.right c.loop-i.lists c.loop-i.i c.total_next_geq.new.self (c.total_next_geq.ensures.stays (was_right g c r)) (c.loop-i.invariant.right r)
+
+-- the list that is asked keeps what no call changes
+same_on : (g : _) (c : After-total_next_geq g) → map g.C.TotalCursor.kept (set c.loop-i.lists c.loop-i.i c.total_next_geq.new.self) ≡ map g.C.TotalCursor.kept c.args.lists.now
+same_on g c = map-set_same g.C.TotalCursor.kept c.loop-i.lists c.loop-i.i c.total_next_geq.new.self c.index-lists-i.result c.total_next_geq.ensures.same ∙ c.loop-i.invariant.same
+
+-- and counts no more answers of Wrong where it gave another
+sound_on : (g : _) (c : After-total_next_geq g) → g.C.TotalCursor.wrong c.total_next_geq.new.self ≡ g.C.TotalCursor.wrong (get_or c.loop-i.lists c.loop-i.i c.index-lists-i.result)
+    → map g.C.TotalCursor.wrong (set c.loop-i.lists c.loop-i.i c.total_next_geq.new.self) ≡ map g.C.TotalCursor.wrong c.args.lists.now
+sound_on g c e = map-set_same g.C.TotalCursor.wrong c.loop-i.lists c.loop-i.i c.total_next_geq.new.self c.index-lists-i.result e ∙ c.loop-i.invariant.sound
 
 pub loop-i-preserved : goal.loop-i-preserved
 loop-i-preserved g c =
@@ -58,6 +70,11 @@ loop-i-preserved g c =
       fresh = λ j past.
           let other : j ≢ c.loop-i.i = λ e. omega (arith, e, past) in
           step_calls_other g.C.TotalCursor.calls c.loop-i.lists c.loop-i.i c.index-lists-i.result c.total_next_geq.new.self (inside g w) c.total_next_geq.ensures.counted j other ∙ was.fresh j (omega (arith, past));
+      sound = sound_on g w (elim c.match-total_next_geq.branch [
+        | in-Found b ↦ b.in-Found.ensures.sound
+        | in-Absent b ↦ b.in-Absent.ensures.sound
+      ]);
+      same = same_on g w;
     }
 
 pub returns-in-Wrong-clause-least : goal.returns-in-Wrong-clause-least
@@ -74,6 +91,9 @@ pub returns-in-Wrong-clause-asked : goal.returns-in-Wrong-clause-asked
 returns-in-Wrong-clause-asked g c =
     let w = (goal.at.returns-in-Wrong-clause-asked g c).After-total_next_geq in
     step_asked g.C.TotalCursor.calls c.loop-i.lists c.loop-i.i c.index-lists-i.result c.total_next_geq.new.self (inside g w) c.total_next_geq.ensures.counted (map g.C.TotalCursor.calls c.args.lists.now) 1 c.loop-i.invariant.asked (omega (arith, c.loop-i.invariant.fresh c.loop-i.i (omega arith)))
+
+pub returns-in-Wrong-clause-same : goal.returns-in-Wrong-clause-same
+returns-in-Wrong-clause-same g c = same_on g (goal.at.returns-in-Wrong-clause-same g c).After-total_next_geq
 
 pub returns-in-Wrong-clause-right : goal.returns-in-Wrong-clause-right
 returns-in-Wrong-clause-right g c =

@@ -12,4 +12,6 @@ invariant-loop-i g l = record {
   right : All g.C.TotalCursor.right l.fn.lists → All g.C.TotalCursor.right l.lists;
   asked : AskedAtMost (map g.C.TotalCursor.calls l.fn.lists) (map g.C.TotalCursor.calls l.lists) 1;
   fresh : (j : ℕ) → l.i ≤ j → get_or (map g.C.TotalCursor.calls l.lists) j 0 ≡ get_or (map g.C.TotalCursor.calls l.fn.lists) j 0;
+  sound : map g.C.TotalCursor.wrong l.lists ≡ map g.C.TotalCursor.wrong l.fn.lists;
+  same : map g.C.TotalCursor.kept l.lists ≡ map g.C.TotalCursor.kept l.fn.lists;
 }

@@ -13,6 +13,8 @@ loop-count-init g c =
       asked = λ j. omega arith;
       rest = record { len = refl; behind = λ j past. refl };
       room = omega arith;
+      sound = refl;
+      same = refl;
     }
 
 pub returns-in-Absent-clause-joined : goal.returns-in-Absent-clause-joined
@@ -25,6 +27,16 @@ returns-in-Absent-clause-left g c =
     let i = c.loop-count.invariant in
     λ r.
     still_in_some (map g.C.TotalCursor.left c.args.lists.now) (map g.C.TotalCursor.left c.loop-count.lists) c.args.from c.loop-count.count c.loop-count.low (length c.args.out.now) c.loop-count.out (i.joining r) i.room (map g.C.TotalCursor.left c.least_from.new.lists) (keeps_through (map g.C.TotalCursor.left c.args.lists.now) (map g.C.TotalCursor.left c.loop-count.lists) (map g.C.TotalCursor.left c.least_from.new.lists) c.loop-count.low (i.joining r).keeps (c.least_from.ensures.keeps (i.right r)))
+
+pub returns-in-Absent-clause-sound : goal.returns-in-Absent-clause-sound
+returns-in-Absent-clause-sound g c =
+    let i = c.loop-count.invariant in
+    c.in-Absent.ensures.sound ∙ i.sound
+
+pub returns-in-Absent-clause-same : goal.returns-in-Absent-clause-same
+returns-in-Absent-clause-same g c =
+    let i = c.loop-count.invariant in
+    c.least_from.ensures.same ∙ i.same
 
 pub returns-in-Absent-clause-right : goal.returns-in-Absent-clause-right
 returns-in-Absent-clause-right g c =
@@ -45,6 +57,11 @@ pub returns-in-Wrong-clause-left : goal.returns-in-Wrong-clause-left
 returns-in-Wrong-clause-left g c =
     let i = c.loop-count.invariant in
     λ r. absurd (c.in-Wrong.ensures.least (i.right r))
+
+pub returns-in-Wrong-clause-same : goal.returns-in-Wrong-clause-same
+returns-in-Wrong-clause-same g c =
+    let i = c.loop-count.invariant in
+    c.least_from.ensures.same ∙ i.same
 
 pub returns-in-Wrong-clause-right : goal.returns-in-Wrong-clause-right
 returns-in-Wrong-clause-right g c =
@@ -71,6 +88,16 @@ returns-then-v-clause-left g c =
     let after = turn_joined (map g.C.TotalCursor.left c.args.lists.now) (map g.C.TotalCursor.left c.loop-count.lists) (map g.C.TotalCursor.left c.least_from.new.lists) c.args.from c.loop-count.count c.loop-count.low c.in-Found.v c.loop-count.out (i.joining r) c.loop-count-test.true (c.in-Found.ensures.least (i.right r)) (c.least_from.ensures.keeps (i.right r)) in
     still_in_some (map g.C.TotalCursor.left c.args.lists.now) (map g.C.TotalCursor.left c.least_from.new.lists) c.args.from (c.loop-count.count + 1) (c.in-Found.v + 1) (length c.args.out.now) (set c.loop-count.out c.loop-count.count c.in-Found.v) after room (map g.C.TotalCursor.left c.least_from.new.lists) after.keeps
 
+pub returns-then-v-clause-sound : goal.returns-then-v-clause-sound
+returns-then-v-clause-sound g c =
+    let i = c.loop-count.invariant in
+    c.in-Found.ensures.sound ∙ i.sound
+
+pub returns-then-v-clause-same : goal.returns-then-v-clause-same
+returns-then-v-clause-same g c =
+    let i = c.loop-count.invariant in
+    c.least_from.ensures.same ∙ i.same
+
 pub returns-then-v-clause-right : goal.returns-then-v-clause-right
 returns-then-v-clause-right g c =
     let i = c.loop-count.invariant in
@@ -96,6 +123,8 @@ loop-count-preserved g c =
             get_or-set_other c.loop-count.out c.loop-count.count j c.in-Found.v 0 other ∙ i.rest.behind j (omega (arith, past));
       };
       room = room;
+      sound = c.in-Found.ensures.sound ∙ i.sound;
+      same = c.least_from.ensures.same ∙ i.same;
     }
 
 pub returns-clause-joined : goal.returns-clause-joined

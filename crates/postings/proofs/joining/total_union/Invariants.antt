@@ -1,4 +1,4 @@
-use Rattle.std.proofs.Common.{All, length, map, ◌-◌, ◌≤◌}
+use Rattle.std.proofs.Common.{◌≡◌, All, length, map, ◌-◌, ◌≤◌}
 use Rattle.postings.specs.Shared.{AskedAtMost, IsKeptFrom}
 use Rattle.postings.specs.Joined.{IsJoining}
 use Rattle.postings.proofs.joining.total_union.Given as goal
@@ -12,6 +12,8 @@ invariant-loop-count g l = record {
   asked : AskedAtMost (map g.C.TotalCursor.calls l.fn.lists) (map g.C.TotalCursor.calls l.lists) l.count;
   rest : IsKeptFrom l.count l.fn.out l.out;
   room : l.count ≤ length l.fn.out;
+  sound : map g.C.TotalCursor.wrong l.lists ≡ map g.C.TotalCursor.wrong l.fn.lists;
+  same : map g.C.TotalCursor.kept l.lists ≡ map g.C.TotalCursor.kept l.fn.lists;
 }
 
 -- each turn writes a number

@@ -1,6 +1,7 @@
 -- Each turn passes the numbers of the first list up to the next that may be shared.
-use Rattle.std.proofs.Common.{◌≢◌, ◌+◌, ◌<◌, ◌≤◌, All, map, length, set, refl, ◌∙◌, arith, get_or}
+use Rattle.std.proofs.Common.{◌≡◌, ◌≢◌, ◌+◌, ◌<◌, ◌≤◌, All, map, length, set, refl, ◌∙◌, arith, get_or}
 use Rattle.std.proofs.lemmas.List.{length-set, get_or-set_other}
+use Rattle.std.proofs.Math.Seq.{map-set_same}
 use Rattle.std.proofs.lemmas.List.Elements.{All-set, All-get_or}
 use Rattle.postings.proofs.MergeLemmas.{first_asked, first_shared, first_left, others_asked, others_ended, none_left, turned_next, turned_all}
 use Rattle.postings.proofs.TurnLemmas.{sharing_none, still_in_all, shared_none, shared_full}
@@ -14,6 +15,8 @@ loop-count-init g c =
       right = λ r. r;
       kept = record { len = refl; behind = λ j past. refl };
       room = omega arith;
+      sound = refl;
+      same = refl;
     }
 
 inside : (g : _) (c : After-total_next_geq g) → 0 < length c.loop-count.lists
@@ -25,6 +28,15 @@ was_right g c r = All-get_or g.C.TotalCursor.right c.loop-count.lists 0 c.index-
 
 stays : (g : _) (c : After-total_next_geq g) → All g.C.TotalCursor.right c.args.lists.now → All g.C.TotalCursor.right (set c.loop-count.lists 0 c.total_next_geq.new.self)
 stays g c r = All-set g.C.TotalCursor.right c.loop-count.lists 0 c.total_next_geq.new.self (c.total_next_geq.ensures.stays (was_right g c r)) (c.loop-count.invariant.right r)
+
+-- the list that is asked keeps what no call changes
+same_on : (g : _) (c : After-total_next_geq g) → map g.C.TotalCursor.kept (set c.loop-count.lists 0 c.total_next_geq.new.self) ≡ map g.C.TotalCursor.kept c.args.lists.now
+same_on g c = map-set_same g.C.TotalCursor.kept c.loop-count.lists 0 c.total_next_geq.new.self c.index-lists-0.result c.total_next_geq.ensures.same ∙ c.loop-count.invariant.same
+
+-- and counts no more answers of Wrong where it gave another
+sound_on : (g : _) (c : After-total_next_geq g) → g.C.TotalCursor.wrong c.total_next_geq.new.self ≡ g.C.TotalCursor.wrong (get_or c.loop-count.lists 0 c.index-lists-0.result)
+    → map g.C.TotalCursor.wrong (set c.loop-count.lists 0 c.total_next_geq.new.self) ≡ map g.C.TotalCursor.wrong c.args.lists.now
+sound_on g c e = map-set_same g.C.TotalCursor.wrong c.loop-count.lists 0 c.total_next_geq.new.self c.index-lists-0.result e ∙ c.loop-count.invariant.sound
 
 pub returns-in-Absent-clause-shared : goal.returns-in-Absent-clause-shared
 returns-in-Absent-clause-shared g c =
@@ -40,6 +52,16 @@ pub returns-in-Absent-clause-asked : goal.returns-in-Absent-clause-asked
 returns-in-Absent-clause-asked g c =
     let w = (goal.at.returns-in-Absent-clause-asked g c).After-total_next_geq in
     λ r. first_asked g.C.TotalCursor.left g.C.TotalCursor.calls c.args.lists.now c.loop-count.lists c.args.from c.loop-count.count c.loop-count.low (length c.args.out.now) c.loop-count.out c.index-lists-0.result c.total_next_geq.new.self (c.loop-count.invariant.sharing r) c.loop-count.invariant.room (inside g w) c.loop-count.auto.lists c.total_next_geq.ensures.counted
+
+pub returns-in-Absent-clause-sound : goal.returns-in-Absent-clause-sound
+returns-in-Absent-clause-sound g c =
+    let w = (goal.at.returns-in-Absent-clause-sound g c).After-total_next_geq in
+    sound_on g w c.in-Absent.ensures.sound
+
+pub returns-in-Absent-clause-same : goal.returns-in-Absent-clause-same
+returns-in-Absent-clause-same g c =
+    let w = (goal.at.returns-in-Absent-clause-same g c).After-total_next_geq in
+    same_on g w
 
 pub returns-in-Absent-clause-right : goal.returns-in-Absent-clause-right
 returns-in-Absent-clause-right g c =
@@ -60,6 +82,11 @@ pub returns-in-Wrong-clause-asked : goal.returns-in-Wrong-clause-asked
 returns-in-Wrong-clause-asked g c =
     let w = (goal.at.returns-in-Wrong-clause-asked g c).After-total_next_geq in
     λ r. first_asked g.C.TotalCursor.left g.C.TotalCursor.calls c.args.lists.now c.loop-count.lists c.args.from c.loop-count.count c.loop-count.low (length c.args.out.now) c.loop-count.out c.index-lists-0.result c.total_next_geq.new.self (c.loop-count.invariant.sharing r) c.loop-count.invariant.room (inside g w) c.loop-count.auto.lists c.total_next_geq.ensures.counted
+
+pub returns-in-Wrong-clause-same : goal.returns-in-Wrong-clause-same
+returns-in-Wrong-clause-same g c =
+    let w = (goal.at.returns-in-Wrong-clause-same g c).After-total_next_geq in
+    same_on g w
 
 pub returns-in-Wrong-clause-right : goal.returns-in-Wrong-clause-right
 returns-in-Wrong-clause-right g c =
@@ -85,6 +112,16 @@ returns-in-Ended-clause-asked g c =
     let w = (goal.at.returns-in-Ended-clause-asked g c).After-total_next_geq in
     λ r. others_asked g.C.TotalCursor.left g.C.TotalCursor.calls c.args.lists.now c.loop-count.lists c.args.from c.loop-count.count c.loop-count.low (length c.args.out.now) c.loop-count.out c.index-lists-0.result c.total_next_geq.new.self (c.loop-count.invariant.sharing r) c.loop-count.invariant.room (inside g w) c.loop-count.auto.lists c.total_next_geq.ensures.counted c.in-Found.v (c.in-Found.ensures.next (was_right g w r)) c.ask_others.new.lists _ (c.ask_others.ensures.asked (stays g w r))
 
+pub returns-in-Ended-clause-sound : goal.returns-in-Ended-clause-sound
+returns-in-Ended-clause-sound g c =
+    let w = (goal.at.returns-in-Ended-clause-sound g c).After-total_next_geq in
+    c.in-Ended.ensures.sound ∙ sound_on g w c.in-Found.ensures.sound
+
+pub returns-in-Ended-clause-same : goal.returns-in-Ended-clause-same
+returns-in-Ended-clause-same g c =
+    let w = (goal.at.returns-in-Ended-clause-same g c).After-total_next_geq in
+    c.ask_others.ensures.same ∙ same_on g w
+
 pub returns-in-Ended-clause-right : goal.returns-in-Ended-clause-right
 returns-in-Ended-clause-right g c =
     let w = (goal.at.returns-in-Ended-clause-right g c).After-total_next_geq in
@@ -105,6 +142,11 @@ returns-in-Unknown-clause-asked g c =
     let w = (goal.at.returns-in-Unknown-clause-asked g c).After-total_next_geq in
     λ r. absurd ((c.in-Unknown.ensures.asked (stays g w r)).agreed)
 
+pub returns-in-Unknown-clause-same : goal.returns-in-Unknown-clause-same
+returns-in-Unknown-clause-same g c =
+    let w = (goal.at.returns-in-Unknown-clause-same g c).After-total_next_geq in
+    c.ask_others.ensures.same ∙ same_on g w
+
 pub returns-in-Unknown-clause-right : goal.returns-in-Unknown-clause-right
 returns-in-Unknown-clause-right g c =
     let w = (goal.at.returns-in-Unknown-clause-right g c).After-total_next_geq in
@@ -121,6 +163,8 @@ loop-count-preserved-in-Next g c =
       right = λ r. c.ask_others.ensures.right (stays g w r);
       kept = i.kept;
       room = i.room;
+      sound = c.in-Next.ensures.sound ∙ sound_on g w c.in-Found.ensures.sound;
+      same = c.ask_others.ensures.same ∙ same_on g w;
     }
 
 pub returns-then-v-clause-shared : goal.returns-then-v-clause-shared
@@ -145,6 +189,16 @@ returns-then-v-clause-asked g c =
     let w = (goal.at.returns-then-v-clause-asked g c).After-total_next_geq in
     λ r. others_asked g.C.TotalCursor.left g.C.TotalCursor.calls c.args.lists.now c.loop-count.lists c.args.from c.loop-count.count c.loop-count.low (length c.args.out.now) c.loop-count.out c.index-lists-0.result c.total_next_geq.new.self (c.loop-count.invariant.sharing r) c.loop-count.invariant.room (inside g w) c.loop-count.auto.lists c.total_next_geq.ensures.counted c.in-Found.v (c.in-Found.ensures.next (was_right g w r)) c.ask_others.new.lists _ (c.ask_others.ensures.asked (stays g w r))
 
+pub returns-then-v-clause-sound : goal.returns-then-v-clause-sound
+returns-then-v-clause-sound g c =
+    let w = (goal.at.returns-then-v-clause-sound g c).After-total_next_geq in
+    c.in-All.ensures.sound ∙ sound_on g w c.in-Found.ensures.sound
+
+pub returns-then-v-clause-same : goal.returns-then-v-clause-same
+returns-then-v-clause-same g c =
+    let w = (goal.at.returns-then-v-clause-same g c).After-total_next_geq in
+    c.ask_others.ensures.same ∙ same_on g w
+
 pub returns-then-v-clause-right : goal.returns-then-v-clause-right
 returns-then-v-clause-right g c =
     let w = (goal.at.returns-then-v-clause-right g c).After-total_next_geq in
@@ -167,6 +221,8 @@ loop-count-preserved g c =
             get_or-set_other c.loop-count.out c.loop-count.count j c.in-Found.v 0 other ∙ i.kept.behind j (omega (arith, past));
       };
       room = room;
+      sound = c.in-All.ensures.sound ∙ sound_on g w c.in-Found.ensures.sound;
+      same = c.ask_others.ensures.same ∙ same_on g w;
     }
 
 pub returns-clause-shared : goal.returns-clause-shared

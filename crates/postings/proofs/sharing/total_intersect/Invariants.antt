@@ -1,4 +1,4 @@
-use Rattle.std.proofs.Common.{All, length, map, ◌-◌, ◌^◌, ◌≤◌}
+use Rattle.std.proofs.Common.{◌≡◌, All, length, map, ◌-◌, ◌^◌, ◌≤◌}
 use Rattle.postings.specs.Shared.{IsKeptFrom, IsSharing}
 use Rattle.postings.proofs.sharing.total_intersect.Given as goal
 
@@ -10,6 +10,8 @@ invariant-loop-count g l = record {
   right : All g.C.TotalCursor.right l.fn.lists → All g.C.TotalCursor.right l.lists;
   kept : IsKeptFrom l.count l.fn.out l.out;
   room : l.count ≤ length l.fn.out;
+  sound : map g.C.TotalCursor.wrong l.lists ≡ map g.C.TotalCursor.wrong l.fn.lists;
+  same : map g.C.TotalCursor.kept l.lists ≡ map g.C.TotalCursor.kept l.fn.lists;
 }
 
 -- each turn begins at a greater number

@@ -1,19 +1,17 @@
--- The block of the positions is that of the bits.
-use Rattle.std.proofs.Common.{ℕ, sym, subst}
-use Rattle.sparse_bits.specs.Positions.{ArePlaces}
-use Rattle.sparse_block.specs.Block.{sparse_in, HoldsOnes}
+-- The lengths are right where the positions are tested.
+use Rattle.std.proofs.Common.{rules}
 use Rattle.sparse_block.proofs.building.build.Goals as goal
 
-pub returns-in-Ok-clause-block : goal.returns-in-Ok-clause-block
-returns-in-Ok-clause-block c =
-    let xs = c.args.positions.now in
-    let is = c.in-Ok.ensures.block in
-    let ones : HoldsOnes xs (sparse_in c.build_as.new.block) = record {
-      holds = is.holds;
-      places = subst (λ (n : ℕ). ArePlaces n 0 xs) (sym is.besides) c.in_ok-check_ones.ensures.places;
-    } in
-    record {
-      sound = record { sequence = is.sound; bits = (xs, ones) };
-      ones = ones;
-      len = is.besides;
-    }
+pub returns-clause-not_rising : goal.returns-clause-not_rising
+returns-clause-not_rising c =
+    let of = c.write_checked.ensures.not_rising in (
+      λ e. (search rules, search rules, of.0 e),
+      λ h. of.1 h.2,
+    )
+
+pub returns-clause-past_end : goal.returns-clause-past_end
+returns-clause-past_end c =
+    let of = c.write_checked.ensures.past_end in (
+      λ e. let past = of.0 e in (search rules, search rules, past.0, past.1),
+      λ h. of.1 (h.2, h.3),
+    )

@@ -1,6 +1,6 @@
 use Rattle.std.proofs.Common.{◌≡◌, ℕ, ◌<◌, slice_index}
-use Rattle.string_block.specs.Bytes.{hash_of}
 use Rattle.string_block.specs.Given.{given, len_of}
+use Rattle.string_block.specs.SipHash.{hash_of}
 use Rattle.string_block.proofs.listing.hash_each.Given as goal
 
 -- the hashes so far

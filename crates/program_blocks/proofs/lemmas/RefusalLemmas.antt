@@ -1,0 +1,42 @@
+-- Which files are refused: each that is right has the format that it says.
+use Rattle.std.proofs.Common.{◌≡◌, ℕ, List, Option, None, Some, Ok, Err, IsSomeAnd, refl, arith}
+use Rattle.bitm_block.specs.Header.{IsBlock}
+use Rattle.program_blocks.specs.Bytes.{words_of_bytes}
+use Rattle.program_blocks.specs.Format.{format_in}
+use Rattle.program_blocks.specs.Old.{IsOld, IsOldFile}
+use Rattle.program_blocks.specs.Sound.{IsSound, IsSoundFile, IsSoundOf}
+use Rattle.program_blocks.specs.declared.failure.Failure.{Failure}
+use Rattle.program_blocks.specs.declared.format.Format.TheVariants.{Block, Old}
+use Rattle.program_blocks.specs.declared.kind.Kind.{Kind}
+use Rattle.program_blocks.specs.declared.kind.Kind.TheVariants.{Bits, Sequence, Sparse, Matrix, Tree}
+use Rattle.program_blocks.proofs.lemmas.FormatLemmas.{block_format, old_format}
+use Rattle.program_blocks.proofs.lemmas.OldLemmas.{is_headed}
+
+-- header and directory of a sound block are right
+pub numbers_block : (kind : Kind) (block : List ℕ) → IsSoundOf kind block → IsBlock block
+numbers_block Bits block h = h.bits_block.is_block
+numbers_block Sequence block h = h.sequence_block.is_block
+numbers_block Sparse block h = h.sequence.sequence_block.is_block
+numbers_block Matrix block h = h.matrix_block.is_block
+numbers_block Tree block h = h.tree_block.is_block
+
+pub some_and : {T : Type 0} (o : Option T) (P : T → Type 0) → IsSomeAnd o P → (x : T) × (o ≡ Some x) × P x
+some_and None P h = absurd h
+some_and (Some x) P h = (x, refl, h)
+
+sound_format : (bytes : List ℕ) → IsSoundFile bytes → format_in bytes ≡ Ok Block
+sound_format bytes h =
+    let w = some_and (words_of_bytes bytes) IsSound h in
+    block_format bytes w.0 w.1 (numbers_block w.2.kind w.0 w.2.sound).header.summed.marked
+
+pub old_file_format : (bytes : List ℕ) → IsOldFile bytes → format_in bytes ≡ Ok Old
+old_file_format bytes h =
+    let w = some_and (words_of_bytes bytes) IsOld h in
+    let headed = is_headed w.0 w.2 in
+    old_format bytes w.0 w.1 (omega (arith, headed.long)) headed.stored.laid_out.mark
+
+pub not_sound : (bytes : List ℕ) → format_in bytes ≡ Ok Old → ¬ (IsSoundFile bytes)
+not_sound bytes is h = let other = sound_format bytes h in cc
+
+pub refused : (bytes : List ℕ) (e : Failure) → format_in bytes ≡ Err e → (¬ (IsSoundFile bytes)) × (¬ (IsOldFile bytes))
+refused bytes e is = (λ h. let other = sound_format bytes h in cc, λ h. let other = old_file_format bytes h in cc)
