@@ -5,9 +5,16 @@ PREFIX = /usr/local
 # Where libraries and headers go: LIBDIR=/usr/lib/x86_64-linux-gnu where each architecture has a folder.
 LIBDIR = $(PREFIX)/lib
 INCLUDEDIR = $(PREFIX)/include
+BINDIR = $(PREFIX)/bin
+MANDIR = $(PREFIX)/share/man/man1
+COMPLETIONS = $(PREFIX)/share/bash-completion/completions
 VERSION := $(shell cat VERSION)
-# The proved archive, or another that the environment names.
-ARCHIVE ?= crates/bitm_c/out/libbitm_c.a
+# x86_64 or aarch64, for which the compiler makes code.
+PROCESSOR := $(firstword $(subst -, ,$(shell $(CC) -dumpmachine 2> /dev/null)))
+# The archive that is named, else that of make archive, where it was run, else that of prebuilt/. The program likewise.
+BUILT = crates/bitm_c/out/libbitm_c.a
+ARCHIVE ?= $(firstword $(wildcard $(BUILT) prebuilt/$(PROCESSOR:x86_64=x86-64-v2)/libbitm_c.a) $(BUILT))
+PROGRAM ?= $(firstword $(wildcard $(if $(filter x86_64,$(PROCESSOR)),crates/program_bitm/out/bitm prebuilt/bin/bitm-x86-64)))
 SHARED = libbitm_c.so.$(VERSION)
 # Before 1.0 a minor version may change what a caller sees.
 SONAME = libbitm_c.so.$(basename $(VERSION))
@@ -16,7 +23,8 @@ HEADERS_CPP = $(wildcard include/bitm/*.hpp)
 # What `make install` lays in both folders, and `make uninstall` takes away.
 LAID = $(addprefix $(INCLUDEDIR)/,$(patsubst include/%,%,$(HEADERS) $(HEADERS_CPP))) \
     $(addprefix $(LIBDIR)/,libbitm_c.a $(SHARED) $(SONAME) libbitm_c.so pkgconfig/bitm.pc \
-    cmake/bitm/bitm-config.cmake cmake/bitm/bitm-config-version.cmake)
+    cmake/bitm/bitm-config.cmake cmake/bitm/bitm-config-version.cmake) \
+    $(BINDIR)/bitm $(MANDIR)/bitm.1 $(COMPLETIONS)/bitm
 # Programs find the shared object where it was laid, but for /usr, where the system looks.
 RPATH = $(if $(filter /usr,$(PREFIX)),,-Wl,-rpath,$${libdir} )
 # A folder below PREFIX is named by it, so that `pkg-config --define-prefix` can move all of them.
@@ -39,13 +47,23 @@ archive: ## prove and build the C library, crates/bitm_c/out/libbitm_c.a (needs 
 archives: ## prove and build it for each processor, crates/bitm_c/out/*/libbitm_c.a (needs Rattle)
 	scripts/archives
 
+bitm: ## prove and build the program bitm, crates/program_bitm/out/bitm (needs Rattle)
+	scripts/archives bitm
+
+prebuilt: ## prove and build all of prebuilt/ and the modules for JavaScript, for the last commit (needs Rattle)
+	scripts/archives x86-64 x86-64-v2 x86-64-v3 aarch64 wasm64 bitm
+	scripts/prebuilt
+
 build: archive ## the same as archive
 
 check: ## prove all crates that changed, without the rest of the gate
 	rt all check
 
-test: ## the gate: proofs, mutants, bindings, documents; allow an hour
+test: ## the gate: proofs, mutants, bindings, documents; allow up to two hours
 	scripts/test
+
+quick: ## what the change since the last commit touches
+	scripts/test --quick
 
 thorough: ## what the gate leaves out because it is slow
 	scripts/test --thorough
@@ -56,16 +74,15 @@ bench: ## measure this machine, into bench/out; under five minutes once the crat
 docs: ## the site of documents and references, out/docs/html, without network
 	docs/site/build
 
-# Where there is no archive, all are made.
-dist: $(if $(wildcard $(ARCHIVE)),,archives) ## the artefacts of a release, into dist/, for the last commit (make archives first, for all processors)
-	ARCHIVE="$(ARCHIVE)" scripts/dist
+dist: ## the artefacts of a release, into dist/, for the last commit, of the archives of make archives, else of prebuilt/
+	scripts/dist
 
 dist-check: ## try each artefact of dist/ where the repository is hidden
-	ARCHIVE="$(ARCHIVE)" scripts/dist-check dist
+	scripts/dist-check dist
 
-install: ## lay headers, archive, shared object, files for pkg-config and CMake below PREFIX (and DESTDIR)
-	@test -f $(ARCHIVE) || { echo "make install: there is no archive $(ARCHIVE). 'make archive' builds it (needs Rattle);"; \
-	    echo "or take vokhuliza-$(VERSION)-TARGET.tar.gz, the sources with the archive in it; or name one: make install ARCHIVE=FILE"; exit 1; }
+install: ## lay headers, archive, shared object, the program, files for pkg-config and CMake below PREFIX (and DESTDIR)
+	@test -f $(ARCHIVE) || { echo "make install: there is no archive $(ARCHIVE). Where ARCHIVE names none, it takes that of 'make archive'"; \
+	    echo "(needs Rattle), else that of prebuilt/ for the compiler's processor, $(or $(PROCESSOR),which $(CC) does not say)."; exit 1; }
 	mkdir -p $(DESTDIR)$(INCLUDEDIR)/bitm $(DESTDIR)$(LIBDIR)/pkgconfig $(DESTDIR)$(LIBDIR)/cmake/bitm
 	install -m 644 $(HEADERS) $(DESTDIR)$(INCLUDEDIR)
 	install -m 644 $(HEADERS_CPP) $(DESTDIR)$(INCLUDEDIR)/bitm
@@ -77,16 +94,24 @@ install: ## lay headers, archive, shared object, files for pkg-config and CMake 
 	$(FILL) install/bitm.pc.in > $(DESTDIR)$(LIBDIR)/pkgconfig/bitm.pc
 	$(FILL) install/bitm-config.cmake.in > $(DESTDIR)$(LIBDIR)/cmake/bitm/bitm-config.cmake
 	$(FILL) install/bitm-config-version.cmake.in > $(DESTDIR)$(LIBDIR)/cmake/bitm/bitm-config-version.cmake
+ifneq ($(PROGRAM),)
+	install -D -m 755 $(PROGRAM) $(DESTDIR)$(BINDIR)/bitm
+	install -D -m 644 install/bitm.1 $(DESTDIR)$(MANDIR)/bitm.1
+	install -D -m 644 install/bitm.bash $(DESTDIR)$(COMPLETIONS)/bitm
+else
+	@echo "make install: the program bitm is left out: there is none for $(PROCESSOR)"
+endif
 
 uninstall: ## take away what make install laid there
 	rm -f $(addprefix $(DESTDIR),$(LAID))
 	-rmdir $(DESTDIR)$(INCLUDEDIR)/bitm $(DESTDIR)$(LIBDIR)/cmake/bitm $(DESTDIR)$(LIBDIR)/cmake $(DESTDIR)$(LIBDIR)/pkgconfig 2> /dev/null
 
-install-python: ## the Python package, into the Python of this shell (make archive first)
+install-python: ## the Python package, into the Python of this shell
 	python3 -m pip install ./bindings/python
 
 javascript: archive ## the modules of the JavaScript package, its tests and its tarball
-	bindings/javascript/build
+	scripts/archives wasm64
+	scripts/prebuilt bindings/javascript/wasm
 	bindings/javascript/tests/each
 	cd bindings/javascript && npm pack
 
@@ -111,4 +136,4 @@ lint: ## what linters say of each language whose tool is here, and of the layout
 	echo "lint: the layout of Rattle is looked at by rt ci, which refuses files that rt fmt would change"; \
 	exit $$failed
 
-.PHONY: help archive archives build check test thorough bench docs dist dist-check install uninstall install-python javascript format lint
+.PHONY: help archive archives bitm prebuilt build check test quick thorough bench docs dist dist-check install uninstall install-python javascript format lint
