@@ -1,7 +1,7 @@
 #!/usr/bin/env python3
 """bill.py FOLDER VERSION COMMIT DATE TOOLCHAIN NAME=PLACE=FILE..   prints the bill of materials (SPDX 2.3) of the artefacts in
-FOLDER: the sources, the toolchain, each archive with its place in a checkout, the modules of JavaScript in this folder's
-repository, and each artefact that is made of them."""
+FOLDER: the sources, the toolchain, each archive and the program with its place in a checkout, the modules of JavaScript in
+this folder's repository, and each artefact that is made of them."""
 import hashlib
 import json
 import pathlib
@@ -22,11 +22,13 @@ def package(name, file, version, licence, **more):
 
 
 def inside(artefact, version, archives, modules):
-    """The archives and the modules in an artefact."""
+    """The archives, the modules and the program in an artefact."""
+    program = [it for it in archives if it.endswith("-program")] if re.search(r"^(?:bitm|vokhuliza)-.*-x86_64-.*-gnu\.tar\.gz$|^bitm_.*\.deb$", artefact) else []
+    archives = [it for it in archives if not it.endswith("-program")]
     by_processor = archives if artefact.endswith(".crate") else [it for it in archives if ("aarch64" in it) == (re.search("aarch64|_arm64.deb", artefact) is not None)]
-    if "-docs-" in artefact or artefact.endswith(".tgz"):
+    if "-docs-" in artefact or artefact.endswith(".tgz") or artefact.startswith("bitm_"):
         by_processor = []
-    return by_processor + (modules if re.search(rf"\.tgz$|^vokhuliza-{version}-.*-gnu\.tar\.gz$", artefact) else [])
+    return by_processor + program + (modules if re.search(rf"\.tgz$|^vokhuliza-{version}-.*-gnu\.tar\.gz$", artefact) else [])
 
 
 def bill(folder, version, commit, date, toolchain, *archives):

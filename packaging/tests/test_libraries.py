@@ -136,14 +136,20 @@ def test_debian_packages():
     """Both, installed into an empty system by dpkg itself, and taken away again."""
     needs("dpkg", "pkg-config", "gcc")
     packages = [artefact(f"{it}_*amd64.deb") for it in ("libbitm0", "libbitm-dev")]
+    program = sorted(DIST.glob("bitm_*amd64.deb"))
     root, lib = room() / "root", "usr/lib/x86_64-linux-gnu"
     dpkg = f"dpkg --root={root} --force-not-root --force-script-chrootless --log=/dev/null"
     bash(f"mkdir -p {root}/var/lib/dpkg/{{info,updates,triggers}} && touch {root}/var/lib/dpkg/{{status,available}}")
     bash(f"{dpkg} -i {packages[0]} {packages[1]}")
+    # libc6 is not in this system
+    for package in program:
+        bash(f"{dpkg} --force-depends -i {package}")
+        assert bash(f"printf '3\\n9\\n' | {root}/usr/bin/bitm build sparse > {room()}/s.block && {root}/usr/bin/bitm check {room()}/s.block") == "good\n"
+        assert (root / "usr/share/man/man1/bitm.1.gz").is_file()
     flags = bash(f"PKG_CONFIG_SYSROOT_DIR={root} PKG_CONFIG_LIBDIR={root}/{lib}/pkgconfig PKG_CONFIG_ALLOW_SYSTEM_LIBS=1 "
                  "PKG_CONFIG_ALLOW_SYSTEM_CFLAGS=1 pkg-config --cflags --libs bitm").strip()
     assert is_dynamic(examples_in_c(root / "usr/share/doc/libbitm-dev/examples", flags, LD_LIBRARY_PATH=f"{root}/{lib}"))
-    bash(f"{dpkg} -P libbitm-dev libbitm0")
+    bash(f"{dpkg} -P libbitm-dev libbitm0 {'bitm' if program else ''}")
     assert bash(f"find {root}/usr ! -type d || true") == ""
 
 

@@ -3,10 +3,11 @@ import hashlib
 import json
 import os
 import pathlib
-import re
 
+import pytest
 from common import DIST, PYTHON, VERSION, environment, examples_in_c, examples_in_python, flags_of, install, ready, room
 from common import slow, sources, unpacked
+from pasted import Pasted
 from shell import bash, needs
 
 
@@ -38,15 +39,17 @@ def test_sources():
         files = pathlib.Path(os.environ["FILES"]).read_text().split()
         assert sorted(bash("find . -type f -o -type l", sources()).split()) == sorted(f"./{it}" for it in files)
     assert "make install" in bash("make", sources())
-    assert "make archive" in bash(f"! make install PREFIX={room()}/no 2>&1", sources())
+    assert "make archive" in bash(f"! make install ARCHIVE=none PREFIX={room()}/no 2>&1", sources())
 
 
-def test_install_from_the_sources_with_the_archive():
+@pytest.mark.parametrize("tree", [sources, ready])
+def test_install_from_the_sources(tree):
+    """With the archive of prebuilt/, and with that of the artefacts."""
     needs("gcc", "g++", "pkg-config")
-    prefix = room() / "prefix"
-    bash(f"make --quiet install PREFIX={prefix}", ready())
-    examples_in_c(ready() / "examples", flags_of(prefix))
-    bash(f"make --quiet uninstall PREFIX={prefix}", ready())
+    prefix = room() / f"prefix.{tree.__name__}"
+    bash(f"make --quiet install PREFIX={prefix}", tree())
+    examples_in_c(tree() / "examples", flags_of(prefix))
+    bash(f"make --quiet uninstall PREFIX={prefix}", tree())
     assert bash(f"find {prefix} ! -type d") == ""
 
 
@@ -67,33 +70,18 @@ def test_pip_in_the_sources_with_the_archive():
 @slow
 def test_lines_of_the_readme():
     """With no tool on the PATH but those of a plain system and gcc, make, Python and Cargo."""
-    needs("gcc", "g++", "make", "cargo", "dpkg")
+    needs("gcc", "g++", "make", "cargo", "dpkg", f"{PYTHON}:ensurepip")
     home, plain = room() / "home", "coreutils bash dash sed grep findutils gawk mawk"
-    bash(f"""mkdir -p {room()}/bin {home}/work/src && cp -r {ready()} {home}/vokhuliza
+    bash(f"""mkdir -p {room()}/bin {home} && cp -r {ready()} {home}/vokhuliza
         for it in gcc x86_64-linux-gnu-gcc g++ cc c++ as ld ar make python3 cargo rustc awk diff $(dpkg -L {plain} 2> /dev/null | sed -n 's|.*/bin/||p'); do
             if command -v $it > /dev/null; then ln -sf "$(command -v $it)" {room()}/bin/$it; fi
         done""")
-    text = (home / "vokhuliza/README.md").read_text()
-    how = {"HOME": str(home), "PATH": f"{room()}/bin", "PIP_NO_INDEX": "1", "PIP_NO_BUILD_ISOLATION": "0"}
+    how = {"HOME": str(home), "PATH": f"{room()}/bin"}
     how |= {f"{it}_HOME": os.environ.get(f"{it}_HOME", os.path.expanduser(f"~/.{it.lower()}")) for it in ("RUSTUP", "CARGO")}
 
-    def line(begin):
-        return re.search(f"`({re.escape(begin)}[^`]*)`", text)[1]
-
-    def blocks(language, file):
-        (home / "work" / file).write_text(re.search(rf"^```{language}\n(.*?)^```", text, re.M | re.S)[1])
-
-    def prints(command):
-        assert bash(command, home / "work", **how) == re.search(r"^```output\n(.*?)^```", text, re.M | re.S)[1]
-    bash(line("make install"), home / "vokhuliza", **how)
-    blocks("c", "x.c"), prints(f"{line('cc x.c')} && ./a.out")
-    blocks("cpp", "x.cpp"), prints(f"{line('cc x.c').replace('cc x.c', 'c++ x.cpp')} && ./a.out")
-    package = '[package]\nname = "x"\nversion = "0.1.0"\nedition = "2021"\n[dependencies]\n'
-    (home / "work/Cargo.toml").write_text(package + line("bitm = {") + "\n")
-    blocks("rust", "src/main.rs"), prints("cargo run --quiet --offline")
-    python = environment("home/venv")
-    bash(f"source {python.parent}/activate && {line('pip install')}", home / "vokhuliza", **how)
-    blocks("python", "x.py"), prints(f"{python} x.py")
+    readme = Pasted(home, lambda command, folder: bash(command, folder, **how))
+    for language in ("c", "cpp", "rust", "python"):
+        getattr(readme, language)()
 
 
 @slow
