@@ -15,6 +15,7 @@
     mapped [RUNS]           mapped.csv: blocks in mapped files of 1.1 GB, below $TMPDIR or /tmp, which has to be on a disk;
                             8 GB of memory
     javascript [RUNS]       javascript.csv: the package beside plain JavaScript, by both modules (Node)
+    space                   space.csv: how much memory each structure takes, the same on every machine (Node)
 
 A value is the least of RUNS programs (3) one after the other. Plots are drawn anew where matplotlib is installed. The
 rows are those of the state that stands here, so commit first, stop all other work on the machine, and write the day and
@@ -217,16 +218,21 @@ def javascript(runs):
     write("javascript", found)
 
 
+def space(_):
+    """How much memory each structure takes."""
+    (PLOTS / "space.csv").write_text("row,by,log2,kind,value,unit,check\n" + said("node", BENCH / "space.mjs"), encoding="utf-8")
+
+
 def main(arguments):
     what, rest = arguments[0] if arguments else "", arguments[1:]
     folder = [rest.pop(0)] if what == "original" and rest else []
-    known = folder or what in ("sdsl", "structures", "texts", "limits", "mapped", "javascript")
+    known = folder or what in ("sdsl", "structures", "texts", "limits", "mapped", "javascript", "space")
     if not known or len(rest) > 1 or not all(it.isdigit() for it in rest):
         print(__doc__)
         return 2
     ROOM.mkdir(exist_ok=True)
     measure = {"original": original, "sdsl": sdsl, "structures": structures, "texts": texts, "limits": limits, "mapped": mapped,
-               "javascript": javascript}
+               "javascript": javascript, "space": space}
     measure[what](*folder, int(rest[0]) if rest else 3)
     said(BENCH / "page")
     return 0

@@ -25,8 +25,12 @@
  * Promised, and proved of each call, for all arguments that keep the duties below:
  *   - it returns, and reads and writes only the memory that it is passed, WHATEVER the tables hold;
  *   - a status other than BITM_OK leaves all that the call could have written unchanged, but for cursors, which may have
- *     moved, and for the lists of positions or letters of a text, of ranges of a matrix and of cursors, the word of a
- *     node of a trie, the fingerprints of keys, and the block of strings, where it is BITM_WRONG;
+ *     moved, for memory that is said to be overwritten (scratch of words, room of shards), for the numbers at a list of
+ *     indices, which are written up to the first that has none, and, where it is BITM_WRONG, for the numbers of a
+ *     sequence in order, the lists of positions or letters of a text, of ranges of a matrix and of cursors, the word of
+ *     a node of a trie, the fingerprints of keys, and the block of strings;
+ *   - a call that builds a block compares lengths before it looks at what the lists hold: BITM_BAD_SIZE comes before
+ *     BITM_UNSORTED, and that before BITM_WRONG;
  *   - over any tables, stale and hostile ones too, a rank is at most its position and a selection finds a position that
  *     is inside and holds the requested bit; BITM_WRONG says that the tables are not those of the words, but BITM_OK
  *     does not say that they are;
@@ -48,7 +52,9 @@
  *     during the call. It has to be allocated, but need not be initialized;
  *   - memory that a call reads (const) is not written during the call;
  *   - a mapped file is not truncated while a call runs: the system would end the process;
- *   - a bool is 0 or 1, as a C compiler ensures; the processor counts bits in hardware (x86-64-v2). */
+ *   - a bool is 0 or 1, as a C compiler ensures; the processor counts bits in hardware (x86-64-v2).
+ * What a call does where a duty is broken is undefined, as with C's own functions: it may answer wrongly, end the process
+ * (SIGILL), or read and write outside the memory that it is passed. */
 #ifndef BITM_H
 #define BITM_H
 
@@ -115,12 +121,14 @@ static inline bool bitm_version_fits(void)
 /* What a call returns; each call names those that it may return. */
 enum bitm_status {
     BITM_OK = 0,       /* the answer was written */
-    BITM_NONE = 1,     /* there is no such position, bit or number */
-    BITM_BAD_SIZE = 2, /* a length is wrong: see each call; bitm_index_fault, bitm_sequence_fault, .. say which one */
+    BITM_NONE = 1,     /* there is no such position, bit, number, node, key or word */
+    BITM_BAD_SIZE = 2, /* a length is wrong: see each call; bitm_index_fault, bitm_tree_fault, .. say which one */
     BITM_WRONG = 3,    /* the tables or samples are not those of the words, the parts not those of a sequence, the
                         * header or the block is not one, the degrees are those of no tree, the labels are none for a
-                        * tree, a number has more bits than the width, or a letter is outside its alphabet */
-    BITM_UNSORTED = 4  /* a number is less than the one before it */
+                        * tree, a number has more bits than the width, a letter is outside its alphabet, a position is
+                        * bits_len or more, a key does not stand at its number, or two strings are equal */
+    BITM_UNSORTED = 4  /* a number is less than the one before it, a position is not greater than the one before it, or
+                        * a word does not stand after the one before it */
 };
 
 /* A status in words, in memory that stays.
@@ -133,7 +141,7 @@ static inline const char *bitm_status_text(uint32_t status)
     case BITM_NONE: return "there is no such position, bit or number";
     case BITM_BAD_SIZE: return "a length is wrong";
     case BITM_WRONG: return "the tables, samples, parts or header are not right";
-    case BITM_UNSORTED: return "a number is less than the one before it";
+    case BITM_UNSORTED: return "the numbers, positions or words are not in order";
     default: return "not a status of this library";
     }
 }
@@ -213,7 +221,8 @@ BITM_MUST_USE uint32_t bitm_bits_set_list(uint64_t *words, size_t words_len, uin
 
 /* The number in the width bits from position begin on, lowest bit first; replaces it by the width lowest bits of value;
  * combines these bits with the width lowest bits of value by exclusive or. A width is 0 to 64; the number of width 0 is
- * 0. BITM_NONE if begin + width is above bits_len or width is above 64. Reads or writes at most two words.
+ * 0. BITM_NONE if begin + width is above bits_len or width is above 64. Reads or writes at most two words
+ * (evident from the code).
  *
  *     if (bitm_bits_get_number(words, n, 100, 3, 4, &value) != BITM_OK || value != 11) return 1; // bits 3, 4 and 6
  *     if (bitm_bits_set_number(some, 2, 100, 62, 4, 9) != BITM_OK ||
@@ -321,7 +330,7 @@ BITM_MUST_USE uint32_t bitm_bits_and_not(uint64_t *words, size_t words_len, cons
 
 /* Whether a position among the first bits_len has a 1 bit in both words and other; whether other has a 1 bit at each
  * such position where words has one. As 0 or 1. BITM_BAD_SIZE if either has fewer than bits_len bits. words and other
- * may overlap. Reads each word of both at most twice, up to the first that decides.
+ * may overlap. Reads each word of both at most twice, up to the first that decides (evident from the code).
  *
  *     if (bitm_bits_intersects(six, 1, words, n, 64, &value) != BITM_OK || value != 1 || // both have bit 1
  *         bitm_bits_is_subset(six, 1, words, n, 64, &value) != BITM_OK || value != 0) return 1; // words lack bit 2 */
@@ -458,7 +467,7 @@ BITM_MUST_USE uint32_t bitm_index_check(const struct bitm_index *index);
  * are the samples; else they are arbitrary numbers. BITM_BAD_SIZE also if samples_len is less than
  * bitm_index_samples_len says or starts_len is not upper_len. samples, starts and used may not overlap one another, nor
  * what the struct points to. Reads both tables once, up to two lower entries again for each sample, and at most eight
- * words. */
+ * words (evident from the code). */
 BITM_MUST_USE uint32_t bitm_index_build_samples(const struct bitm_index *index, bool one, uint32_t log2,
                                                 uint32_t *samples, size_t samples_len, uint64_t *starts,
                                                 size_t starts_len, uint64_t *used);
@@ -605,7 +614,8 @@ BITM_MUST_USE uint32_t bitm_sequence_sizes(size_t len, uint64_t largest, struct 
 
 /* Writes the parts of a sequence of the items, and width. BITM_BAD_SIZE if a length is not what bitm_sequence_sizes
  * says for items_len and the last item; else BITM_UNSORTED if an item is less than the one before it. None of the
- * parts, nor width, may overlap another or the items. Passes three times over the items and once over the words. */
+ * parts, nor width, may overlap another or the items. Passes three times over the items and once over the words
+ * (evident from the code). */
 BITM_MUST_USE uint32_t bitm_sequence_build(const uint64_t *items, size_t items_len, uint64_t *low, size_t low_len,
                                            uint64_t *words, size_t words_len, uint64_t *upper, size_t upper_len,
                                            uint64_t *lower, size_t lower_len, uint64_t *width);
@@ -647,21 +657,25 @@ BITM_MUST_USE uint32_t bitm_sequence_contains(const struct bitm_sequence *sequen
 
 /* Writes the numbers from index from on, in order, until out is full or there are no more, and to written how many; the
  * rest of out stays as it was. If the parts are not those of a sequence, the numbers are arbitrary, and only then may
- * there be fewer than both out_len and len - from. out and written may not overlap each other or the parts. Reads what
- * a selection reads, passes over the words from there on, and reads at most one fragment of low for each number.
+ * there be fewer than both out_len and len - from: BITM_WRONG exactly if there are. out and written may not overlap
+ * each other or the parts. Reads what a selection reads, passes over the words from there on, and reads at most one
+ * fragment of low for each number (evident from the code).
  *
  *     if (bitm_sequence_items(&primes, 2, found, 8, &written) != BITM_OK || written != 3 || found[0] != 5) return 1; */
 BITM_MUST_USE uint32_t bitm_sequence_items(const struct bitm_sequence *sequence, uint64_t from, uint64_t *out,
                                            size_t out_len, uint64_t *written);
 
-/* The numbers at a list of indices, as bitm_sequence_get answers them, up to the first for which it does not return
- * BITM_OK; written is how many these are, and the rest of out stays as it was. BITM_BAD_SIZE also if out_len is not
+/* Writes the numbers at a list of indices, as bitm_sequence_get answers them, up to the first index that has none, and
+ * to written how many; the rest of out stays as it was. BITM_OK exactly if all are written. Else the status says why
+ * the call stopped at indices[written]: BITM_NONE exactly if that is not below len, and BITM_WRONG exactly if it is, as
+ * it may be only if the parts are not those of a sequence. BITM_BAD_SIZE, and nothing is written, also if out_len is not
  * indices_len. 1 bits are selected side by side, so if the parts are not those of a sequence, a number may differ from
  * that of bitm_sequence_get. out and written may not overlap each other, the indices or the parts.
  *
- *     const uint64_t indices[2] = {4, 0};
+ *     const uint64_t indices[3] = {4, 0, 5};
  *     if (bitm_sequence_get_list(&primes, indices, 2, found, 2, &written) != BITM_OK || found[0] != 11 ||
- *         found[1] != 2) return 1; */
+ *         found[1] != 2 || bitm_sequence_get_list(&primes, indices, 3, found, 3, &written) != BITM_NONE ||
+ *         written != 2) return 1; // there is no number 5 */
 BITM_MUST_USE uint32_t bitm_sequence_get_list(const struct bitm_sequence *sequence, const uint64_t *indices,
                                               size_t indices_len, uint64_t *out, size_t out_len, uint64_t *written);
 
@@ -722,8 +736,8 @@ BITM_MUST_USE BITM_SELDOM static inline uint32_t bitm_sequence_walk_from(struct 
     walk->first = index < walk->sequence.len ? index : walk->sequence.len;
     walk->at = 0;
     walk->len = written;
-    if (status != BITM_OK) return status;
-    if (written == 0) return index < walk->sequence.len ? BITM_WRONG : BITM_NONE;
+    if (status == BITM_OK && written == 0) return BITM_NONE;
+    if (written == 0) return status;
     *out = walk->numbers[0];
     return BITM_OK;
 }
@@ -768,7 +782,7 @@ BITM_MUST_USE static inline uint32_t bitm_sequence_walk_to(struct bitm_sequence_
  *     if (bitm_cursor_start(&lists[1]) != BITM_OK || bitm_cursors_union(lists, 2, 6, found, 8, &written) != BITM_OK ||
  *         written != 2 || found[0] != 7) return 1; // lists[0] is at its end */
 
-/* A position in a sequence, which moves forward only: at a number, or at the end, where index is that of no number. You
+/* A position in a sequence, which moves forward only: at a number, or at the end, where index belongs to no number. You
  * give the sequence, and bitm_cursor_start the rest. A cursor keeps a copy of the struct of the sequence, and is memory
  * of yours as any other: it is for one thread. Over parts of one sequence, with a cursor that these calls alone moved,
  * the answers are those of the numbers; whatever parts and cursor hold, each call returns. */
@@ -793,9 +807,10 @@ BITM_MUST_USE uint32_t bitm_cursor_next(struct bitm_cursor *cursor, uint64_t at_
 
 /* Writes the numbers from from on that stand in each of the sequences, or in any of them, from the cursors on: rising,
  * each once, as many as there are and out has room for, and to written how many; the rest of out stays as it was. If out
- * is full, a call with one more than its last number for from goes on. BITM_WRONG if the parts of a cursor's sequence
- * turn out not to be those of a sequence, or have a wrong length; out may have some of the numbers then. BITM_BAD_SIZE
- * if there is no cursor to intersect. Moves each cursor at most once for each number that is written and once more; the
+ * is full, a call with one more than its last number for from goes on. BITM_WRONG if a sequence has a wrong length, and
+ * then no cursor moves and out stays; or if the parts of a sequence turn out wrong as its cursor moves, and then out may
+ * have some of the numbers: BITM_OK says that no move was BITM_WRONG. BITM_BAD_SIZE if there is no cursor to intersect.
+ * The sequences of the cursors stay. Moves each cursor at most once for each number that is written and once more; the
  * intersection for each number of the first sequence and once more, so the shortest is best first. The cursors, out and
  * written may not overlap one another or the parts; cursors may share parts. */
 BITM_MUST_USE uint32_t bitm_cursors_intersect(struct bitm_cursor *cursors, size_t cursors_len, uint64_t from,
@@ -872,7 +887,7 @@ BITM_MUST_USE uint32_t bitm_hash_get(const struct bitm_hash *hash, uint64_t key_
 /* out[i] is the number of key_hashes[i], or BITM_NO_ANSWER for BITM_NONE and BITM_WRONG_TABLES for BITM_WRONG; counts
  * says how many of each there are. BITM_BAD_SIZE also if out_len is not key_hashes_len. out and counts may overlap
  * neither each other nor the hashes. 32 hashes go from level to level side by side: for each no more is read than for
- * one alone.
+ * one alone (evident from the code).
  *
  *     const uint64_t known[2] = {0xa4093822299f31d0, 0x243f6a8885a308d3};
  *     if (bitm_hash_get_list(&hash, known, 2, answers, 2, &counts) != BITM_OK || counts.missing + counts.wrong > 0 ||
@@ -1059,7 +1074,8 @@ BITM_MUST_USE uint32_t bitm_stored_index_room(uint64_t bits_len, uint32_t ones_l
  * samples of 1 bits and of 0 bits, each with a log2 of 7 to 31, or 0 and none, and to out the header of such a file.
  * The samples of 0 bits begin at the first multiple of 16 after the others. BITM_BAD_SIZE if words has fewer bits, to,
  * upper, lower, starts or starts0 is not as long as bitm_stored_index_room says, samples has not room for the greatest
- * number of each kind, or for other log2. Nothing that is passed may overlap. Reads the words twice.
+ * number of each kind, or for other log2. Nothing that is passed may overlap. Reads the words twice
+ * (evident from the code).
  *
  *     uint64_t to[2], to_upper[1], to_lower[1];
  *     if (bitm_stored_build(words, n, 100, 0, 0, to, 2, to_upper, 1, to_lower, 1, NULL, 0, NULL, 0, NULL, 0,
@@ -1253,6 +1269,23 @@ struct bitm_shards {
     uint64_t reserved[2]; /* 0: not given */
 };
 
+/* Faults of prefix counts, and of shards: see bitm_bits_fault. Those of a shard are bitm_index_fault.
+ *
+ *     if (bitm_prefixes_fault(&prefixes) != NULL) return 1; */
+static inline const char *bitm_prefixes_fault(const struct bitm_prefixes *counts)
+{
+    if (counts->bits_len == 0) return "bits_len is 0";
+    if (counts->ones_len != counts->bits_len) return "ones_len is not bits_len";
+    return NULL;
+}
+static inline const char *bitm_shards_fault(const struct bitm_shards *shards)
+{
+    const char *const fault = bitm_prefixes_fault(&shards->counts);
+    if (fault) return fault;
+    if (shards->shards_len != shards->counts.bits_len - 1) return "shards_len is not counts.bits_len - 1";
+    return NULL;
+}
+
 /* Writes the sum of the numbers before each number, and last that of all. BITM_BAD_SIZE if out_len is not numbers_len +
  * 1, or the sum is 2^64 or more. numbers and out may not overlap. */
 BITM_MUST_USE uint32_t bitm_prefix_sums(const uint64_t *numbers, size_t numbers_len, uint64_t *out, size_t out_len);
@@ -1284,7 +1317,8 @@ BITM_MUST_USE uint32_t bitm_shards_find(const struct bitm_prefixes *counts, uint
 BITM_MUST_USE uint32_t bitm_shards_rank(const struct bitm_shards *shards, bool one, uint64_t position, uint64_t *out);
 BITM_MUST_USE uint32_t bitm_shards_select(const struct bitm_shards *shards, bool one, uint64_t rank, uint64_t *out);
 
-/* bitm_index_next and bitm_index_previous of the joined bits: a rank and a selection, which read at most two shards.
+/* bitm_index_next and bitm_index_previous of the joined bits: a rank and a selection, which read at most two shards
+ * (evident from the code).
  * Over any counts and tables, a position that is found is on the requested side of `from`, below the claimed number of
  * bits, and in some shard holds the requested bit. BITM_NONE if there is none; BITM_WRONG if counts or tables turn out
  * to be wrong.
@@ -1347,22 +1381,32 @@ struct bitm_tree {
     uint64_t reserved[2]; /* 0: not read */
 };
 
+/* Faults of a tree: see bitm_bits_fault.
+ *
+ *     if (bitm_tree_fault(&tree) != NULL) return 1; */
+static inline const char *bitm_tree_fault(const struct bitm_tree *tree)
+{
+    if (tree->len >= (size_t)1 << 60) return "len is 2^60 or more";
+    if (tree->words_len != bitm_bits_words_len(2 * tree->len + 1))
+        return "words_len is not bitm_bits_words_len(2 * len + 1)";
+    return bitm_tables_fault(tree->words_len, tree->upper_len, tree->lower_len);
+}
+
 /* How many words the block of a tree of that many nodes takes. BITM_BAD_SIZE if there are 2^60 or more. */
 BITM_MUST_USE uint32_t bitm_tree_size(size_t nodes, uint64_t *out);
 
-/* Writes the block of the tree whose nodes have these degrees. BITM_WRONG exactly if they are those of no tree: there is
- * one child for each node but the root, and the first i nodes have at least i children, for each i from 1 to n - 1. Else
- * BITM_BAD_SIZE if block_len is not what bitm_tree_size says. Allocates nothing, and needs no other memory. degrees and
- * block may not overlap.
+/* Writes the block of the tree whose nodes have these degrees. BITM_BAD_SIZE if bitm_tree_size does not take degrees_len,
+ * or block_len is not what it says; else BITM_WRONG if the degrees are those of no tree: in a tree there is one child for
+ * each node but the root, and the first i nodes have at least i children, for each i from 1 to n - 1. Allocates nothing,
+ * and needs no other memory. degrees and block may not overlap.
  *
  *     const uint64_t of_none[2] = {0, 1}; // node 1 would be its own parent
  *     if (bitm_tree_build(of_none, 2, block, block_len) != BITM_WRONG) return 1; */
 BITM_MUST_USE uint32_t bitm_tree_build(const uint64_t *degrees, size_t degrees_len, uint64_t *block, size_t block_len);
 
-/* Opens a block: writes the tree that queries take, which points into the block. *tree has to be zeros, or a tree whose
- * block is still there. BITM_WRONG exactly if the header or the directory of the block is not right, or is that of no
- * tree, or block_len is not as they say. Reads at most 80 words, however long the block is (evident from the code); what
- * its other words hold is not looked at.
+/* Opens a block: writes the tree that queries take, which points into the block. BITM_WRONG exactly if the header or
+ * the directory of the block is not right, or belongs to no tree, or block_len is not as they say. Reads at most 80
+ * words, however long the block is (evident from the code); what its other words hold is not looked at.
  *
  *     if (bitm_tree_open(block, block_len - 1, &tree) != BITM_WRONG || tree.len != 4) return 1; */
 BITM_MUST_USE uint32_t bitm_tree_open(const uint64_t *block, size_t block_len, struct bitm_tree *tree);
@@ -1475,17 +1519,31 @@ struct bitm_trie {
     uint64_t reserved[2]; /* 0: not read */
 };
 
+/* Faults of a trie: see bitm_bits_fault.
+ *
+ *     if (bitm_trie_fault(&trie) != NULL) return 1; */
+static inline const char *bitm_trie_fault(const struct bitm_trie *trie)
+{
+    const size_t nodes = trie->tree.len, labels = nodes > 0 ? nodes - 1 : 0;
+    if (nodes >= (size_t)1 << 57) return "tree.len is 2^57 or more";
+    if (trie->width < 1 || trie->width > 63) return "width is not 1 to 63";
+    if (trie->labels_len != bitm_bits_words_len(labels * trie->width))
+        return "labels_len is not bitm_bits_words_len((tree.len - 1) * width)";
+    if (trie->ends_len != 0 && trie->ends_len != bitm_bits_words_len(nodes))
+        return "ends_len is neither 0 nor bitm_bits_words_len(tree.len)";
+    return bitm_tree_fault(&trie->tree);
+}
+
 /* How many words the block of a trie of that many nodes takes, whose labels have `width` bits, with a bit for each
  * node or without. BITM_BAD_SIZE if there are 2^57 nodes or more, or width is not 1 to 63. */
 BITM_MUST_USE uint32_t bitm_trie_size(size_t nodes, uint32_t width, bool has_ends, uint64_t *out);
 
 /* Writes the block of the trie of these degrees and labels. ends are no words, or ceil(degrees_len / 64); they are
- * copied as they are. BITM_BAD_SIZE if bitm_trie_size does not take degrees_len and width; else BITM_WRONG exactly if
- * the degrees are those of no tree (bitm_tree_build), labels_len is not degrees_len - 1, a label has more than
- * `width` bits, or the labels of the children of a node do not rise; else BITM_BAD_SIZE if ends_len is neither of
- * these, or block_len is not what bitm_trie_size says. Allocates nothing, and needs no other memory. block may
- * overlap nothing that is read. Three passes over degrees and labels, and four over the block (evident from the
- * code).
+ * copied as they are. BITM_BAD_SIZE if bitm_trie_size does not take degrees_len and width, labels_len is not
+ * degrees_len - 1 (0 if there are no degrees), ends_len is neither of these, or block_len is not what bitm_trie_size
+ * says; else BITM_WRONG if the degrees are those of no tree (bitm_tree_build), a label has more than `width` bits, or the
+ * labels of the children of a node do not rise. Allocates nothing, and needs no other memory. block may overlap nothing
+ * that is read. Three passes over degrees and labels, and four over the block (evident from the code).
  *
  *     const uint64_t of_fall[3] = {'b', 'a', 'e'};
  *     if (bitm_trie_build(children, 4, of_fall, 3, 8, node_ends, 1, of_words, trie_len) != BITM_WRONG) return 1; */
@@ -1497,8 +1555,9 @@ BITM_MUST_USE uint32_t bitm_trie_build(const uint64_t *degrees, size_t degrees_l
  * not share with the word before it, from their first on. The words stand one after another in bytes: starts says where
  * each begins, and at last where the last one ends. They rise in the order of a dictionary, by their bytes, a word before
  * a longer one that it begins, and none is twice there; the empty word may be one. BITM_BAD_SIZE exactly if there are no
- * starts, one is less than the one before it, or the last one is more than bytes_len; else BITM_WRONG exactly if a word
- * does not stand after the one before it. Three passes over the starts, and two over the bytes (evident from the code).
+ * starts, one is less than the one before it, or the last one is more than bytes_len; else BITM_UNSORTED exactly if a
+ * word does not stand after the one before it. Three passes over the starts, and two over the bytes (evident from the
+ * code).
  *
  *     const uint8_t *letters_of = (const uint8_t *)"aabeb"; // a, abe and b
  *     const uint64_t starts_of[4] = {0, 1, 4, 5};
@@ -1510,10 +1569,12 @@ BITM_MUST_USE uint32_t bitm_trie_nodes_of_words(const uint8_t *bytes, size_t byt
 
 /* Writes the block of the trie of sorted words, which are given as to bitm_trie_nodes_of_words, with labels of 8 bits and
  * ends: bitm_trie_find_bytes of a word finds a node, and bitm_trie_is_end says that a word ends there, exactly if it is
- * one of them. BITM_BAD_SIZE and BITM_WRONG as that call; else BITM_BAD_SIZE if scratch_len is not
- * 3 n - 2 + ceil(n / 64) for n nodes, or bitm_trie_size(n, 8, true, ..) does not say block_len. What scratch holds is
- * overwritten. Allocates nothing. scratch and block may overlap neither each other nor what is read. Five passes over the
- * starts, four over the bytes, and those of bitm_trie_build (evident from the code).
+ * one of them. Let n be the number of nodes: one, and one for each byte that a word does not share with the word before
+ * it, also where words do not rise. BITM_BAD_SIZE if bitm_trie_nodes_of_words returns it, scratch_len is not
+ * 3 n - 2 + ceil(n / 64), or bitm_trie_size(n, 8, true, ..) does not say block_len; else BITM_UNSORTED if a word does not
+ * stand after the one before it. What scratch holds is overwritten. Allocates nothing. scratch and block may overlap
+ * neither each other nor what is read. Five passes over the starts, four over the bytes, and those of bitm_trie_build
+ * (evident from the code).
  *
  *     uint64_t parts_of[14], grown_len;
  *     if (bitm_trie_size(5, 8, true, &grown_len) != BITM_OK) return 1;
@@ -1531,10 +1592,9 @@ BITM_MUST_USE uint32_t bitm_trie_build_words(const uint8_t *bytes, size_t bytes_
                                              size_t starts_len, uint64_t *scratch, size_t scratch_len, uint64_t *block,
                                              size_t block_len);
 
-/* Opens a block: writes the trie that queries take, which points into the block. *trie has to be zeros, or a trie
- * whose block is still there. BITM_WRONG exactly if the header or the directory of the block is not right, or is that
- * of no trie, or block_len is not as they say. Reads at most 80 words, however long the block is (evident from the
- * code); what its other words hold is not looked at.
+/* Opens a block: writes the trie that queries take, which points into the block. BITM_WRONG exactly if the header or
+ * the directory of the block is not right, or belongs to no trie, or block_len is not as they say. Reads at most 80
+ * words, however long the block is (evident from the code); what its other words hold is not looked at.
  *
  *     if (bitm_trie_open(of_words, trie_len - 1, &trie) != BITM_WRONG || trie.tree.len != 4) return 1; */
 BITM_MUST_USE uint32_t bitm_trie_open(const uint64_t *block, size_t block_len, struct bitm_trie *trie);
@@ -1646,25 +1706,40 @@ struct bitm_matrix {
     size_t quarters_len;
 };
 
+/* Faults of a matrix: see bitm_bits_fault.
+ *
+ *     if (bitm_matrix_fault(&matrix) != NULL) return 1; */
+static inline const char *bitm_matrix_fault(const struct bitm_matrix *matrix)
+{
+    if (matrix->width < 1 || matrix->width > 64) return "width is not 1 to 64";
+    if (matrix->len > (((uint64_t)1 << 63) - 1) / matrix->width) return "len * width is 2^63 or more";
+    if (matrix->words_len != bitm_bits_words_len(matrix->len * matrix->width))
+        return "words_len is not bitm_bits_words_len(len * width)";
+    if (matrix->ones_len != matrix->width) return "ones_len is not width";
+    if (matrix->zeros_len != matrix->width) return "zeros_len is not width";
+    if (matrix->quarters_len != 0 && matrix->quarters_len != matrix->words_len / 8 + (matrix->words_len % 8 != 0))
+        return "quarters_len is neither 0 nor words_len / 8, rounded up";
+    return bitm_tables_fault(matrix->words_len, matrix->upper_len, matrix->lower_len);
+}
+
 /* How many words the block of `len` numbers of `width` bits takes, with quarters or without. BITM_BAD_SIZE if width is
  * not 1 to 64, or len * width is 2^63 or more. */
 BITM_MUST_USE uint32_t bitm_matrix_size(size_t len, uint32_t width, bool quarters, uint64_t *out);
 
-/* Writes the block of these numbers of `width` bits, with quarters or without. BITM_WRONG exactly if a length and width
- * that bitm_matrix_size takes are given, and a number has more bits. Else BITM_BAD_SIZE if bitm_matrix_size does not
- * take them, block_len is not what it says, or scratch_len is not 2 * numbers_len. What scratch holds is overwritten.
- * Allocates nothing. Numbers, scratch and block may not overlap one another. For each bit of the width two passes over
- * the numbers, then three over the block, and with quarters five ranks for every eight words (evident from the code).
+/* Writes the block of these numbers of `width` bits, with quarters or without. BITM_BAD_SIZE if bitm_matrix_size does not
+ * take numbers_len and width, block_len is not what it says, or scratch_len is not 2 * numbers_len; else BITM_WRONG if a
+ * number has more bits than the width. What scratch holds is overwritten. Allocates nothing. Numbers, scratch and block
+ * may not overlap one another. For each bit of the width two passes over the numbers, then three over the block, and with
+ * quarters five ranks for every eight words (evident from the code).
  *
  *     // 4 has 3 bits:
  *     if (bitm_matrix_build(any_order, 6, 2, false, scratch, 12, of_numbers, matrix_len) != BITM_WRONG) return 1; */
 BITM_MUST_USE uint32_t bitm_matrix_build(const uint64_t *numbers, size_t numbers_len, uint32_t width, bool quarters,
                                          uint64_t *scratch, size_t scratch_len, uint64_t *block, size_t block_len);
 
-/* Opens a block: writes the matrix that queries take, which points into the block. *matrix has to be zeros, or a matrix
- * whose block is still there. BITM_WRONG exactly if the header or the directory of the block is not right, or is that
- * of no matrix, or block_len is not as they say. Reads at most 80 words, however long the block is (evident from the
- * code); what its other words hold is not looked at.
+/* Opens a block: writes the matrix that queries take, which points into the block. BITM_WRONG exactly if the header or
+ * the directory of the block is not right, or belongs to no matrix, or block_len is not as they say. Reads at most 80
+ * words, however long the block is (evident from the code); what its other words hold is not looked at.
  *
  *     if (bitm_matrix_open(of_numbers, matrix_len - 1, &matrix) != BITM_WRONG || matrix.len != 6) return 1; */
 BITM_MUST_USE uint32_t bitm_matrix_open(const uint64_t *block, size_t block_len, struct bitm_matrix *matrix);
@@ -1705,13 +1780,15 @@ BITM_MUST_USE uint32_t bitm_matrix_rank(const struct bitm_matrix *matrix, uint64
 BITM_MUST_USE uint32_t bitm_matrix_select(const struct bitm_matrix *matrix, uint64_t number, size_t rank,
                                           uint64_t *out);
 
-/* The numbers at a list of indices, as bitm_matrix_get answers them, up to the first for which it does not return
- * BITM_OK; written is how many these are, and the rest of out stays as it was. BITM_BAD_SIZE also if out_len is not
+/* Writes the numbers at a list of indices, as bitm_matrix_get answers them, up to the first index that has none, and to
+ * written how many; the rest of out stays as it was. BITM_OK exactly if all are written. Else the status says why the
+ * call stopped at indices[written]: BITM_NONE exactly if that is not below len, and BITM_WRONG exactly if it is, as it
+ * may be only if the block is not that of a matrix. BITM_BAD_SIZE, and nothing is written, also if out_len is not
  * indices_len. out and written may not overlap each other or what the call reads. 32 of them go from level to level
  * together, so that they wait for memory side by side (evident from the code).
  *
  *     const uint64_t at_each[3] = {4, 0, 6};
- *     if (bitm_matrix_get_list(&matrix, at_each, 3, of_each, 3, &written) != BITM_OK || written != 2 ||
+ *     if (bitm_matrix_get_list(&matrix, at_each, 3, of_each, 3, &written) != BITM_NONE || written != 2 ||
  *         of_each[0] != 5 || of_each[1] != 3) return 1; // there is no number 6 */
 BITM_MUST_USE uint32_t bitm_matrix_get_list(const struct bitm_matrix *matrix, const uint64_t *indices,
                                             size_t indices_len, uint64_t *out, size_t out_len, uint64_t *written);
@@ -1778,8 +1855,9 @@ BITM_MUST_USE uint32_t bitm_matrix_distinct(const struct bitm_matrix *matrix, si
 
 /* The most frequent numbers of a range: the most frequent first, and of equally frequent ones the least; as many as
  * there is room for, or all; *written is how many these are. Statuses, overlaps and what is promised of any block as
- * bitm_matrix_distinct, but for the order. For each distinct number of the range reads what bitm_matrix_count_less
- * reads, and goes a step for each number less frequent among those that are kept (evident from the code).
+ * bitm_matrix_distinct, but for the order. For each distinct number of the range, and at most for each of its numbers
+ * whatever the block holds, reads what bitm_matrix_count_less reads. The numbers are kept in a heap: with room for k of
+ * them each takes at most log2(k) steps, and to sort them in the end twice as many (evident from the code).
  *
  *     if (bitm_matrix_top(&matrix, 0, 6, kinds, 2, of_kinds, 2, &written) != BITM_OK || written != 2 ||
  *         kinds[0] != 1 || of_kinds[0] != 3 || kinds[1] != 3) return 1; // 1 three times; 3, 4 and 5 once */
@@ -1825,10 +1903,9 @@ BITM_MUST_USE uint32_t bitm_index_block_size(uint64_t bits_len, uint64_t *out);
 BITM_MUST_USE uint32_t bitm_index_block_build(const uint64_t *words, size_t words_len, uint64_t bits_len,
                                               uint64_t *block, size_t block_len);
 
-/* Opens a block: writes the index that queries take, which points into the block. *index has to be zeros, or an index
- * whose memory is still there. BITM_WRONG exactly if the header or the directory of the block is not right, or is that
- * of no bits, or block_len is not as they say. Reads at most 80 words, however long the block is (evident from the
- * code); what its other words hold is not looked at. */
+/* Opens a block: writes the index that queries take, which points into the block. BITM_WRONG exactly if the header or
+ * the directory of the block is not right, or belongs to no bits, or block_len is not as they say. Reads at most 80
+ * words, however long the block is (evident from the code); what its other words hold is not looked at. */
 BITM_MUST_USE uint32_t bitm_index_block_open(const uint64_t *block, size_t block_len, struct bitm_index *index);
 
 /* Whether a block is as it was written and holds bits with their tables: BITM_OK, or BITM_WRONG as
@@ -1849,17 +1926,16 @@ BITM_MUST_USE uint32_t bitm_index_block_check(const uint64_t *block, size_t bloc
  *     free(of_items); */
 BITM_MUST_USE uint32_t bitm_sequence_block_size(size_t len, uint64_t largest, uint64_t *out);
 
-/* Writes the block of a sequence of the items. BITM_BAD_SIZE if there are 2^56 or more; else BITM_UNSORTED if an item
- * is less than the one before it; else BITM_BAD_SIZE if block_len is not what bitm_sequence_block_size says for
- * items_len and the last item. items and block may not overlap. Four passes over the items, and three over the block
- * (evident from the code). */
+/* Writes the block of a sequence of the items. BITM_BAD_SIZE if there are 2^56 or more, or block_len is not what
+ * bitm_sequence_block_size says for items_len and the last item; else BITM_UNSORTED if an item is less than the one
+ * before it. items and block may not overlap. Four passes over the items, and three over the block (evident from the
+ * code). */
 BITM_MUST_USE uint32_t bitm_sequence_block_build(const uint64_t *items, size_t items_len, uint64_t *block,
                                                  size_t block_len);
 
-/* Opens a block: writes the sequence that queries take, which points into the block. *sequence has to be zeros, or a
- * sequence whose memory is still there. BITM_WRONG exactly if the header or the directory of the block is not right, or
- * is that of no sequence, or block_len is not as they say. Reads at most 80 words, however long the block is (evident
- * from the code); what its other words hold is not looked at. */
+/* Opens a block: writes the sequence that queries take, which points into the block. BITM_WRONG exactly if the header
+ * or the directory of the block is not right, or belongs to no sequence, or block_len is not as they say. Reads at
+ * most 80 words, however long the block is (evident from the code); what its other words hold is not looked at. */
 BITM_MUST_USE uint32_t bitm_sequence_block_open(const uint64_t *block, size_t block_len,
                                                 struct bitm_sequence *sequence);
 
@@ -1944,10 +2020,9 @@ BITM_MUST_USE uint32_t bitm_block_extended_size(const uint64_t *block, size_t bl
 BITM_MUST_USE uint32_t bitm_block_extend(const uint64_t *block, size_t block_len, uint64_t role, uint64_t count,
                                          const uint64_t *words, size_t words_len, uint64_t *to, size_t to_len);
 
-/* Section i of a block, counted from 0: its role, how many items it has, and where its words lie in the block. *section
- * has to be zeros, or a section whose memory is still there. BITM_WRONG as bitm_block_extended_size; BITM_NONE exactly if
- * the block has no more than i sections. Reads at most 80 words (evident from the code); what the words of the section
- * hold is not looked at. */
+/* Section i of a block, counted from 0: its role, how many items it has, and where its words lie in the block.
+ * BITM_WRONG as bitm_block_extended_size; BITM_NONE exactly if the block has no more than i sections. Reads at most 80
+ * words (evident from the code); what the words of the section hold is not looked at. */
 BITM_MUST_USE uint32_t bitm_block_section(const uint64_t *block, size_t block_len, size_t i,
                                           struct bitm_section *section);
 
@@ -1986,26 +2061,32 @@ struct bitm_sparse {
     uint64_t reserved[2];           /* 0: not read */
 };
 
+/* Faults of sparse bits: see bitm_bits_fault.
+ *
+ *     if (bitm_sparse_fault(&sparse) != NULL) return 1; */
+static inline const char *bitm_sparse_fault(const struct bitm_sparse *sparse)
+{
+    return bitm_sequence_fault(&sparse->positions);
+}
+
 /* How many words the block of that many 1 bits takes, the last of which is at position `last` (0 if there are none).
  * BITM_BAD_SIZE as bitm_sequence_sizes. */
 BITM_MUST_USE uint32_t bitm_sparse_size(size_t ones, uint64_t last, uint64_t *out);
 
 /* Writes the block of bits_len bits, of which those at the given positions are 1 bits. BITM_BAD_SIZE if there are 2^56
- * positions or more; else BITM_UNSORTED if a position is not greater than the one before it; else BITM_WRONG if one is
- * not less than bits_len; else BITM_BAD_SIZE if block_len is not what bitm_sparse_size says for positions_len and the
- * last position. positions and block may not overlap. Six passes over the positions, and three over the block (evident
- * from the code).
+ * positions or more, or block_len is not what bitm_sparse_size says for positions_len and the last position; else
+ * BITM_UNSORTED if a position is not greater than the one before it; else BITM_WRONG if one is not less than bits_len.
+ * positions and block may not overlap. Six passes over the positions, and three over the block (evident from the code).
  *
- *     const uint64_t no_rise[2] = {3, 3};
- *     if (bitm_sparse_build(no_rise, 2, 5000, of_few, sparse_len) != BITM_UNSORTED ||
+ *     const uint64_t no_rise[4] = {3, 3, 100, 4000};
+ *     if (bitm_sparse_build(no_rise, 4, 5000, of_few, sparse_len) != BITM_UNSORTED ||
  *         bitm_sparse_build(where, 4, 4000, of_few, sparse_len) != BITM_WRONG) return 1; // bits 0 to 3999 */
 BITM_MUST_USE uint32_t bitm_sparse_build(const uint64_t *positions, size_t positions_len, uint64_t bits_len,
                                          uint64_t *block, size_t block_len);
 
-/* Opens a block: writes the bits that queries take, which point into the block. *sparse has to be zeros, or bits whose
- * block is still there. BITM_WRONG exactly if the header or the directory of the block is not right, or is that of no
- * sparse bits, or block_len is not as they say. Reads at most 80 words, however long the block is (evident from the
- * code); what its other words hold is not looked at.
+/* Opens a block: writes the bits that queries take, which point into the block. BITM_WRONG exactly if the header or
+ * the directory of the block is not right, or belongs to no sparse bits, or block_len is not as they say. Reads at
+ * most 80 words, however long the block is (evident from the code); what its other words hold is not looked at.
  *
  *     if (bitm_sparse_open(of_few, sparse_len - 1, &sparse) != BITM_WRONG || sparse.bits_len != 5000) return 1; */
 BITM_MUST_USE uint32_t bitm_sparse_open(const uint64_t *block, size_t block_len, struct bitm_sparse *sparse);
@@ -2037,7 +2118,8 @@ BITM_MUST_USE uint32_t bitm_sparse_get(const struct bitm_sparse *sparse, uint64_
 BITM_MUST_USE uint32_t bitm_sparse_rank(const struct bitm_sparse *sparse, bool one, uint64_t position, uint64_t *out);
 
 /* The position of the 1 bit, or 0 bit, with the given rank. BITM_NONE if there is none. Reads for a 1 bit what
- * bitm_sequence_get reads of the positions, for a 0 bit that for each binary digit of how many 1 bits there are.
+ * bitm_sequence_get reads of the positions, for a 0 bit that for each binary digit of how many 1 bits there are (evident
+ * from the code).
  *
  *     if (bitm_sparse_select(&sparse, true, 3, &position) != BITM_OK || position != 4000 ||
  *         bitm_sparse_select(&sparse, false, 3, &position) != BITM_OK || position != 4) return 1; // after 0 to 2 */
@@ -2140,10 +2222,9 @@ BITM_MUST_USE uint32_t bitm_dictionary_size(size_t words, size_t levels, size_t 
 BITM_MUST_USE uint32_t bitm_dictionary_build(const struct bitm_dictionary *dictionary, uint64_t *block,
                                              size_t block_len);
 
-/* Opens a block: writes the dictionary that queries take, which points into the block. *dictionary has to be zeros, or a
- * dictionary whose memory is still there. BITM_WRONG exactly if bitm_hash_block_open returns it, or no fifth section of
- * the block has as many keys as the header says. Reads at most 80 words, however long the block is (evident from the
- * code); what its other words hold is not looked at.
+/* Opens a block: writes the dictionary that queries take, which points into the block. BITM_WRONG exactly if
+ * bitm_hash_block_open returns it, or no fifth section of the block has as many keys as the header says. Reads at most
+ * 80 words, however long the block is (evident from the code); what its other words hold is not looked at.
  *
  *     if (bitm_dictionary_open(of_squares, len_of - 1, &dictionary) != BITM_WRONG) return 1; */
 BITM_MUST_USE uint32_t bitm_dictionary_open(const uint64_t *block, size_t block_len,
@@ -2203,9 +2284,9 @@ BITM_MUST_USE uint32_t bitm_hash_block_build(const uint64_t *words, size_t words
                                              size_t sizes_len, uint64_t seed, uint64_t *block, size_t block_len);
 
 /* Opens a block, that of a dictionary too: writes the hash that bitm_hash_get takes, which points into the block, and
- * its seed. *hash has to be zeros, or a hash whose memory is still there. BITM_WRONG exactly if the header or the
- * directory of the block is not right, or is that of no hash without seeds, or block_len is not as they say. Reads at
- * most 80 words, however long the block is (evident from the code); what its other words hold is not looked at. */
+ * its seed. BITM_WRONG exactly if the header or the directory of the block is not right, or belongs to no hash without
+ * seeds, or block_len is not as they say. Reads at most 80 words, however long the block is (evident from the code);
+ * what its other words hold is not looked at. */
 BITM_MUST_USE uint32_t bitm_hash_block_open(const uint64_t *block, size_t block_len, struct bitm_hash *hash,
                                             uint64_t *seed);
 
@@ -2239,12 +2320,12 @@ BITM_MUST_USE uint32_t bitm_hash_block_build_seeded(const uint64_t *words, size_
                                                     size_t seeds_len, const uint64_t *sizes, size_t sizes_len,
                                                     uint64_t seed, uint64_t *block, size_t block_len);
 
-/* Opens a block, which is passed as words and once more as bytes: writes the hash that bitm_hash_get_seeded takes, whose
- * parts point into the block and whose seeds point into the bytes, and its seed. *hash has to be zeros, or a hash whose
- * memory is still there. BITM_WRONG exactly if the header or the directory of the block is not right, or is that of no
- * hash with seeds, or block_len is not as they say; else BITM_BAD_SIZE exactly if bytes_len is not 8 * block_len. Where
- * the bytes are those of the block, the seeds are those that were built. Reads at most 80 words, however long the block is
- * (evident from the code); what its other words hold is not looked at. */
+/* Opens a block, which is passed as words and once more as bytes: writes the hash that bitm_hash_get_seeded takes,
+ * whose parts point into the block and whose seeds point into the bytes, and its seed. BITM_WRONG exactly if the
+ * header or the directory of the block is not right, or belongs to no hash with seeds, or block_len is not as they
+ * say; else BITM_BAD_SIZE exactly if bytes_len is not 8 * block_len. Where the bytes are those of the block, the seeds
+ * are those that were built. Reads at most 80 words, however long the block is (evident from the code); what its other
+ * words hold is not looked at. */
 BITM_MUST_USE uint32_t bitm_hash_block_open_seeded_bytes(const uint64_t *block, size_t block_len, const uint8_t *bytes,
                                                          size_t bytes_len, struct bitm_seeded_hash *hash,
                                                          uint64_t *seed);
@@ -2265,7 +2346,9 @@ BITM_MUST_USE uint32_t bitm_hash_block_check_seeded(const uint64_t *block, size_
  *
  * A dictionary of strings of bytes is the block of a minimal perfect hash of their hashes, and the strings themselves, one
  * after another in the order of their numbers: so what is none of the strings has no number. The hash of a string is
- * FNV-1a of 64 bits with a seed. Strings are passed one after another, with where each of them ends:
+ * SipHash-1-3 with a seed of 64 bits as its key, so that whether two strings have one hash depends on the whole seed. Who
+ * knows the seed can search for such strings: where others choose the strings, draw the seed at random and keep it to
+ * yourself. Strings are passed one after another, with where each of them ends:
  *
  *     const uint8_t *spelled = (const uint8_t *)"adabobeve";
  *     const uint64_t ends_of[3] = {3, 6, 9}, seed_of = 7; // take another seed if hashes are left or build refuses
@@ -2297,7 +2380,8 @@ struct bitm_strings {
     const uint64_t *bytes;  /* the bytes of all strings, as words: the first byte is the lowest of the first word */
     size_t bytes_len;       /* how many words */
     uint64_t seed;          /* that of the hashes */
-    uint64_t reserved[2];   /* 0: not read */
+    uint64_t kind;          /* of the block: 12, where SipHash-1-3 hashes strings, or 10, where FNV-1a does */
+    uint64_t reserved[1];   /* 0: not read */
 };
 
 /* Faults of strings: see bitm_bits_fault.
@@ -2307,13 +2391,14 @@ static inline const char *bitm_strings_fault(const struct bitm_strings *strings)
 {
     if (strings->starts_len == 0 || strings->starts_len - 1 != strings->hash.keys) return "starts_len is not hash.keys + 1";
     if (strings->bytes_len >= (size_t)1 << 58) return "bytes_len is 2^58 or more";
+    if (strings->kind != 12 && strings->kind != 10) return "kind is neither 12 nor 10";
     return bitm_hash_fault(&strings->hash);
 }
 
-/* The hash of a string by a seed: BITM_OK. Without a seed, which is seed 0, it is FNV-1a of 64 bits; a seed changes what
- * that begins with by exclusive or. Reads each byte once (evident from the code).
+/* The hash of a string by a seed: BITM_OK. It is SipHash-1-3 with the key (seed, 0) of the bytes of the string. Reads each
+ * byte once (evident from the code).
  *
- *     if (bitm_strings_hash((const uint8_t *)"foobar", 6, 0, &value) != BITM_OK || value != 0x85944171f73967e8) return 1; */
+ *     if (bitm_strings_hash((const uint8_t *)"foobar", 6, 0, &value) != BITM_OK || value != 0x7738ae0a5df09b34) return 1; */
 BITM_MUST_USE uint32_t bitm_strings_hash(const uint8_t *string, size_t string_len, uint64_t seed, uint64_t *out);
 
 /* out[i] is the hash of string i, of those that stand one after another in bytes, string i up to ends[i].
@@ -2330,7 +2415,7 @@ BITM_MUST_USE uint32_t bitm_strings_hashes(const uint8_t *bytes, size_t bytes_le
 BITM_MUST_USE uint32_t bitm_strings_size(size_t words, size_t levels, size_t strings, size_t bytes, uint64_t *out);
 
 /* Writes the block of the strings that stand one after another in bytes, string i up to ends[i], by a hash of their
- * hashes, as bitm_hash_build makes it of what bitm_strings_hashes writes. BITM_BAD_SIZE if bitm_hash_fault names a fault,
+ * hashes, as bitm_hash_build makes it of what bitm_strings_hashes writes: a block of kind 12. BITM_BAD_SIZE if bitm_hash_fault names a fault,
  * the ends are not as that call takes them, or block_len is not what bitm_strings_size says; else BITM_WRONG if the parts
  * of the hash are not those of one, or it does not give each string a number of its own: two strings are equal, or have
  * one hash, which they may not have with another seed. The block may hold anything after BITM_WRONG. It may overlap
@@ -2344,11 +2429,11 @@ BITM_MUST_USE uint32_t bitm_strings_build(const struct bitm_hash *hash, uint64_t
                                           size_t bytes_len, const uint64_t *ends, size_t ends_len, uint64_t *block,
                                           size_t block_len);
 
-/* Opens a block: writes the strings that queries take, which point into the block. *strings has to be zeros, or strings
- * whose memory is still there. BITM_WRONG exactly if the header or the directory of the block is not right, or is that of
- * no strings, the first section is not the block of a hash of as many keys as the header says, there is not a start more,
- * or block_len is not as they say. Reads at most 160 words, however long the block is (evident from the code); what its
- * other words hold is not looked at.
+/* Opens a block: writes the strings that queries take, which point into the block. A block of kind 10, whose strings are
+ * hashed by FNV-1a, is opened, checked and queried as one of kind 12 is; no call writes it. BITM_WRONG exactly if the
+ * header or the directory of the block is not right, or belongs to no strings, the first section is not the block of a
+ * hash of as many keys as the header says, there is not a start more, or block_len is not as they say. Reads at most 160
+ * words, however long the block is (evident from the code); what its other words hold is not looked at.
  *
  *     if (bitm_strings_open(of_names, len_of_names - 1, &names) != BITM_WRONG) return 1; */
 BITM_MUST_USE uint32_t bitm_strings_open(const uint64_t *block, size_t block_len, struct bitm_strings *strings);
@@ -2437,6 +2522,21 @@ struct bitm_text {
     uint64_t reserved[2]; /* 0: not read */
 };
 
+/* Faults of the index of a text: see bitm_bits_fault.
+ *
+ *     if (bitm_text_fault(&text) != NULL) return 1; */
+static inline const char *bitm_text_fault(const struct bitm_text *text)
+{
+    if (text->letters.len >= ((size_t)1 << 32) - 1) return "letters.len is 2^32 - 1 or more";
+    if (text->marks.len != text->letters.len + 1) return "marks.len is not letters.len + 1";
+    if (text->marks.width != 1) return "marks.width is not 1";
+    if (text->first > text->letters.len) return "first is above letters.len";
+    if (text->step < 1 || text->step >= (uint64_t)1 << 32) return "step is not 1 to 2^32 - 1";
+    if (text->used_len != 0 && text->used_len != 4) return "used_len is neither 0 nor 4";
+    const char *const fault = bitm_matrix_fault(&text->letters);
+    return fault ? fault : bitm_matrix_fault(&text->marks);
+}
+
 /* How many words the block of `len` letters of `width` bits takes, of an alphabet of that many letters, with a sample
  * each `step` letters. BITM_BAD_SIZE if len is 2^32 - 1 or more, width is not 1 to 64, letters is 2^58 or more, or step is 0.
  *
@@ -2453,10 +2553,10 @@ BITM_MUST_USE uint32_t bitm_text_size_letters(size_t len, uint32_t letters, uint
                                               uint64_t *scratch_len);
 
 /* Writes the block of the index of a text of letters below `letters`, with a sample each `step` letters: the more letters
- * apart, the less memory, and the more steps for each position and each part of the text. BITM_WRONG exactly if text_len
- * is fewer than 2^32 - 1, and a letter is not below `letters`. Else BITM_BAD_SIZE if bitm_text_size_letters does not take
- * text_len and step, or block_len or scratch_len is not what it says. What scratch holds is overwritten. Allocates
- * nothing. Text, scratch and block may not overlap one another. Time grows linearly with the text (tested, not proved).
+ * apart, the less memory, and the more steps for each position and each part of the text. BITM_BAD_SIZE if
+ * bitm_text_size_letters does not take text_len and step, or block_len or scratch_len is not what it says; else BITM_WRONG
+ * if a letter is not below `letters`. What scratch holds is overwritten. Allocates nothing. Text, scratch and block may
+ * not overlap one another. Time grows linearly with the text (tested, not proved).
  *
  *     const uint64_t as_numbers[6] = {1, 0, 2, 0, 2, 0}; // banana
  *     uint32_t working[14];
@@ -2473,7 +2573,7 @@ BITM_MUST_USE uint32_t bitm_text_build(const uint64_t *text, size_t text_len, ui
 
 /* How many words the block of a text of bytes takes, with a sample each `step` bytes, and how many numbers of 32 bits
  * bitm_text_build_bytes needs while it works: eight bytes for each byte of the text, and 2 KiB more for a short one. The
- * text is read twice, to see which bytes it uses. BITM_BAD_SIZE if text_len is 2^32 - 1 or more, or step is 0. */
+ * text is read twice, to see which bytes it uses (evident from the code). BITM_BAD_SIZE if text_len is 2^32 - 1 or more, or step is 0. */
 BITM_MUST_USE uint32_t bitm_text_size_bytes(const uint8_t *text, size_t text_len, uint32_t step, uint64_t *block_len,
                                             uint64_t *scratch_len);
 
@@ -2484,10 +2584,9 @@ BITM_MUST_USE uint32_t bitm_text_size_bytes(const uint8_t *text, size_t text_len
 BITM_MUST_USE uint32_t bitm_text_build_bytes(const uint8_t *text, size_t text_len, uint32_t step, uint32_t *scratch,
                                              size_t scratch_len, uint64_t *block, size_t block_len);
 
-/* Opens a block: writes the index that queries take, which points into the block. *text has to be zeros, or an index
- * whose block is still there. BITM_WRONG exactly if the header or the directory of the block is not right, or is that
- * of no text, or block_len is not as they say. Reads at most 80 words, however long the block is (evident from the
- * code); what its other words hold is not looked at.
+/* Opens a block: writes the index that queries take, which points into the block. BITM_WRONG exactly if the header or
+ * the directory of the block is not right, or belongs to no text, or block_len is not as they say. Reads at most 80
+ * words, however long the block is (evident from the code); what its other words hold is not looked at.
  *
  *     if (bitm_text_open(of_text, text_len - 1, &text) != BITM_WRONG || text.letters.len != 6) return 1; */
 BITM_MUST_USE uint32_t bitm_text_open(const uint64_t *block, size_t block_len, struct bitm_text *text);
@@ -2522,9 +2621,9 @@ BITM_MUST_USE uint32_t bitm_text_count_bytes(const struct bitm_text *text, const
 /* Writes positions at which a pattern stands, in the order of the suffixes that begin there: without the first `from` of
  * them, as many as there is room for; and to *written how many these are. Items of out after them stay as they were.
  * Where BITM_WRONG is returned, out may have been written to; *written is as it was. Reads what bitm_text_count reads;
- * for each position what bitm_text_extract reads for `step` letters; and of the marks for each at most step + 2 upper
- * entries, as many lower entries, nine times as many words, and a sample. out and written may overlap neither each other
- * nor what the call reads.
+ * and for each position, with n for the step or, if it is less, the text's length and 1, what bitm_text_extract reads for
+ * n letters, and of the marks at most n + 2 upper entries, as many lower entries, nine times as many words, and a sample.
+ * out and written may overlap neither each other nor what the call reads.
  *
  *     uint64_t places[4];
  *     if (bitm_text_locate(&text, ana, 3, 0, places, 4, &value) != BITM_OK || value != 2 || places[0] != 3 ||
@@ -2537,8 +2636,8 @@ BITM_MUST_USE uint32_t bitm_text_locate_bytes(const struct bitm_text *text, cons
 
 /* Writes the out_len letters of the text from position `from` on. BITM_NONE exactly if the text has fewer, and out is as
  * it was then. Where BITM_WRONG is returned, out may have been written to. BITM_BAD_SIZE for bytes also if letters are
- * numbers that may have more than 8 bits. Reads for each letter, and for at most `step` more, two upper entries, two
- * lower entries and 18 words for each bit of the width, and at most a sample.
+ * numbers that may have more than 8 bits. Reads for each letter, and for at most `step` more, or if that is less the
+ * text's length and 1, two upper entries, two lower entries and 18 words for each bit of the width, and at most a sample.
  *
  *     uint8_t nan[3];
  *     if (bitm_text_extract_bytes(&text, 2, nan, 3) != BITM_OK || nan[0] != 'n' || nan[1] != 'a' ||

@@ -205,8 +205,8 @@ static void no_sequences(void)
     draw_items(4, 9);
     MUST(bitm_sequence_block_size(4, items_of[3], &words) == BITM_OK);
     block = block_of(words + 8);
-    MUST(bitm_sequence_block_build(falls, 4, block, words) == BITM_UNSORTED);
-    MUST(bitm_sequence_block_build(falls, 4, block, 0) == BITM_UNSORTED);
+    for (size_t len = 0; len < 60; len++) /* four numbers, the last of them 4: no low bits, and 56 words */
+        MUST(bitm_sequence_block_build(falls, 4, block, len) == (len == 56 ? BITM_UNSORTED : BITM_BAD_SIZE));
     for (size_t len = 0; len < words + 8; len++)
         if (len != words) MUST(bitm_sequence_block_build(items_of, 4, block, len) == BITM_BAD_SIZE);
     MUST(is_untouched(block, 8 * (words + 8)));

@@ -141,7 +141,7 @@ static void drawn_texts(void)
     built_as(&plain); /* of each byte once */
 }
 
-/* Letters outside the alphabet, whatever else is wrong, and alphabets of no letters. */
+/* Letters outside the alphabet where no length is wrong, and alphabets of no letters. */
 static void letters_outside(void)
 {
     static struct plain plain;
@@ -152,11 +152,15 @@ static void letters_outside(void)
         const uint64_t was = plain.letters[at];
         plain.letters[at] = at % 2 ? 5 : UINT64_MAX - at;
         const uint64_t *const text = letters_at(&plain);
-        MUST(build(&plain, text, 5, plain.step, lens) == BITM_WRONG && build(&plain, text, 5, 0, lens) == BITM_WRONG);
-        MUST(build(&plain, text, 5, plain.step, (struct lens){0, 0}) == BITM_WRONG);
+        MUST(build(&plain, text, 5, plain.step, lens) == BITM_WRONG);
+        MUST(build(&plain, text, 5, 0, lens) == BITM_BAD_SIZE);
+        MUST(build(&plain, text, 5, plain.step, (struct lens){0, 0}) == BITM_BAD_SIZE);
+        MUST(build(&plain, text, 5, plain.step, (struct lens){lens.block, lens.scratch - 1}) == BITM_BAD_SIZE);
         plain.letters[at] = was;
     }
-    MUST(build(&plain, letters_at(&plain), 0, 1, lens) == BITM_WRONG);
+    MUST(build(&plain, letters_at(&plain), 0, 1, lens) == BITM_BAD_SIZE);
+    /* a header of 72 words, two matrices of one bit, of which each takes 40, and a sample for each of 51 positions */
+    MUST(build(&plain, letters_at(&plain), 0, 1, (struct lens){208, 102}) == BITM_WRONG);
     MUST(build(&plain, letters_at(&plain), 5, plain.step, lens) == BITM_OK);
     draw_text(&plain, 0, 1, 1, 4);
     plain.alphabet = 0;
@@ -181,7 +185,7 @@ static void long_texts(void)
         struct plain plain = {.len = len, .is_of_bytes = true};
         MUST(build(&plain, text, 0, 1, (struct lens){72, 9}) == BITM_BAD_SIZE);
         plain.len = (size_t)1 << 30, plain.is_of_bytes = false; /* 2^33 bytes of zeros, of which none is below 0 */
-        MUST(build(&plain, text, 0, 1, (struct lens){72, 9}) == BITM_WRONG);
+        MUST(build(&plain, text, 0, 1, (struct lens){72, 9}) == BITM_BAD_SIZE);
     }
     uint64_t *out, *const words = placed(OF_OTHER, 8);
     uint32_t status;

@@ -152,6 +152,19 @@ static void hash_that_overlaps(void)
     MUST(status == BITM_BAD_SIZE || (status == BITM_OK && left <= n && levels <= sizes && used <= room));
 }
 
+/* The lists of counters and of sorted numbers are one in some turns: each place that is read back is a number then. */
+static void seeded_hash_that_overlaps(void)
+{
+    const size_t n = draw() % 40, room = 1 + draw() % 60, sizes = draw() % 20;
+    uint64_t *again = somewhere(8 * room, 8), *sorted = n <= room && draw() % 4 ? again : somewhere(8 * n, 8);
+    uint64_t levels, used, left;
+    const uint32_t status =
+        bitm_hash_build_seeded(somewhere(8 * n, 8), n, (uint32_t)(draw() % 300), (uint16_t)(draw() % 9),
+                               somewhere(8 * room, 8), room, somewhere(room, 1), room, again, room, sorted, n,
+                               somewhere(8 * sizes, 8), sizes, &levels, &used, &left);
+    MUST(status == BITM_OK && left <= n && levels <= sizes && used <= room);
+}
+
 static void index_that_overlaps(void)
 {
     size_t n = draw() % 300, uppers = bitm_index_upper_len(n), lowers = bitm_index_lower_len(n);
@@ -174,6 +187,7 @@ static void index_that_overlaps(void)
     MUST(bitm_bits_copy_range(somewhere(8 * n, 8), n, to, view.words, n, begin, draw() % (most + 1)) == BITM_OK);
     MUST(bitm_bits_xor(somewhere(8 * n, 8), n, view.words, n) == BITM_OK);
     hash_that_overlaps();
+    seeded_hash_that_overlaps();
     uint64_t *all = somewhere(ARENA, 8);
     const bool anew = draw() % 16 == 0;
     for (size_t i = 0; anew && i < ARENA / 8; i++) all[i] = draw() % 3 ? draw() >> draw() % 64 : UINT64_MAX;

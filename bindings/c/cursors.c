@@ -28,15 +28,13 @@ static uint64_t *one_number(void)
     return one;
 }
 
-/* A sequence of drawn numbers: dense or sparse, with equal ones; sometimes of none. */
-static void make(struct list *list)
+/* The sequence of a list's numbers. */
+static void build(struct list *list)
 {
     struct bitm_sequence_lens of;
-    uint64_t number = 0, width;
-    const uint64_t most = draw() % 3 ? 1 + draw() % 5 : (uint64_t)1 << draw() % 46, unit = draw() % 4 ? 1 : 1000;
-    list->len = draw() % 6 ? draw() % MOST : draw() % 3, list->at = 0;
-    for (size_t i = 0; i < list->len; i++) list->numbers[i] = number += draw() % most * (draw() % 20 ? 1 : unit);
-    MUST(bitm_sequence_sizes(list->len, number, &of) == BITM_OK);
+    const uint64_t last = list->len > 0 ? list->numbers[list->len - 1] : 0;
+    uint64_t width;
+    MUST(bitm_sequence_sizes(list->len, last, &of) == BITM_OK);
     list->low = ends_at_the_guard(&list->blocks[0], 8 * of.low_len);
     list->words = ends_at_the_guard(&list->blocks[1], 8 * of.words_len);
     uint64_t *upper = ends_at_the_guard(&list->blocks[2], 8 * of.upper_len);
@@ -44,7 +42,17 @@ static void make(struct list *list)
     MUST(bitm_sequence_build(list->numbers, list->len, list->low, of.low_len, list->words, of.words_len, upper,
                              of.upper_len, list->lower, of.lower_len, &width) == BITM_OK);
     list->made = (struct bitm_sequence){list->len, width,        list->low,   of.low_len,   list->words, of.words_len,
-                                        upper,     of.upper_len, list->lower, of.lower_len, NULL, 0};
+                                        upper,     of.upper_len, list->lower, of.lower_len, NULL,        0};
+}
+
+/* A sequence of drawn numbers: dense or sparse, with equal ones; sometimes of none. */
+static void make(struct list *list)
+{
+    uint64_t number = 0;
+    const uint64_t most = draw() % 3 ? 1 + draw() % 5 : (uint64_t)1 << draw() % 46, unit = draw() % 4 ? 1 : 1000;
+    list->len = draw() % 6 ? draw() % MOST : draw() % 3, list->at = 0;
+    for (size_t i = 0; i < list->len; i++) list->numbers[i] = number += draw() % most * (draw() % 20 ? 1 : unit);
+    build(list);
 }
 
 /* That a cursor is over its list, at the number of the list's index. */
@@ -193,13 +201,58 @@ static void lengths(void)
     MUST(bitm_cursors_union(NULL, 0, 0, out, 2, &one) == BITM_OK && one == 0);
 }
 
-/* Parts of one number without a 1 bit; and a cursor outside of its words. */
-static void no_numbers(void)
+/* A wrong length at each place, where no call of its cursor is needed: no room, or a list before it that has ended. */
+static void length_at_each_place(void)
 {
-    uint64_t none = 0, upper = 0, lower = 0, ones, out[2] = {UNTOUCHED, UNTOUCHED}, one = UNTOUCHED;
+    for (size_t at = 0; at < 3; at++) {
+        struct bitm_cursor *cursors = started(3), kept[3];
+        uint64_t one = UNTOUCHED, *out = ends_at_the_guard(&of_out, 16);
+        for (size_t i = 0; i < 3; i++) cursors[i].index = cursors[i].sequence.len;
+        cursors[at].sequence.lower_len++;
+        memcpy(kept, cursors, sizeof kept);
+        out[0] = out[1] = UNTOUCHED;
+        for (int of_all = 0; of_all < 2; of_all++)
+            for (size_t room = 0; room < 3; room += 2)
+                MUST(merge(of_all, cursors, 3, 0, out, room, &one) == BITM_WRONG);
+        MUST(memcmp(kept, cursors, sizeof kept) == 0 && one == UNTOUCHED && out[0] == UNTOUCHED && out[1] == UNTOUCHED);
+    }
+}
+
+/* A cursor outside of its words, over parts of one number without a 1 bit: it answers up to 3, and then turns out
+ * wrong. */
+static struct bitm_cursor up_to_3(void)
+{
+    static uint64_t none, upper, lower, ones;
     MUST(bitm_index_build(&none, 1, &upper, 1, &lower, 1, &ones) == BITM_OK && ones == 0);
     const struct bitm_sequence sequence = {1, 0, NULL, 0, &none, 1, &upper, 1, &lower, 1, NULL, 0};
-    struct bitm_cursor cursor = {.sequence = sequence, .index = 0, .position = 64, .number = 3}, kept = cursor;
+    return (struct bitm_cursor){.sequence = sequence, .index = 0, .position = 64, .number = 3};
+}
+
+/* Such a cursor at each place among two over 1 to 9: a merge is BITM_OK as long as no cursor that it moves is wrong. */
+static void wrong_at_each_place(void)
+{
+    for (size_t turn = 0; turn < 24; turn++) {
+        const size_t at = turn % 3, room = turn / 3 % 4;
+        const bool of_all = turn >= 12;
+        struct bitm_cursor *cursors = ends_at_the_guard(&of_cursors, 3 * sizeof *cursors);
+        for (size_t i = 0; i < 3; i++) {
+            for (lists[i].len = 0; lists[i].len < 9; lists[i].len++) lists[i].numbers[lists[i].len] = lists[i].len + 1;
+            build(&lists[i]), cursors[i] = (struct bitm_cursor){.sequence = lists[i].made};
+            MUST(bitm_cursor_start(&cursors[i]) == BITM_OK);
+        }
+        cursors[at] = up_to_3();
+        uint64_t one = UNTOUCHED, *out = ends_at_the_guard(&of_out, 8 * room);
+        const size_t right = of_all ? 1 : 2; /* 3, or 2 and 3; then 4 is looked for */
+        MUST(merge(of_all, cursors, 3, 2, out, room, &one) == (room <= right ? BITM_OK : BITM_WRONG));
+        MUST(one == (room <= right ? room : UNTOUCHED));
+        for (size_t i = 0; i < room && i < right; i++) MUST(out[i] == (of_all ? 3 : 2 + i));
+    }
+}
+
+static void no_numbers(void)
+{
+    uint64_t out[2] = {UNTOUCHED, UNTOUCHED}, one = UNTOUCHED;
+    struct bitm_cursor cursor = up_to_3(), kept = cursor;
     MUST(bitm_cursor_start(&cursor) == BITM_WRONG && memcmp(&cursor, &kept, sizeof kept) == 0);
     MUST(bitm_cursor_next(&cursor, 3, &one) == BITM_OK && one == 3 && memcmp(&cursor, &kept, sizeof kept) == 0);
     one = UNTOUCHED;
@@ -219,7 +272,7 @@ int main(int argc, char **argv)
         for (int step = 0; step < 60; step++) move(cursor, &lists[0]);
         merge_all(false), merge_all(true), wrong();
     }
-    lengths(), no_numbers();
+    lengths(), length_at_each_place(), wrong_at_each_place(), no_numbers();
     puts("C: cursors, intersections and unions are those of plain loops, and end over parts of no sequence");
     return 0;
 }

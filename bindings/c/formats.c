@@ -157,7 +157,7 @@ static void of_strings(size_t count, uint32_t percent)
          words <= sizeof block / 8);
     memset(block, UNTOUCHED, sizeof block);
     MUST(bitm_strings_build(&hash, with, bytes, len, given, count, block, words) == BITM_OK);
-    put_seeded(10, count, percent, count + (len + 7) / 8, words, with);
+    put_seeded(12, count, percent, count + (len + 7) / 8, words, with);
 }
 
 /* The degrees of a tree, at most `most` each: a node has a child where no later one would have a parent else. */

@@ -155,8 +155,9 @@ static unsigned long query_a_sequence(void)
         if (answered(bitm_sequence_get(&view, index, &out), out)) MUST(index < n);
         size_t room = draw() % 70;
         uint64_t *some = numbers(&out_of, room, false), written = UNTOUCHED;
-        MUST(bitm_sequence_items(&view, index, some, room, &written) == BITM_OK && written <= room);
-        MUST(index < n ? written <= n - index : written == 0);
+        const uint64_t left = index < n ? n - index : 0, most = left < room ? left : room;
+        MUST(bitm_sequence_items(&view, index, some, room, &written) == (written == most ? BITM_OK : BITM_WRONG));
+        MUST(written <= most);
         out = UNTOUCHED;
         uint64_t value = draw() >> draw() % 64;
         if (answered(bitm_sequence_contains(&view, value, &out), out)) MUST(out <= 1);
@@ -176,8 +177,9 @@ static unsigned long query_a_sequence(void)
     for (size_t i = 0; i < count; i++) MUST(out[i] < n || out[i] >= BITM_WRONG_TABLES);
     MUST(value_list(bitm_sequence_contains_list, &view, queries, count, out, count) == BITM_OK);
     for (size_t i = 0; i < count; i++) MUST(out[i] <= 1 || out[i] == BITM_WRONG_TABLES);
-    for (size_t i = 0; n > 0 && i < count; i++) queries[i] %= n;
-    MUST(bitm_sequence_get_list(&view, queries, count, out, count, &written) == BITM_OK && written <= count);
+    for (size_t i = 0; n > 0 && i < count; i++) queries[i] %= n + (draw() % 16 == 0);
+    const uint32_t status = bitm_sequence_get_list(&view, queries, count, out, count, &written);
+    MUST(written <= count && status == (written == count ? BITM_OK : queries[written] < n ? BITM_WRONG : BITM_NONE));
     return 204;
 }
 

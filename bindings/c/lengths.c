@@ -12,6 +12,7 @@ static uint32_t linked;
 uint32_t version_of_the_test(void) { return linked; }
 
 static uint64_t words[WORDS], upper[2], lower[LOWERS + 1], low[8], sizes[260];
+static const uint64_t zeros[4096];
 static const uint8_t seeds[WORDS];
 
 /* A right length, or one near it, or a huge one. */
@@ -67,6 +68,83 @@ static void drawn(void)
     }
 }
 
+/* Lengths of words and of their tables, near those of that many bits, which fit in `zeros`. */
+static void drawn_tables(uint64_t bits, size_t *words_len, size_t *upper_len, size_t *lower_len)
+{
+    const size_t right = bitm_bits_words_len(bits);
+    *words_len = near_to(right);
+    *upper_len = near_to(bitm_index_upper_len(right)), *lower_len = near_to(bitm_index_lower_len(right));
+}
+
+static struct bitm_tree drawn_tree(void)
+{
+    const size_t few = draw() % 3000, many = ((size_t)1 << (draw() % 2 ? 57 : 60)) - draw() % 2;
+    struct bitm_tree tree = {.len = draw() % 8 ? few : many, .words = zeros, .upper = zeros, .lower = zeros};
+    drawn_tables(2 * few + 1, &tree.words_len, &tree.upper_len, &tree.lower_len);
+    return tree;
+}
+
+static void drawn_nodes(void)
+{
+    uint64_t out;
+    const struct bitm_tree tree = drawn_tree();
+    MUST(agrees(bitm_tree_degree(&tree, 0, &out), bitm_tree_fault(&tree), " len words_len upper_len lower_len "));
+    struct bitm_trie trie = {.tree = tree, .width = draw() % 66, .labels = zeros, .ends = zeros};
+    const size_t nodes = tree.len % 4096;
+    trie.labels_len = near_to(bitm_bits_words_len((nodes ? nodes - 1 : 0) * trie.width));
+    trie.ends_len = draw() % 2 ? near_to(bitm_bits_words_len(nodes)) : 0;
+    MUST(agrees(bitm_trie_label(&trie, 1, &out), bitm_trie_fault(&trie),
+                " len tree.len width labels_len ends_len words_len upper_len lower_len "));
+}
+
+static struct bitm_matrix drawn_matrix(size_t len, uint64_t width)
+{
+    struct bitm_matrix matrix = {.len = draw() % 8 ? len : (size_t)1 << (57 + draw() % 7), .width = width,
+                                 .words = zeros, .upper = zeros, .lower = zeros, .ones = zeros, .zeros = zeros,
+                                 .quarters = zeros};
+    drawn_tables(len * width, &matrix.words_len, &matrix.upper_len, &matrix.lower_len);
+    matrix.ones_len = near_to(width), matrix.zeros_len = near_to(width);
+    matrix.quarters_len = draw() % 2 ? near_to((bitm_bits_words_len(len * width) + 7) / 8) : 0;
+    return matrix;
+}
+
+static void drawn_numbers(void)
+{
+    uint64_t out;
+    const size_t len = draw() % 500;
+    const struct bitm_matrix matrix = drawn_matrix(len, draw() % 66);
+    MUST(agrees(bitm_matrix_get(&matrix, 0, &out), bitm_matrix_fault(&matrix),
+                " len width words_len upper_len lower_len ones_len zeros_len quarters_len "));
+    struct bitm_text text = {.letters = drawn_matrix(len, 1 + draw() % 8), .starts = zeros, .starts_len = draw() % 9,
+                             .samples = zeros, .samples_len = draw() % 9, .first = near_to(len), .used = zeros};
+    text.marks = drawn_matrix(near_to(len + 1) % 2048, draw() % 8 ? 1 : 2);
+    text.step = draw() % 4 ? 32 : ((uint64_t)1 << 32) - draw() % 2;
+    text.step = draw() % 8 ? text.step : 0;
+    text.used_len = draw() % 2 ? near_to(4) : 0;
+    MUST(agrees(bitm_text_len(&text, &out), bitm_text_fault(&text),
+                " len letters.len marks.len marks.width first step used_len width words_len upper_len lower_len "
+                "ones_len zeros_len quarters_len "));
+    struct bitm_sparse sparse = {.positions = {.len = draw() % 8, .width = draw() % 66, .low = zeros, .words = zeros,
+                                               .upper = zeros, .lower = zeros}, .bits_len = draw()};
+    drawn_tables(draw() % 4096, &sparse.positions.words_len, &sparse.positions.upper_len, &sparse.positions.lower_len);
+    sparse.positions.low_len = near_to(bitm_bits_words_len(sparse.positions.len * sparse.positions.width));
+    MUST(agrees(bitm_sparse_rank(&sparse, true, 0, &out), bitm_sparse_fault(&sparse),
+                " len width low_len words_len upper_len lower_len "));
+}
+
+static void drawn_shards(void)
+{
+    uint64_t out;
+    struct bitm_shard_place place;
+    struct bitm_index none[4] = {{0}, {0}, {0}, {0}};
+    const size_t counts = draw() % 5;
+    const struct bitm_prefixes both = {.bits = zeros, .bits_len = counts, .ones = zeros, .ones_len = near_to(counts)};
+    MUST(agrees(bitm_shards_find(&both, BITM_ONES, 0, &place), bitm_prefixes_fault(&both), " bits_len ones_len "));
+    const struct bitm_shards shards = {.counts = both, .shards = none, .shards_len = near_to(counts ? counts - 1 : 0)};
+    MUST(agrees(bitm_shards_rank(&shards, true, 0, &out), bitm_shards_fault(&shards),
+                " bits_len ones_len shards_len "));
+}
+
 static void by_hand(void)
 {
     struct bitm_index index = index_over(words, WORDS, upper, 1, lower, LOWERS);
@@ -81,6 +159,15 @@ static void by_hand(void)
     MUST(strcmp(bitm_sequence_fault(&sequence), "low_len is not bitm_bits_words_len(len * width)") == 0);
     sequence.low_len = 1;
     MUST(!bitm_sequence_fault(&sequence));
+    struct bitm_tree tree = {.len = 4, .words = zeros, .words_len = 1, .upper = zeros, .upper_len = 1};
+    tree.lower = zeros;
+    MUST(strcmp(bitm_tree_fault(&tree), "lower_len is not bitm_index_lower_len(words_len)") == 0);
+    tree.lower_len = 1;
+    MUST(!bitm_tree_fault(&tree));
+    struct bitm_trie trie = {.tree = tree, .width = 8, .labels = zeros, .labels_len = 2};
+    MUST(strcmp(bitm_trie_fault(&trie), "labels_len is not bitm_bits_words_len((tree.len - 1) * width)") == 0);
+    trie.labels_len = 1;
+    MUST(!bitm_trie_fault(&trie));
 }
 
 static void versions(void)
@@ -100,7 +187,7 @@ int main(int argc, char **argv)
     uint64_t ones;
     MUST(bitm_index_build(words, WORDS, upper, 1, lower, LOWERS, &ones) == BITM_OK);
     by_hand();
-    for (int i = 0; i < TURNS; i++) drawn();
+    for (int i = 0; i < TURNS; i++) drawn(), drawn_nodes(), drawn_numbers(), drawn_shards();
     versions();
     puts("C: a fault is named exactly where a call returns BITM_BAD_SIZE; versions of one series fit");
     return 0;

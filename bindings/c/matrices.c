@@ -76,22 +76,23 @@ static void answers_as(const struct plain *plain, const struct bitm_matrix *matr
     number_as(plain, matrix, UINT64_MAX); /* of more bits than the width, but for 64 */
 }
 
-/* The numbers at a list of indices, up to the first that there is none of. */
+/* The numbers at a list of indices, up to the first that has none; the status is that of its single call. */
 static void numbers_as_single_calls(const struct bitm_matrix *matrix, const uint64_t *indices)
 {
     uint64_t *of_list = untouched_at(OF_LIST, 8 * LIST), *written = out_at_the_guard(), numbers[LIST], *out;
-    uint32_t status;
+    uint32_t status, of_all;
     MUST(bitm_matrix_get_list(matrix, indices, LIST, of_list, LIST - 1, written) == BITM_BAD_SIZE);
     MUST(bitm_matrix_get_list(matrix, indices, LIST - 1, of_list, LIST, written) == BITM_BAD_SIZE);
     MUST(*written == UNTOUCHED && is_untouched(of_list, 8 * LIST));
-    MUST(bitm_matrix_get_list(matrix, indices, LIST, of_list, LIST, written) == BITM_OK && *written <= LIST);
+    of_all = bitm_matrix_get_list(matrix, indices, LIST, of_list, LIST, written);
     const uint64_t count = *written;
+    MUST(count <= LIST && (of_all == BITM_OK) == (count == LIST));
     memcpy(numbers, of_list, sizeof numbers);
     for (size_t i = 0; i < LIST; i++) {
         MUST(i < count || is_untouched(&numbers[i], 8));
         if (i > count) continue;
         ANSWER(bitm_matrix_get(matrix, indices[i], out));
-        MUST(i < count ? status == BITM_OK && numbers[i] == *out : status != BITM_OK);
+        MUST(i < count ? status == BITM_OK && numbers[i] == *out : status != BITM_OK && status == of_all);
     }
     MUST(bitm_matrix_get_list(matrix, NULL, 0, NULL, 0, written) == BITM_OK && *written == 0);
 }
@@ -191,8 +192,9 @@ static void no_matrices(void)
     MUST(bitm_matrix_size(SMALL, 4, true, &words) == BITM_OK && words == 88);
     MUST(bitm_matrix_size(SMALL, 4, false, &words) == BITM_OK && words == 80);
     memset(room, UNTOUCHED, sizeof room), memset(scratch, UNTOUCHED, sizeof scratch);
-    MUST(bitm_matrix_build(numbers, SMALL, 3, false, scratch, 2 * SMALL, room, words) == BITM_WRONG);
-    MUST(bitm_matrix_build(numbers, SMALL, 3, false, scratch, 0, room, 0) == BITM_WRONG); /* 9 has 4 bits */
+    MUST(bitm_matrix_build(numbers, SMALL, 3, false, scratch, 2 * SMALL, room, words) == BITM_WRONG); /* 9 has 4 bits */
+    MUST(bitm_matrix_build(numbers, SMALL, 3, false, scratch, 2 * SMALL, room, 0) == BITM_BAD_SIZE);
+    MUST(bitm_matrix_build(numbers, SMALL, 3, false, scratch, 0, room, words) == BITM_BAD_SIZE);
     for (size_t len = 0; len < 100; len++)
         if (len != words)
             MUST(bitm_matrix_build(numbers, SMALL, 4, false, scratch, 2 * SMALL, room, len) == BITM_BAD_SIZE);

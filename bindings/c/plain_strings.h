@@ -35,7 +35,7 @@ static bool is_one_of(const struct plain *plain, size_t count, const uint8_t *st
 }
 
 /* Drawn strings of up to `longest` bytes, some of them 0, of which no two are equal. */
-static void draw_strings(struct plain *plain, size_t count, size_t longest)
+static inline void draw_strings(struct plain *plain, size_t count, size_t longest)
 {
     plain->count = 0;
     while (plain->count < count) {
@@ -46,12 +46,31 @@ static void draw_strings(struct plain *plain, size_t count, size_t longest)
     }
 }
 
-/* FNV-1a as its authors wrote it. */
+static uint64_t rotated(uint64_t x, unsigned count) { return x << count | x >> (64 - count); }
+
+static void sip_round(uint64_t v[4])
+{
+    v[0] += v[1], v[1] = rotated(v[1], 13) ^ v[0], v[0] = rotated(v[0], 32);
+    v[2] += v[3], v[3] = rotated(v[3], 16) ^ v[2];
+    v[0] += v[3], v[3] = rotated(v[3], 21) ^ v[0];
+    v[2] += v[1], v[1] = rotated(v[1], 17) ^ v[2], v[2] = rotated(v[2], 32);
+}
+
+/* SipHash-1-3 with the key (with_seed, 0), a byte at a time. */
 static uint64_t plain_hash(const uint8_t *string, size_t len, uint64_t with_seed)
 {
-    uint64_t hash = UINT64_C(0xcbf29ce484222325) ^ with_seed;
-    for (size_t i = 0; i < len; i++) hash ^= string[i], hash *= UINT64_C(0x100000001b3);
-    return hash;
+    uint64_t v[4] = {with_seed ^ 0x736f6d6570736575, 0x646f72616e646f6d, with_seed ^ 0x6c7967656e657261,
+                     0x7465646279746573};
+    uint64_t word = 0;
+    for (size_t i = 0; i < len / 8 * 8 + 8; i++) {
+        const uint64_t byte = i < len ? string[i] : i % 8 == 7 ? len % 256 : 0;
+        word |= byte << i % 8 * 8;
+        if (i % 8 != 7) continue;
+        v[3] ^= word, sip_round(v), v[0] ^= word, word = 0;
+    }
+    v[2] ^= 0xff;
+    for (unsigned i = 0; i < 3; i++) sip_round(v);
+    return v[0] ^ v[1] ^ v[2] ^ v[3];
 }
 
 static uint8_t *bytes_placed(unsigned place, const uint8_t *bytes, size_t len)
@@ -107,7 +126,7 @@ static uint32_t build(const struct plain *plain, const struct bitm_hash *hash, u
 }
 
 /* The block of the strings, which ends at the guard. */
-static uint64_t *built(const struct plain *plain, uint64_t with_seed, uint64_t *words)
+static inline uint64_t *built(const struct plain *plain, uint64_t with_seed, uint64_t *words)
 {
     const struct bitm_hash hash = hash_of(plain, with_seed);
     *words = words_of(plain, &hash);

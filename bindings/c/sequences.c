@@ -92,7 +92,8 @@ static void query_sequence(const struct bitm_sequence *view, const uint64_t *ite
         MUST(bitm_sequence_first_at_least(view, above, &got) == BITM_NONE);
         MUST(bitm_sequence_first_at_least(view, UINT64_MAX, &got) == BITM_NONE && got == UNTOUCHED);
     }
-    MUST(bitm_sequence_get_list(view, indexes, view->len + 1, out, view->len + 1, &written) == BITM_OK);
+    MUST(bitm_sequence_get_list(view, indexes, view->len, out, view->len, &written) == BITM_OK && written == view->len);
+    MUST(bitm_sequence_get_list(view, indexes, view->len + 1, out, view->len + 1, &written) == BITM_NONE);
     MUST(written == view->len && out[view->len] == UNTOUCHED && memcmp(out, items, 8 * view->len) == 0);
     MUST(bitm_sequence_get_list(view, indexes, view->len + 1, out, view->len, &written) == BITM_BAD_SIZE);
     free(indexes);
@@ -110,8 +111,11 @@ static unsigned any_parts(const struct bitm_sequence *view, unsigned queries)
         MUST(status == BITM_OK || got == UNTOUCHED);
         wrong += status == BITM_WRONG;
         uint64_t one = UNTOUCHED;
-        MUST(bitm_sequence_get_list(view, &index, 1, &one, 1, &written) == BITM_OK && written <= (index < view->len));
-        MUST(written == 1 || one == UNTOUCHED);
+        /* a list may find another number, or none, in parts of no sequence */
+        status = bitm_sequence_get_list(view, &index, 1, &one, 1, &written);
+        MUST(index < view->len ? status == BITM_OK || status == BITM_WRONG : status == BITM_NONE);
+        MUST(written == (status == BITM_OK) && (written == 1 || one == UNTOUCHED));
+        wrong += status == BITM_WRONG;
         got = UNTOUCHED;
         status = bitm_sequence_first_at_least(view, value, &got);
         /* a list may find another index in parts of no sequence */
@@ -134,9 +138,11 @@ static unsigned any_parts(const struct bitm_sequence *view, unsigned queries)
         wrong += status == BITM_WRONG;
         uint64_t left = index < view->len ? view->len - index : 0;
         uint64_t some[4] = {UNTOUCHED, UNTOUCHED, UNTOUCHED, UNTOUCHED};
-        MUST(bitm_sequence_items(view, index, some, 3, &written) == BITM_OK && written <= 3 && written <= left);
+        status = bitm_sequence_items(view, index, some, 3, &written);
+        MUST(written <= 3 && written <= left && (status == BITM_OK) == (written == 3 || written == left));
+        MUST(status == BITM_OK || status == BITM_WRONG);
         for (uint64_t k = written; k < 4; k++) MUST(some[k] == UNTOUCHED);
-        wrong += written < 3 && written < left;
+        wrong += status == BITM_WRONG;
     }
     return wrong;
 }

@@ -245,14 +245,15 @@ static void no_bits(void)
     static const uint64_t positions[SMALL] = {0, 1, 4, 9, 16, 25, 36, 49, 64};
     static const uint64_t falls[3] = {7, 9, 8}, twice[3] = {7, 8, 8};
     uint64_t words, room[100];
-    MUST(bitm_sparse_size(SMALL, 64, &words) == BITM_OK && words < 100);
+    MUST(bitm_sparse_size(SMALL, 64, &words) == BITM_OK && words == 64);
     memset(room, UNTOUCHED, sizeof room);
     for (size_t len = 0; len < 100; len++) {
-        if (len != words) MUST(bitm_sparse_build(positions, SMALL, 65, room, len) == BITM_BAD_SIZE);
-        MUST(bitm_sparse_build(positions, SMALL, 64, room, len) == BITM_WRONG);
-        MUST(bitm_sparse_build(positions, SMALL, 0, room, len) == BITM_WRONG);
-        MUST(bitm_sparse_build(falls, 3, 100, room, len) == BITM_UNSORTED);
-        MUST(bitm_sparse_build(twice, 3, 3, room, len) == BITM_UNSORTED); /* and past the end */
+        const bool fits = len == 64; /* a header of 32 words, and four sections of at most eight */
+        if (!fits) MUST(bitm_sparse_build(positions, SMALL, 65, room, len) == BITM_BAD_SIZE);
+        MUST(bitm_sparse_build(positions, SMALL, 64, room, len) == (fits ? BITM_WRONG : BITM_BAD_SIZE));
+        MUST(bitm_sparse_build(positions, SMALL, 0, room, len) == (fits ? BITM_WRONG : BITM_BAD_SIZE));
+        MUST(bitm_sparse_build(falls, 3, 100, room, len) == (fits ? BITM_UNSORTED : BITM_BAD_SIZE));
+        MUST(bitm_sparse_build(twice, 3, 3, room, len) == (fits ? BITM_UNSORTED : BITM_BAD_SIZE)); /* and past */
     }
     MUST(is_untouched(room, sizeof room));
     for (size_t i = 0; i < 3; i++) {

@@ -351,7 +351,7 @@ static void sequences(void)
     LEAVES(BITM_BAD_SIZE, bitm_sequence_get_list(&view, far, LIST, written.list, LIST - 1, &written.one));
     for (size_t i = 0; i < sizeof lists / sizeof *lists; i++)
         LEAVES(BITM_BAD_SIZE, lists[i](&view, far, LIST, written.list, LIST - 1, &written.counts));
-    MUST(bitm_sequence_get_list(&view, far, LIST, written.list, LIST, &width) == BITM_OK && width == 0);
+    MUST(bitm_sequence_get_list(&view, far, LIST, written.list, LIST, &width) == BITM_NONE && width == 0);
     view.width = 64;
     LEAVES(BITM_BAD_SIZE, bitm_sequence_check(&view));
     LEAVES(BITM_BAD_SIZE, bitm_sequence_get(&view, 0, &written.one));
@@ -366,6 +366,9 @@ static void sequences(void)
     LEAVES(BITM_WRONG, bitm_sequence_check(&view));
     LEAVES(BITM_WRONG, bitm_sequence_get(&view, 3, &written.one));
     LEAVES(BITM_WRONG, bitm_sequence_contains(&view, 0, &written.one));
+    const uint64_t one_inside = 3;
+    MUST(bitm_sequence_get_list(&view, &one_inside, 1, written.list, 1, &width) == BITM_WRONG && width == 0);
+    MUST(bitm_sequence_items(&view, 6, written.list, 1, &width) == BITM_WRONG && width == 0);
     upper_vector = 0xFFFF; /* more ones than numbers */
     LEAVES(BITM_WRONG, bitm_sequence_first_at_least(&view, 0, &written.one));
     LEAVES(BITM_WRONG, bitm_sequence_last_at_most(&view, 1, &written.one));

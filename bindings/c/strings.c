@@ -1,6 +1,6 @@
-/* Strings in blocks: the hashes that FNV's authors published; the answers beside a plain list of strings; strings of
- * which no block is made; blocks of which each byte is changed, each prefix, and blocks whose hash, starts and bytes hold
- * random numbers. All is beside pages that may not be touched (places.h). */
+/* Strings in blocks: the answers beside a plain list of strings; strings of which no block is made; blocks of which
+ * each byte is changed, each prefix, and blocks whose hash, starts and bytes hold random numbers. All is beside pages
+ * that may not be touched (places.h). */
 #define _DEFAULT_SOURCE
 #include "plain_strings.h"
 
@@ -137,7 +137,7 @@ static void is_over(const uint64_t *block, const struct bitm_strings *strings)
     MUST(other->ones.starts_len == 0 && other->zeros.starts_len == 0);
     MUST(strings->starts == block + block[21] / 8 && strings->starts_len == block[22]);
     MUST(strings->bytes == block + block[25] / 8 && strings->bytes_len == block[26]);
-    MUST(strings->reserved[0] == 0 && strings->reserved[1] == 0);
+    MUST(strings->kind == 12 && strings->reserved[0] == 0);
 }
 
 /* The same strings in parts that lie apart, each of which ends at the guard. */
@@ -240,32 +240,6 @@ static void equal_strings(void)
     MUST(bitm_strings_hashes(two, 6, ends, 2, 5, hashes, 2) == BITM_OK && hashes[0] == hashes[1]);
 }
 
-/* The hashes that FNV's authors published, and lists that are none. */
-static void hashes_of_fnv(void)
-{
-    static const struct {
-        const char *string;
-        size_t len;
-        uint64_t hash;
-    } known[] = {{"", 0, UINT64_C(0xcbf29ce484222325)},
-                 {"a", 1, UINT64_C(0xaf63dc4c8601ec8c)},
-                 {"foobar", 6, UINT64_C(0x85944171f73967e8)}};
-    uint64_t *out, one = UNTOUCHED;
-    uint32_t status;
-    for (size_t i = 0; i < 3; i++) {
-        ANSWER(bitm_strings_hash(bytes_placed(OF_BYTES, (const uint8_t *)known[i].string, known[i].len), known[i].len, 0,
-                                 out));
-        MUST(status == BITM_OK && *out == known[i].hash);
-    }
-    const uint64_t ends[2] = {2, 1};
-    MUST(bitm_strings_hashes((const uint8_t *)"ab", 2, ends, 1, 0, &one, 1) == BITM_OK && one != UNTOUCHED);
-    one = UNTOUCHED;
-    MUST(bitm_strings_hashes((const uint8_t *)"ab", 2, ends, 2, 0, &one, 1) == BITM_BAD_SIZE);
-    MUST(bitm_strings_hashes((const uint8_t *)"ab", 1, ends, 1, 0, &one, 1) == BITM_BAD_SIZE);
-    MUST(bitm_strings_hashes((const uint8_t *)"ab", 2, NULL, 0, 0, NULL, 0) == BITM_BAD_SIZE && one == UNTOUCHED);
-    MUST(bitm_strings_hashes(NULL, 0, NULL, 0, 0, NULL, 0) == BITM_OK);
-}
-
 /* Lengths that no block has, and the most that one has. */
 static void no_sizes(void)
 {
@@ -311,7 +285,9 @@ static void random_blocks(void)
         uint64_t *const block = built(&plain, draw(), &words);
         spoil(block, 64, words, turn);
         MUST(opens(&of_strings, block, words, &strings));
+        strings.kind = turn % 2 ? 10 : 12;
         answers_within(&strings);
+        strings.kind = 12;
         if (bitm_strings_check(block, words) == BITM_OK) answers_as(&plain, &strings);
         draw_words(block, words);
         MUST(refuses(&of_strings, block, words));
@@ -329,7 +305,7 @@ static void other_structs(void)
     MUST(bitm_strings_open(block, words, &made) == BITM_OK);
     struct bitm_list_counts *const counts = counts_at_the_guard();
     uint64_t *const list = untouched_at(OF_LIST, 8 * plain.count);
-    for (size_t i = 0; i < 7; i++) {
+    for (size_t i = 0; i < 10; i++) {
         struct bitm_strings bad = made;
         if (i == 0) bad.starts_len--;
         if (i == 1) bad.hash.keys++;
@@ -338,6 +314,7 @@ static void other_structs(void)
         if (i == 4) bad.hash.index.upper_len = 0;
         if (i == 5) bad.hash.index.lower_len++;
         if (i == 6) bad.bytes_len = (size_t)1 << 58;
+        if (i > 6) bad.kind = i == 7 ? 0 : i == 8 ? 11 : 10 + ((uint64_t)1 << 32);
         MUST(bitm_strings_fault(&bad) != NULL);
         MUST(found(&bad, plain.bytes, plain.ends[0], &number) == BITM_BAD_SIZE);
         uint64_t *out, *const size = placed(OF_LEN, sizeof *size);
@@ -357,7 +334,6 @@ static void other_structs(void)
 
 static void tests(void)
 {
-    hashes_of_fnv();
     drawn_strings();
     no_strings();
     equal_strings();

@@ -190,6 +190,8 @@ static void no_trees(void)
         const size_t len = i < 7 ? 2 : 3;
         MUST(bitm_tree_size(len, &words) == BITM_OK);
         MUST(bitm_tree_build(none[i], len, room, words) == BITM_WRONG);
+        MUST(bitm_tree_build(none[i], len, room, words - 1) == BITM_BAD_SIZE);
+        MUST(bitm_tree_build(none[i], len, room, words + 8) == BITM_BAD_SIZE);
         MUST(is_untouched(room, sizeof room));
     }
     static const uint64_t four[4] = {2, 0, 1, 0};

@@ -110,11 +110,26 @@ static void drawn_words(void)
 
 /* ---- no words, and words that do not rise */
 
-static void refused(const char *bytes, size_t bytes_len, const uint64_t *starts, size_t starts_len, uint32_t wanted)
+/* No words, whatever the lengths are. */
+static void refused(const char *bytes, size_t bytes_len, const uint64_t *starts, size_t starts_len)
 {
     uint64_t nodes, *block;
-    MUST(nodes_of((const uint8_t *)bytes, bytes_len, starts, starts_len, &nodes) == wanted && nodes == UNTOUCHED);
-    MUST(build((const uint8_t *)bytes, bytes_len, starts, starts_len, 14, 80, &block) == wanted);
+    const uint8_t *const at = (const uint8_t *)bytes;
+    MUST(nodes_of(at, bytes_len, starts, starts_len, &nodes) == BITM_BAD_SIZE && nodes == UNTOUCHED);
+    MUST(build(at, bytes_len, starts, starts_len, 14, 80, &block) == BITM_BAD_SIZE);
+}
+
+/* Two words that do not rise, of which so many letters are not shared with the word before: the lengths are those of a
+ * node more. */
+static void unsorted(const char *bytes, size_t bytes_len, const uint64_t *starts, size_t letters)
+{
+    const uint8_t *const at = (const uint8_t *)bytes;
+    const size_t scratch_len = 3 * letters + 2, block_len = letters ? 80 : 72; /* without labels a section less */
+    uint64_t nodes, *block;
+    MUST(nodes_of(at, bytes_len, starts, 3, &nodes) == BITM_UNSORTED && nodes == UNTOUCHED);
+    MUST(build(at, bytes_len, starts, 3, scratch_len, block_len, &block) == BITM_UNSORTED);
+    MUST(build(at, bytes_len, starts, 3, scratch_len + 1, block_len, &block) == BITM_BAD_SIZE);
+    MUST(build(at, bytes_len, starts, 3, scratch_len, block_len + 8, &block) == BITM_BAD_SIZE);
 }
 
 static void no_words(void)
@@ -122,15 +137,15 @@ static void no_words(void)
     static const uint64_t falls[3] = {0, 2, 1}, past[2] = {0, 5}, far[2] = {0, UINT64_MAX}, twice[3] = {0, 2, 4};
     static const uint64_t less[3] = {1, 2, 3}, shorter[3] = {0, 2, 3}, empty[3] = {2, 2, 2}, one[2] = {3, 3};
     uint64_t nodes;
-    refused("abab", 4, falls, 0, BITM_BAD_SIZE);
-    refused("abab", 4, falls, 3, BITM_BAD_SIZE);
-    refused("abab", 4, past, 2, BITM_BAD_SIZE);
-    refused("abab", 4, far, 2, BITM_BAD_SIZE);
-    refused("abab", 4, twice, 3, BITM_WRONG);
-    refused("abab", 4, less, 3, BITM_WRONG);
-    refused("abab", 4, shorter, 3, BITM_WRONG);
-    refused("abab", 4, empty, 3, BITM_WRONG);
-    refused("\177\200\177", 3, (const uint64_t[]){1, 2, 3}, 3, BITM_WRONG); /* bytes have no sign */
+    refused("abab", 4, falls, 0);
+    refused("abab", 4, falls, 3);
+    refused("abab", 4, past, 2);
+    refused("abab", 4, far, 2);
+    unsorted("abab", 4, twice, 2);
+    unsorted("abab", 4, less, 2);
+    unsorted("abab", 4, shorter, 2);
+    unsorted("abab", 4, empty, 0);
+    unsorted("\177\200\177", 3, (const uint64_t[]){1, 2, 3}, 2); /* bytes have no sign */
     MUST(nodes_of((const uint8_t *)"abab", 4, one, 2, &nodes) == BITM_OK && nodes == 1);
     MUST(nodes_of((const uint8_t *)"abab", 4, one, 1, &nodes) == BITM_OK && nodes == 1);
     MUST(nodes_of((const uint8_t *)"\177\200", 2, (const uint64_t[]){0, 1, 2}, 3, &nodes) == BITM_OK && nodes == 3);

@@ -247,10 +247,19 @@ static struct plain four(void)
         .tree = {.len = 4, .degrees = {2, 0, 1, 0}}, .width = 8, .labels = {9, 'a', 'b', 'e'}, .ends = {14}};
 }
 
+static void refused_in(struct plain trie, uint32_t wanted, size_t labels_len, uint32_t width, size_t ends, size_t words)
+{
+    uint64_t *const room = untouched_at(OF_BLOCK, 8 * words);
+    MUST(build(&trie, labels_len, width, ends, room, words) == wanted && is_untouched(room, 8 * words));
+}
+
+/* Whatever the labels and the degrees are, a wrong length comes first. */
 static void refused(struct plain trie, uint32_t wanted, size_t labels_len, uint32_t width, size_t ends)
 {
-    uint64_t *const room = untouched_at(OF_BLOCK, 640);
-    MUST(build(&trie, labels_len, width, ends, room, 80) == wanted && is_untouched(room, 640));
+    refused_in(trie, wanted, labels_len, width, ends, 80);
+    refused_in(trie, BITM_BAD_SIZE, labels_len, width, ends, 79);
+    refused_in(trie, BITM_BAD_SIZE, labels_len, width, 2, 80);
+    refused_in(trie, BITM_BAD_SIZE, labels_len + 1, width, ends, 80);
 }
 
 static void no_tries(void)
@@ -262,8 +271,8 @@ static void no_tries(void)
         refused(trie, BITM_BAD_SIZE, 3, not_widths[i], 1);
         MUST(bitm_trie_size(4, not_widths[i], true, &words) == BITM_BAD_SIZE && words == UNTOUCHED);
     }
-    refused(trie, BITM_WRONG, 2, 8, 1);
-    refused(trie, BITM_WRONG, 4, 8, 1);
+    refused_in(trie, BITM_BAD_SIZE, 2, 8, 1, 80);
+    refused(trie, BITM_BAD_SIZE, 4, 8, 1);
     refused(trie, BITM_WRONG, 3, 6, 1); /* 'a' has seven bits */
     refused(trie, BITM_BAD_SIZE, 3, 8, 2);
     trie.labels[2] = 'a';
@@ -273,7 +282,8 @@ static void no_tries(void)
     trie = four(), trie.tree.degrees[0] = 1;
     refused(trie, BITM_WRONG, 3, 8, 1);
     trie = four(), trie.tree.len = 0;
-    refused(trie, BITM_WRONG, 0, 8, 0);
+    refused_in(trie, BITM_WRONG, 0, 8, 0, 64); /* a header of 40 words, and a word with its tables */
+    refused(trie, BITM_BAD_SIZE, 0, 8, 0);
     trie = four();
     for (size_t len = 0; len <= 88; len++) {
         uint64_t *const room = untouched_at(OF_BLOCK, 704);

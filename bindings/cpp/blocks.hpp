@@ -42,7 +42,7 @@ template <class Owner, class Full, class None> static void copies_and_moves(Owne
 {
     using View = decltype(a.view());
     Owner empty;
-    MUST(a != empty && empty.bytes().size() == 0);
+    MUST(a != empty);
     Owner copy = a, moved = std::move(a);
     full(copy), full(moved), full(moved.view());
     none(a), none(empty), none(empty.view()), none(View()), none(Owner(empty));
@@ -74,9 +74,11 @@ template <class Owner, class Full> static void files_of(const Owner &given, cons
     MUST(stream.get() == 'm' && !Owner::try_load(cut) && mapped == given && Owner(Owner::map(path)) == given);
     MUST(Owner::of_bytes(given.bytes()) == given);
     MUST(apart<bitm::rank_index, Owner>(path) && apart<bitm::sequence, Owner>(path));
-    MUST(apart<bitm::perfect_hash, Owner>(path) && apart<bitm::tree, Owner>(path));
+    constexpr bool is_dictionary = std::is_same_v<Owner, bitm::dictionary>; // whose block is that of a hash too
+    MUST((is_dictionary || apart<bitm::perfect_hash, Owner>(path)) && apart<bitm::tree, Owner>(path));
     MUST(apart<bitm::wavelet_matrix, Owner>(path) && apart<bitm::sparse_bits, Owner>(path));
-    MUST(apart<bitm::dictionary, Owner>(path) && apart<bitm::text_index, Owner>(path) && apart<bitm::trie, Owner>(path));
+    MUST(apart<bitm::dictionary, Owner>(path) && apart<bitm::text_index, Owner>(path) &&
+         apart<bitm::trie, Owner>(path));
     MUST(apart<bitm::strings, Owner>(path) && apart<bitm::seeded_hash, Owner>(path));
     Words file(given.block().begin(), given.block().end());
     file.resize(file.size() + 7, 5); // words after the block are not its own

@@ -92,22 +92,23 @@ static void changes(FuzzedDataProvider &from)
     MUST(walk == b.ones().end() && x.count() == ones && !x.select(ones) && !x.select0(n - ones) && x.check());
 }
 
-static void any_index(FuzzedDataProvider &from)
+// The words of a file of which anything follows the first `head`.
+static std::vector<u64> with_body(std::vector<u64> file, std::size_t head, const std::vector<unsigned char> &body)
 {
-    // A right header before anything.
-    const u64 bits = from.ConsumeIntegralInRange<u64>(0, 6000), len = bits / 64 + (bits % 64 != 0);
-    const std::uint32_t log2 = from.ConsumeBool() ? from.ConsumeIntegralInRange(7u, 31u) : 0,
-                        log2_0 = from.ConsumeBool() ? 8u : 0;
-    const u64 most = log2 ? bitm_index_samples_len(len, log2) : 0,
-              most0 = log2_0 ? bitm_index_samples_len(len, log2_0) : 0;
-    bitm_stored header;
-    if (bitm_stored_index(bits, log2, from.ConsumeIntegralInRange<u64>(0, most), log2_0, most0, &header) != BITM_OK)
-        return;
-    std::vector<unsigned char> file(header.size);
-    std::memcpy(file.data(), &header, sizeof header);
-    const auto body = from.ConsumeRemainingBytes<unsigned char>();
-    std::copy_n(body.begin(), std::min(body.size(), file.size() - sizeof header), file.begin() + sizeof header);
-    const bitm::rank_index x = bitm::rank_index::of_bytes(file);
+    const std::size_t room = 8 * (file.size() - head);
+    if (room > 0 && !body.empty()) std::memcpy(file.data() + head, body.data(), std::min(body.size(), room));
+    return file;
+}
+template <class Owner> static std::size_t head_of(const Owner &of)
+{
+    return static_cast<std::size_t>(bitm::section_at(of.block(), 0).value().words.data() - of.block().data());
+}
+template <class Owner> static std::vector<u64> block_of(const Owner &of) { return {of.block().begin(), of.block().end()}; }
+
+// An index of which tables and samples may be any.
+static void index_answers(const bitm::rank_index_view &x)
+{
+    const u64 bits = x.size();
     const bool right = x.check();
     const bitm::bits_view bits_of_it = x.as_bits();
     std::vector<u64> q, out(40), out0(40);
@@ -138,18 +139,33 @@ static void any_index(FuzzedDataProvider &from)
     MUST(walked == bits_of_it.count());
 }
 
-static void any_sequence(FuzzedDataProvider &from)
+static void any_index(FuzzedDataProvider &from)
 {
-    const u64 n = from.ConsumeIntegralInRange<u64>(0, 400),
-              largest = n ? from.ConsumeIntegral<u64>() >> from.ConsumeIntegralInRange(0, 63) : 0;
-    bitm_sequence_lens lens;
+    // A right header before anything, of a file of version 2 and of a block.
+    const u64 bits = from.ConsumeIntegralInRange<u64>(0, 6000), len = bits / 64 + (bits % 64 != 0);
+    const std::uint32_t log2 = from.ConsumeBool() ? from.ConsumeIntegralInRange(7u, 31u) : 0,
+                        log2_0 = from.ConsumeBool() ? 8u : 0;
+    const u64 most = log2 ? bitm_index_samples_len(len, log2) : 0,
+              most0 = log2_0 ? bitm_index_samples_len(len, log2_0) : 0;
     bitm_stored header;
-    if (bitm_sequence_sizes(n, largest, &lens) != BITM_OK || bitm_stored_sequence(n, &lens, &header) != BITM_OK) return;
-    std::vector<unsigned char> file(header.size);
+    if (bitm_stored_index(bits, log2, from.ConsumeIntegralInRange<u64>(0, most), log2_0, most0, &header) != BITM_OK)
+        return;
+    std::vector<u64> file(header.size / 8);
     std::memcpy(file.data(), &header, sizeof header);
     const auto body = from.ConsumeRemainingBytes<unsigned char>();
-    std::copy_n(body.begin(), std::min(body.size(), file.size() - sizeof header), file.begin() + sizeof header);
-    const bitm::sequence s = bitm::sequence::of_bytes(file);
+    file = with_body(file, sizeof header / 8, body);
+    index_answers(bitm::rank_index_view::in(file));
+    const auto anew = bitm::rank_index::of_bytes({reinterpret_cast<const unsigned char *>(file.data()), header.size});
+    MUST(anew.check() && anew == bitm::rank_index_view::in(file)), index_answers(anew.view());
+    const bitm::rank_index of_it(bitm::bits(bits), {log2, log2_0});
+    const std::vector<u64> block = with_body(block_of(of_it), head_of(of_it), body);
+    index_answers(bitm::rank_index_view::in(block));
+}
+
+// A sequence whose parts may be any.
+static void sequence_answers(const bitm::sequence_view &s, u64 largest)
+{
+    const u64 n = s.size();
     const bool right = s.check();
     u64 steps = 0, last = 0;
     try {
@@ -171,6 +187,27 @@ static void any_sequence(FuzzedDataProvider &from)
             MUST(!right);
         }
     }
+}
+
+static void any_sequence(FuzzedDataProvider &from)
+{
+    const u64 n = from.ConsumeIntegralInRange<u64>(0, 400),
+              largest = n ? from.ConsumeIntegral<u64>() >> from.ConsumeIntegralInRange(0, 63) : 0;
+    bitm_sequence_lens lens;
+    bitm_stored header;
+    if (bitm_sequence_sizes(n, largest, &lens) != BITM_OK || bitm_stored_sequence(n, &lens, &header) != BITM_OK) return;
+    std::vector<u64> file(header.size / 8);
+    std::memcpy(file.data(), &header, sizeof header);
+    const auto body = from.ConsumeRemainingBytes<unsigned char>();
+    file = with_body(file, sizeof header / 8, body);
+    sequence_answers(bitm::sequence_view::in(file), largest);
+    const auto anew = bitm::sequence::try_of_bytes({reinterpret_cast<const unsigned char *>(file.data()), header.size});
+    MUST(!anew || anew->check());
+    std::vector<u64> numbers(n);
+    for (u64 i = 0; i < n; i++) numbers[i] = largest / n * i;
+    const bitm::sequence of_it(numbers);
+    const std::vector<u64> block = with_body(block_of(of_it), head_of(of_it), body);
+    sequence_answers(bitm::sequence_view::in(block), largest);
 }
 
 static void any_hash(FuzzedDataProvider &from)

@@ -172,6 +172,10 @@ static void any(const View &m)
         for (const auto &it :
              {m.try_quantile(from, i, 0), m.try_next_value(from, i, number), m.try_previous_value(from, i, number)})
             MUST(!it || !*it || **it <= end);
+        const Words index{i};
+        Words one(1);
+        if (i == n) MUST(throws<std::out_of_range>([&] { m.at(index, one); }));
+        else MUST(throws<bitm::wrong_tables>([&] { m.at(index, one); }) || one[0] <= end);
     }
 }
 

@@ -15,6 +15,13 @@ bitm::sequence numbers() { return {1, 2, 3}; }
 bitm::tree grown() { return {2, 0, 1, 0}; }
 bitm::wavelet_matrix listed() { return {3, 1, 4}; }
 bitm::seeded_hash hashed() { return bitm::seeded_hash(words(1, 5)); }
+bitm::prefix_counts counted() { return bitm::prefix_counts({100, 200}, {1, 1}); }
+bitm::sharded_index joined() { return bitm::sharded_index({made(), made()}); }
+words file_of_tree()
+{
+    const bitm::tree t = grown();
+    return words(t.block().begin(), t.block().end());
+}
 struct held {
     words w;
     const std::uint64_t *data() const { return w.data(); }
@@ -22,6 +29,7 @@ struct held {
     const std::uint64_t *begin() const { return data(); }
 };
 std::uint64_t query(bitm::rank_index_view v) { return v.rank(5); }
+bitm::strings_view strings_of(const words &file) { return bitm::strings_view::in(file); }
 
 #if CASE >= 100
 bitm::rank_index_view returned()
@@ -78,6 +86,36 @@ bitm::seeded_hash_view of_local()
     const bitm::seeded_hash h = hashed();
     return h.view();
 }
+#elif CASE == 112
+bitm::detail::bits_parts parts()
+{
+    const bitm::bits b = some();
+    return b.parts();
+}
+#elif CASE == 113 // a string of local strings
+std::string_view name()
+{
+    const bitm::strings s{"ada", "bob"};
+    return s[0];
+}
+#elif CASE == 114 // a bit of local bits
+bitm::bits::reference bit()
+{
+    bitm::bits b = some();
+    return b[3];
+}
+#elif CASE == 115 // the parts of a view that ends
+const bitm_index &raw_of(const bitm::rank_index &x)
+{
+    const bitm::rank_index_view v = x.view();
+    return v.raw();
+}
+#elif CASE == 116 // a section of a local file
+std::optional<bitm::section> section()
+{
+    const words file = file_of_tree();
+    return bitm::section_at(file, 0);
+}
 #elif CASE == 107
 void kept() { bitm::words_in w = words(5); (void)w; }
 #endif
@@ -96,6 +134,27 @@ int main()
     for (bool b : made()) (void)b; // the index lives as long as the loop
     (void)query(v), (void)query(made().rank(3) ? x.view() : y.view());
     for (auto child : grown().children(0)) (void)child; // numbers, which need no tree
+    auto &&set = some().set(3); // a value, which lives as long as its name
+    for (bool b : some().flip().fill(3, 5, true)) (void)b;
+    const bool third = some()[3]; // a bit of a temporary is a value
+    (void)set, (void)third, (void)joined().rank(5), (void)(made() == made());
+    // Spans are kept, also temporary ones: what they point at is not theirs.
+    const words in_memory = file_of_tree();
+    const bitm::tree_view t = bitm::tree_view::in(bitm::words_in(in_memory));
+    (void)t, (void)bitm::bits_view(bitm::words_in(in_memory), 7), (void)bitm::section_at(bitm::words_in(in_memory), 0);
+    (void)bitm::try_section_at({in_memory.data(), in_memory.size()}, 0);
+#if __cplusplus >= 202002L
+    (void)bitm::tree_view::in(std::span<const std::uint64_t>(in_memory));
+#endif
+    // A view's words outlive the view.
+    const auto strings = bitm::strings_view::try_in(in_memory);
+    if (strings) {
+        const std::string_view name = strings_of(in_memory)[0];
+        const bitm::words_in block = strings_of(in_memory).block();
+        (void)name, (void)block;
+    }
+    const bitm_index parts = x.view().raw();
+    (void)parts;
 #elif CASE == 1 // an owner becomes a view, which would point at what it owns
     bitm::rank_index_view v = made();
 #elif CASE == 2
@@ -222,6 +281,70 @@ int main()
     bitm::seeded_hash_view v = hashed();
 #elif CASE == 59 // hashes are given where a hash is made
     bitm::seeded_hash h = words(1, 5);
+#elif CASE == 60 // what a setter of a temporary gives is a value, and so a temporary too
+    auto r = some().set(3).ones();
+#elif CASE == 61
+    auto v = some().flip().view();
+#elif CASE == 62
+    bitm::bits &r = some().set(3);
+#elif CASE == 63
+    bitm::bits &r = some().reset();
+#elif CASE == 64
+    bitm::bits &r = some().fill(0, 9, true);
+#elif CASE == 65
+    bitm::bits &r = some().set_bits(0, 9, 5);
+#elif CASE == 66
+    bitm::bits &r = some().xor_bits(0, 9, 5);
+#elif CASE == 67
+    bitm::bits &r = some().set_fragment(0, 9, 5);
+#elif CASE == 68
+    bitm::bits &r = some().swap_fragments(0, 1, 5);
+#elif CASE == 69
+    bitm::bits &r = some().fill_fragments(9, 5, 2);
+#elif CASE == 70
+    bitm::bits &r = some().flip(3);
+#elif CASE == 71
+    bitm::bits &r = some().flip(3, 5);
+#elif CASE == 72 // nothing is assigned to a temporary
+    const bitm::bits &r = (some() &= some());
+#elif CASE == 73
+    some() <<= 3;
+#elif CASE == 74
+    some() = some();
+#elif CASE == 75
+    some()[3] = true;
+#elif CASE == 76 // parts of temporaries
+    auto p = some().parts();
+#elif CASE == 77
+    auto r = counted().raw();
+#elif CASE == 78
+    auto c = counted().bits_before();
+#elif CASE == 79
+    for (auto it : counted().ones_before()) (void)it;
+#elif CASE == 80
+    auto &c = joined().counts();
+#elif CASE == 81 // sections of temporaries
+    auto s = bitm::section_at(file_of_tree(), 0);
+#elif CASE == 82
+    auto s = *bitm::try_section_at(file_of_tree(), 0);
+#elif CASE == 83 // what is no size of bits, and no text
+    bitm::bits b(nullptr);
+#elif CASE == 84
+    bitm::bits b(true);
+#elif CASE == 85
+    bitm::bits b(5.5);
+#elif CASE == 86
+    bitm::bits b = 5;
+#elif CASE == 87 // of indexes and of hashes
+    auto w = made().block();
+#elif CASE == 88
+    auto w = numbers().block();
+#elif CASE == 89
+    auto w = bitm::perfect_hash(file).block();
+#elif CASE == 90 // of a struct of C
+    const bitm_index &r = bitm::rank_index::try_load("a").value().view().raw();
+#elif CASE == 91
+    bitm_index &r = x.view().raw();
 #elif CASE == 110 // an answer that is not looked at
     bitm::rank_index::try_load("a");
 #elif CASE >= 100

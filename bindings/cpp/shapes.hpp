@@ -22,6 +22,22 @@ static_assert(regular<bitm::text_index>() && regular<bitm::text_index_view>());
 static_assert(regular<bitm::dictionary>() && regular<bitm::dictionary_view>());
 static_assert(regular<bitm::seeded_hash>() && regular<bitm::seeded_hash_view>());
 static_assert(regular<bitm::wavelet_matrix>() && regular<bitm::wavelet_matrix_view>());
+static_assert(regular<bitm::strings>() && regular<bitm::strings_view>());
+static_assert(regular<bitm::prefix_counts>() && regular<bitm::sharded_index>());
+// A view is copied as its bytes.
+template <class... Views> constexpr bool plain = (std::is_trivially_copyable_v<Views> && ...);
+static_assert(plain<bitm::bits_view, bitm::rank_index_view, bitm::sequence_view, bitm::wavelet_matrix_view, bitm::tree_view,
+                    bitm::trie_view, bitm::strings_view, bitm::dictionary_view, bitm::sparse_bits_view,
+                    bitm::text_index_view, bitm::seeded_hash_view, bitm::words_in, bitm::words_out>);
+// Bits are made of a size, and of text, but not of a truth value, a fraction or a null pointer.
+template <class From> constexpr bool from = std::is_constructible_v<bitm::bits, From>;
+static_assert(from<int> && from<unsigned> && from<long long> && from<std::size_t> && from<const char *> &&
+              from<const char (&)[5]> && from<std::string> && from<std::string_view> && from<bitm::bits_view>);
+static_assert(!from<bool> && !from<double> && !from<float> && !from<std::nullptr_t> && !from<int *> && !from<void *>);
+static_assert(!std::is_convertible_v<int, bitm::bits> && !std::is_convertible_v<const char *, bitm::bits>);
+// What a temporary gives of itself is its value; nothing is assigned to one.
+static_assert(std::is_same_v<decltype(bitm::bits().set(0)), bitm::bits> && std::is_same_v<decltype(bitm::bits()[0]), bool>);
+static_assert(!std::is_assignable_v<bitm::bits, const bitm::bits &> && std::is_assignable_v<bitm::bits &, bitm::bits>);
 // No owner is, or converts by itself to, a view.
 template <class Owner, class View>
 constexpr bool apart = !std::is_convertible_v<Owner, View> && !std::is_convertible_v<Owner &, View> &&
@@ -57,6 +73,18 @@ static_assert(sr::random_access_range<bitm::fragments_range> && sr::view<bitm::f
 static_assert(sr::input_range<bitm::sequence_walk>);
 static_assert(sr::random_access_range<bitm::node_range> && sr::borrowed_range<bitm::node_range> &&
               sr::view<bitm::node_range> && sr::sized_range<bitm::node_range>);
+// Each view that is a range says so, and that its iterators outlive it.
+template <class View> constexpr bool lasting = sr::view<View> && sr::borrowed_range<View> && sr::common_range<View>;
+static_assert(lasting<bitm::bits_view> && lasting<bitm::rank_index_view> && lasting<bitm::sequence_view> &&
+              lasting<bitm::wavelet_matrix_view> && lasting<bitm::ones_range> && lasting<bitm::zeros_range> &&
+              lasting<bitm::fragments_range> && lasting<bitm::node_range> && lasting<bitm::words_in> &&
+              lasting<bitm::words_out>);
+template <class Owner> constexpr bool owning = sr::range<Owner> && !sr::view<Owner> && !sr::borrowed_range<Owner>;
+static_assert(owning<bitm::bits> && owning<bitm::rank_index> && owning<bitm::sequence> && owning<bitm::wavelet_matrix>);
+template <class View> constexpr bool no_range = !sr::range<View> && std::semiregular<View>;
+static_assert(no_range<bitm::tree_view> && no_range<bitm::trie_view> && no_range<bitm::strings_view> &&
+              no_range<bitm::dictionary_view> && no_range<bitm::sparse_bits_view> && no_range<bitm::text_index_view> &&
+              no_range<bitm::seeded_hash_view>);
 static_assert(sr::random_access_range<bitm::wavelet_matrix> && sr::sized_range<bitm::wavelet_matrix> &&
               sr::view<bitm::wavelet_matrix_view> && !sr::borrowed_range<bitm::wavelet_matrix>);
 #endif
@@ -119,6 +147,24 @@ static void faults()
          "bitm: not a file of this format, or not a whole one: /dev/null");
 }
 
+// A whole number is a size, 0 too, and text is text.
+static void sizes()
+{
+    const std::string text = "0110";
+    const char *const none = nullptr;
+    CHECK(bitm::bits(0).empty() && bitm::bits(1) == bitm::bits("0") && bitm::bits(2, true) == bitm::bits("11"));
+    CHECK(bitm::bits(0u).empty() && bitm::bits(0LL).empty() && bitm::bits(std::size_t{3}).size() == 3);
+    CHECK(bitm::bits("0110").count() == 2 && bitm::bits(text) == bitm::bits("0110") && bitm::bits("").empty());
+    CHECK(bitm::bits(text.c_str()) == bitm::bits(std::string_view(text)));
+    THROWS(std::invalid_argument, bitm::bits(~u64{}));
+    THROWS(std::invalid_argument, bitm::bits(none));
+    // Calls on a temporary give its value.
+    const bitm::bits made = bitm::bits(5).set(1).flip().set_bits(3, 2, 0);
+    CHECK(made == bitm::bits("10100") && bitm::bits(2).set()[1] && bitm::bits(9).fill(2, 5, true).count() == 3);
+    auto &&kept = bitm::bits(3).set(2);
+    CHECK(kept.count() == 1);
+}
+
 static void once()
 {
     by_using(), faults();
@@ -129,7 +175,9 @@ static void once()
     bitm::bits e;
     CHECK(e.empty() && !e.next_one(0) && e.all() && e.none() && e.ones().empty());
     bitm::rank_index none;
-    CHECK(none.empty() && !none.select(0) && none.rank(0) == 0 && none.check() && none.bytes().size() == 0);
+    CHECK(none.empty() && !none.select(0) && none.rank(0) == 0 && none.check());
+    CHECK(bitm::rank_index::of_bytes(none.bytes(), bitm::verify::yes) == none);
+    sizes();
     std::unordered_set<bitm::bits> set{b, e, bitm::bits("101")};
     CHECK(set.size() == 2);
     std::ostringstream out;

@@ -6,9 +6,9 @@
 #include <cstdlib>
 #include <vector>
 
-#define MUST(condition) \
-    do { \
-        if (!(condition)) std::fprintf(stderr, "%s:%d: not so: %s\n", __FILE__, __LINE__, #condition), std::exit(1); \
+#define MUST(condition)                                                                                                \
+    do {                                                                                                               \
+        if (!(condition)) std::fprintf(stderr, "%s:%d: not so: %s\n", __FILE__, __LINE__, #condition), std::exit(1);   \
     } while (0)
 
 // The nearest bits on either side of each position, by going over the joined bits.
@@ -49,8 +49,64 @@ static void lists(const bitm::sharded_index &all, const std::vector<bool> &joine
     }
 }
 
+// Nothing in them, and nothing to find.
+static void empty(const bitm::sharded_index &all)
+{
+    std::vector<std::uint64_t> queries{0, 1}, out(2);
+    MUST(all.size() == 0 && all.count() == 0 && all.counts().shards() == 0 && all.rank(0) == 0 && all.rank0(0) == 0);
+    MUST(!all.select(0) && !all.select0(0) && !all.next_one(0) && !all.next_zero(0) && !all.previous_one(7));
+    all.rank(queries, out);
+    MUST(out[0] == 0 && out[1] == bitm::no_answer);
+}
+static void empty(const bitm::prefix_counts &of)
+{
+    MUST(of.shards() == 0 && of.size() == 0 && of.count() == 0 && !of.find(0) && !of.find_one(0) && !of.find_zero(0));
+    MUST(of.bits_before().size() == 1 && of.bits_before()[0] == 0 && of.ones_before().size() == 1);
+    MUST(of.raw().bits_len == 1 && of.raw().ones_len == 1);
+}
+
+// What was moved from has no shards, and takes others.
+template <class Of, class Full> static void moves(Of given, Full full)
+{
+    Of moved = std::move(given), assigned;
+    empty(given), full(moved), empty(assigned), empty(Of(assigned));
+    assigned = std::move(moved), empty(moved), full(assigned);
+    moved = assigned, full(moved), full(assigned);
+    swap(given, moved), empty(moved), full(given);
+    Of &same = given;
+    given = same, full(given);
+    assigned = Of(), empty(assigned);
+}
+
+// The indexes are its own: of local ones, and in copies, which share them.
+static bitm::sharded_index of_locals()
+{
+    const bitm::rank_index a(bitm::bits("0101")), b(bitm::bits("11"));
+    return bitm::sharded_index({a, b});
+}
+static void owned()
+{
+    const auto full = [](const bitm::sharded_index &all) {
+        MUST(all.size() == 6 && all.count() == 4 && all.rank(5) == 3 && all.select(3).value() == 5);
+    };
+    full(of_locals()), moves(of_locals(), full);
+    moves(bitm::prefix_counts({4, 2}, {2, 2}), [](const bitm::prefix_counts &of) {
+        MUST(of.shards() == 2 && of.size() == 6 && of.count() == 4 && of.find_one(2)->shard == 1);
+        MUST(of.bits_before()[1] == 4 && of.bits_before()[2] == 6 && of.ones_before()[1] == 2);
+    });
+    std::vector<bitm::sharded_index> copies(3, of_locals());
+    copies.erase(copies.begin()), full(copies[0]), full(copies[1]);
+    std::vector<bitm::rank_index> shards(2, bitm::rank_index(bitm::bits("011")));
+    const std::uint64_t *const words = shards[1].raw().words;
+    const bitm::sharded_index all(std::move(shards)); // without a copy
+    MUST(all.count() == 4 && words[0] == 6);
+    empty(bitm::sharded_index()), empty(bitm::prefix_counts()), empty(bitm::prefix_counts({}, {}));
+    empty(bitm::sharded_index(std::vector<bitm::rank_index>()));
+}
+
 int main()
 {
+    owned();
     std::uint64_t seed = 0x9E3779B97F4A7C15u;
     const auto draw = [&seed] { return seed ^= seed << 13, seed ^= seed >> 7, seed ^= seed << 17; };
     for (std::size_t count = 0; count < 8; count++) {
@@ -97,8 +153,7 @@ int main()
 #endif
     }
 #if defined __cpp_exceptions
-    for (const auto &ones : {std::vector<std::uint64_t>{1}, std::vector<std::uint64_t>{UINT64_MAX, 1}})
-        try {
+    for (const auto &ones : {std::vector<std::uint64_t>{1}, std::vector<std::uint64_t>{UINT64_MAX, 1}}) try {
             bitm::prefix_counts({UINT64_MAX, 0}, ones);
             MUST(false);
         } catch (const std::invalid_argument &) {

@@ -221,10 +221,11 @@ void indexes()
          "an error in place of an exception");
 }
 
-// A file of which one byte of the header is another, or that is cut; parts that are spoilt.
+// A file of which one byte of header or directory is another, or that is cut; sections that are spoilt.
 void spoilt(const Words &good)
 {
-    for (std::size_t at = 0; at < 192; at++) {
+    const std::size_t head = std::size_t(bitm::section_at(good, 0).value().words.data() - good.data());
+    for (std::size_t at = 0; at < 8 * head; at++) {
         Words file = good;
         reinterpret_cast<unsigned char *>(file.data())[at] ^= static_cast<unsigned char>(1 + draw() % 255);
         throws<bitm::wrong_file>([&] { bitm::rank_index_view::in(file); }, "a wrong header");
@@ -239,7 +240,7 @@ void spoilt(const Words &good)
         const bitm::rank_index copy = bitm::rank_index::of_bytes({moved.data() + by, 8 * good.size()});
         must(file_of(copy.bytes()) == good, "bytes from any address on are copied");
     }
-    for (std::size_t at = 24; at < good.size(); at++) {
+    for (std::size_t at = head; at < good.size(); at++) {
         Words file = good;
         file[at] ^= draw() | 1;
         const bitm::rank_index_view bits = bitm::rank_index_view::in(file);
@@ -306,6 +307,9 @@ void sequences()
             bitm::sequence_view(none).at(Words{0}, {out.data(), 1});
         },
         "numbers of no sequence");
+    const Words past_the_end{3, 0};
+    throws<std::out_of_range>([&] { bitm::sequence_view(none).at(past_the_end, {out.data(), 2}); },
+                              "a number past the end of no sequence");
 }
 
 // Saving replaces a file whole, or leaves it: no other file stays beside it, and its mode is kept.

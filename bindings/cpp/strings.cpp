@@ -2,7 +2,9 @@
 // and what is left of an owner that was moved.
 #include "blocks.hpp"
 
+#include <iterator>
 #include <set>
+#include <sstream>
 
 using Strings = bitm::strings;
 using View = bitm::strings_view;
@@ -89,10 +91,21 @@ static void threads()
     for (std::thread &it : running) it.join();
 }
 
+// Words that are read from a stream, and so gone through once.
+static void once()
+{
+    std::istringstream words("ada bob eve"), twice("ada bob ada"), none;
+    using reader = std::istream_iterator<std::string>;
+    const bitm::strings names(reader(words), reader{});
+    MUST(names == bitm::strings{"ada", "bob", "eve"} && names.size() == 3 && names.contains("eve"));
+    MUST(bitm::strings::try_of(reader(twice), reader{}).error().code == bitm::errc::equal_keys);
+    MUST(bitm::strings(reader(none), reader{}).empty());
+}
+
 int main(int, char **argv)
 {
     const std::string path = argv[0] + std::string(".strings");
-    refused(), spoilt(), threads();
+    refused(), spoilt(), threads(), once();
     std::vector<Texts> lists{{}, {""}, {"ada"}, {"ada", "bob", "", "adabob"}};
     for (u64 count = 1; count < 25; count++) lists.push_back(drawn(count * count, 3 + static_cast<unsigned>(count)));
     for (const Texts &all : lists) {

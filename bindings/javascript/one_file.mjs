@@ -20,4 +20,17 @@ export function write(to = `${root}page/bitm.js`) {
         `--outfile=${to}`], { cwd: root, stdio: "inherit" });
 }
 
-if (process.argv[1] === fileURLToPath(import.meta.url)) write(process.argv[2]);
+/** What is said where esbuild is not here, in place of the file. */
+const MISSING = `bitm: esbuild is not here, which makes page/bitm.js, the whole package in one file for pages.
+Install it (Debian: apt-get install esbuild; npm: npm install --global esbuild), or leave that file out: npm pack --ignore-scripts.
+A checkout needs neither: npm install PATH/bindings/javascript.`;
+
+if (process.argv[1] === fileURLToPath(import.meta.url)) {
+    try {
+        write(process.argv[2]);
+    } catch (it) {
+        if (it.code !== "ENOENT") throw it;
+        console.error(MISSING);
+        process.exitCode = 1;
+    }
+}

@@ -1,5 +1,6 @@
-"""The extension is linked with the proved archive: that of BITM_LIB, of lib/ beside this file (in an sdist), or of the
-repository. `python setup.py sdist` takes it along, with its header, so that a wheel can be built from the sdist alone.
+"""The extension is linked with the proved archive: that of BITM_LIB, else of lib/ beside this file (in an sdist), else that
+which `make archive` built in the repository, else that of prebuilt/ there for this processor. `python setup.py sdist` takes it
+along, with its header, so that a wheel can be built from the sdist alone.
 
 BITM_LIB, BITM_INCLUDE   another archive, and the folder of its bitm.h
 BITM_TAG                 a platform, as manylinux_2_17_x86_64 or musllinux_1_1_x86_64: the extension then names no
@@ -10,6 +11,7 @@ SOURCE_DATE_EPOCH        makes two builds the same bytes
 import gzip
 import os
 import pathlib
+import platform
 import shutil
 import tarfile
 
@@ -18,6 +20,7 @@ from setuptools.command.sdist import sdist
 
 HERE = pathlib.Path(__file__).resolve().parent
 TOP = HERE.parent.parent  # of the repository, where this is not an sdist
+PREBUILT = TOP / "prebuilt" / {"x86_64": "x86-64-v2"}.get(platform.machine(), platform.machine())
 
 
 def first(variable, *places):
@@ -29,7 +32,7 @@ def first(variable, *places):
         return found
     found = next((it for it in places if it.exists()), None)
     if not found:
-        raise SystemExit(f"bitm: there is no {places[-1]}: run `make archive` in the repository first, or set {variable}")
+        raise SystemExit(f"bitm: there is none of {', '.join(map(str, places))}: set {variable}, or run `make archive` (with Rattle) in the repository")
     return found
 
 
@@ -38,7 +41,7 @@ def archive(path):
     return path / "libbitm_c.a" if path.is_dir() else path
 
 
-ARCHIVE = archive(first("BITM_LIB", HERE / "lib/libbitm_c.a", TOP / "crates/bitm_c/out/libbitm_c.a"))
+ARCHIVE = archive(first("BITM_LIB", HERE / "lib/libbitm_c.a", TOP / "crates/bitm_c/out/libbitm_c.a", PREBUILT / "libbitm_c.a"))
 INCLUDE = first("BITM_INCLUDE", HERE / "include", TOP / "include")
 TAG = os.environ.get("BITM_TAG")
 FLAGS = os.environ.get("BITM_CFLAGS", "").split()

@@ -1,10 +1,12 @@
 """The programs in C, also under sanitizers and by clang; fuzzers over their corpora; the headers alone."""
+import shutil
+
 import pytest
 from checks import TOP
 from common import LARGE, SANITIZED, SEEDS, WARNINGS, compiled, large
 from shell import bash, needs
 
-PROGRAMS = "check one_view sequences walks cursors stored statuses lengths pages guarded hostile careless hashes fingerprints shards trees tries trie_words sections matrices matrix_ranges matrix_tallies blocks extended sparse texts built_texts dictionaries seeded_blocks strings hostile_blocks".split()
+PROGRAMS = "check one_view sequences walks cursors stored statuses lengths opened flipped pages guarded hostile careless hashes fingerprints shards trees tries trie_words sections matrices matrix_ranges matrix_tallies blocks extended sparse texts built_texts dictionaries seeded_blocks strings string_hashes costs hostile_blocks".split()
 # They touch what they may not, or map pages of their own.
 BY_GCC_ALONE = {"pages", "guarded", "hostile", "hostile_blocks", "careless", "cursors"}
 WAYS = {"gcc": "gcc -O2 -pthread", "sanitizers": f"gcc {SANITIZED}", "clang": "clang -O2"}
@@ -28,14 +30,15 @@ def test_many_hostile_queries(tmp_path):
 @pytest.mark.parametrize("name", ["stored", "index", "sequences", "hashes", "cpp"])
 def test_fuzzer(name, tmp_path):
     """Over its corpus, and with LARGE=1 over a minute of other inputs. One that fails is printed, in base 64."""
-    compiler, source, corpus = ("clang++ -std=c++17", "bindings/cpp/fuzz.cpp", TOP / "bindings/cpp/corpus")
+    compiler, source = ("clang++ -std=c++17", "bindings/cpp/fuzz.cpp")
     if name != "cpp":
-        compiler, source, corpus = ("clang -std=c11", f"bindings/c/fuzz/{name}.c", TOP / "bindings/c/fuzz/corpus" / name)
+        compiler, source = ("clang -std=c11", f"bindings/c/fuzz/{name}.c")
     needs(compiler.split()[0])
     it = compiled(f"{compiler} {SANITIZED} -fsanitize=fuzzer", source, tmp_path)
-    bash(f"{it} -runs=0 {corpus}", tmp_path)
+    shutil.unpack_archive(TOP / source.replace(".cpp", ".c").replace(".c", "_seed_corpus.zip"), tmp_path / "corpus")
+    bash(f"{it} -runs=0 corpus", tmp_path)
     if LARGE:
-        bash(f"mkdir new && {it} -max_total_time=60 -max_len=4096 -print_final_stats=1 new {corpus}", tmp_path)
+        bash(f"mkdir new && {it} -max_total_time=60 -max_len=4096 -print_final_stats=1 new corpus", tmp_path)
 
 
 @pytest.mark.parametrize("c, cpp, newest", [("gcc", "g++", "c++17"), ("clang", "clang++", "c++20")])

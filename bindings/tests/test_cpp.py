@@ -5,15 +5,16 @@ from common import SANITIZED, compiled, large
 from shell import bash, needs
 
 WAYS = {"gpp": "g++ -std=c++17 -O2", "sanitizers": f"g++ -std=c++17 {SANITIZED}", "clang": "clang++ -std=c++20 -O2"}
+DATA = {"texts": TOP / "bindings/tests/sea_shells.block", "files": TOP / "bindings/cpp/version2"}
 MODES = ["c++17 -fno-exceptions -fno-rtti", "c++20", "c++20 -fno-exceptions -fno-rtti", "c++2b"]
 
 
 @pytest.mark.parametrize("way", WAYS)
-@pytest.mark.parametrize("program", ["check", "stored", "shards", "trees", "tries", "matrices", "sparse", "sections", "cursors", "dictionaries", "hashes", "strings", "texts"])
+@pytest.mark.parametrize("program", ["check", "stored", "shards", "trees", "tries", "matrices", "sparse", "sections", "cursors", "dictionaries", "hashes", "strings", "texts", "files"])
 def test_program(program, way, tmp_path):
     needs(WAYS[way].split()[0])
     it = compiled(WAYS[way], f"bindings/cpp/{program}.cpp", tmp_path)
-    bash(f"{it} {TOP}/bindings/tests/sea_shells.block" if program == "texts" else it, tmp_path)
+    bash(f"{it} {DATA.get(program, '')}", tmp_path)
 
 
 @large

@@ -37,7 +37,7 @@ EXPORTS = {
     "B words other": "bits_intersects bits_is_subset",
     "N bytes": "bytes_get57 bytes_init57 bytes_set57 bytes_get25 bytes_init25 bytes_set25",
     "BW": "hash_set_prints hash_set_prints_seeded index_check sequence_check tree_build matrix_build text_build cursor_start cursors_intersect"
-        " dictionary_build trie_build trie_nodes_of_words trie_build_words strings_build block_extend",
+        " dictionary_build trie_build strings_build block_extend",
     "BW block": "block_extended_size",
     "NW block": "block_section",
     "BW words": "index_check_samples",
@@ -48,7 +48,7 @@ EXPORTS = {
         " hash_find_list_seeded tree_parent_list tree_degree_list tree_child_list",
     "B words samples": "index_select_list",
     "B lower": "index_count",
-    "BU": "sequence_build sequence_block_build",
+    "BU": "sequence_build sequence_block_build trie_nodes_of_words trie_build_words",
     "BUW": "sparse_build",
     "NBW words low": "sequence_get sequence_first_at_least sequence_last_at_most sparse_get sparse_rank sparse_select"
         " sparse_next sparse_previous",

@@ -1,4 +1,5 @@
-"""The library from where `make install` lays it: outside of /usr, by pkg-config, by CMake and by the README's own lines."""
+"""The library from where `make install` lays it: outside of /usr, by pkg-config, by CMake and by the README's own lines;
+by CMake in a checkout; and the program with its manual page and its completions."""
 import re
 import shutil
 
@@ -7,6 +8,15 @@ from checks import TOP, read
 from common import EXAMPLES, arguments, compiled, exports, wanted
 from shell import bash, needs
 
+FETCHED = """cmake_minimum_required(VERSION 3.16)
+project(fetched C)
+set(CMAKE_C_STANDARD 11)
+include(FetchContent)
+FetchContent_Declare(bitm SOURCE_DIR {top})
+FetchContent_MakeAvailable(bitm)
+add_executable(primes {top}/examples/c/primes.c)
+target_link_libraries(primes PRIVATE bitm::{kind})
+"""
 LANGUAGES = {"c": "gcc -std=c11", "cpp": "g++ -std=c++17"}
 
 
@@ -72,3 +82,51 @@ def test_cmake(prefix, tmp_path):
     needs("cmake")
     bash(f"cmake -S examples/cpp -B {tmp_path} -DCMAKE_PREFIX_PATH={prefix} && cmake --build {tmp_path}")
     assert bash(f"{tmp_path}/primes") == wanted("primes")
+
+
+@pytest.mark.parametrize("kind", ["bitm", "shared"])
+def test_cmake_of_the_checkout(kind, tmp_path):
+    """By FetchContent, with the targets that find_package gives; by examples/cpp, where nothing is laid."""
+    needs("cmake", "gcc", "g++")
+    (tmp_path / "CMakeLists.txt").write_text(FETCHED.format(top=TOP, kind=kind))
+    bash("env -u BITM_LIB cmake -S . -B build && cmake --build build", tmp_path)
+    assert bash(f"{tmp_path}/build/primes") == wanted("primes")
+    not_laid = "-DCMAKE_DISABLE_FIND_PACKAGE_bitm=ON"
+    bash(f"env -u BITM_LIB cmake -S examples/cpp -B {tmp_path}/own {not_laid} && cmake --build {tmp_path}/own")
+    assert bash(f"{tmp_path}/own/primes") == wanted("primes")
+
+
+@pytest.fixture(scope="module")
+def program(prefix):
+    """The folder of the program, and the commands that docs/PROGRAM.md lists, without options."""
+    assert (prefix / "bin/bitm").is_file(), "there is no program bitm: make prebuilt"
+    part = read("docs/PROGRAM.md").split("\n## The program `bitm`\n")[1]
+    return prefix / "bin", re.findall(r"^    (bitm [a-z].*)$", part.partition("`build` and `query`")[0], re.M)
+
+
+def test_manual_page(prefix, program, tmp_path):
+    """It lists the commands of docs/PROGRAM.md, has no fault that man knows, and the program answers its examples."""
+    page = prefix / "share/man/man1/bitm.1"
+    plain = page.read_text().replace("\\-", "-").replace("\\en", "\\n")
+    parts = dict(re.findall(r"^\.SH (.*)\n((?:(?!\.SH).*\n)*)", re.sub(r"\\f[BIR]", "", plain), re.M))
+    assert re.findall("^bitm [a-z].*", parts["SYNOPSIS"], re.M) == program[1]
+    examples = re.findall(r"^\$ (.*)\n((?:[^.$].*\n)*)", parts["EXAMPLES"], re.M)
+    for command, said in examples:
+        assert bash(f"PATH={program[0]}:$PATH; {command}", tmp_path) == said
+    assert examples
+    needs("man")
+    assert bash(f"man --warnings=w -l {page} 2>&1 > /dev/null", LC_ALL="C.UTF-8", MANROFFSEQ="") == ""
+
+
+def test_completions(prefix, program):
+    """The words of each command, and each kind that `build` takes."""
+    def offered(*words):
+        line = f"COMP_WORDS=({' '.join(words)} '') COMP_CWORD={len(words)}; _bitm; echo ${{COMPREPLY[*]}}"
+        return bash(f"source {prefix}/share/bash-completion/completions/bitm; {line}").split()
+    for command in program[1]:
+        words = re.match(r"(?:[a-z]+ ?)+", command)[0].split()
+        for at in range(1, len(words)):
+            assert words[at] in offered(*words[:at]), command
+    kinds = re.search(r"^\| Kind \| Numbers.*\n.*\n((?:\|.*\n)*)", read("docs/PROGRAM.md"), re.M)[1]
+    assert offered("bitm", "build") == re.findall(r"^\| `(\w+)`", kinds, re.M) != []
+    assert "README.md" in offered("bitm", "check")

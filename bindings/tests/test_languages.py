@@ -1,6 +1,7 @@
 """Rust, Python and JavaScript, each by its own tests, in this order: each language leaves a file of the same bits and one
 of the same numbers, and reads those of the languages before it."""
 import os
+import re
 
 import pytest
 from checks import TOP, read
@@ -9,6 +10,21 @@ from shell import bash, needs
 
 RUST = TOP / "bindings/rust"
 CARGO = "cargo {} --quiet --release --offline --locked"
+# What the tests of each language print: how many ran; which one was left out, and why.
+RAN = {"Rust": r"^test result: ok\. (\d+) passed", "Python": r"(\d+) passed", "JavaScript": r"(\d+) tests and"}
+LEFT_OUT = r"^SKIPPED (?:\[\d+\] \S*?([\w.]+:\d+): )?(.*)"
+
+
+@pytest.fixture
+def noted(record_property):
+    """Notes for scripts/ran how many tests of a language ran, by what they printed, and which were left out."""
+    def note(language, printed):
+        ran = sum(map(int, re.findall(RAN[language], printed, re.M)))
+        assert ran, printed
+        record_property("ran", f"{language} {ran}")
+        for test, why in re.findall(LEFT_OUT, printed, re.M):
+            record_property("not run", f"{language} {test or 'a test'}: {why}")
+    return note
 
 
 @pytest.fixture(scope="module")
@@ -34,9 +50,9 @@ def test_files_of_cpp(of, tmp_path):
     bash(f"{it} {of('cpp')}")
 
 
-def test_rust(of):
+def test_rust(of, noted):
     needs("cargo")
-    bash(f"{CARGO.format('test')} --features mmap", RUST)
+    noted("Rust", bash(f"{CARGO.format('test')} --features mmap", RUST))
     bash(f"{CARGO.format('run')} --example stored {of('rust')}", RUST)
     assert bash(CARGO.format("run"), TOP / "examples/rust") == read("examples/primes.txt")
 
@@ -57,9 +73,9 @@ def test_clippy(room):
     bash("cargo clippy --quiet --offline --locked --all-targets --features mmap -- -D warnings", RUST)
 
 
-def test_python(site, of):
+def test_python(site, of, noted):
     """The wheel in a fresh environment, by LARGE=1 in every Python that is here."""
-    bash("bindings/python/tests/each" if LARGE else f"bindings/python/tests/each {PYTHON}")
+    noted("Python", bash("bindings/python/tests/each" if LARGE else f"bindings/python/tests/each {PYTHON}"))
     bash(f"{PYTHON} -W error bindings/python/tests/stored_format.py {of('python')}", **site)
     for example in ("primes", "words"):
         assert bash(f"{PYTHON} examples/python/{example}.py", **site) == read(f"examples/{example}.txt")
@@ -74,12 +90,6 @@ def test_types_by_pyright(site):
     needs("pyright")
     bash(f"pyright --pythonpath {PYTHON} examples/python/*.py", **site)
     bash(f"pyright --pythonpath {PYTHON} --ignoreexternal --verifytypes bitm", **site)
-
-
-@large
-def test_python_under_sanitizers(site):
-    needs("gcc")
-    bash("SANITIZED=1 bindings/python/tests/each")
 
 
 @large
@@ -98,10 +108,10 @@ def test_demonstration(text, site, tmp_path):
     assert (tmp_path / "picture.svg").stat().st_size > 0
 
 
-def test_javascript(of):
+def test_javascript(of, noted):
     needs("node")
     bash(f"node bindings/javascript/tests/stored_format.js {of('javascript')}")
-    bash("bindings/javascript/tests/each")
+    noted("JavaScript", bash("bindings/javascript/tests/each"))
 
 
 @pytest.mark.parametrize("browser", ["chromium", pytest.param("firefox-esr", marks=large)])
@@ -120,7 +130,7 @@ def test_javascript_in_browser(browser):
 @large
 def test_javascript_modules_are_made_again(tmp_path):
     needs("wasm-opt")
-    bash(f"bindings/javascript/build {tmp_path}/wasm && diff -r {tmp_path}/wasm bindings/javascript/wasm")
+    bash(f"bindings/javascript/build {tmp_path}/wasm && diff -r -x PROVED {tmp_path}/wasm bindings/javascript/wasm")
 
 
 def test_one_format(room):

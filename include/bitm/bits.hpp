@@ -9,9 +9,21 @@
 #ifndef BITM_BITS_HPP
 #define BITM_BITS_HPP
 
-#include <bitm/bits_view.hpp>
+#include <bitm/bits_memory.hpp>
 
 BITM_NAMESPACE_BEGIN
+
+namespace detail {
+
+// What is no size of bits: a bool, a fraction, a null pointer. And what is text.
+template <class T> struct no_size
+    : std::bool_constant<std::is_same_v<T, bool> || std::is_floating_point_v<T> || std::is_null_pointer_v<T>> {
+};
+template <class T> struct is_text
+    : std::bool_constant<std::is_convertible_v<const T &, std::string_view> && !std::is_null_pointer_v<T>> {
+};
+
+} // namespace detail
 
 // Bits that it owns, in words aligned to 64 bytes. Moves are cheap and leave an empty one. Views, ranges and iterators
 // are valid until the size or the capacity changes, as those of a std::vector.
@@ -46,9 +58,12 @@ public:
         std::uint64_t at_;
     };
 
-    // None; `size` equal ones; those of a list or of iterators; a copy of a view, or of all bits of words.
+    // None; `size` equal ones, where a size is neither a bool nor a fraction; those of a list or of iterators; a copy
+    // of a view, or of all bits of words.
     bits() noexcept = default;
     explicit bits(std::uint64_t size, bool value = false) { resize(size, value); }
+    template <class Other, std::enable_if_t<detail::no_size<Other>::value, int> = 0>
+    explicit bits(Other, bool = false) = delete;
     bits(std::initializer_list<bool> values) : bits(values.begin(), values.end()) {}
     template <class It, class = typename std::iterator_traits<It>::iterator_category> bits(It first, It last)
     {
@@ -56,16 +71,19 @@ public:
     }
     explicit bits(bits_view of) { append(of); }
     explicit bits(words_in words) { append(bits_view(words)); }
-    // From text of zeros and ones, position 0 first: fails where there is another letter.
-    explicit bits(std::string_view text)
+    // From text of zeros and ones, position 0 first: fails where there is another letter. (A literal, a string, what
+    // converts to std::string_view: a template, so that 0 is a size and no null pointer.)
+    template <class Text, std::enable_if_t<detail::is_text<Text>::value, int> = 0> explicit bits(const Text &text)
     {
-        reserve(text.size());
-        for (const char letter : text) {
+        if constexpr (std::is_pointer_v<Text>)
+            if (!text) fail(detail::bad_size("the text is a null pointer"));
+        const std::string_view letters = text;
+        reserve(letters.size());
+        for (const char letter : letters) {
             if (letter != '0' && letter != '1') fail(detail::bad_size("a letter is neither 0 nor 1"));
             push_back(letter == '1');
         }
     }
-    explicit bits(const char *text) : bits(std::string_view(text)) {}
     // `size` bits with 1 bits at the positions, in any order.
     template <class It> static bits of_positions(It first, It last, std::uint64_t size)
     {
@@ -88,147 +106,152 @@ public:
         return of_positions(positions.begin(), positions.end(), size);
     }
 
-    // A copy; or all bits of another, which is empty then; an exchange.
-    bits(const bits &other) : bits_calls(), block_(other.len_), len_(other.len_), size_(other.size_)
-    {
-        if (len_) std::memcpy(block_.data(), other.block_.data(), 8 * len_);
-    }
-    bits(bits &&other) noexcept { swap(other); }
-    bits &operator=(const bits &other)
-    {
-        bits copy(other);
-        swap(copy);
-        return *this;
-    }
-    bits &operator=(bits &&other) noexcept
-    {
-        bits moved(std::move(other));
-        swap(moved);
-        return *this;
-    }
+    // A copy has words of its own, and what was moved from is empty. An exchange. Nothing is assigned to a temporary.
+    bits(const bits &) = default;
+    bits(bits &&) noexcept = default;
+    bits &operator=(const bits &) & = default;
+    bits &operator=(bits &&) &noexcept = default;
     ~bits() = default;
-    void swap(bits &other) noexcept
-    {
-        block_.swap(other.block_), std::swap(len_, other.len_), std::swap(size_, other.size_);
-    }
+    void swap(bits &other) noexcept { own_.swap(other.own_); }
     friend void swap(bits &a, bits &b) noexcept { a.swap(b); }
 
     // ---- size
     static constexpr std::uint64_t max_size() noexcept { return 64 * ((std::uint64_t{1} << 58) - 1); }
-    std::uint64_t capacity() const noexcept { return 64 * block_.size(); }
+    std::uint64_t capacity() const noexcept { return 64 * own_.room(); }
     void reserve(std::uint64_t size)
     {
         const std::size_t words = bitm_bits_words_len(size);
-        if (words > block_.size()) hold(words);
+        if (words > own_.room()) own_.hold(words);
     }
     void resize(std::uint64_t size, bool value = false)
     {
-        const std::uint64_t old = size_;
-        if (size > old) {
-            grow(size);
-            if (value) fill(old, size, true);
-        } else {
-            detail::need(bitm_bits_clear_from(block_.data(), len_, size));
-            size_ = size, len_ = bitm_bits_words_len(size);
-        }
+        const std::uint64_t old = own_.size();
+        if (size <= old) return own_.cut(size);
+        own_.grow(size);
+        if (value) fill(old, size, true);
     }
-    void clear() noexcept
-    {
-        resize(0);
-    }
+    void clear() noexcept { resize(0); }
     void shrink_to_fit()
     {
-        if (len_ < block_.size()) hold(len_);
+        if (own_.len() < own_.room()) own_.hold(own_.len());
     }
 
-    // ---- changes
-    using bits_calls::operator[];
-    reference operator[](std::uint64_t at) BITM_LIFETIMEBOUND
+    // ---- changes: each gives the bits themselves, and of a temporary their value, so bits(100).set(3).flip() is one
+    reference operator[](std::uint64_t at) & BITM_LIFETIMEBOUND
     {
-        if (BITM_RARELY(at >= size_)) detail::outside(at, size_);
+        if (BITM_RARELY(at >= size())) detail::outside(at, size());
         return {*this, at};
     }
-    bits &set(std::uint64_t at, bool value = true)
+    bool operator[](std::uint64_t at) const & { return test(at); }
+    bits &set(std::uint64_t at, bool value = true) &
     {
-        if (BITM_RARELY(at >= size_)) detail::outside(at, size_);
-        return bitm_set_bit_at(block_.data(), at, value), *this;
+        if (BITM_RARELY(at >= size())) detail::outside(at, size());
+        return bitm_set_bit_at(own_.data(), at, value), *this;
     }
-    bits &reset(std::uint64_t at) { return set(at, false); }
+    bits &reset(std::uint64_t at) & { return set(at, false); }
     // Sets a bit: what it was before.
     bool test_set(std::uint64_t at, bool value = true)
     {
         const bool before = test(at);
         return set(at, value), before;
     }
-    bits &flip(std::uint64_t at)
+    bits &flip(std::uint64_t at) &
     {
-        if (BITM_RARELY(at >= size_)) detail::outside(at, size_);
+        if (BITM_RARELY(at >= size())) detail::outside(at, size());
         return flip(at, at + 1);
     }
-    bits &set() { return fill(0, size_, true); }
-    bits &reset() { return fill(0, size_, false); }
-    bits &flip() { return flip(0, size_); }
+    bits &set() & { return fill(0, size(), true); }
+    bits &reset() & { return fill(0, size(), false); }
+    bits &flip() & { return flip(0, size()); }
     // The bits from one position on and before another: makes them equal to a value, or flips them.
-    bits &fill(std::uint64_t from, std::uint64_t to, bool value)
+    bits &fill(std::uint64_t from, std::uint64_t to, bool value) &
     {
-        const std::uint32_t status = bitm_bits_fill_range(block_.data(), len_, size_, from, to, value);
-        if (BITM_RARELY(status != BITM_OK)) detail::outside_range(from, to, size_);
+        const std::uint32_t status = bitm_bits_fill_range(own_.data(), own_.len(), size(), from, to, value);
+        if (BITM_RARELY(status != BITM_OK)) detail::outside_range(from, to, size());
         return *this;
     }
-    bits &flip(std::uint64_t from, std::uint64_t to)
+    bits &flip(std::uint64_t from, std::uint64_t to) &
     {
-        const std::uint32_t status = bitm_bits_flip_range(block_.data(), len_, size_, from, to);
-        if (BITM_RARELY(status != BITM_OK)) detail::outside_range(from, to, size_);
+        const std::uint32_t status = bitm_bits_flip_range(own_.data(), own_.len(), size(), from, to);
+        if (BITM_RARELY(status != BITM_OK)) detail::outside_range(from, to, size());
         return *this;
     }
     // Replaces the number in the `len` bits from position `begin` on; or combines it with a value by exclusive or.
-    bits &set_bits(std::uint64_t begin, std::uint32_t len, std::uint64_t value)
+    bits &set_bits(std::uint64_t begin, std::uint32_t len, std::uint64_t value) &
     {
-        const std::uint32_t status = bitm_bits_set_number(block_.data(), len_, size_, begin, len, value);
-        if (BITM_RARELY(status != BITM_OK)) detail::outside_number(begin, len, size_);
+        const std::uint32_t status = bitm_bits_set_number(own_.data(), own_.len(), size(), begin, len, value);
+        if (BITM_RARELY(status != BITM_OK)) detail::outside_number(begin, len, size());
         return *this;
     }
-    bits &xor_bits(std::uint64_t begin, std::uint32_t len, std::uint64_t value)
+    bits &xor_bits(std::uint64_t begin, std::uint32_t len, std::uint64_t value) &
     {
-        const std::uint32_t status = bitm_bits_xor_number(block_.data(), len_, size_, begin, len, value);
-        if (BITM_RARELY(status != BITM_OK)) detail::outside_number(begin, len, size_);
+        const std::uint32_t status = bitm_bits_xor_number(own_.data(), own_.len(), size(), begin, len, value);
+        if (BITM_RARELY(status != BITM_OK)) detail::outside_number(begin, len, size());
         return *this;
     }
     // The bits as an array of numbers of `width` bits: replaces one, exchanges two, or makes the first `count` a value.
-    bits &set_fragment(std::uint64_t index, std::uint32_t width, std::uint64_t value)
+    bits &set_fragment(std::uint64_t index, std::uint32_t width, std::uint64_t value) &
     {
-        const std::uint32_t status = bitm_bits_set_fragment(block_.data(), len_, size_, index, width, value);
-        if (BITM_RARELY(status != BITM_OK)) detail::outside_fragment(index, width, size_);
+        const std::uint32_t status = bitm_bits_set_fragment(own_.data(), own_.len(), size(), index, width, value);
+        if (BITM_RARELY(status != BITM_OK)) detail::outside_fragment(index, width, size());
         return *this;
     }
-    bits &swap_fragments(std::uint64_t first, std::uint64_t second, std::uint32_t width)
+    bits &swap_fragments(std::uint64_t first, std::uint64_t second, std::uint32_t width) &
     {
-        const std::uint32_t status = bitm_bits_swap_fragments(block_.data(), len_, size_, first, second, width);
-        if (BITM_RARELY(status != BITM_OK)) detail::outside_fragment(detail::greater(first, second), width, size_);
+        const std::uint32_t status = bitm_bits_swap_fragments(own_.data(), own_.len(), size(), first, second, width);
+        if (BITM_RARELY(status != BITM_OK)) detail::outside_fragment(detail::greater(first, second), width, size());
         return *this;
     }
-    bits &fill_fragments(std::uint32_t width, std::uint64_t value, std::size_t count)
+    bits &fill_fragments(std::uint32_t width, std::uint64_t value, std::size_t count) &
     {
-        const std::uint32_t status = bitm_bits_fill_fragments(block_.data(), len_, size_, width, value, count);
-        if (BITM_RARELY(status != BITM_OK)) detail::outside_fragment(count, width, size_);
+        const std::uint32_t status = bitm_bits_fill_fragments(own_.data(), own_.len(), size(), width, value, count);
+        if (BITM_RARELY(status != BITM_OK)) detail::outside_fragment(count, width, size());
         return *this;
+    }
+    bits set(std::uint64_t at, bool value = true) && { return std::move(set(at, value)); }
+    bits reset(std::uint64_t at) && { return std::move(reset(at)); }
+    bits flip(std::uint64_t at) && { return std::move(flip(at)); }
+    bits set() && { return std::move(set()); }
+    bits reset() && { return std::move(reset()); }
+    bits flip() && { return std::move(flip()); }
+    bits fill(std::uint64_t from, std::uint64_t to, bool value) && { return std::move(fill(from, to, value)); }
+    bits flip(std::uint64_t from, std::uint64_t to) && { return std::move(flip(from, to)); }
+    bits set_bits(std::uint64_t begin, std::uint32_t len, std::uint64_t value) &&
+    {
+        return std::move(set_bits(begin, len, value));
+    }
+    bits xor_bits(std::uint64_t begin, std::uint32_t len, std::uint64_t value) &&
+    {
+        return std::move(xor_bits(begin, len, value));
+    }
+    bits set_fragment(std::uint64_t index, std::uint32_t width, std::uint64_t value) &&
+    {
+        return std::move(set_fragment(index, width, value));
+    }
+    bits swap_fragments(std::uint64_t first, std::uint64_t second, std::uint32_t width) &&
+    {
+        return std::move(swap_fragments(first, second, width));
+    }
+    bits fill_fragments(std::uint32_t width, std::uint64_t value, std::size_t count) &&
+    {
+        return std::move(fill_fragments(width, value, count));
     }
     void push_back(bool value)
     {
-        grow(size_ + 1);
-        if (value) set(size_ - 1);
+        own_.grow(size() + 1);
+        if (value) set(size() - 1);
     }
     void pop_back()
     {
-        if (size_ == 0) detail::outside(0, 0);
-        resize(size_ - 1);
+        if (empty()) detail::outside(0, 0);
+        resize(size() - 1);
     }
     // Appends the `len` lowest bits of a number, or other bits.
     void append(std::uint64_t value, std::uint32_t len)
     {
         if (BITM_RARELY(len > 64)) detail::outside(len, 64, "the number of bits");
-        grow(size_ + len);
-        set_bits(size_ - len, len, value);
+        own_.grow(size() + len);
+        set_bits(size() - len, len, value);
     }
     void append(bits_view other)
     {
@@ -236,21 +259,22 @@ public:
             const bits copy(other);
             return append(copy.view());
         }
-        const std::uint64_t old = size_;
-        grow(old + other.size());
-        done(bitm_bits_copy_range(block_.data(), len_, old, other.words_data(), other.words_len(), 0, other.size()));
+        const std::uint64_t old = size();
+        own_.grow(old + other.size());
+        detail::need(
+            bitm_bits_copy_range(own_.data(), own_.len(), old, other.words_data(), other.words_len(), 0, other.size()));
     }
     void append(const bits &other) { append(other.view()); }
 
     // Combines each bit with the bit of the other at the same position; the sizes have to be equal.
-    bits &operator&=(bits_view other) { return with(bitm_bits_and, other); }
-    bits &operator|=(bits_view other) { return with(bitm_bits_or, other); }
-    bits &operator^=(bits_view other) { return with(bitm_bits_xor, other); }
-    bits &operator-=(bits_view other) { return with(bitm_bits_and_not, other); }
-    bits &operator&=(const bits &other) { return *this &= other.view(); }
-    bits &operator|=(const bits &other) { return *this |= other.view(); }
-    bits &operator^=(const bits &other) { return *this ^= other.view(); }
-    bits &operator-=(const bits &other) { return *this -= other.view(); }
+    bits &operator&=(bits_view other) & { return with(bitm_bits_and, other); }
+    bits &operator|=(bits_view other) & { return with(bitm_bits_or, other); }
+    bits &operator^=(bits_view other) & { return with(bitm_bits_xor, other); }
+    bits &operator-=(bits_view other) & { return with(bitm_bits_and_not, other); }
+    bits &operator&=(const bits &other) & { return *this &= other.view(); }
+    bits &operator|=(const bits &other) & { return *this |= other.view(); }
+    bits &operator^=(const bits &other) & { return *this ^= other.view(); }
+    bits &operator-=(const bits &other) & { return *this -= other.view(); }
     friend bits operator&(bits a, const bits &b) { return std::move(a &= b); }
     friend bits operator|(bits a, const bits &b) { return std::move(a |= b); }
     friend bits operator^(bits a, const bits &b) { return std::move(a ^= b); }
@@ -259,12 +283,12 @@ public:
     // Moves each bit to a higher, or lower, position; 0 bits come in and the size stays.
     friend bits operator<<(const bits &a, std::uint64_t by) { return moved(a, 0, by); }
     friend bits operator>>(const bits &a, std::uint64_t by) { return moved(a, by, 0); }
-    bits &operator<<=(std::uint64_t by) { return *this = *this << by; }
-    bits &operator>>=(std::uint64_t by) { return *this = *this >> by; }
+    bits &operator<<=(std::uint64_t by) & { return *this = *this << by; }
+    bits &operator>>=(std::uint64_t by) & { return *this = *this >> by; }
     // A copy of the bits from one position on and before another.
     bits slice(std::uint64_t from, std::uint64_t to) const
     {
-        if (BITM_RARELY(from > to || to > size_)) detail::outside_range(from, to, size_);
+        if (BITM_RARELY(from > to || to > size())) detail::outside_range(from, to, size());
         bits made(to - from);
         made.take(*this, from, 0);
         return made;
@@ -285,8 +309,10 @@ public:
             read.push_back(is(letter, '1'));
             from.ignore();
         }
-        if (read.empty()) from.setstate(stream::failbit);
-        else to.swap(read);
+        if (read.empty())
+            from.setstate(stream::failbit);
+        else
+            to.swap(read);
         return from;
     }
 
@@ -297,7 +323,7 @@ public:
     zeros_range zeros(std::uint64_t from = 0) const &BITM_LIFETIMEBOUND { return {parts(), from}; }
     fragments_range fragments(std::uint32_t width) const &BITM_LIFETIMEBOUND { return {parts(), width}; }
     bits_iterator begin() const &noexcept BITM_LIFETIMEBOUND { return {parts(), 0}; }
-    bits_iterator end() const &noexcept BITM_LIFETIMEBOUND { return {parts(), size_}; }
+    bits_iterator end() const &noexcept BITM_LIFETIMEBOUND { return {parts(), size()}; }
     std::reverse_iterator<bits_iterator> rbegin() const &BITM_LIFETIMEBOUND
     {
         return std::reverse_iterator<bits_iterator>(end());
@@ -306,8 +332,8 @@ public:
     {
         return std::reverse_iterator<bits_iterator>(begin());
     }
-    words_in words() const &noexcept BITM_LIFETIMEBOUND { return {block_.data(), len_}; }
-    const std::uint64_t *words_data() const &noexcept BITM_LIFETIMEBOUND { return block_.data(); }
+    words_in words() const &noexcept BITM_LIFETIMEBOUND { return {own_.data(), own_.len()}; }
+    const std::uint64_t *words_data() const &noexcept BITM_LIFETIMEBOUND { return own_.data(); }
     void view() const && = delete;
     void ones(std::uint64_t = 0) const && = delete;
     void zeros(std::uint64_t = 0) const && = delete;
@@ -319,68 +345,49 @@ public:
     void words() const && = delete;
     void words_data() const && = delete;
 
-    // The words and the size, as the ranges and the calls of C take them.
-    detail::bits_parts parts() const noexcept { return {block_.data(), len_, size_}; }
+    // The words and the size, as the ranges and the calls of C take them. Deleted for temporaries.
+    detail::bits_parts parts() const &noexcept BITM_LIFETIMEBOUND { return own_.parts(); }
+    void parts() const && = delete;
 
 private:
-    void hold(std::size_t words)
-    {
-        detail::block more(words);
-        if (len_) std::memcpy(more.data(), block_.data(), 8 * len_);
-        block_.swap(more);
-    }
-    // Makes the size this one; new bits are 0 bits, since all words past the size are zeros at all times.
-    void grow(std::uint64_t size)
-    {
-        if (BITM_RARELY(size < size_)) fail(detail::bad_size("2^64 bits or more"));
-        const std::size_t words = bitm_bits_words_len(size);
-        if (words > block_.size()) hold(detail::greater(words, detail::greater(8, block_.size() + block_.size() / 2)));
-        len_ = words, size_ = size;
-    }
-    bits &done(std::uint32_t status)
-    {
-        detail::need(status);
-        return *this;
-    }
     void set_list(words_in positions)
     {
         std::uint64_t past = 0;
-        done(bitm_bits_set_list(block_.data(), len_, size_, positions.data(), positions.size(), true, &past));
+        detail::need(
+            bitm_bits_set_list(own_.data(), own_.len(), size(), positions.data(), positions.size(), true, &past));
         if (BITM_RARELY(past > 0))
             for (const std::uint64_t at : positions) test(at); // fails at the first that is past the end
     }
     // Whether a view lies in the memory of this owner.
     bool mine(const bits_view &other) const noexcept
     {
-        return detail::overlap({other.words_data(), other.words_len()}, {block_.data(), block_.size()});
+        return detail::overlap({other.words_data(), other.words_len()}, {own_.data(), own_.room()});
     }
     template <class Call> bits &with(Call call, bits_view other)
     {
-        if (BITM_RARELY(other.size() != size_)) fail(detail::bad_size("the other bits have another size"));
+        if (BITM_RARELY(other.size() != size())) fail(detail::bad_size("the other bits have another size"));
         if (BITM_RARELY(mine(other))) {
             const bits copy(other);
             return with(call, copy.view());
         }
-        done(call(block_.data(), len_, other.words_data(), other.words_len()));
-        return done(bitm_bits_clear_from(block_.data(), len_, size_)); // a view may have 1 bits past its end
+        detail::need(call(own_.data(), own_.len(), other.words_data(), other.words_len()));
+        return own_.cut(size()), *this; // a view may have 1 bits past its end
     }
     // Copies the bits from position `from` on to positions from `to` on, until either ends.
     void take(const bits &other, std::uint64_t from, std::uint64_t to)
     {
-        if (from >= other.size_ || to >= size_) return;
-        const std::uint64_t all = detail::lesser(other.size_ - from, size_ - to);
-        done(bitm_bits_copy_range(block_.data(), len_, to, other.block_.data(), other.len_, from, all));
+        if (from >= other.size() || to >= size()) return;
+        const std::uint64_t all = detail::lesser(other.size() - from, size() - to);
+        detail::need(bitm_bits_copy_range(own_.data(), own_.len(), to, other.own_.data(), other.own_.len(), from, all));
     }
     static bits moved(const bits &of, std::uint64_t from, std::uint64_t to)
     {
-        bits made(of.size_);
+        bits made(of.size());
         made.take(of, from, to);
         return made;
     }
 
-    detail::block block_;
-    std::size_t len_ = 0;
-    std::uint64_t size_ = 0;
+    detail::bits_memory own_;
 };
 
 BITM_NAMESPACE_END

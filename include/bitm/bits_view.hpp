@@ -37,7 +37,7 @@ BITM_NAMESPACE_BEGIN
 namespace detail {
 
 // Words and the number of their bits: exactly as many words as these bits need.
-struct bits_parts {
+struct BITM_POINTER bits_parts {
     const std::uint64_t *words = nullptr;
     std::size_t len = 0;
     std::uint64_t size = 0;
@@ -280,10 +280,7 @@ public:
         return asked(bitm_bits_intersects, other);
     }
 
-    template <class Other> friend bool operator==(const bits_calls &a, const bits_calls<Other> &b)
-    {
-        return a.same(b);
-    }
+    template <class Other> friend bool operator==(const bits_calls &a, const bits_calls<Other> &b) { return a.same(b); }
     template <class Other> friend bool operator!=(const bits_calls &a, const bits_calls<Other> &b) { return !(a == b); }
 
     // As text of zeros and ones, position 0 first.
@@ -366,7 +363,8 @@ public:
     bits_iterator end() const noexcept { return {parts_, parts_.size}; }
     std::reverse_iterator<bits_iterator> rbegin() const { return std::reverse_iterator<bits_iterator>(end()); }
     std::reverse_iterator<bits_iterator> rend() const { return std::reverse_iterator<bits_iterator>(begin()); }
-    const detail::bits_parts &parts() const noexcept { return parts_; }
+    // The words and the size, as the ranges and the calls of C take them.
+    detail::bits_parts parts() const noexcept { return parts_; }
 
 private:
     friend class bits;

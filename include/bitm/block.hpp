@@ -15,29 +15,13 @@ BITM_NAMESPACE_BEGIN
 
 namespace detail {
 
-// The number of words of a file that its header gives.
-inline std::size_t needed_of(const std::uint64_t *file, std::size_t) noexcept
-{
-    bitm_stored header;
-    std::memcpy(&header, file, sizeof header);
-    return static_cast<std::size_t>(header.size / 8);
-}
-
-// The header of a file of some kind.
-inline result<bitm_stored> header_of(const std::uint64_t *file, std::size_t words, std::uint64_t kind) noexcept
-{
-    bitm_stored header;
-    if (words < sizeof header / 8 || bitm_stored_read(file, words, &header) != BITM_OK || header.kind != kind)
-        return failure{errc::wrong_file};
-    return header;
-}
-
 // How many words a structure in a block has, by the first words of its header: 0 where they are not those of a block.
 constexpr std::size_t block_head = 3;
 constexpr std::uint64_t block_mark = 0x036261746D746962; // "bitmtab" and the version
+inline bool is_block(words_in file) noexcept { return file.size() >= block_head && file.data()[0] == block_mark; }
 inline std::size_t block_len(const std::uint64_t *file, std::size_t words) noexcept
 {
-    return words < block_head || file[0] != block_mark ? 0 : static_cast<std::size_t>(file[2] / 8);
+    return is_block({file, words}) ? static_cast<std::size_t>(file[2] / 8) : 0;
 }
 
 // A structure in a block: as C takes it, and the words that are its own. `Kind` finds it by `in(words, len)`, and has
@@ -45,24 +29,26 @@ inline std::size_t block_len(const std::uint64_t *file, std::size_t words) noexc
 template <class Kind> class in_block {
 public:
     using raw_type = typename Kind::raw_type;
-    in_block() noexcept = default;
+    in_block() noexcept : in_block(Kind::nothing()) {}
     in_block(const raw_type &raw, words_in words) noexcept : raw_(raw), words_(words) {}
+    const in_block &found() const noexcept BITM_LIFETIMEBOUND { return *this; }
     const raw_type &raw() const noexcept BITM_LIFETIMEBOUND { return raw_; }
     words_in words() const noexcept { return words_; }
 
 private:
-    raw_type raw_ = Kind::none();
+    raw_type raw_;
     words_in words_;
 };
 
-// A block with the structure in it: a copy copies the block, and what was moved from has none.
+// A block with the structure in it: a copy copies the block, and what was moved from has that of nothing, which all
+// share.
 template <class Kind> class owned {
 public:
     owned() noexcept = default;
     owned(block &&all, const in_block<Kind> &found) noexcept : all_(std::move(all)), found_(found) {}
-    owned(const owned &other) : all_(other.words().size())
+    owned(const owned &other) : all_(other.all_.size() ? other.words().size() : 0)
     {
-        if (other.words().empty()) return;
+        if (all_.size() == 0) return;
         std::memcpy(all_.data(), other.words().data(), 8 * all_.size());
         found_ = Kind::in(all_.data(), all_.size()).value();
     }
@@ -88,7 +74,6 @@ private:
 // What the kinds have in common whose blocks begin with the mark of blocks: `Open` is the call of C that opens one.
 template <class Kind, class Raw, std::uint32_t (*Open)(const std::uint64_t *, std::size_t, Raw *)> struct block_kind {
     using raw_type = Raw;
-    static Raw none() noexcept { return {}; }
     static std::size_t needed(const std::uint64_t *file, std::size_t have) noexcept { return block_len(file, have); }
     static result<in_block<Kind>> in(const std::uint64_t *file, std::size_t words) noexcept
     {
@@ -97,15 +82,49 @@ template <class Kind, class Raw, std::uint32_t (*Open)(const std::uint64_t *, st
         if (len == 0 || len > words || Open(file, len, &raw) != BITM_OK) return failure{errc::wrong_file};
         return in_block<Kind>(raw, {file, len});
     }
+    // The block of nothing: of as many words as the kind says, which its `build_nothing` writes.
+    static const in_block<Kind> &nothing() noexcept
+    {
+        alignas(64) static std::uint64_t words[Kind::nothing_len];
+        static const in_block<Kind> found = [] {
+            Raw raw{};
+            const bool built = Kind::build_nothing(words) == BITM_OK;
+            if (!built || Open(words, Kind::nothing_len, &raw) != BITM_OK) raw = Raw{};
+            return in_block<Kind>(raw, {words, Kind::nothing_len});
+        }();
+        return found;
+    }
+    // The block that an older file becomes: this kind has none.
+    static result<block> renewed(const in_block<Kind> &) { return failure{errc::wrong_file}; }
 };
 
-// The same of those whose files begin with a header of theirs, of the sort `Stored`: `Kind::of` finds the parts.
-template <class Kind, class Raw, std::uint64_t Stored> struct stored_kind {
-    using raw_type = Raw;
-    static Raw none() noexcept { return {}; }
+// ---- files of version 2, which were written before there were blocks: a header of 192 bytes, and parts
+
+// The number of words of such a file, or of a block, that its header gives.
+inline std::size_t needed_of(const std::uint64_t *file, std::size_t have) noexcept
+{
+    if (is_block({file, have})) return block_len(file, have);
+    bitm_stored header;
+    std::memcpy(&header, file, sizeof header);
+    return static_cast<std::size_t>(header.size / 8);
+}
+
+// The header of such a file of some sort.
+inline result<bitm_stored> header_of(const std::uint64_t *file, std::size_t words, std::uint64_t sort) noexcept
+{
+    bitm_stored header;
+    if (words < sizeof header / 8 || bitm_stored_read(file, words, &header) != BITM_OK || header.kind != sort)
+        return failure{errc::wrong_file};
+    return header;
+}
+
+// The kinds that had such files, of the sort `Stored`: `Kind::of` finds the parts.
+template <class Kind, class Raw, std::uint32_t (*Open)(const std::uint64_t *, std::size_t, Raw *), std::uint64_t Stored>
+struct stored_kind : block_kind<Kind, Raw, Open> {
     static std::size_t needed(const std::uint64_t *file, std::size_t have) noexcept { return needed_of(file, have); }
     static result<in_block<Kind>> in(const std::uint64_t *file, std::size_t words) noexcept
     {
+        if (is_block({file, words})) return block_kind<Kind, Raw, Open>::in(file, words);
         const result<bitm_stored> header = header_of(file, words, Stored);
         if (!header) return header.error();
         return in_block<Kind>(Kind::of(file, *header), {file, static_cast<std::size_t>(header->size / 8)});

@@ -16,7 +16,14 @@
 #ifndef BITM_CORE_HPP
 #define BITM_CORE_HPP
 
+#if defined __GNUC__
+#pragma GCC diagnostic push
+#pragma GCC diagnostic ignored "-Wold-style-cast" // of C
+#endif
 #include <bitm.h>
+#if defined __GNUC__
+#pragma GCC diagnostic pop
+#endif
 
 #include <cstddef>
 #include <cstdint>
@@ -43,7 +50,10 @@
 #include <expected>
 #endif
 
-// The result, or the object, points into what the argument, or *this, holds: clang warns where that ends first.
+// The result, or the object, points into what the argument, or *this, holds: clang warns where that ends first. Each
+// compiler refuses views and walks of temporaries. None sees a view that outlives its owner in a container or a class of
+// yours, a copy of what raw() gives, a view by `in(x.block())` in place of `x.view()`, or a view of an owner that is
+// assigned to or grows.
 #if defined __has_cpp_attribute
 #if __has_cpp_attribute(clang::lifetimebound)
 #define BITM_LIFETIMEBOUND [[clang::lifetimebound]]
@@ -97,7 +107,7 @@ enum class errc : std::uint8_t {
     none = 0,
     bad_size = BITM_BAD_SIZE, // a size or a length is wrong
     wrong = BITM_WRONG,       // the tables are not those of the words, the parts not those of a sequence
-    unsorted = BITM_UNSORTED, // a number is less than the one before it
+    unsorted = BITM_UNSORTED, // a number is less than the one before it, or a position or a word does not rise
     outside = 16,             // a position past the end
     wrong_file,               // not a file of this format, or not a whole one
     no_file,                  // the system does not open, read, map or write it

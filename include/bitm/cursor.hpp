@@ -75,7 +75,8 @@ public:
     iterator begin() noexcept BITM_LIFETIMEBOUND { return iterator(this); }
     end_mark end() const noexcept { return {}; }
     // All of it as C takes it.
-    const bitm_cursor &raw() const noexcept BITM_LIFETIMEBOUND { return raw_; }
+    const bitm_cursor &raw() const &noexcept BITM_LIFETIMEBOUND { return raw_; }
+    bitm_cursor raw() const &&noexcept { return raw_; }
 
 private:
     friend class detail::once_iterator<cursor>;

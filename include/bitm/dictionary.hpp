@@ -16,7 +16,14 @@ BITM_NAMESPACE_BEGIN
 namespace detail {
 
 // The block of a dictionary.
-struct dictionary_kind : block_kind<dictionary_kind, bitm_dictionary, bitm_dictionary_open> {};
+struct dictionary_kind : block_kind<dictionary_kind, bitm_dictionary, bitm_dictionary_open> {
+    static constexpr std::size_t nothing_len = 40;
+    static std::uint32_t build_nothing(std::uint64_t *to) noexcept
+    {
+        const bitm_dictionary none{};
+        return bitm_dictionary_build(&none, to, nothing_len);
+    }
+};
 
 template <class Self> class dictionary_calls : public block_calls<Self, dictionary_kind> {
 public:
@@ -25,9 +32,10 @@ public:
     std::uint64_t size() const noexcept { return raw().keys_len; }
     bool empty() const noexcept { return size() == 0; }
     std::uint64_t seed() const noexcept { return raw().seed; }
-    words_in keys() const noexcept BITM_LIFETIMEBOUND { return {raw().keys, raw().keys_len}; }
-    const bitm_dictionary &raw() const noexcept BITM_LIFETIMEBOUND { return this->self().own_.raw(); }
-    words_in block() const noexcept BITM_LIFETIMEBOUND { return this->self().own_.words(); }
+    words_in keys() const noexcept { return {raw().keys, raw().keys_len}; }
+    const bitm_dictionary &raw() const &noexcept BITM_LIFETIMEBOUND { return this->self().own_.raw(); }
+    bitm_dictionary raw() const &&noexcept { return this->self().own_.raw(); }
+    words_in block() const noexcept { return this->self().own_.words(); }
 
     // The number of a key, which is where it stands among the keys; none for what is no key. And whether there is one.
     maybe_position find(std::uint64_t key) const { return try_find(key).value(); }
@@ -53,6 +61,7 @@ public:
 class BITM_POINTER dictionary_view : public detail::dictionary_calls<dictionary_view> {
 public:
     // Of no keys; of the block that begins the words: fails where it is none of a dictionary, or not all of it.
+    // Of an owner take `view()`, of which compilers warn when it outlives its owner, and not `in(x.block())`.
     dictionary_view() noexcept = default;
     static result<dictionary_view> try_in(detail::kept<const std::uint64_t> file BITM_LIFETIMEBOUND) noexcept
     {
@@ -89,10 +98,9 @@ public:
     {
         detail::block hashes(keys.size());
         for (std::size_t i = 0; i < keys.size(); i++) hashes.data()[i] = keys.data()[i] + seed;
-        return detail::by_levels<dictionary>(words_in(hashes.data(), hashes.size()), percent,
-                                             [&](words_in words, words_in sizes) {
-                                                 return of_levels(words, sizes, keys, seed);
-                                             });
+        return detail::by_levels<dictionary>(
+            words_in(hashes.data(), hashes.size()), percent,
+            [&](words_in words, words_in sizes) { return of_levels(words, sizes, keys, seed); });
     }
 
     // Views, which the owner has to outlive, of the dictionary and of its keys; the block, and all of it as C takes it.
@@ -122,8 +130,8 @@ private:
         parts.hash.sizes = sizes.data(), parts.hash.sizes_len = sizes.size(), parts.hash.keys = keys.size();
         parts.keys = placed.data(), parts.keys_len = keys.size(), parts.seed = seed;
         std::uint64_t ones = 0, number = 0, len = 0;
-        std::uint32_t status = bitm_index_build(words.data(), words.size(), upper.data(), upper.size(), lower.data(),
-                                                lower.size(), &ones);
+        std::uint32_t status =
+            bitm_index_build(words.data(), words.size(), upper.data(), upper.size(), lower.data(), lower.size(), &ones);
         for (std::size_t i = 0; i < keys.size() && status == BITM_OK; i++) {
             status = bitm_hash_get(&parts.hash, keys.data()[i] + seed, &number);
             if (status == BITM_OK) placed.data()[number] = keys.data()[i];

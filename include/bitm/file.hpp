@@ -1,10 +1,10 @@
-// Files: an owner is one block of memory, which is the file byte for byte; so it is written at once and mapped where it
-// lies. Part of the other headers.
+// Files: an owner is one block of memory, which is the file byte for byte (docs/FORMAT.md); so it is written at once
+// and mapped where it lies. Part of the other headers.
 //
 //     #include <sstream>
 //     const bitm::rank_index x(bitm::bits("0101"));
 //     x.save("a.bitm");                                                // all of it, or the file that was there stays
-//     const auto copied = bitm::rank_index::load("a.bitm", bitm::verify::yes); // with one pass over words and tables
+//     const auto copied = bitm::rank_index::load("a.bitm", bitm::verify::yes); // only if it is what was written
 //     std::stringstream stream;
 //     x.save(stream);
 //     const auto sent = bitm::rank_index::load(stream);                // or of_bytes(x.bytes())
@@ -26,16 +26,18 @@
 
 BITM_NAMESPACE_BEGIN
 
-// Whether the tables of what is loaded are checked (one pass), or its header alone. Over wrong tables answers are safe,
-// but may be wrong.
+// Whether all of what is loaded is looked at, or its header alone. With `yes` it is what was written: the checksum of
+// each section is right, and the parts fit together. Files of version 2 have no such checksums: of them `yes` finds
+// only what does not fit. Without, over a damaged file, answers are safe, but may be wrong.
 enum class verify : bool { no, yes };
 
 namespace detail {
 
-// A path as the system takes it, of a std::string, a std::filesystem::path or a literal.
+// A path as the system takes it, of a std::string, a std::filesystem::path or a literal. A null pointer is an empty one,
+// of which there is no file.
 class path_of {
 public:
-    path_of(const char *path) noexcept : path_(path) {}
+    path_of(const char *path) noexcept : path_(path ? path : "") {}
     template <class Path, class = std::enable_if_t<
                               std::is_convertible_v<decltype(std::declval<const Path &>().c_str()), const char *>>>
     path_of(const Path &path BITM_LIFETIMEBOUND) noexcept : path_(path.c_str())
@@ -85,6 +87,28 @@ inline bool write_all(int to, const void *data, std::size_t bytes) noexcept
     return true;
 }
 
+// The name of the file to which a path leads over symbolic links, where there may be none yet; else null, and errno.
+inline std::unique_ptr<char[]> target_of(const char *path) noexcept
+{
+    std::unique_ptr<char[]> name(new (std::nothrow) char[std::strlen(path) + 1]);
+    if (name) std::memcpy(name.get(), path, std::strlen(path) + 1);
+    for (int links = 0; name && links < 40; links++) {
+        char to[4096];
+        const ssize_t len = ::readlink(name.get(), to, sizeof to);
+        if (len < 0 || len == static_cast<ssize_t>(sizeof to)) return name; // no link, or none that the system follows
+        const char *const slash = to[0] == '/' ? nullptr : std::strrchr(name.get(), '/');
+        const std::size_t folder = slash ? static_cast<std::size_t>(slash + 1 - name.get()) : 0;
+        std::unique_ptr<char[]> next(new (std::nothrow) char[folder + static_cast<std::size_t>(len) + 1]);
+        if (!next) return next;
+        std::memcpy(next.get(), name.get(), folder);
+        std::memcpy(next.get() + folder, to, static_cast<std::size_t>(len));
+        next[folder + static_cast<std::size_t>(len)] = '\0';
+        name.swap(next);
+    }
+    if (name) errno = ELOOP;
+    return nullptr;
+}
+
 // A new file beside a path, opened exclusively, which becomes the file of that path or is removed.
 class replacement {
 public:
@@ -126,8 +150,9 @@ private:
     int to_ = -1;
 };
 
-// Writes a whole file, or leaves what was there: beside it, and renamed once it is on the disk. What is there and no
-// regular file (a device, a pipe) is written as it is.
+// Writes a whole file, or leaves what was there: beside it, and renamed once it is on the disk. Of a symbolic link it
+// is the file to which that leads, and the link stays. What is there and no regular file (a device, a pipe) is written
+// as it is.
 inline result<bool> written(path_of path, const void *data, std::size_t bytes) noexcept
 {
     struct stat old;
@@ -137,7 +162,9 @@ inline result<bool> written(path_of path, const void *data, std::size_t bytes) n
         if (file.at < 0 || !write_all(file.at, data, bytes)) return no_file();
         return true;
     }
-    replacement made(path.get());
+    const std::unique_ptr<char[]> target = target_of(path.get());
+    if (!target) return no_file();
+    replacement made(target.get());
     if (made.descriptor() < 0 || !write_all(made.descriptor(), data, bytes) || !made.commit(is_there ? &old : nullptr))
         return no_file();
     return true;
@@ -185,33 +212,37 @@ template <class T> T of_file(result<T> made, const path_of &path)
 // Saving and loading of owners that are one block. `Self` has `check()`.
 template <class Self, class Kind> class stored_calls {
 public:
-    // The file: header and parts. An owner that was built of no bits has one too; one that was default constructed has
-    // no bytes.
-    span<const unsigned char> bytes() const &noexcept BITM_LIFETIMEBOUND
-    {
-        return {reinterpret_cast<const unsigned char *>(own_.words().data()), 8 * own_.words().size()};
-    }
+    // The block, which is the file: of an owner of nothing too, but for trees and tries, which have none of no nodes.
+    // Of a file of version 2 that was mapped it is that file.
+    span<const unsigned char> bytes() const &noexcept BITM_LIFETIMEBOUND { return bytes_of(own_.words()); }
     void bytes() const && = delete;
 
-    // Writes these bytes to a new file, which replaces one of that name once it is whole; or to a stream.
-    result<bool> try_save(path_of path) const noexcept { return written(path, bytes_().data(), bytes_().size()); }
+    // Writes the block to a new file, which replaces one of that name once it is whole; or to a stream. Of a file of
+    // version 2 that was mapped it makes the block first, in memory. Fails where there is no block, of no nodes.
+    result<bool> try_save(path_of path) const
+    {
+        return by_block([&](words_in all) { return written(path, all.data(), 8 * all.size()); });
+    }
     void save(path_of path) const { (void)of_file(try_save(path), path); }
     template <class Char, class Traits>
     std::basic_ostream<Char, Traits> &save(std::basic_ostream<Char, Traits> &to) const
     {
-        return to.write(reinterpret_cast<const Char *>(bytes_().data()), static_cast<std::ptrdiff_t>(bytes_().size()));
+        const auto write = [&](words_in all) -> result<bool> {
+            to.write(reinterpret_cast<const Char *>(all.data()), static_cast<std::ptrdiff_t>(8 * all.size()));
+            return true;
+        };
+        return (void)by_block(write).value(), to;
     }
 
-    // From a path, copied (load) or read where it lies (map); from a stream; from bytes, which are copied.
+    // From a path, copied (load) or read where it lies (map); from a stream; from bytes, which are copied. A file of
+    // version 2 becomes a block where it is copied.
     static result<Self> try_load(path_of path, verify how = verify::no)
     {
         result<block> all = mapped(path);
         if (!all) return all.error();
         const result<in_block<Kind>> found = Kind::in(all->data(), all->size()); // before memory for a copy is taken
         if (!found) return found.error();
-        result<block> copy = copied(all->data(), 8 * found->words().size());
-        if (!copy) return copy.error();
-        return opened(std::move(*copy), how);
+        return renewed(copied(all->data(), 8 * found->words().size()), how);
     }
     static result<Self> try_map(path_of path, verify how = verify::no)
     {
@@ -221,16 +252,12 @@ public:
     }
     static result<Self> try_of_bytes(span<const unsigned char> bytes, verify how = verify::no)
     {
-        result<block> all = copied(bytes.data(), bytes.size());
-        if (!all) return all.error();
-        return opened(std::move(*all), how);
+        return renewed(copied(bytes.data(), bytes.size()), how);
     }
     template <class Char, class Traits>
     static result<Self> try_load(std::basic_istream<Char, Traits> &from, verify how = verify::no)
     {
-        result<block> all = streamed(from, Kind::needed);
-        if (!all) return all.error();
-        return opened(std::move(*all), how);
+        return renewed(streamed(from, Kind::needed), how);
     }
     static Self load(path_of path, verify how = verify::no) { return of_file(try_load(path, how), path); }
     static Self map(path_of path, verify how = verify::no) { return of_file(try_map(path, how), path); }
@@ -269,7 +296,30 @@ protected:
     owned<Kind> own_;
 
 private:
-    span<const unsigned char> bytes_() const noexcept { return bytes(); }
+    static span<const unsigned char> bytes_of(words_in words) noexcept
+    {
+        return {reinterpret_cast<const unsigned char *>(words.data()), 8 * words.size()};
+    }
+    // The owner of memory of its own, in which an older file becomes a block.
+    static result<Self> renewed(result<block> &&all, verify how)
+    {
+        if (!all) return all.error();
+        result<Self> made = opened(std::move(*all), how);
+        if (!made || is_block(made->own_.words())) return made;
+        result<block> anew = Kind::renewed(made->own_.found());
+        if (!anew) return anew.error();
+        return opened(std::move(*anew), verify::no);
+    }
+    // What `call` makes of the words of the block.
+    template <class Call> result<bool> by_block(Call &&call) const
+    {
+        const words_in own = own_.words();
+        if (own.empty()) return bad_size("there is no block of no nodes");
+        if (is_block(own)) return call(own);
+        const result<block> anew = Kind::renewed(own_.found());
+        if (!anew) return anew.error();
+        return call(words_in(anew->data(), anew->size()));
+    }
 };
 
 } // namespace detail

@@ -16,7 +16,7 @@
 #define BITM_INDEX_HPP
 
 #include <bitm/bits.hpp>
-#include <bitm/file.hpp>
+#include <bitm/index_block.hpp>
 
 BITM_NAMESPACE_BEGIN
 
@@ -32,39 +32,18 @@ template <> inline constexpr bool std::ranges::enable_view<bitm::rank_index_view
 
 BITM_NAMESPACE_BEGIN
 
-// The log2 of the samples of 1 bits and of 0 bits, 7 to 31, by which selection is faster; 0 for none.
-struct sampling {
-    // Of the samples of 1 bits.
-    std::uint32_t ones = 0;
-    // Of the samples of 0 bits.
-    std::uint32_t zeros = 0;
-};
-
 namespace detail {
-
-// Why no index can be built so: a sampling, else the size.
-inline const char *fault_of(sampling how) noexcept
-{
-    const auto is_log2 = [](std::uint32_t it) { return it == 0 || (it >= 7 && it <= 31); };
-    if (!is_log2(how.ones)) return "sampling::ones is neither 0 nor 7 to 31";
-    return is_log2(how.zeros) ? "size is above 2^64 - 64" : "sampling::zeros is neither 0 nor 7 to 31";
-}
-
-// The file of an index.
-struct index_kind : stored_kind<index_kind, bitm_index, BITM_STORED_INDEX> {
-    static bitm_index of(const std::uint64_t *file, const bitm_stored &header) noexcept
-    {
-        return bitm_stored_index_of(file, &header);
-    }
-};
 
 template <class Self> class index_calls {
 public:
     // How many bits there are, and whether there are none.
     std::uint64_t size() const noexcept { return raw().bits_len; }
     bool empty() const noexcept { return size() == 0; }
-    // All of it as C takes it.
-    const bitm_index &raw() const noexcept BITM_LIFETIMEBOUND { return self().own_.raw(); }
+    // All of it as C takes it: a copy of that struct points at what the index does, and keeps it no longer. The block,
+    // or a file of version 2 where it was found in one; of a view of a struct of C, no words.
+    const bitm_index &raw() const &noexcept BITM_LIFETIMEBOUND { return self().own_.raw(); }
+    bitm_index raw() const &&noexcept { return self().own_.raw(); }
+    words_in block() const noexcept { return self().own_.words(); }
     bool operator[](std::uint64_t at) const { return bit_of(parts(), at); }
     bool at(std::uint64_t at) const { return bit_of(parts(), at); }
 
@@ -122,13 +101,9 @@ public:
     void select(words_in ranks, words_out out) const { list(bitm_index_select_list, true, ranks, out); }
     void select0(words_in ranks, words_out out) const { list(bitm_index_select_list, false, ranks, out); }
 
-    // Whether tables and samples are those of the words. Reads each word once.
-    bool check() const noexcept
-    {
-        return bitm_index_check(&raw()) == BITM_OK &&
-               (!raw().ones.log2 || bitm_index_check_samples(&raw(), true) == BITM_OK) &&
-               (!raw().zeros.log2 || bitm_index_check_samples(&raw(), false) == BITM_OK);
-    }
+    // Whether the block is as it was written, and its tables are those of the words; of an index that is not in a block
+    // (a view of a struct of C, a file of version 2), whether tables and samples are those of the words.
+    bool check() const noexcept { return index_kind::check(self().own_.found()); }
 
     // Equal bits; tables and samples are not compared.
     template <class Other> friend bool operator==(const index_calls &a, const index_calls<Other> &b)
@@ -203,7 +178,8 @@ public:
     {
         if (const char *const fault = bitm_index_fault(&raw)) fail(detail::bad_size(fault));
     }
-    // The index in the words of a file that was mapped or read.
+    // The index in the words of a block, or of a file of version 2, that was mapped or read. Of an index of yours take
+    // `view()`, of which compilers warn when it outlives its owner, and not `in(x.block())`, of which they don't.
     static result<rank_index_view> try_in(detail::kept<const std::uint64_t> file BITM_LIFETIMEBOUND) noexcept
     {
         const auto found = detail::index_kind::in(file.data(), file.size());
@@ -231,19 +207,15 @@ private:
 };
 
 // An index that owns its bits and tables: one block of memory, which is the file. Moves are cheap and leave an empty
-// one.
+// one. With samples building takes room for two such blocks.
 class BITM_OWNER rank_index : public detail::index_calls<rank_index>,
                               public detail::stored_calls<rank_index, detail::index_kind> {
 public:
     // Of no bits; of a copy of bits, of words (all, or the first `size` bits), or of an iterator's bools.
     rank_index() noexcept = default;
     explicit rank_index(bits_view of, sampling how = {})
+        : rank_index(of_block(detail::index_block({of.words_data(), of.words_len()}, of.size(), how)))
     {
-        bitm_stored header;
-        detail::block all = roomed(of.size(), how, header);
-        detail::need(bitm_stored_write_index(of.words_data(), of.words_len(), of.size(), how.ones, how.zeros,
-                                             all.data(), all.size(), &header));
-        keep(std::move(all), header);
     }
     explicit rank_index(const bits &of, sampling how = {}) : rank_index(of.view(), how) {}
     explicit rank_index(words_in words, maybe_position size = {}, sampling how = {})
@@ -254,43 +226,26 @@ public:
     rank_index(It first, It last, sampling how = {}) : rank_index(bits(first, last), how)
     {
     }
-    // An index of `size` bits, which `fill` writes into words of zeros: without a copy.
+    // An index of `size` bits, which `fill` writes into words of zeros.
     template <class Fill> static rank_index build(std::uint64_t size, sampling how, Fill &&fill)
     {
-        bitm_stored header;
-        detail::block all = roomed(size, how, header);
-        std::uint64_t *const file = all.data();
-        std::uint64_t *const words = bitm_stored_room(file, header.words);
-        fill(words_out(words, header.words.len));
-        detail::need(bitm_bits_clear_from(words, header.words.len, size));
-        std::uint64_t ones = 0, used[2] = {header.samples.len, header.samples0.len};
-        detail::need(bitm_index_build(words, header.words.len, bitm_stored_room(file, header.upper), header.upper.len,
-                                      bitm_stored_room(file, header.lower), header.lower.len, &ones));
-        // Samples of 1 bits first: those of 0 bits begin where they end, which the header says once they are made.
-        const bitm_index over = bitm_stored_index_of(file, &header);
-        if (how.ones) {
-            used[0] = sampled(over, true, how.ones, file, header.samples, header.starts);
-            detail::need(bitm_stored_index(size, how.ones, used[0], how.zeros, used[1], &header));
-        }
-        if (how.zeros) {
-            used[1] = sampled(over, false, how.zeros, file, header.samples0, header.starts0);
-            detail::need(bitm_stored_index(size, how.ones, used[0], how.zeros, used[1], &header));
-        }
-        std::memcpy(file, &header, sizeof header);
-        rank_index made;
-        made.keep(std::move(all), header);
-        return made;
+        const detail::block words(bitm_bits_words_len(size));
+        fill(words_out(words.data(), words.size()));
+        return of_block(detail::index_block({words.data(), words.size()}, size, how));
     }
 
-    // Views and ranges, which the owner has to outlive; all of it as C takes it. Deleted for temporaries.
+    // Views and ranges, which the owner has to outlive; the block, and all of it as C takes it. Deleted for
+    // temporaries.
     rank_index_view view() const &noexcept BITM_LIFETIMEBOUND { return rank_index_view(own_.found()); }
-    const bitm_index &raw() const &noexcept BITM_LIFETIMEBOUND { return index_calls::raw(); }
+    words_in block() const &noexcept BITM_LIFETIMEBOUND { return own_.words(); }
+    const bitm_index &raw() const &noexcept BITM_LIFETIMEBOUND { return own_.raw(); }
     bits_view as_bits() const &BITM_LIFETIMEBOUND { return plain(); }
     ones_range ones(std::uint64_t from = 0) const &BITM_LIFETIMEBOUND { return plain().ones(from); }
     zeros_range zeros(std::uint64_t from = 0) const &BITM_LIFETIMEBOUND { return plain().zeros(from); }
     bits_iterator begin() const &BITM_LIFETIMEBOUND { return plain().begin(); }
     bits_iterator end() const &BITM_LIFETIMEBOUND { return plain().end(); }
     void view() const && = delete;
+    void block() const && = delete;
     void raw() const && = delete;
     void as_bits() const && = delete;
     void ones(std::uint64_t = 0) const && = delete;
@@ -300,28 +255,7 @@ public:
 
 private:
     friend class detail::index_calls<rank_index>;
-    // Memory for the file of any such index, and its header with as many samples as there can be.
-    static detail::block roomed(std::uint64_t size, sampling how, bitm_stored &header)
-    {
-        detail::need(bitm_stored_index_room(size, how.ones, how.zeros, &header), detail::fault_of(how));
-        return detail::block(header.size / 8);
-    }
-    void keep(detail::block &&all, const bitm_stored &header) noexcept
-    {
-        const detail::in_block<detail::index_kind> found(bitm_stored_index_of(all.data(), &header),
-                                                         {all.data(), static_cast<std::size_t>(header.size / 8)});
-        own_ = detail::owned<detail::index_kind>(std::move(all), found);
-    }
-    // Builds samples in their place in the file: how many there are.
-    static std::uint64_t sampled(const bitm_index &over, bool one, std::uint32_t log2, std::uint64_t *file,
-                                 bitm_span samples, bitm_span starts)
-    {
-        std::uint64_t used = 0;
-        detail::need(bitm_index_build_samples(&over, one, log2,
-                                              reinterpret_cast<std::uint32_t *>(bitm_stored_room(file, samples)),
-                                              samples.len, bitm_stored_room(file, starts), starts.len, &used));
-        return used;
-    }
+    static rank_index of_block(result<detail::block> all) { return opened(std::move(all).value(), verify::no).value(); }
 };
 
 BITM_NAMESPACE_END

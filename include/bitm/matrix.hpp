@@ -40,17 +40,12 @@ private:
 
 namespace detail {
 
-// The words and counts of a matrix of no numbers, of one bit each: what an owner or a view that was default constructed
-// queries.
-inline constexpr std::uint64_t no_numbers[1] = {0};
+// Of no numbers: of one bit each.
 struct matrix_kind : block_kind<matrix_kind, bitm_matrix, bitm_matrix_open> {
-    static bitm_matrix none() noexcept
+    static constexpr std::size_t nothing_len = 56;
+    static std::uint32_t build_nothing(std::uint64_t *to) noexcept
     {
-        bitm_matrix raw{};
-        raw.width = 1;
-        raw.words = raw.upper = raw.lower = raw.ones = raw.zeros = raw.quarters = no_numbers;
-        raw.ones_len = raw.zeros_len = 1;
-        return raw;
+        return bitm_matrix_build(nullptr, 0, 1, false, nullptr, 0, to, nothing_len);
     }
 };
 
@@ -61,8 +56,9 @@ public:
     std::uint64_t size() const noexcept { return raw().len; }
     bool empty() const noexcept { return size() == 0; }
     std::uint32_t width() const noexcept { return static_cast<std::uint32_t>(raw().width); }
-    const bitm_matrix &raw() const noexcept BITM_LIFETIMEBOUND { return this->self().own_.raw(); }
-    words_in block() const noexcept BITM_LIFETIMEBOUND { return this->self().own_.words(); }
+    const bitm_matrix &raw() const &noexcept BITM_LIFETIMEBOUND { return this->self().own_.raw(); }
+    bitm_matrix raw() const &&noexcept { return this->self().own_.raw(); }
+    words_in block() const noexcept { return this->self().own_.words(); }
 
     // The number at an index: fails past the end.
     std::uint64_t operator[](std::uint64_t index) const { return try_at(index).value(); }
@@ -139,9 +135,9 @@ public:
     {
         std::uint64_t written = 0;
         need_apart(indices, out);
-        need(bitm_matrix_get_list(&raw(), indices.data(), indices.size(), out.data(), out.size(), &written),
-             "there is not room for one answer a query");
-        if (BITM_RARELY(written < indices.size())) (void)at(indices.data()[written]), fail({errc::wrong});
+        const std::uint32_t status =
+            bitm_matrix_get_list(&raw(), indices.data(), indices.size(), out.data(), out.size(), &written);
+        need_items(status, indices, written, size());
     }
     // rank and select of numbers[i] with another number of its own: bitm::no_answer where there is none. Where the
     // block is noticed to be wrong, the call fails once all is answered.
@@ -176,14 +172,15 @@ public:
              "there is not room for one count a number");
         return written;
     }
-    // The numbers of both ranges that are at least `least`, each once, rising. In no more turns than the first range has
-    // numbers: so give the shorter one first.
+    // The numbers of both ranges that are at least `least`, each once, rising. In no more turns than the first range
+    // has numbers: so give the shorter one first.
     std::size_t intersect(std::uint64_t from, std::uint64_t to, std::uint64_t other_from, std::uint64_t other_to,
                           std::uint64_t least, words_out numbers) const
     {
         need_range(from, to), need_range(other_from, other_to), need_apart(block(), numbers);
         std::uint64_t written = 0;
-        need(bitm_matrix_intersect(&raw(), from, to, other_from, other_to, least, numbers.data(), numbers.size(), &written));
+        need(bitm_matrix_intersect(&raw(), from, to, other_from, other_to, least, numbers.data(), numbers.size(),
+                                   &written));
         return written;
     }
 
@@ -231,6 +228,7 @@ public:
     using iterator = matrix_iterator;
 
     // Of no numbers; of the block that begins the words: fails where it is none of a matrix, or not all of it.
+    // Of an owner take `view()`, of which compilers warn when it outlives its owner, and not `in(x.block())`.
     wavelet_matrix_view() noexcept = default;
     static result<wavelet_matrix_view> try_in(detail::kept<const std::uint64_t> file BITM_LIFETIMEBOUND) noexcept
     {
@@ -329,6 +327,7 @@ private:
 BITM_NAMESPACE_END
 
 #if __cplusplus >= 202002L
+template <> inline constexpr bool std::ranges::enable_borrowed_range<bitm::wavelet_matrix_view> = true;
 template <> inline constexpr bool std::ranges::enable_view<bitm::wavelet_matrix_view> = true;
 #endif
 

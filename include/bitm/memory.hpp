@@ -88,6 +88,14 @@ template <class Call, class... Before> void answer_list(Call call, words_in quer
     need_list(status, counts);
 }
 
+// The status of the items at a list of indices, of `of` items, of which the first `written` were written: fails at the
+// next index as a call of that index alone does.
+inline void need_items(std::uint32_t status, words_in indices, std::uint64_t written, std::uint64_t of)
+{
+    if (BITM_RARELY(status == BITM_NONE)) fail_status(status, indices.data()[written], of);
+    need(status, wrong_room);
+}
+
 // An argument that is kept: a temporary container does not convert.
 template <class T> class BITM_POINTER kept {
 public:

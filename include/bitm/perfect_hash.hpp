@@ -6,7 +6,7 @@
 //     const bitm::maybe_position number = numbers(hash("two")); // below 3; none, or any number, for what is no key
 //     std::cout << (number.value() < numbers.size()) << '\n';   // 1
 //
-// A file is the one that Python's PerfectHash writes and loads (without fingerprints): an index, and sizes after it.
+// The file of a hash is its block. A hash with a seed for each word is another kind: bitm::seeded_hash.
 #ifndef BITM_PERFECT_HASH_HPP
 #define BITM_PERFECT_HASH_HPP
 
@@ -16,8 +16,30 @@ BITM_NAMESPACE_BEGIN
 
 namespace detail {
 
-// What follows the index in the file of a perfect hash: mark, keys, bits of fingerprints, seed, levels, words of
-// fingerprints, and the sizes of the levels. Its words in all, 0 where it is not one that this header knows.
+// The block of the words and sizes of levels.
+inline result<block> hash_block(words_in words, words_in sizes, std::uint64_t seed)
+{
+    std::uint64_t len = 0;
+    if (bitm_hash_block_size(words.size(), sizes.size(), &len) != BITM_OK) return bad_size("2^58 words or more");
+    block all(len);
+    const std::uint32_t status =
+        bitm_hash_block_build(words.data(), words.size(), sizes.data(), sizes.size(), seed, all.data(), all.size());
+    if (status != BITM_OK) return error_of(status);
+    return all;
+}
+
+// The block of a hash: the hash as C takes it, and the seed of whoever wrote it.
+struct hash_parts {
+    bitm_hash hash;
+    std::uint64_t seed;
+};
+inline std::uint32_t open_hash(const std::uint64_t *block, std::size_t words, hash_parts *parts) noexcept
+{
+    return bitm_hash_block_open(block, words, &parts->hash, &parts->seed);
+}
+
+// What follows the index in the file of version 2 of a hash: mark, keys, bits of fingerprints, seed, levels, words of
+// fingerprints, and the sizes of the levels. Its words in all, 0 where it is not one that is read here.
 constexpr std::size_t hash_head = 6, hash_levels = 256;
 constexpr std::uint64_t hash_mark = 0x687361686D746962; // "bitmhash"
 inline std::size_t hash_tail_len(const std::uint64_t *tail, std::size_t tail_len, std::uint64_t words) noexcept
@@ -27,28 +49,56 @@ inline std::size_t hash_tail_len(const std::uint64_t *tail, std::size_t tail_len
     return hash_head + static_cast<std::size_t>(tail[4]);
 }
 
-// The file of a perfect hash.
-struct hash_kind {
-    using raw_type = bitm_hash;
-    static bitm_hash none() noexcept { return {}; }
+// The block of a hash, or its file of version 2.
+struct hash_kind : block_kind<hash_kind, hash_parts, open_hash> {
+    static constexpr std::size_t nothing_len = 32;
+    static std::uint32_t build_nothing(std::uint64_t *to) noexcept
+    {
+        return bitm_hash_block_build(nullptr, 0, nullptr, 0, 0, to, nothing_len);
+    }
     static std::size_t needed(const std::uint64_t *file, std::size_t have) noexcept
     {
         const std::size_t begin = needed_of(file, have);
+        if (is_block({file, have})) return begin;
         if (have < begin + hash_head) return begin + hash_head;
         return begin + hash_head + static_cast<std::size_t>(file[begin + 4] <= hash_levels ? file[begin + 4] : 0);
     }
     static result<in_block<hash_kind>> in(const std::uint64_t *file, std::size_t words) noexcept
     {
+        if (is_block({file, words})) return block_kind::in(file, words);
         const result<bitm_stored> header = header_of(file, words, BITM_STORED_INDEX);
         if (!header) return header.error();
         const std::size_t begin = header->size / 8;
         const std::uint64_t *const tail = file + begin;
         const std::size_t tail_len = hash_tail_len(tail, words - begin, header->words.len);
         if (tail_len == 0) return failure{errc::wrong_file};
-        bitm_hash raw{};
-        raw.index = bitm_stored_index_of(file, &*header);
-        raw.keys = tail[1], raw.sizes = tail + hash_head, raw.sizes_len = tail[4];
+        hash_parts raw{};
+        raw.hash.index = bitm_stored_index_of(file, &*header);
+        raw.hash.keys = tail[1], raw.hash.sizes = tail + hash_head, raw.hash.sizes_len = tail[4], raw.seed = tail[3];
         return in_block<hash_kind>(raw, {file, begin + tail_len});
+    }
+    static result<block> renewed(const in_block<hash_kind> &old)
+    {
+        const hash_parts &raw = old.raw();
+        const bitm_index &index = raw.hash.index;
+        if (!is_counted(raw.hash)) return failure{errc::wrong};
+        result<block> all = hash_block({index.words, index.words_len}, {raw.hash.sizes, raw.hash.sizes_len}, raw.seed);
+        if (!all) return failure{errc::wrong};
+        return all;
+    }
+    // Whether a block is as it was written and holds a hash; of a file of version 2, whether the tables are those of
+    // the words, and there are as many 1 bits as keys.
+    static bool check(const in_block<hash_kind> &of) noexcept
+    {
+        if (is_block(of.words())) return checked(bitm_hash_block_check, of.words());
+        return bitm_index_check(&of.raw().hash.index) == BITM_OK && is_counted(of.raw().hash);
+    }
+
+private:
+    static bool is_counted(const bitm_hash &hash) noexcept
+    {
+        std::uint64_t ones = 0;
+        return bitm_index_count(&hash.index, true, &ones) == BITM_OK && ones == hash.keys;
     }
 };
 
@@ -130,10 +180,11 @@ public:
     // Of a list: out[i] is the number of hashes[i], or bitm::no_answer.
     void operator()(words_in hashes, words_out out) const { answer_list(Calls::get_list, hashes, out, hash_()); }
 
-    // Writes the `width` lowest bits of the fingerprint of each key at its number, as an array in words of the caller's. By
-    // them `find` answers none for almost all that are no keys. A fingerprint is any number that you compute from a key
-    // beside its hash. Returns whether each hash has a number, for which there is room; the fingerprints of the others are
-    // written all the same. Fails where there is not one fingerprint for each hash, or `width` is above 64.
+    // Writes the `width` lowest bits of the fingerprint of each key at its number, as an array in words of the
+    // caller's. By them `find` answers none for almost all that are no keys. A fingerprint is any number that you
+    // compute from a key beside its hash. Returns whether each hash has a number, for which there is room; the
+    // fingerprints of the others are written all the same. Fails where there is not one fingerprint for each hash, or
+    // `width` is above 64.
     bool set_prints(words_in hashes, words_in key_prints, words_out prints, unsigned width) const
     {
         need_apart(hashes, prints), need_apart(key_prints, prints);
@@ -188,34 +239,35 @@ public:
     // Of no keys.
     perfect_hash() noexcept = default;
     // `percent` bits of a level for 100 keys: 100 takes least memory, 200 less time. Fails where two hashes are equal.
-    explicit perfect_hash(words_in hashes, unsigned percent = 100)
-        : perfect_hash(try_of(hashes, percent).value())
-    {
-    }
-    template <class It, class Hash>
-    perfect_hash(It first, It last, Hash &&hash, unsigned percent = 100)
+    explicit perfect_hash(words_in hashes, unsigned percent = 100) : perfect_hash(try_of(hashes, percent).value()) {}
+    template <class It, class Hash> perfect_hash(It first, It last, Hash &&hash, unsigned percent = 100)
         : perfect_hash(of_hashes(detail::hashed(first, last, hash), percent).value())
     {
     }
     static result<perfect_hash> try_of(words_in hashes, unsigned percent = 100)
     {
-        return made(hashes, percent);
+        return detail::by_levels<perfect_hash>(hashes, percent,
+                                               [](words_in words, words_in sizes) -> result<perfect_hash> {
+                                                   result<detail::block> all = detail::hash_block(words, sizes, 0);
+                                                   if (!all) return all.error();
+                                                   return opened(std::move(*all), verify::no);
+                                               });
     }
 
     // How many keys.
     std::uint64_t size() const noexcept { return raw().keys; }
     bool empty() const noexcept { return size() == 0; }
-    // Whether the tables are those of the words, and there are as many 1 bits as keys.
-    bool check() const noexcept
-    {
-        std::uint64_t ones = 0;
-        return bitm_index_check(&raw().index) == BITM_OK && bitm_index_count(&raw().index, true, &ones) == BITM_OK &&
-               ones == size();
-    }
-    const bitm_hash &raw() const &noexcept BITM_LIFETIMEBOUND { return own_.raw(); }
+    // Whether the block is as it was written and holds a hash; of a file of version 2 that was mapped, whether its
+    // tables are those of its words.
+    bool check() const noexcept { return detail::hash_kind::check(own_.found()); }
+    // The sizes of the levels; the block, or the file of version 2 that was mapped; and the hash as C takes it: a copy
+    // of that struct points at what the hash does, and keeps it no longer. Deleted for temporaries.
     words_in sizes() const &noexcept BITM_LIFETIMEBOUND { return {raw().sizes, raw().sizes_len}; }
-    void raw() const && = delete;
+    words_in block() const &noexcept BITM_LIFETIMEBOUND { return own_.words(); }
+    const bitm_hash &raw() const &noexcept BITM_LIFETIMEBOUND { return own_.raw().hash; }
     void sizes() const && = delete;
+    void block() const && = delete;
+    void raw() const && = delete;
 
     // The same hash: the same bytes.
     friend bool operator==(const perfect_hash &a, const perfect_hash &b) noexcept
@@ -225,36 +277,9 @@ public:
     friend bool operator!=(const perfect_hash &a, const perfect_hash &b) noexcept { return !(a == b); }
 
 private:
-    static constexpr std::size_t head = detail::hash_head;
-
     static result<perfect_hash> of_hashes(const detail::gathered &hashes, unsigned percent)
     {
-        return made(words_in(hashes.data(), hashes.size()), percent);
-    }
-    static result<perfect_hash> made(words_in hashes, unsigned percent)
-    {
-        return detail::by_levels<perfect_hash>(hashes, percent, [&](words_in words, words_in sizes) {
-            return filed(words, sizes, hashes.size());
-        });
-    }
-    // The file of the words and sizes of the levels.
-    static result<perfect_hash> filed(words_in words, words_in sizes, std::size_t keys)
-    {
-        bitm_stored header;
-        if (bitm_stored_index(64 * words.size(), 0, 0, 0, 0, &header) != BITM_OK) return detail::bad_size("2^58 words or more");
-        detail::block all(header.size / 8 + head + sizes.size());
-        const auto room = [&](bitm_span part) { return bitm_stored_room(all.data(), part); };
-        std::memcpy(all.data(), &header, sizeof header);
-        if (words.size()) std::memcpy(room(header.words), words.data(), 8 * words.size());
-        std::uint64_t ones = 0;
-        const std::uint32_t status = bitm_index_build(room(header.words), header.words.len, room(header.upper),
-                                                      header.upper.len, room(header.lower), header.lower.len, &ones);
-        if (status != BITM_OK) return detail::error_of(status);
-        const std::uint64_t tail[head] = {detail::hash_mark, keys, 0, 0, sizes.size(), 0};
-        std::uint64_t *const after = all.data() + header.size / 8;
-        std::memcpy(after, tail, sizeof tail);
-        if (sizes.size()) std::memcpy(after + head, sizes.data(), 8 * sizes.size());
-        return opened(std::move(all), verify::no);
+        return try_of(words_in(hashes.data(), hashes.size()), percent);
     }
 };
 

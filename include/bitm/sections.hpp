@@ -66,8 +66,9 @@ inline void extend(words_in block, std::uint64_t role, std::uint64_t count, word
 }
 
 // Section i of a block, counted from 0; none where it has no more. Fails where the words are no block. What the words
-// of the section hold is not looked at.
-inline result<std::optional<section>> try_section_at(words_in block, std::size_t i) noexcept
+// of the section hold is not looked at. A temporary container does not convert: its words would end with the line.
+inline result<std::optional<section>> try_section_at(detail::kept<const std::uint64_t> block BITM_LIFETIMEBOUND,
+                                                     std::size_t i) noexcept
 {
     bitm_section raw{};
     const std::uint32_t status = bitm_block_section(block.data(), block.size(), i, &raw);
@@ -75,7 +76,7 @@ inline result<std::optional<section>> try_section_at(words_in block, std::size_t
     if (status != BITM_OK) return detail::section_error(status, nullptr);
     return std::optional<section>(section{raw.role, raw.count, {raw.words, raw.words_len}});
 }
-inline std::optional<section> section_at(words_in block BITM_LIFETIMEBOUND, std::size_t i)
+inline std::optional<section> section_at(detail::kept<const std::uint64_t> block BITM_LIFETIMEBOUND, std::size_t i)
 {
     return try_section_at(block, i).value();
 }

@@ -1,5 +1,6 @@
-// Minimal perfect hashes with a seed for each word of their levels, in one block of memory: of many keys 2.26 bits a key,
-// where bitm::perfect_hash takes 2.8; building takes more time. An owner, and a view of a block in memory of the caller's.
+// Minimal perfect hashes with a seed for each word of their levels, in one block of memory: of many keys 2.26 bits a
+// key, where bitm::perfect_hash takes 2.8; building takes more time. An owner, and a view of a block in memory of the
+// caller's.
 //
 //     const std::vector<std::string> keys{"zero", "one", "two"};
 //     const std::hash<std::string> hash;
@@ -28,7 +29,13 @@ inline std::uint32_t open_seeded(const std::uint64_t *block, std::size_t words, 
 {
     return bitm_hash_block_open_seeded(block, words, &parts->hash, &parts->seed);
 }
-struct seeded_kind : block_kind<seeded_kind, seeded_parts, open_seeded> {};
+struct seeded_kind : block_kind<seeded_kind, seeded_parts, open_seeded> {
+    static constexpr std::size_t nothing_len = 40;
+    static std::uint32_t build_nothing(std::uint64_t *to) noexcept
+    {
+        return bitm_hash_block_build_seeded(nullptr, 0, nullptr, 0, nullptr, 0, 0, to, nothing_len);
+    }
+};
 
 // The calls of C that a hash with seeds has.
 struct seeded_calls_of_c {
@@ -47,8 +54,9 @@ public:
     std::uint64_t size() const noexcept { return raw().hash.keys; }
     bool empty() const noexcept { return size() == 0; }
     std::uint64_t seed() const noexcept { return this->self().own_.raw().seed; }
-    const bitm_seeded_hash &raw() const noexcept BITM_LIFETIMEBOUND { return this->self().own_.raw().hash; }
-    words_in block() const noexcept BITM_LIFETIMEBOUND { return this->self().own_.words(); }
+    const bitm_seeded_hash &raw() const &noexcept BITM_LIFETIMEBOUND { return this->self().own_.raw().hash; }
+    bitm_seeded_hash raw() const &&noexcept { return this->self().own_.raw().hash; }
+    words_in block() const noexcept { return this->self().own_.words(); }
 
     // Whether the block is as it was written and holds a hash with seeds: looks at all of it.
     bool check() const noexcept { return checked(bitm_hash_block_check_seeded, block()); }
@@ -60,6 +68,7 @@ public:
 class BITM_POINTER seeded_hash_view : public detail::seeded_calls<seeded_hash_view> {
 public:
     // Of no keys; of the block that begins the words: fails where it is none of a hash with seeds, or not all of it.
+    // Of an owner take `view()`, of which compilers warn when it outlives its owner, and not `in(x.block())`.
     seeded_hash_view() noexcept = default;
     static result<seeded_hash_view> try_in(detail::kept<const std::uint64_t> file BITM_LIFETIMEBOUND) noexcept
     {

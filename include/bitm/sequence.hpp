@@ -26,32 +26,22 @@ public:
     sequence() noexcept = default;
     explicit sequence(words_in numbers) : sequence(try_of(numbers).value()) {}
     sequence(std::initializer_list<std::uint64_t> numbers) : sequence(words_in(numbers.begin(), numbers.size())) {}
-    template <class It, class = typename std::iterator_traits<It>::iterator_category>
-    sequence(It first, It last) : sequence(detail::gathered::of(first, last))
+    template <class It, class = typename std::iterator_traits<It>::iterator_category> sequence(It first, It last)
+        : sequence(detail::gathered::of(first, last))
     {
         static_assert(std::is_unsigned_v<typename std::iterator_traits<It>::value_type>, "numbers without a sign");
     }
     static result<sequence> try_of(words_in numbers)
     {
-        bitm_sequence_lens lens;
-        bitm_stored header;
-        const std::uint64_t largest = numbers.empty() ? 0 : numbers.end()[-1];
-        if (bitm_sequence_sizes(numbers.size(), largest, &lens) != BITM_OK ||
-            bitm_stored_sequence(numbers.size(), &lens, &header) != BITM_OK)
-            return detail::bad_size("2^56 numbers or more");
-        detail::block all(header.size / 8);
-        const auto room = [&](bitm_span part) { return bitm_stored_room(all.data(), part); };
-        std::uint64_t width = 0;
-        const std::uint32_t status = bitm_sequence_build(
-            numbers.data(), numbers.size(), room(header.low), header.low.len, room(header.words), header.words.len,
-            room(header.upper), header.upper.len, room(header.lower), header.lower.len, &width);
-        if (status != BITM_OK) return detail::error_of(status);
-        std::memcpy(all.data(), &header, sizeof header);
-        return opened(std::move(all), verify::no);
+        result<detail::block> all = detail::sequence_block(numbers);
+        if (!all) return all.error();
+        return opened(std::move(*all), verify::no);
     }
 
-    // Views and walks, which the owner has to outlive; the parts as C takes them. Deleted for temporaries.
+    // Views and walks, which the owner has to outlive; the block, and the parts as C takes them. Deleted for
+    // temporaries.
     sequence_view view() const &noexcept BITM_LIFETIMEBOUND { return sequence_view(own_.found()); }
+    words_in block() const &noexcept BITM_LIFETIMEBOUND { return own_.words(); }
     const bitm_sequence &raw() const &noexcept BITM_LIFETIMEBOUND { return own_.raw(); }
     sequence_iterator begin() const &noexcept BITM_LIFETIMEBOUND { return {raw(), 0}; }
     sequence_iterator end() const &noexcept BITM_LIFETIMEBOUND { return {raw(), raw().len}; }
@@ -67,6 +57,7 @@ public:
     sequence_walk walk(std::uint64_t from = 0) const &BITM_LIFETIMEBOUND { return {raw(), from}; }
     void lower_bound(std::uint64_t) const && = delete;
     void view() const && = delete;
+    void block() const && = delete;
     void raw() const && = delete;
     void begin() const && = delete;
     void end() const && = delete;

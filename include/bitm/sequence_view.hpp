@@ -142,20 +142,52 @@ private:
 
 namespace detail {
 
-// The file of a sequence.
-struct sequence_kind : stored_kind<sequence_kind, bitm_sequence, BITM_STORED_SEQUENCE> {
+// The block of numbers that never fall.
+inline result<block> sequence_block(words_in numbers)
+{
+    std::uint64_t len = 0;
+    if (bitm_sequence_block_size(numbers.size(), numbers.empty() ? 0 : numbers.end()[-1], &len) != BITM_OK)
+        return bad_size("2^56 numbers or more");
+    block all(len);
+    const std::uint32_t status = bitm_sequence_block_build(numbers.data(), numbers.size(), all.data(), all.size());
+    if (status != BITM_OK) return error_of(status);
+    return all;
+}
+
+// The block of a sequence, or its file of version 2.
+struct sequence_kind : stored_kind<sequence_kind, bitm_sequence, bitm_sequence_block_open, BITM_STORED_SEQUENCE> {
+    static constexpr std::size_t nothing_len = 56;
+    static std::uint32_t build_nothing(std::uint64_t *to) noexcept
+    {
+        return bitm_sequence_block_build(nullptr, 0, to, nothing_len);
+    }
     static bitm_sequence of(const std::uint64_t *file, const bitm_stored &header) noexcept
     {
         return bitm_stored_sequence_of(file, &header);
+    }
+    static result<block> renewed(const in_block<sequence_kind> &old)
+    {
+        const bitm_sequence &raw = old.raw();
+        const block numbers(raw.len);
+        std::uint64_t written = 0;
+        const std::uint32_t status = bitm_sequence_items(&raw, 0, numbers.data(), numbers.size(), &written);
+        if (status != BITM_OK) return failure{errc::wrong};
+        result<block> all = sequence_block({numbers.data(), numbers.size()});
+        if (!all) return failure{errc::wrong}; // its numbers fall
+        return all;
     }
 };
 
 template <class Self> class sequence_calls {
 public:
-    // How many numbers there are, and whether there are none; all of it as C takes it.
+    // How many numbers there are, and whether there are none; all of it as C takes it: a copy of that struct points at
+    // what the sequence does, and keeps it no longer. The block, or a file of version 2 where it was found in one; of a
+    // view of a struct of C, no words.
     std::uint64_t size() const noexcept { return raw().len; }
     bool empty() const noexcept { return size() == 0; }
-    const bitm_sequence &raw() const noexcept BITM_LIFETIMEBOUND { return static_cast<const Self &>(*this).own_.raw(); }
+    const bitm_sequence &raw() const &noexcept BITM_LIFETIMEBOUND { return self().own_.raw(); }
+    bitm_sequence raw() const &&noexcept { return self().own_.raw(); }
+    words_in block() const noexcept { return self().own_.words(); }
 
     // The number at an index: fails past the end.
     std::uint64_t operator[](std::uint64_t at) const { return number_of(raw(), at); }
@@ -214,9 +246,9 @@ public:
     {
         std::uint64_t written = 0;
         need_apart(indexes, out);
-        need(bitm_sequence_get_list(&raw(), indexes.data(), indexes.size(), out.data(), out.size(), &written),
-             "there is not room for one answer a query");
-        if (BITM_RARELY(written < indexes.size())) (void)at(indexes.data()[written]), fail({errc::wrong});
+        const std::uint32_t status =
+            bitm_sequence_get_list(&raw(), indexes.data(), indexes.size(), out.data(), out.size(), &written);
+        need_items(status, indexes, written, size());
     }
     // Writes the numbers from an index on until `out` is full or there are no more: how many. Fails where the parts are
     // noticed to be wrong.
@@ -224,12 +256,15 @@ public:
     {
         std::uint64_t written = 0;
         need(bitm_sequence_items(&raw(), from, out.data(), out.size(), &written));
-        if (BITM_RARELY(written < out.size() && from < size() && written < size() - from)) fail({errc::wrong});
         return static_cast<std::size_t>(written);
     }
 
-    // Whether the parts are those of some sequence: two passes over them.
-    bool check() const noexcept { return bitm_sequence_check(&raw()) == BITM_OK; }
+    // Whether the block is as it was written and holds a sequence: looks at all of it, three times. Of a sequence that
+    // is not in a block (a view of a struct of C, a file of version 2), whether its parts are those of some sequence.
+    bool check() const noexcept
+    {
+        return is_block(block()) ? checked(bitm_sequence_block_check, block()) : bitm_sequence_check(&raw()) == BITM_OK;
+    }
 
     template <class Other> friend bool operator==(const sequence_calls &a, const sequence_calls<Other> &b)
     {
@@ -260,6 +295,7 @@ protected:
     sequence_calls &operator=(const sequence_calls &) noexcept = default;
 
 private:
+    const Self &self() const noexcept { return static_cast<const Self &>(*this); }
     template <class Call> void list(Call call, words_in queries, words_out out) const
     {
         answer_list(call, queries, out, &raw());
@@ -276,7 +312,9 @@ public:
     using const_iterator = sequence_iterator;
     using iterator = sequence_iterator;
 
-    // Of no numbers; of parts: fails where their lengths do not fit together; in the words of a file, mapped or read.
+    // Of no numbers; of parts: fails where their lengths do not fit together; in the words of a block, or of a file of
+    // version 2, that was mapped or read. Of a sequence of yours take `view()`, of which compilers warn when it
+    // outlives its owner, and not `in(x.block())`, of which they don't.
     sequence_view() noexcept = default;
     explicit sequence_view(const bitm_sequence &raw) : own_(raw, {})
     {

@@ -17,15 +17,11 @@ BITM_NAMESPACE_BEGIN
 
 namespace detail {
 
-// The words of no positions: what an owner or a view that was default constructed queries.
-inline constexpr std::uint64_t no_positions[1] = {0};
 struct sparse_kind : block_kind<sparse_kind, bitm_sparse, bitm_sparse_open> {
-    static bitm_sparse none() noexcept
+    static constexpr std::size_t nothing_len = 56;
+    static std::uint32_t build_nothing(std::uint64_t *to) noexcept
     {
-        bitm_sparse raw{};
-        raw.positions.words = raw.positions.upper = raw.positions.lower = no_positions;
-        raw.positions.words_len = raw.positions.upper_len = raw.positions.lower_len = 1;
-        return raw;
+        return bitm_sparse_build(nullptr, 0, 0, to, nothing_len);
     }
 };
 
@@ -34,8 +30,9 @@ public:
     // How many bits there are, and whether there are none; all of it as C takes it, and the block.
     std::uint64_t size() const noexcept { return raw().bits_len; }
     bool empty() const noexcept { return size() == 0; }
-    const bitm_sparse &raw() const noexcept BITM_LIFETIMEBOUND { return this->self().own_.raw(); }
-    words_in block() const noexcept BITM_LIFETIMEBOUND { return this->self().own_.words(); }
+    const bitm_sparse &raw() const &noexcept BITM_LIFETIMEBOUND { return this->self().own_.raw(); }
+    bitm_sparse raw() const &&noexcept { return this->self().own_.raw(); }
+    words_in block() const noexcept { return this->self().own_.words(); }
 
     // The bit at a position: fails past the end.
     bool operator[](std::uint64_t position) const { return try_at(position).value(); }
@@ -57,10 +54,7 @@ public:
     // The position of the 1 bit, or 0 bit, with a rank; none where there is none.
     maybe_position select(std::uint64_t rank) const { return try_select(rank).value(); }
     maybe_position select0(std::uint64_t rank) const { return try_select0(rank).value(); }
-    result<maybe_position> try_select(std::uint64_t rank) const noexcept
-    {
-        return ask(bitm_sparse_select, true, rank);
-    }
+    result<maybe_position> try_select(std::uint64_t rank) const noexcept { return ask(bitm_sparse_select, true, rank); }
     result<maybe_position> try_select0(std::uint64_t rank) const noexcept
     {
         return ask(bitm_sparse_select, false, rank);
@@ -128,6 +122,7 @@ private:
 class BITM_POINTER sparse_bits_view : public detail::sparse_calls<sparse_bits_view> {
 public:
     // Of no bits; of the block that begins the words: fails where it is none of sparse bits, or not all of it.
+    // Of an owner take `view()`, of which compilers warn when it outlives its owner, and not `in(x.block())`.
     sparse_bits_view() noexcept = default;
     static result<sparse_bits_view> try_in(detail::kept<const std::uint64_t> file BITM_LIFETIMEBOUND) noexcept
     {

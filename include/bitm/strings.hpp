@@ -1,4 +1,5 @@
-// Strings of bytes, each with a number, in one block of memory: an owner, and a view of a block in memory of the caller's.
+// Strings of bytes, each with a number, in one block of memory: an owner, and a view of a block in memory of the
+// caller's.
 //
 //     const bitm::strings names{"ada", "bob", "eve"};                        // each string has a number below 3
 //     std::cout << names.contains("bob") << ' ' << names.contains("bo") << '\n'; // 1 0
@@ -20,26 +21,25 @@ BITM_NAMESPACE_BEGIN
 
 namespace detail {
 
-// The start of no strings: what an owner or a view that was default constructed queries.
-inline constexpr std::uint64_t no_start[1] = {0};
 struct strings_kind : block_kind<strings_kind, bitm_strings, bitm_strings_open> {
-    static bitm_strings none() noexcept
+    static constexpr std::size_t nothing_len = 72;
+    static std::uint32_t build_nothing(std::uint64_t *to) noexcept
     {
-        bitm_strings raw{};
-        raw.starts = no_start, raw.starts_len = 1;
-        return raw;
+        const bitm_hash none{};
+        return bitm_strings_build(&none, 0, nullptr, 0, nullptr, 0, to, nothing_len);
     }
 };
 
 template <class Self> class strings_calls : public block_calls<Self, strings_kind> {
 public:
-    // How many strings there are, and whether there are none; the seed of their hashes; all of it as C takes it, and the
-    // block.
+    // How many strings there are, and whether there are none; the seed of their hashes; all of it as C takes it, and
+    // the block.
     std::uint64_t size() const noexcept { return raw().hash.keys; }
     bool empty() const noexcept { return size() == 0; }
     std::uint64_t seed() const noexcept { return raw().seed; }
-    const bitm_strings &raw() const noexcept BITM_LIFETIMEBOUND { return this->self().own_.raw(); }
-    words_in block() const noexcept BITM_LIFETIMEBOUND { return this->self().own_.words(); }
+    const bitm_strings &raw() const &noexcept BITM_LIFETIMEBOUND { return this->self().own_.raw(); }
+    bitm_strings raw() const &&noexcept { return this->self().own_.raw(); }
+    words_in block() const noexcept { return this->self().own_.words(); }
 
     // The number of a string; none for what is none of the strings. And whether there is one.
     maybe_position find(std::string_view string) const { return try_find(string).value(); }
@@ -52,7 +52,7 @@ public:
     bool contains(std::string_view string) const { return find(string).has_value(); }
 
     // The string of a number, in the block: fails where there is no such number.
-    std::string_view operator[](std::uint64_t number) const BITM_LIFETIMEBOUND
+    std::string_view operator[](std::uint64_t number) const
     {
         std::uint64_t begin = 0, len = 0;
         const std::uint32_t status = bitm_strings_get(&raw(), number, &begin, &len);
@@ -71,6 +71,7 @@ public:
 class BITM_POINTER strings_view : public detail::strings_calls<strings_view> {
 public:
     // Of none; of the block that begins the words: fails where it is none of strings, or not all of it.
+    // Of an owner take `view()`, of which compilers warn when it outlives its owner, and not `in(x.block())`.
     strings_view() noexcept = default;
     static result<strings_view> try_in(detail::kept<const std::uint64_t> file BITM_LIFETIMEBOUND) noexcept
     {
@@ -92,36 +93,35 @@ private:
 class BITM_OWNER strings : public detail::strings_calls<strings>,
                            public detail::stored_calls<strings, detail::strings_kind> {
 public:
-    // None; those of a range or a list: fails where one comes twice, or, which another seed mends, two have one hash.
+    // None; those of iterators, which are gone through once, or a list: fails where one comes twice, or, which another
+    // seed mends, two have one hash.
     // `percent` bits of a level for 100 strings: 100 takes least memory, 200 less time.
     strings() noexcept = default;
-    template <class It>
-    strings(It first, It last, unsigned percent = 100, std::uint64_t seed = 0)
+    template <class It> strings(It first, It last, unsigned percent = 100, std::uint64_t seed = 0)
         : strings(try_of(first, last, percent, seed).value())
     {
     }
     strings(std::initializer_list<std::string_view> all) : strings(all.begin(), all.end()) {}
-    template <class It>
-    static result<strings> try_of(It first, It last, unsigned percent = 100, std::uint64_t seed = 0)
+    template <class It> static result<strings> try_of(It first, It last, unsigned percent = 100, std::uint64_t seed = 0)
     {
         std::string bytes;
-        std::size_t count = 0;
-        for (It it = first; it != last; ++it) count++;
-        detail::block ends(count), hashes(count);
-        for (std::size_t i = 0; first != last; ++first, i++) {
+        detail::gathered ends;
+        for (; first != last; ++first) {
             bytes += std::string_view(*first);
-            ends.data()[i] = bytes.size();
+            ends.push(bytes.size());
         }
-        const std::uint32_t status = bitm_strings_hashes(detail::labels_of(bytes), bytes.size(), ends.data(), count, seed,
-                                                         hashes.data(), count);
+        const words_in all(ends.data(), ends.size());
+        const detail::block hashes(all.size());
+        const std::uint32_t status = bitm_strings_hashes(detail::labels_of(bytes), bytes.size(), all.data(), all.size(),
+                                                         seed, hashes.data(), hashes.size());
         if (status != BITM_OK) return detail::error_of(status);
-        return detail::by_levels<strings>(words_in(hashes.data(), count), percent, [&](words_in words, words_in sizes) {
-            return of_levels(words, sizes, bytes, words_in(ends.data(), count), seed);
-        });
+        const words_in hashed(hashes.data(), hashes.size());
+        return detail::by_levels<strings>(
+            hashed, percent, [&](words_in words, words_in sizes) { return of_levels(words, sizes, bytes, all, seed); });
     }
 
-    // A view, which the owner has to outlive; the string of a number, the block, and all of it as C takes it. Deleted for
-    // temporaries.
+    // A view, which the owner has to outlive; the string of a number, the block, and all of it as C takes it. Deleted
+    // for temporaries.
     strings_view view() const &noexcept BITM_LIFETIMEBOUND { return strings_view(own_.found()); }
     std::string_view operator[](std::uint64_t number) const &BITM_LIFETIMEBOUND
     {
@@ -148,8 +148,8 @@ private:
         hash.index.lower = lower.data(), hash.index.lower_len = lower.size();
         hash.sizes = sizes.data(), hash.sizes_len = sizes.size(), hash.keys = ends.size();
         std::uint64_t ones = 0, len = 0;
-        std::uint32_t status = bitm_index_build(words.data(), words.size(), upper.data(), upper.size(), lower.data(),
-                                                lower.size(), &ones);
+        std::uint32_t status =
+            bitm_index_build(words.data(), words.size(), upper.data(), upper.size(), lower.data(), lower.size(), &ones);
         if (status == BITM_OK) status = bitm_strings_size(words.size(), sizes.size(), ends.size(), bytes.size(), &len);
         if (status != BITM_OK) return detail::error_of(status);
         detail::block all(len);

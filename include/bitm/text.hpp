@@ -21,19 +21,13 @@ BITM_NAMESPACE_BEGIN
 
 namespace detail {
 
-// The parts of the index of no letters: what an owner or a view that was default constructed queries.
-inline constexpr std::uint64_t no_letters[2] = {0, 1}, of_no_letters[1] = {(1ull << 32) + (1ull << 43) + (1ull << 54)};
+// Of no letters, which are numbers: the index of an empty text.
 struct text_kind : block_kind<text_kind, bitm_text, bitm_text_open> {
-    static bitm_text none() noexcept
+    static constexpr std::size_t nothing_len = 136;
+    static std::uint32_t build_nothing(std::uint64_t *to) noexcept
     {
-        bitm_text raw{};
-        raw.letters.width = raw.marks.width = raw.marks.len = raw.step = 1;
-        raw.letters.ones = raw.letters.zeros = raw.marks.ones = raw.marks.zeros = raw.samples = raw.marks.upper =
-            no_letters;
-        raw.letters.ones_len = raw.letters.zeros_len = raw.marks.ones_len = raw.marks.zeros_len = raw.samples_len = 1;
-        raw.marks.words = no_letters + 1, raw.marks.lower = of_no_letters;
-        raw.marks.words_len = raw.marks.upper_len = raw.marks.lower_len = 1;
-        return raw;
+        std::uint32_t scratch[2];
+        return bitm_text_build(nullptr, 0, 0, 32, scratch, 2, to, nothing_len);
     }
 };
 
@@ -49,8 +43,9 @@ public:
     std::uint64_t size() const noexcept { return raw().letters.len; }
     bool empty() const noexcept { return size() == 0; }
     std::uint64_t width() const noexcept { return raw().letters.width; }
-    const bitm_text &raw() const noexcept BITM_LIFETIMEBOUND { return this->self().own_.raw(); }
-    words_in block() const noexcept BITM_LIFETIMEBOUND { return this->self().own_.words(); }
+    const bitm_text &raw() const &noexcept BITM_LIFETIMEBOUND { return this->self().own_.raw(); }
+    bitm_text raw() const &&noexcept { return this->self().own_.raw(); }
+    words_in block() const noexcept { return this->self().own_.words(); }
 
     // At how many positions a pattern stands.
     std::uint64_t count(std::string_view pattern) const { return try_count(pattern).value(); }
@@ -130,6 +125,7 @@ public:
 class BITM_POINTER text_index_view : public detail::text_calls<text_index_view> {
 public:
     // Of no letters; of the block that begins the words: fails where it is none of a text, or not all of it.
+    // Of an owner take `view()`, of which compilers warn when it outlives its owner, and not `in(x.block())`.
     text_index_view() noexcept = default;
     static result<text_index_view> try_in(detail::kept<const std::uint64_t> file BITM_LIFETIMEBOUND) noexcept
     {

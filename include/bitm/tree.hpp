@@ -47,16 +47,17 @@ private:
 
 namespace detail {
 
-// The words of a tree of no nodes: what an owner or a view that was default constructed queries.
+// The words of a tree of no nodes: what an owner or a view that was default constructed queries. It has no block.
 inline constexpr std::uint64_t no_nodes[1] = {0};
+inline bitm_tree tree_of_nothing() noexcept
+{
+    bitm_tree raw{};
+    raw.words = raw.upper = raw.lower = no_nodes;
+    raw.words_len = raw.upper_len = raw.lower_len = 1;
+    return raw;
+}
 struct tree_kind : block_kind<tree_kind, bitm_tree, bitm_tree_open> {
-    static bitm_tree none() noexcept
-    {
-        bitm_tree raw{};
-        raw.words = raw.upper = raw.lower = no_nodes;
-        raw.words_len = raw.upper_len = raw.lower_len = 1;
-        return raw;
-    }
+    static in_block<tree_kind> nothing() noexcept { return {tree_of_nothing(), {}}; }
     static const bitm_tree &nodes(const bitm_tree &raw) noexcept { return raw; }
 };
 
@@ -66,8 +67,9 @@ public:
     // How many nodes there are, and whether there are none; all of it as C takes it, and the block.
     std::uint64_t size() const noexcept { return nodes_().len; }
     bool empty() const noexcept { return size() == 0; }
-    const typename Kind::raw_type &raw() const noexcept BITM_LIFETIMEBOUND { return this->self().own_.raw(); }
-    words_in block() const noexcept BITM_LIFETIMEBOUND { return this->self().own_.words(); }
+    const typename Kind::raw_type &raw() const &noexcept BITM_LIFETIMEBOUND { return this->self().own_.raw(); }
+    typename Kind::raw_type raw() const &&noexcept { return this->self().own_.raw(); }
+    words_in block() const noexcept { return this->self().own_.words(); }
 
     // The parent of a node; none at the root and where there is no such node.
     maybe_position parent(std::uint64_t node) const { return ask(bitm_tree_parent, node); }
@@ -172,6 +174,7 @@ public:
 class BITM_POINTER tree_view : public detail::tree_calls<tree_view> {
 public:
     // Of no nodes; of the block that begins the words: fails where it is none of a tree, or not all of it.
+    // Of an owner take `view()`, of which compilers warn when it outlives its owner, and not `in(x.block())`.
     tree_view() noexcept = default;
     static result<tree_view> try_in(detail::kept<const std::uint64_t> file BITM_LIFETIMEBOUND) noexcept
     {

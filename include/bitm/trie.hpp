@@ -37,14 +37,14 @@ struct trie_match {
 
 namespace detail {
 
-// A trie of no nodes: what an owner or a view that was default constructed queries.
+// What an owner or a view that was default constructed queries: a trie of no nodes, which has no block.
 struct trie_kind : block_kind<trie_kind, bitm_trie, bitm_trie_open> {
-    static bitm_trie none() noexcept
+    static in_block<trie_kind> nothing() noexcept
     {
         bitm_trie raw{};
-        raw.tree = tree_kind::none();
+        raw.tree = tree_of_nothing();
         raw.width = 1;
-        return raw;
+        return {raw, {}};
     }
     static const bitm_tree &nodes(const bitm_trie &raw) noexcept { return raw.tree; }
 };
@@ -163,6 +163,7 @@ private:
 class BITM_POINTER trie_view : public detail::trie_calls<trie_view> {
 public:
     // Of no nodes; of the block that begins the words: fails where it is none of a trie, or not all of it.
+    // Of an owner take `view()`, of which compilers warn when it outlives its owner, and not `in(x.block())`.
     trie_view() noexcept = default;
     static result<trie_view> try_in(detail::kept<const std::uint64_t> file BITM_LIFETIMEBOUND) noexcept
     {
@@ -202,9 +203,10 @@ public:
                                                      width, ends.data(), ends.size(), all.data(), all.size());
         if (status == BITM_WRONG)
             return failure{errc::no_tree, 0, 0,
-                           "or the labels are not one for each node but the root, of at most that "
-                           "width, which rise among the children of a node"};
-        if (status != BITM_OK) return detail::bad_size("the ends are not a bit for each node");
+                           "or a label is not of at most that width, or those of the children of a node do not rise"};
+        if (status != BITM_OK)
+            return detail::bad_size("the labels are not one for each node but the root, or the ends not a bit for "
+                                    "each node");
         return opened(std::move(all), verify::no);
     }
 
@@ -254,7 +256,7 @@ private:
         const std::uint8_t *const from = detail::labels_of(bytes);
         std::uint64_t nodes = 0, len = 0;
         std::uint32_t status = bitm_trie_nodes_of_words(from, bytes.size(), starts.data(), starts.size(), &nodes);
-        if (status == BITM_WRONG) return unsorted(bytes, starts);
+        if (status == BITM_UNSORTED) return unsorted(bytes, starts);
         if (status == BITM_OK) status = bitm_trie_size(nodes, 8, true, &len);
         if (status != BITM_OK) return detail::bad_size("2^57 nodes or more");
         const detail::block scratch(3 * nodes - 2 + (nodes + 63) / 64);

@@ -165,13 +165,16 @@ static inline void query_sequence_lists(const struct bitm_sequence *s, const uin
         MUST(last[i] == (bitm_sequence_last_at_most(s, values[i], &single) == BITM_OK ? single : BITM_NO_ANSWER));
         MUST(bitm_sequence_contains(s, values[i], &single) == BITM_OK && is_there[i] == single);
     }
-    MUST(bitm_sequence_items(s, values[0], items, QUERIES, &written) == BITM_OK && written <= QUERIES);
-    MUST(written == 0 || (values[0] < s->len && written <= s->len - values[0]));
+    const uint64_t left = values[0] < s->len ? s->len - values[0] : 0, most = left < QUERIES ? left : QUERIES;
+    MUST(bitm_sequence_items(s, values[0], items, QUERIES, &written) == (written == most ? BITM_OK : BITM_WRONG));
+    MUST(written <= most);
     for (uint64_t i = 0; numbers && i < written; i++) MUST(items[i] == numbers[values[0] + i]);
-    MUST(!numbers || written == QUERIES || values[0] >= s->len || written == s->len - values[0]);
-    MUST(bitm_sequence_get_list(s, values, QUERIES, got, QUERIES, &written) == BITM_OK && written <= QUERIES);
+    MUST(!numbers || written == most);
+    const uint32_t status = bitm_sequence_get_list(s, values, QUERIES, got, QUERIES, &written);
     for (uint64_t i = 0; numbers && i < written; i++) MUST(got[i] == numbers[values[i]]);
-    MUST(!numbers || written == QUERIES || values[written] >= s->len);
+    if (written == QUERIES) MUST(status == BITM_OK);
+    else MUST(written < QUERIES && status == (values[written] < s->len ? BITM_WRONG : BITM_NONE));
+    MUST(!numbers || status != BITM_WRONG);
 }
 
 /* A walk that is moved on to each value in turn. */

@@ -1,11 +1,15 @@
 import { bytesAt, calls, wasm, wordsAt } from "./core.js";
-import { bytesOf, chunks, copyIn, copyOut, numbersOf } from "./lists.js";
+import { arrayKind, bytesOf } from "./given.js";
+import { chunks, copyIn, copyOut, numbersOf } from "./lists.js";
 import { Block, dispose, freed, withRoom } from "./memory.js";
 import { big, must, orNone, orThrow, place, refused, upTo } from "./numbers.js";
+import { shows } from "./shown.js";
 
 const MOST_BITS = 2 ** 50;
+/** How many words are combined at a time where the result is counted alone. */
+const PIECE = 1024;
 
-/** Where the words of a vector stand, and how many there are: for the other values of this package. */
+/** Where the words of a vector stand, how many there are, and how many bits: for the other values of this package. */
 export let wordsOf;
 
 /** A fixed number of bits, each 0 or 1. Bit i is bit i % 64, lowest first, of word i / 64. */
@@ -14,7 +18,7 @@ export class BitVector {
     #words;
     #length;
 
-    static { wordsOf = it => [it.#live(), it.#words]; }
+    static { wordsOf = it => [it.#live(), it.#words, it.#length]; }
 
     /** All bits are 0. */
     constructor(length) {
@@ -24,6 +28,18 @@ export class BitVector {
         this.#block = new Block(bytes).heldBy(this, at => bytesAt(at, bytes).fill(0));
     }
 
+    /** A new vector, which fill(it) fills, and which is freed where that throws. */
+    static #filled(length, fill) {
+        const made = new BitVector(length);
+        try {
+            fill(made);
+            return made;
+        } catch (it) {
+            made.free();
+            throw it;
+        }
+    }
+
     /** The bits at these positions are 1. Without a length, the largest position is the last bit. */
     static fromPositions(positions, length) {
         const { items } = numbersOf(positions, "positions"), n = items.length;
@@ -31,17 +47,19 @@ export class BitVector {
             copyIn(items, list, "positions");
             let bits = length;
             if (bits === undefined) bits = items.reduce((most, it) => (it >= most ? Number(it) + 1 : most), 0);
-            const made = new BitVector(bits), outside = calls.bitm_bits_set_list(made.#live(), made.#words, made.#length, list, n, 1);
-            if (orThrow(outside, "positions", n) === 0) return made;
-            made.free();
-            throw new RangeError(`bitm: position ${items.find(it => it >= made.#length)} is past the end of ${made.#length} bits`);
+            return BitVector.#filled(bits, made => {
+                const outside = calls.bitm_bits_set_list(made.#live(), made.#words, made.#length, list, n, 1);
+                if (orThrow(outside, "positions", n) === 0) return;
+                throw new RangeError(`bitm: position ${items.find(it => it >= made.#length)} is past the end of ${made.#length} bits`);
+            });
         });
     }
 
     /** From booleans, or numbers and BigInts that are 0 or 1. */
     static fromBooleans(bits) {
-        const items = Array.isArray(bits) || ArrayBuffer.isView(bits) ? bits : Array.from(bits);
-        if (ArrayBuffer.isView(bits)) bytesOf(bits, "bits");
+        const isTyped = arrayKind(bits) !== undefined, items = Array.isArray(bits) || isTyped ? bits : Array.from(bits);
+        if (isTyped) bytesOf(bits, "bits");
+        else if (ArrayBuffer.isView(bits)) throw new TypeError("bitm: bits: a DataView is no list of bits");
         const bytes = new Uint8Array(Math.ceil(items.length / 8));
         for (let k = 0; k < items.length; k++) {
             if (bitOf(items[k], `bit ${k}`)) bytes[Math.floor(k / 8)] |= 1 << k % 8;
@@ -51,17 +69,17 @@ export class BitVector {
 
     /** From bytes, the lowest bit of each first: a Uint8Array, or any buffer or view. */
     static fromBytes(bytes, length) {
-        const from = bytesOf(bytes, "bytes"), made = new BitVector(length ?? 8 * from.length);
-        if (made.#length > 8 * from.length) throw new RangeError(`bitm: ${made.#length} bits are more than ${from.length} bytes have`);
-        const needed = Math.ceil(made.#length / 8);
-        bytesAt(made.#live(), needed).set(from.subarray(0, needed));
-        must(calls.bitm_bits_clear_from(made.#live(), made.#words, made.#length), "the bits");
-        return made;
+        const from = bytesOf(bytes, "bytes"), bits = upTo(length ?? 8 * from.length, MOST_BITS, "the length"), needed = Math.ceil(bits / 8);
+        if (bits > 8 * from.length) throw new RangeError(`bitm: ${bits} bits are more than ${from.length} bytes have`);
+        return BitVector.#filled(bits, made => {
+            bytesAt(made.#live(), needed).set(from.subarray(0, needed));
+            must(calls.bitm_bits_clear_from(made.#live(), made.#words, bits), "the bits");
+        });
     }
 
     /** From 64-bit words, the lowest bit of each first. */
     static fromWords(words, length) {
-        if (!(words instanceof BigUint64Array)) throw new TypeError("bitm: words must be a BigUint64Array");
+        if (arrayKind(words) !== "BigUint64Array") throw new TypeError("bitm: words must be a BigUint64Array");
         return BitVector.fromBytes(words, length);
     }
 
@@ -88,7 +106,10 @@ export class BitVector {
 
     /** Makes the bits from begin on and before end equal to value. */
     fill(value = true, begin = 0, end = this.#length) {
-        const from = place(begin, "begin"), to = place(end, "end"), bit = bitOf(value, "value");
+        return this.#fill(bitOf(value, "value"), place(begin, "begin"), place(end, "end"));
+    }
+
+    #fill(bit, from, to) {
         must(calls.bitm_bits_fill_range(this.#live(), this.#words, this.#length, from, to, bit), `the range from ${from} to ${to}`);
         return this;
     }
@@ -184,18 +205,25 @@ export class BitVector {
 
     /** Replaces `count` bits from begin on by those of other from otherBegin on. */
     setRange(begin, other, otherBegin = 0, count = other.length - Number(otherBegin)) {
-        const from = other === this ? other.clone() : other;
-        const args = [place(begin, "begin"), from.#live(), from.#words, place(otherBegin, "begin"), place(count, "count")];
-        if (args[0] + args[4] > this.#length || args[3] + args[4] > from.#length) throw new RangeError("bitm: the range is past the end");
-        must(calls.bitm_bits_copy_range(this.#live(), this.#words, ...args), "the range");
-        if (from !== other) from.free();
+        const to = place(begin, "begin"), from = place(otherBegin, "begin"), n = place(count, "count"), its = [other.#live(), other.#words];
+        if (to + n > this.#length || from + n > other.#length) throw new RangeError("bitm: the range is past the end");
+        if (other !== this) return this.#copy(to, ...its, from, n);
+        const words = calls.bitm_bits_words_len(n);
+        return withRoom(8 * words, room => { // the call takes no words that overlap
+            must(calls.bitm_bits_copy_range(room, words, 0, ...its, from, n), "the range");
+            return this.#copy(to, room, words, 0, n);
+        });
+    }
+
+    #copy(to, words, words_len, from, n) {
+        must(calls.bitm_bits_copy_range(this.#live(), this.#words, to, words, words_len, from, n), "the range");
         return this;
     }
 
     /** A new vector of the bits from begin on and before end. */
     slice(begin = 0, end = this.#length) {
-        const from = upTo(begin, this.#length, "begin"), to = upTo(end, this.#length, "end");
-        return from < to ? new BitVector(to - from).setRange(0, this, from, to - from) : new BitVector(0);
+        const from = upTo(begin, this.#length, "begin"), to = upTo(end, this.#length, "end"), n = Math.max(to - from, 0);
+        return BitVector.#filled(n, made => made.setRange(0, this, n === 0 ? 0 : from, n));
     }
 
     clone() { return this.slice(); }
@@ -207,10 +235,10 @@ export class BitVector {
     }
 
     /** These change this vector, bit by bit; other has as many bits. */
-    and(other) { return this.#combine("bitm_bits_and", other); }
-    or(other) { return this.#combine("bitm_bits_or", other); }
-    xor(other) { return this.#combine("bitm_bits_xor", other); }
-    andNot(other) { return this.#combine("bitm_bits_and_not", other); }
+    and(other) { return this.#combine("bitm_bits_and", other, true); }
+    or(other) { return this.#combine("bitm_bits_or", other, true); }
+    xor(other) { return this.#combine("bitm_bits_xor", other, false); }
+    andNot(other) { return this.#combine("bitm_bits_and_not", other, false); }
     not() { return this.flip(0, this.#length); }
 
     /** The other, if it is a vector of as many bits. */
@@ -220,19 +248,47 @@ export class BitVector {
         return other;
     }
 
-    #combine(name, other) {
-        const from = this.#alike(other) === this ? other.clone() : other;
-        must(calls[name](this.#live(), this.#words, from.#live(), from.#words), "the other");
-        if (from !== other) from.free();
+    /** With itself a vector stays as it is, or has 0 bits alone: the call takes no words that overlap. */
+    #combine(name, other, isKept) {
+        const at = this.#live();
+        if (this.#alike(other) === this) return isKept ? this : this.#fill(0, 0, this.#length);
+        must(calls[name](at, this.#words, other.#live(), other.#words), "the other");
         return this;
     }
 
     /** These make a new vector, as those of Set do. */
-    intersection(other) { return this.clone().and(other); }
-    union(other) { return this.clone().or(other); }
-    symmetricDifference(other) { return this.clone().xor(other); }
-    difference(other) { return this.clone().andNot(other); }
-    complement() { return this.clone().not(); }
+    intersection(other) { return this.#changed(it => it.and(other)); }
+    union(other) { return this.#changed(it => it.or(other)); }
+    symmetricDifference(other) { return this.#changed(it => it.xor(other)); }
+    difference(other) { return this.#changed(it => it.andNot(other)); }
+    complement() { return this.#changed(it => it.not()); }
+
+    /** A copy which change(it) has changed. */
+    #changed(change) {
+        return BitVector.#filled(this.#length, it => change(it.setRange(0, this, 0, this.#length)));
+    }
+
+    /** How many 1 bits the vectors would have that these make: none is made. */
+    countIntersection(other) { return this.#countBy("bitm_bits_and", other); }
+    countUnion(other) { return this.#countBy("bitm_bits_or", other); }
+    countSymmetricDifference(other) { return this.#countBy("bitm_bits_xor", other); }
+    countDifference(other) { return this.#countBy("bitm_bits_and_not", other); }
+
+    /** Combines a copy of a few words at a time with those of other, and counts in these. */
+    #countBy(name, other) {
+        const from = this.#live(), its = this.#alike(other).#live();
+        return withRoom(8 * PIECE, room => {
+            const memory = new Uint8Array(wasm.memory.buffer);
+            let sum = 0;
+            for (let k = 0; k < this.#words; k += PIECE) {
+                const n = Math.min(PIECE, this.#words - k), at = from + 8 * k;
+                memory.copyWithin(room, at, at + 8 * n);
+                must(calls[name](room, n, its + 8 * k, n), "the other");
+                sum += orThrow(calls.bitm_bits_count(room, n, Math.min(64 * n, this.#length - 64 * k), 1), "the other", n);
+            }
+            return sum;
+        });
+    }
 
     /** Whether each 1 bit is one of other too; each of other is one of these; no position has a 1 bit in both. */
     isSubsetOf(other) { return this.#asks("bitm_bits_is_subset", this.#alike(other)); }
@@ -248,6 +304,8 @@ export class BitVector {
     free() { this.#block.free(); }
     [dispose]() { this.free(); }
 }
+
+shows(BitVector, "BitVector", it => ({ bits: it.length, ones: it.count() }));
 
 function bitOf(value, name) {
     if (value === true || value === 1 || value === 1n) return 1;

@@ -9,8 +9,10 @@ let isStarted = false;
 
 /** The exports of the library, which take BigInts, and those of the adaptors, which take numbers. */
 export let wasm = new Proxy({}, early), calls = wasm;
-/** Where the adaptors leave an answer; where calls may write what they say beside it (1024 bytes); and 48 KiB for lists. */
-export let ANSWER, BESIDE, PIECES;
+/** Where the adaptors leave an answer; where calls may write what they say beside it (1024 bytes); 48 KiB for lists; and the
+ *  rest of the page, for what a call needs until its end. */
+export let ANSWER, BESIDE, PIECES, STACK;
+export const STACK_BYTES = 12288;
 /** The address from which on memory is ours: below stands what the library itself uses. */
 export let firstFree;
 
@@ -30,7 +32,7 @@ export async function start(module, adaptors) {
 /** The same at once, where an engine lets modules of this size be compiled at once: in Node, and in workers. */
 export function startSync(module, adaptors) {
     if (isStarted) return;
-    const compiled = it => (it instanceof WebAssembly.Module ? it : new WebAssembly.Module(it));
+    const compiled = it => (Object.prototype.toString.call(it) === "[object WebAssembly.Module]" ? it : new WebAssembly.Module(it));
     const library = new WebAssembly.Instance(compiled(module), {}).exports;
     adopt(library, new WebAssembly.Instance(compiled(adaptors), imports(library)).exports);
 }
@@ -55,6 +57,7 @@ function adopt(library, linked) {
     ANSWER = firstFree - PAGE;
     BESIDE = ANSWER + 64;
     PIECES = ANSWER + 4096;
+    STACK = firstFree - STACK_BYTES;
 }
 
 function grow(memory, pages) {
@@ -72,7 +75,8 @@ export function moreMemory(bytes) {
     try {
         grow(wasm.memory, pages);
     } catch {
-        throw new RangeError(`bitm: no memory for ${bytes} bytes more`);
+        throw new RangeError(`bitm: no memory for ${bytes} bytes more. Values that are garbage are freed between tasks, not inside ` +
+            "one: free() what a loop makes, or declare it by `using`");
     }
     return pages * PAGE;
 }
@@ -82,6 +86,12 @@ export const bytesAt = (at, length) => new Uint8Array(wasm.memory.buffer, at, le
 export const wordsAt = (at, length) => new BigUint64Array(wasm.memory.buffer, at, length);
 export const doublesAt = (at, length) => new Float64Array(wasm.memory.buffer, at, length);
 export const halvesAt = (at, length) => new Uint32Array(wasm.memory.buffer, at, length);
+
+/** Writes a struct: the members that are given, and zeros. */
+export function put(at, layout, members) {
+    bytesAt(at, layout.sizeof).fill(0);
+    for (const [name, value] of Object.entries(members)) wordsAt(at + layout[name], 1)[0] = BigInt(value);
+}
 
 /** A BigInt, as a number where it is below 2^53. */
 export const smallest = it => (it <= 0x1fffffffffffffn ? Number(it) : it);

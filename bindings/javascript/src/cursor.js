@@ -2,10 +2,12 @@
 // move, or for a block of the answer.
 import { bytesAt, calls, numberAt, smallest, wordsAt } from "./core.js";
 import { partsOf } from "./elias_fano.js";
+import { isIterable } from "./given.js";
 import { BITM_CURSOR, BITM_SEQUENCE } from "./layout.js";
 import { copyOut } from "./lists.js";
 import { Block, dispose, freed, withRoom } from "./memory.js";
 import { answerOf, big, byBigInts, must, orNone, place, refused } from "./numbers.js";
+import { shows } from "./shown.js";
 
 const MOST = 2n ** 64n - 1n;
 /** How many numbers of an intersection or a union are read by one call. */
@@ -72,6 +74,8 @@ export class Cursor {
     [dispose]() { this.free(); }
 }
 
+shows(Cursor, "Cursor", it => ({ index: it.index, number: it.number }), "the toBytes() of its sequence");
+
 /** Runs body(cursors, n, out) with cursors at the first numbers of n sequences, of the shortest first, and room for numbers. */
 function withCursors(sequences, room, body) {
     const parts = [...sequences].sort((a, b) => a.length - b.length).map(partsOf), n = parts.length;
@@ -90,27 +94,40 @@ function written(name, cursors, n, from, out, room) {
 
 /** All sequences that a user gave, of which each is one that is not freed. */
 function allOf(sequences) {
-    if (typeof sequences !== "object" || sequences === null || typeof sequences[Symbol.iterator] !== "function")
-        throw new TypeError("bitm: sequences must be an array or another iterable of EliasFano values");
+    if (!isIterable(sequences)) throw new TypeError("bitm: sequences must be an array or another iterable of EliasFano values");
     const all = Array.from(sequences);
     all.forEach(partsOf);
     return all;
 }
 
-/** The first `limit` numbers from `from` on, block by block. */
-function merged(name, sequences, from, limit) {
-    const found = [];
-    let next = big(from, "from"), most = limit === undefined ? Infinity : place(limit, "limit");
-    withCursors(allOf(sequences), BLOCK, (cursors, n, out) => {
-        for (let more = true; more;) {
-            const room = Math.min(BLOCK, most), count = written(name, cursors, n, next, out, room), last = count > 0 ? wordsAt(out, count)[count - 1] : MOST;
-            for (const it of copyOut(out, count, "plain", false)) found.push(it);
-            most -= count;
+/** Runs each(out, count) over the first `most` numbers from `from` on, block by block. */
+function eachBlock(name, sequences, { from, most }, each) {
+    withCursors(sequences, BLOCK, (cursors, n, out) => {
+        for (let next = from, left = most, more = true; more;) {
+            const room = Math.min(BLOCK, left), count = written(name, cursors, n, next, out, room);
+            const last = count > 0 ? wordsAt(out, count)[count - 1] : MOST; // before each(), which changes what stands there
+            each(out, count);
+            left -= count;
             next = last + 1n;
-            more = count === room && most > 0 && last < MOST;
+            more = count === room && left > 0 && last < MOST;
         }
     });
+}
+
+/** The first `limit` numbers from `from` on. */
+function merged(name, sequences, from, limit) {
+    const found = [], range = { from: big(from, "from"), most: limit === undefined ? Infinity : place(limit, "limit") };
+    eachBlock(name, allOf(sequences), range, (out, count) => {
+        for (const it of copyOut(out, count, "plain", false)) found.push(it);
+    });
     return found;
+}
+
+/** How many numbers a call finds in sequences. */
+export function countMerged(name, sequences) {
+    let sum = 0;
+    eachBlock(name, allOf(sequences), { from: 0n, most: Infinity }, (_, count) => { sum += count; });
+    return sum;
 }
 
 /** The numbers from `from` on that each of the sequences has, rising and each once, the first `limit` of them. RangeError where

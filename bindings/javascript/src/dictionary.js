@@ -1,11 +1,12 @@
-import { BESIDE, bytesAt, calls, doublesAt, numberAt, smallest, wordsAt } from "./core.js";
-import { Copied, InBlock, checked } from "./in_block.js";
+import { BESIDE, bytesAt, calls, doublesAt, numberAt, put, smallest, wordsAt } from "./core.js";
+import { Copied, InBlock, openedAs } from "./in_block.js";
+import { optionsOf } from "./given.js";
 import { BITM_DICTIONARY, BITM_HASH, BITM_LIST_COUNTS } from "./layout.js";
 import { withHash } from "./levels.js";
 import { answers, copyIn, numbersOf } from "./lists.js";
 import { dispose, withRoom } from "./memory.js";
 import { WrongTables, answerOf, big, must, orNone, orThrow } from "./numbers.js";
-import { put } from "./stored.js";
+import { shows } from "./shown.js";
 
 const KIND = { name: "Dictionary", what: "a dictionary", open: "bitm_dictionary_open", check: "bitm_dictionary_check", layout: BITM_DICTIONARY };
 /** How many keys are copied at a time. */
@@ -23,9 +24,9 @@ export class Dictionary {
     #length;
 
     /** The keys, no two equal, each 0 to 2^64 - 1. percent: 100 takes least memory, 200 less time; seed is added to a key to hash it. */
-    constructor(keys, options = {}) {
+    constructor(keys, options) {
         if (keys instanceof Copied) this.#held = new InBlock(KIND, this, keys);
-        else this.#build(numbersOf(keys, "keys").items, options);
+        else this.#build(numbersOf(keys, "keys").items, optionsOf(options));
         this.#length = this.#held.member("keys_len");
     }
 
@@ -36,7 +37,8 @@ export class Dictionary {
             const hashes = keys + 8 * n, placed = hashes + 8 * n;
             copyIn(items, keys, "keys");
             putHashes(keys, n, salt, hashes);
-            if (!withHash(hashes, n, { percent }, hash => this.#of({ n, salt, keys, hashes, placed }, hash))) throw new RangeError("bitm: two keys are equal");
+            const isBuilt = withHash(hashes, n, { percent, tries: undefined }, hash => this.#of({ n, salt, keys, hashes, placed }, hash));
+            if (!isBuilt) throw new RangeError("bitm: two keys are equal");
         });
     }
 
@@ -66,7 +68,7 @@ export class Dictionary {
      * `check` is false, all of them are looked at, and WrongTables is thrown where they are not as they were written; without
      * that, a key may have no number, but a number that is found is that of the key which stands there.
      */
-    static open(bytes, options = {}) { return checked(new Dictionary(new Copied(KIND, bytes)), options); }
+    static open(bytes, options) { return openedAs(Dictionary, KIND, bytes, options); }
 
     /** How many keys there are. */
     get length() { return this.#length; }
@@ -111,3 +113,5 @@ export class Dictionary {
     free() { this.#held.free(); }
     [dispose]() { this.free(); }
 }
+
+shows(Dictionary, "Dictionary", it => ({ keys: it.length }));

@@ -1,13 +1,17 @@
-import { BESIDE, bytesAt, calls, wasm, wordsAt } from "./core.js";
-import { Opened } from "./bit_index.js";
-import { Cursor, withMerged } from "./cursor.js";
+import { BESIDE, calls, smallest, wordsAt } from "./core.js";
+import { Cursor, countMerged, withMerged } from "./cursor.js";
+import { Copied, InBlock } from "./in_block.js";
+import { BITM_SEQUENCE } from "./layout.js";
 import { answers, copyIn, copyOut, itemsAt, numbersOf } from "./lists.js";
-import { Block, dispose, freed, withRoom } from "./memory.js";
-import { WrongTables, byBigInts, must, notWhole, orNone, orThrow, place, refused, wrongType } from "./numbers.js";
-import { BEFORE, isWhole, putHeader, putSequence, sequenceHeader } from "./stored.js";
+import { dispose, withRoom } from "./memory.js";
+import { WrongTables, answerOf, byBigInts, must, notWhole, orNone, orThrow, place, wrongType } from "./numbers.js";
+import { shows } from "./shown.js";
+
+const CALLS = { open: "bitm_sequence_block_open", check: "bitm_sequence_block_check" };
+export const KIND = { name: "EliasFano", what: "a sequence", ...CALLS, layout: BITM_SEQUENCE };
 
 /** A list of numbers in our memory, from which a sequence is built without a copy by JavaScript. */
-class Listed {
+export class Listed {
     constructor(at, length) {
         this.at = at;
         this.length = length;
@@ -19,22 +23,20 @@ export let partsOf;
 
 /** Numbers that do not decrease, each from 0 to 2^64 - 1, in little memory. */
 export class EliasFano {
-    #block;
-    #header;
+    #held;
+    #length;
 
     static {
         partsOf = it => {
-            if (typeof it !== "object" || it === null || !(#block in it)) throw new TypeError("bitm: it is no EliasFano");
-            return it.#live();
+            if (typeof it !== "object" || it === null || !(#held in it)) throw new TypeError("bitm: it is no EliasFano");
+            return it.#held.at;
         };
     }
 
     /** The numbers, sorted: a Uint32Array, Float64Array, BigUint64Array, or another iterable of numbers and BigInts. */
     constructor(numbers) {
-        if (numbers instanceof Opened) {
-            this.#header = numbers.header;
-            this.#block = numbers.block.heldBy(this, at => putSequence(at, this.#header));
-        } else if (numbers instanceof Listed) this.#build(numbers.at, numbers.length);
+        if (numbers instanceof Copied) this.#held = new InBlock(KIND, this, numbers);
+        else if (numbers instanceof Listed) this.#build(numbers.at, numbers.length);
         else {
             const { items } = numbersOf(numbers, "numbers"), n = items.length;
             withRoom(8 * n, at => {
@@ -42,62 +44,44 @@ export class EliasFano {
                 this.#build(at, n);
             });
         }
+        this.#length = this.#held.member("len");
     }
 
     #build(list, n) {
-        const largest = n ? wordsAt(list, n)[n - 1] : 0n, lens = BESIDE + 256;
-        must(wasm.bitm_sequence_sizes(BigInt(n), largest, BigInt(lens)), "the numbers");
-        const it = sequenceHeader(n, lens), of = name => [it[`${name}_at`], it[`${name}_len`]];
-        this.#header = it;
-        this.#block = new Block(BEFORE + it.size).heldBy(this, at => {
-            const file = at + BEFORE, parts = ["low", "words", "upper", "lower"].map(of).flatMap(([begin, len]) => [file + begin, len]);
-            bytesAt(file, it.size).fill(0);
-            const got = calls.bitm_sequence_build(list, n, ...parts);
-            if (got < 0) throw refused(got, "the numbers", n);
-            sequenceHeader(n, lens);
-            putHeader(file);
-            putSequence(at, it);
-        });
+        const largest = n ? smallest(wordsAt(list, n)[n - 1]) : 0;
+        const words = orThrow(answerOf("bitm_sequence_block_size", n, largest), "the numbers", n);
+        this.#held = new InBlock(KIND, this, words, at => must(calls.bitm_sequence_block_build(list, n, at, words), "the numbers"));
     }
 
-    #live() {
-        const at = this.#block.at;
-        if (at === 0) throw freed("EliasFano");
-        return at;
-    }
+    get length() { return this.#length; }
 
-    get length() { return this.#header.len; }
-
-    /** How many bytes of memory the numbers take. */
-    get byteLength() { return this.#block.at === 0 ? 0 : this.#header.size; }
+    /** How many bytes the block has. */
+    get byteLength() { return this.#held.byteLength; }
 
     /** The number at an index, which counts from the end if it is negative; undefined where there is none. */
     at(index) {
         if (typeof index !== "number" && typeof index !== "bigint") throw wrongType("index", index);
         if (typeof index === "number" && !Number.isSafeInteger(index)) throw notWhole("index", index);
         const k = index < 0 ? this.length + Number(index) : index;
-        const at = this.#live();
+        const at = this.#held.at;
         if (k < 0 || k >= this.length) return undefined;
         return orThrow(calls.bitm_sequence_get(at, Number(k)), "index", index);
     }
 
     /** The least index whose number is at least value; undefined where there is none. */
     firstAtLeast(value) {
-        const at = this.#block.at;
-        if (at === 0) throw freed("EliasFano");
+        const at = this.#held.at;
         const got = typeof value === "number" ? calls.bitm_sequence_first_at_least(at, value) : byBigInts("bitm_sequence_first_at_least", at, value);
         return got >= 0 ? got : orNone(got, "value", value);
     }
     /** The greatest index whose number is at most value; undefined where there is none. */
     lastAtMost(value) {
-        const at = this.#block.at;
-        if (at === 0) throw freed("EliasFano");
+        const at = this.#held.at;
         const got = typeof value === "number" ? calls.bitm_sequence_last_at_most(at, value) : byBigInts("bitm_sequence_last_at_most", at, value);
         return got >= 0 ? got : orNone(got, "value", value);
     }
     has(value) {
-        const at = this.#block.at;
-        if (at === 0) throw freed("EliasFano");
+        const at = this.#held.at;
         const got = typeof value === "number" ? calls.bitm_sequence_contains(at, value) : byBigInts("bitm_sequence_contains", at, value);
         return (got >= 0 ? got : orThrow(got, "value", value)) === 1;
     }
@@ -120,14 +104,14 @@ export class EliasFano {
 
     /** Lists: an array of the same kind as the queries, see README.md. */
     atList(indices) {
-        return itemsAt(indices, this.length, (n, out, at) => calls.bitm_sequence_get_list(this.#live(), at, n, out, n));
+        return itemsAt(indices, this.length, (n, out, at) => calls.bitm_sequence_get_list(this.#held.at, at, n, out, n));
     }
     firstAtLeastList(values) { return this.#list("bitm_sequence_first_at_least_list", values, "fill"); }
     lastAtMostList(values) { return this.#list("bitm_sequence_last_at_most_list", values, "fill"); }
     hasList(values) { return this.#list("bitm_sequence_contains_list", values, "flags"); }
 
     #list(name, given, missing) {
-        return answers([[given, "values"]], missing, (n, out, at) => calls[name](this.#live(), at, n, out, n, BESIDE));
+        return answers([[given, "values"]], missing, (n, out, at) => calls[name](this.#held.at, at, n, out, n, BESIDE));
     }
 
     /** The numbers from an index on, or from the first that is at least value on. */
@@ -144,7 +128,7 @@ export class EliasFano {
 
     #items(from, size) {
         return withRoom(8 * size, at => {
-            const n = orThrow(calls.bitm_sequence_items(this.#live(), from, at, size), "index", from);
+            const n = orThrow(calls.bitm_sequence_items(this.#held.at, from, at, size), "index", from);
             if (n === 0) throw new WrongTables();
             return copyOut(at, n, "plain", false);
         });
@@ -159,7 +143,7 @@ export class EliasFano {
     #all(form) {
         const n = this.length;
         return withRoom(8 * n, at => {
-            if (orThrow(calls.bitm_sequence_items(this.#live(), 0, at, n), "index", 0) < n) throw new WrongTables();
+            if (orThrow(calls.bitm_sequence_items(this.#held.at, 0, at, n), "index", 0) < n) throw new WrongTables();
             return copyOut(at, n, form, false);
         });
     }
@@ -171,19 +155,22 @@ export class EliasFano {
     union(...others) { return merged("bitm_cursors_union", [this, ...others], (a, b) => a + b); }
     intersection(...others) { return merged("bitm_cursors_intersect", [this, ...others], (a, b) => Math.min(a, b)); }
 
-    /** Whether all parts are those of some sequence, by going over all. */
-    check() {
-        const at = this.#live();
-        return this.#header.check ? isWhole(at, this.#header) : wasm.bitm_sequence_check(BigInt(at)) === 0;
-    }
+    /** How many numbers these would have: none is made. */
+    countUnion(...others) { return countMerged("bitm_cursors_union", [this, ...others]); }
+    countIntersection(...others) { return countMerged("bitm_cursors_intersect", [this, ...others]); }
 
-    /** The bytes of a file: what open() takes, and the C library and its other bindings. */
-    toBytes() { return bytesAt(this.#live() + BEFORE, this.#header.size).slice(); }
+    /** Whether the block is as it was written and holds a sequence, by going over all of it. */
+    check() { return this.#held.check(); }
+
+    /** The bytes of the block: what open() takes, and the C library and its other bindings. */
+    toBytes() { return this.#held.toBytes(); }
 
     /** Gives the memory back at once. */
-    free() { this.#block.free(); }
+    free() { this.#held.free(); }
     [dispose]() { this.free(); }
 }
+
+shows(EliasFano, "EliasFano", it => ({ numbers: it.length }));
 
 /** The sequence that a call makes of several; it has no more numbers than most(a, b) of their lengths. */
 function merged(name, sequences, most) {

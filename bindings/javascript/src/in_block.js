@@ -2,7 +2,7 @@
 // the class, "a tree", two calls, and where the members of its struct stand. In place of the name of a call a function of the
 // same arguments says whether all is well.
 import { bytesAt, calls, numberAt } from "./core.js";
-import { bytesOf } from "./lists.js";
+import { bytesOf, optionsOf } from "./given.js";
 import { Block, freed } from "./memory.js";
 import { WrongTables } from "./numbers.js";
 
@@ -65,9 +65,10 @@ export class InBlock {
     free() { this.#block.free(); }
 }
 
-/** A value that was opened from a copy, once all of it was looked at, unless options say that it need not be. */
-export function checked(it, options) {
-    if (options.check === false || it.check()) return it;
+/** A value of a class from a copy of its block, all of which is looked at unless options say that it need not be. */
+export function openedAs(Class, kind, bytes, options) {
+    const { check } = optionsOf(options), it = new Class(new Copied(kind, bytes));
+    if (check === false || it.check()) return it;
     it.free();
     throw new WrongTables("bitm: the block is not as it was written: it was damaged");
 }

@@ -1,21 +1,26 @@
 // Hashes of keys: three numbers of 32 bits, two for the hash of 64 bits and one for the fingerprint. The rounds are those
 // of MurmurHash3, one lane each. Equal keys are those that a Map holds for equal, and byte arrays of equal bytes.
+import { arrayKind, bytesOf, typeOf } from "./given.js";
+
 const TAG = { string: 1, bytes: 2, number: 3, bigint: 4 };
 const double = new Float64Array(1), doubleHalves = new Uint32Array(double.buffer);
+/** The halves of the NaN that stands for all of them. */
+const NAN = [0, 0x7ff80000];
 
 /** Writes the hash of a key to out[0], its low half, and out[1], and what its fingerprint is of to out[2]. */
 export function hashKey(key, seed, out) {
     if (typeof key === "string") return hashText(key, seed, TAG.string, out);
     if (typeof key === "number") {
         double[0] = key === 0 ? 0 : key;
+        if (Number.isNaN(key)) doubleHalves.set(NAN);
         begin(seed, TAG.number, out);
         round(doubleHalves[0], out);
         round(doubleHalves[1], out);
         return end(8, out);
     }
     if (typeof key === "bigint") return hashText(key.toString(16), seed, TAG.bigint, out);
-    if (key instanceof Uint8Array) return hashBytes(key, seed, out);
-    throw new TypeError(`bitm: a key is a string, a number, a BigInt or a Uint8Array, and not ${key === null ? "null" : typeof key}`);
+    if (arrayKind(key) === "Uint8Array") return hashBytes(bytesOf(key, "a key"), seed, out);
+    throw new TypeError(`bitm: a key is a string, a number, a BigInt or a Uint8Array, and not ${typeOf(key)}`);
 }
 
 function hashText(text, seed, tag, out) {

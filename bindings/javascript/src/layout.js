@@ -313,6 +313,7 @@ export const BITM_STRINGS = {
     bytes: 192,
     bytes_len: 200,
     seed: 208,
+    kind: 216,
 };
 export const BITM_TEXT = {
     sizeof: 304,

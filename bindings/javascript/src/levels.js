@@ -1,9 +1,8 @@
 // A minimal perfect hash of hashes that stand in memory, as the blocks of keys, of a dictionary and of strings have one.
-import { BESIDE, calls, numberAt } from "./core.js";
+import { BESIDE, calls, numberAt, put } from "./core.js";
 import { BITM_SEEDED_HASH } from "./layout.js";
 import { withRoom } from "./memory.js";
 import { orThrow, within } from "./numbers.js";
-import { put } from "./stored.js";
 
 /** How many levels a hash has at most. */
 const LEVELS = 256;

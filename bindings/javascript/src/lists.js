@@ -1,11 +1,14 @@
 // Lists of queries and answers. A list crosses in pieces, each as one copy into memory and one out of it; the adaptors change
 // doubles into numbers of 64 bits and back, so nothing is added or cut here.
-import { BESIDE, PIECES, bytesAt, calls, doublesAt, halvesAt, numberAt, smallest, wasm, wordsAt } from "./core.js";
-import { BITM_LIST_COUNTS } from "./layout.js";
+import { ANSWER, BESIDE, PIECES, bytesAt, calls, doublesAt, halvesAt, numberAt, smallest, wasm, wordsAt } from "./core.js";
+import { arrayKind, attached, isIterable } from "./given.js";
+import { BITM_LIST_COUNTS, STATUS } from "./layout.js";
 import { withRoom } from "./memory.js";
-import { WrongTables, big, must, notWhole, orThrow, refused } from "./numbers.js";
+import { WrongTables, big, must, notWhole, refused } from "./numbers.js";
 
-const SMALL = [Uint8Array, Uint8ClampedArray, Uint16Array, Int8Array, Int16Array, Int32Array, Float32Array];
+/** The typed arrays that are copied as they are, and those that are read as doubles. */
+const WIDE = { Uint32Array, Float64Array, BigUint64Array };
+const SMALL = new Set(["Uint8Array", "Uint8ClampedArray", "Uint16Array", "Int8Array", "Int16Array", "Int32Array", "Float32Array"]);
 const MISSING = 2n ** 64n - 1n;
 /** How many numbers of a list cross at once: so few that they, and their answers, stay in a cache near the processor. */
 const PIECE = 2048;
@@ -19,15 +22,13 @@ export const NO_ANSWER = MISSING;
  */
 export function numbersOf(given, name) {
     if (ArrayBuffer.isView(given)) {
-        if (given instanceof DataView) throw new TypeError(`bitm: ${name}: a DataView is no list of numbers`);
-        given.at(0); // a TypeError where its buffer is detached or too short for it
-        if (given instanceof Float64Array) return { items: new Float64Array(given.buffer, given.byteOffset, given.length), form: "doubles" };
-        if (given instanceof Uint32Array) return { items: new Uint32Array(given.buffer, given.byteOffset, given.length), form: "doubles" };
-        if (given instanceof BigUint64Array) return { items: new BigUint64Array(given.buffer, given.byteOffset, given.length), form: "words" };
-        if (SMALL.some(it => given instanceof it)) return { items: Float64Array.from(given), form: "doubles" };
+        const kind = arrayKind(given), Own = WIDE[kind];
+        if (!kind) throw new TypeError(`bitm: ${name}: a DataView is no list of numbers`);
+        attached(given);
+        if (Own) return { items: new Own(given.buffer, given.byteOffset, given.length), form: kind === "BigUint64Array" ? "words" : "doubles" };
+        if (SMALL.has(kind)) return { items: Float64Array.from(given), form: "doubles" };
     }
-    if (typeof given !== "object" || given === null || typeof given[Symbol.iterator] !== "function")
-        throw new TypeError(`bitm: ${name} must be an array or another iterable of numbers`);
+    if (!isIterable(given)) throw new TypeError(`bitm: ${name} must be an array or another iterable of numbers`);
     const items = Array.isArray(given) ? given : Array.from(given);
     for (let k = 0; k < items.length; k++)
         if (typeof items[k] !== "number") return { items: BigUint64Array.from(items, it => big(it, `an item of ${name}`)), form: "plain" };
@@ -152,26 +153,16 @@ export function answers(lists, missing, ask) {
     });
 }
 
-/** The items at indices: ask(n, out, at) says how many it wrote before the first index that has none. */
+/** The items at indices of so many: ask(n, out, at) says n, or by its status why it stopped at an index. */
 export function itemsAt(indices, length, ask) {
     return inPieces([[indices, "indices"]], "throw", (n, out, at, _, first) => {
-        const written = orThrow(ask(n, out, at), "indices", n);
-        if (written === n) return;
-        const index = numberAt(at + 8 * written);
+        const got = ask(n, out, at);
+        if (got === n) return;
+        if (got < 0 && got !== -STATUS.NONE) throw refused(got, "indices", n);
+        const written = numberAt(ANSWER), index = numberAt(at + 8 * written);
         if (index < length) throw new WrongTables();
         throw new RangeError(`bitm: item ${first + written} of indices is past the end: ${index}`);
     });
-}
-
-/** The bytes of a view or buffer, itself; TypeError where it is detached or is neither. */
-export function bytesOf(given, name) {
-    if (ArrayBuffer.isView(given)) {
-        if (!(given instanceof DataView)) given.at(0);
-        return new Uint8Array(given.buffer, given.byteOffset, given.byteLength);
-    }
-    // By its tag, so that a buffer of another realm, as of a frame, is taken too.
-    if (/^\[object (Shared)?ArrayBuffer\]$/.test(Object.prototype.toString.call(given))) return new Uint8Array(given);
-    throw new TypeError(`bitm: ${name} must be an ArrayBuffer or a view of one`);
 }
 
 /**

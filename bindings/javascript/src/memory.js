@@ -1,80 +1,63 @@
-// Blocks of the memory of WebAssembly, each from a multiple of 64 bytes on. What is given back is joined with what is free
-// beside it. A block that a value holds is given back by free(), or some time after the value is garbage.
-import { firstFree, moreMemory, wasm } from "./core.js";
+// Blocks of the memory of WebAssembly, each from a multiple of 64 bytes on. A block that a value holds is given back by
+// free(), or some time after the value is garbage; what a call needs for itself is given back at its end.
+import { STACK, STACK_BYTES, firstFree, moreMemory, wasm } from "./core.js";
+import { Heap } from "./heap.js";
 
-const ALIGN = 64;
+/** How many bytes a unit of the heap has. */
+const UNIT = 64;
 const LEAST_GROWTH = 1 << 20;
-const rounded = bytes => Math.max(Math.ceil(bytes / ALIGN), 1) * ALIGN;
-const free = []; // { at, bytes } by address; no two touch
+const unitsOf = bytes => Math.max(Math.ceil(bytes / UNIT), 1);
+const heap = new Heap();
+/** How many bytes of the stack are taken by calls that run. */
+let taken = 0;
 
 /** The address of a new block. Its bytes may be any. */
 export function allocate(bytes) {
-    const size = rounded(bytes);
-    const k = free.findIndex(it => it.bytes >= size);
-    if (k < 0) {
-        addFree(size);
-        return allocate(bytes);
-    }
-    const found = free[k], at = found.at;
-    found.at += size;
-    found.bytes -= size;
-    if (found.bytes === 0) free.splice(k, 1);
-    return at;
+    const units = unitsOf(bytes);
+    return UNIT * (heap.take(units) ?? grown(units));
 }
 
-function addFree(size) {
-    const end = wasm.memory.buffer.byteLength, last = free.at(-1);
-    const there = last && last.at + last.bytes === end ? last.bytes : 0;
-    let added;
+/** Takes units where memory has to grow for them; where it cannot, what is free is looked through. */
+function grown(units) {
+    const end = wasm.memory.buffer.byteLength / UNIT, needed = UNIT * (units - heap.endingAt(end));
     try {
-        added = moreMemory(Math.max(size - there, LEAST_GROWTH));
+        heap.give(end, moreOf(needed) / UNIT);
     } catch (it) {
-        if (size - there >= LEAST_GROWTH) throw it;
-        added = moreMemory(size - there);
+        const found = heap.take(units, true);
+        if (found === undefined) throw it;
+        return found;
     }
-    release(end, added);
+    return heap.take(units, true);
 }
 
-export function release(at, bytes) {
-    const size = rounded(bytes);
-    let k = firstAfter(at);
-    const before = free[k - 1], after = free[k];
-    const joinsBefore = before && before.at + before.bytes === at, joinsAfter = after && at + size === after.at;
-    if (joinsBefore) {
-        before.bytes += size + (joinsAfter ? after.bytes : 0);
-        if (joinsAfter) free.splice(k, 1);
-    } else if (joinsAfter) {
-        after.at = at;
-        after.bytes += size;
-    } else {
-        free.splice(k, 0, { at, bytes: size });
+/** Adds at least so many bytes to memory, and more if there are: how many. */
+function moreOf(bytes) {
+    if (bytes >= LEAST_GROWTH) return moreMemory(bytes);
+    try {
+        return moreMemory(LEAST_GROWTH);
+    } catch {
+        return moreMemory(bytes);
     }
 }
 
-function firstAfter(at) {
-    let low = 0, high = free.length;
-    while (low < high) {
-        const middle = (low + high) >>> 1;
-        if (free[middle].at < at) low = middle + 1;
-        else high = middle;
-    }
-    return low;
-}
+export function release(at, bytes) { heap.give(at / UNIT, unitsOf(bytes)); }
 
-/** Runs body(at) over bytes of memory that are given back at its end. */
+/** Runs body(at) over bytes of memory that are given back at its end: a few from a stack, since such calls nest. */
 export function withRoom(bytes, body) {
-    const at = allocate(bytes);
+    const size = UNIT * unitsOf(bytes), isSmall = size <= STACK_BYTES - taken, at = isSmall ? STACK + taken : allocate(bytes);
+    if (isSmall) taken += size;
     try {
         return body(at);
     } finally {
-        release(at, bytes);
+        if (isSmall) taken -= size;
+        else release(at, bytes);
     }
 }
 
 /** How many bytes of WebAssembly memory there are, and how many of them hold values. */
 export function memoryUse() {
     const total = wasm.memory.buffer.byteLength;
-    return { total, used: total - firstFree - free.reduce((sum, it) => sum + it.bytes, 0) };
+    return { total, used: total - firstFree - UNIT * heap.units };
 }
 
 const registry = new FinalizationRegistry(it => release(it.at, it.bytes));

@@ -1,12 +1,19 @@
 // Patterns of a text, and words of a trie: strings and bytes, or numbers.
 import { bytesAt } from "./core.js";
-import { bytesOf, copyIn, numbersOf } from "./lists.js";
+import { arrayKind, bytesOf, isIterable, typeOf } from "./given.js";
+import { copyIn, numbersOf } from "./lists.js";
 import { withRoom } from "./memory.js";
 
-/** The bytes of a string in UTF-8, or those of a Uint8Array; of anything else undefined. */
+const encoder = new TextEncoder();
+
+/**
+ * The bytes of a string in UTF-8, or those of a Uint8Array; of anything else undefined. TypeError where a string is not well
+ * formed: a lone surrogate has no bytes, and those of U+FFFD in its place would make different strings equal.
+ */
 export function encoded(given, name) {
-    const bytes = typeof given === "string" ? new TextEncoder().encode(given) : given;
-    return bytes instanceof Uint8Array ? bytesOf(bytes, name) : undefined;
+    if (typeof given !== "string") return arrayKind(given) === "Uint8Array" ? bytesOf(given, name) : undefined;
+    if (!given.isWellFormed()) throw new TypeError(`bitm: ${name} is not well formed: a lone surrogate has no bytes in UTF-8`);
+    return encoder.encode(given);
 }
 
 /** Copies bytes into memory and runs body(at, n). */
@@ -34,11 +41,10 @@ export function withPattern(pattern, name, body) {
 
 /** Words that a user gave, strings or Uint8Arrays: copies of their bytes, in the order of these, each once. */
 export function rising(words) {
-    if (typeof words !== "object" || words === null || words instanceof Uint8Array || typeof words[Symbol.iterator] !== "function")
-        throw new TypeError("bitm: words must be an array or another iterable of words");
+    if (!isIterable(words) || arrayKind(words) === "Uint8Array") throw new TypeError("bitm: words must be an array or another iterable of words");
     const all = Array.from(words, it => {
         const bytes = encoded(it, "a word");
-        if (!bytes) throw new TypeError(`bitm: a word is a string or a Uint8Array, and not ${it === null ? "null" : typeof it}`);
+        if (!bytes) throw new TypeError(`bitm: a word is a string or a Uint8Array, and not ${typeOf(it)}`);
         return typeof it === "string" ? bytes : bytes.slice();
     });
     return all.sort(inOrder).filter((it, k) => k === 0 || inOrder(all[k - 1], it) !== 0);

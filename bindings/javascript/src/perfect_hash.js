@@ -1,11 +1,14 @@
 import { BESIDE, bytesAt, calls, halvesAt, numberAt, wordsAt } from "./core.js";
-import { Copied, InBlock, checked } from "./in_block.js";
+import { Copied, InBlock, openedAs } from "./in_block.js";
+import { sizeWith, writeWith } from "./extending.js";
+import { isIterable, optionsOf } from "./given.js";
 import { hashKey } from "./keys.js";
 import { BITM_LIST_COUNTS, BITM_SECTION, BITM_SEEDED_HASH } from "./layout.js";
 import { withHash } from "./levels.js";
 import { copyOut } from "./lists.js";
 import { dispose, withRoom } from "./memory.js";
-import { WrongTables, answerOf, called, must, orThrow, refused, within } from "./numbers.js";
+import { WrongTables, must, orThrow, refused, within } from "./numbers.js";
+import { shows } from "./shown.js";
 
 /** The seeds by which keys are hashed: the first that gives no two one hash. */
 const SEEDS = [1, 2, 3, 4];
@@ -42,6 +45,12 @@ function isWritten(block, words) {
     return calls.bitm_hash_block_check_seeded(block, words) === 0 || calls.bitm_hash_block_check(block, words) === 0;
 }
 
+/** The keys that a user gave, as an array. */
+function listOf(keys) {
+    if (!isIterable(keys)) throw new TypeError("bitm: keys must be an array or another iterable of keys");
+    return Array.from(keys);
+}
+
 /** What the fingerprint of the key that was hashed last is. */
 const printOf = width => (width ? out[2] >>> (32 - width) : 0);
 
@@ -69,9 +78,9 @@ export class PerfectHash {
      * says of most other values that they are no key. percent: 100 takes least memory, 200 less time. With tries, 1 to 256, each
      * word of the hash has the best of that many seeds: with 64 a key takes 2.3 bits beside its fingerprint, for 2.8 without.
      */
-    constructor(keys, options = {}) {
+    constructor(keys, options) {
         if (keys instanceof Copied) this.#held = new InBlock(KIND, this, keys);
-        else this.#build(keys, options);
+        else this.#build(keys, optionsOf(options));
         this.#length = this.#held.member("hash_keys");
         this.#seed = this.#held.member("seed");
         this.#prints = ["prints", "prints_len", "width"].map(it => this.#held.member(it));
@@ -79,8 +88,7 @@ export class PerfectHash {
 
     /** Builds the hash, by another seed where two hashes are equal. */
     #build(keys, { fingerprintBits = 16, percent = 100, tries }) {
-        if (typeof keys === "string") throw new TypeError("bitm: keys must be an array or another iterable of keys");
-        const all = Array.from(keys), width = within(fingerprintBits, 0, 32, "fingerprintBits"), n = all.length;
+        const all = listOf(keys), width = within(fingerprintBits, 0, 32, "fingerprintBits"), n = all.length;
         withRoom(16 * n, hashes => {
             const isBuilt = SEEDS.some(seed => {
                 put(all, seed, width, hashes, hashes + 8 * n);
@@ -101,8 +109,9 @@ export class PerfectHash {
             wordsAt(items, 1)[0] = BigInt(width);
             must(calls.bitm_hash_set_prints_seeded(hash.at, hashes, n, hashes + 8 * n, n, items + 8, prints_len, width), "fingerprints");
             withBlockOf(hash, seed, (block, words) => {
-                const size = orThrow(answerOf("bitm_block_extended_size", block, words, ROLE, length), "fingerprints", length);
-                this.#held = new InBlock(KIND, this, size, to => must(called("bitm_block_extend", block, words, ROLE, length, items, length / 8, to, size), "fingerprints"));
+                const section = { role: ROLE, count: length, items, items_len: length / 8 };
+                const size = orThrow(sizeWith(block, words, section), "fingerprints", length);
+                this.#held = new InBlock(KIND, this, size, to => must(writeWith(block, words, section, to, size), "fingerprints"));
             });
         });
     }
@@ -112,7 +121,7 @@ export class PerfectHash {
      * looked at, and WrongTables is thrown where they are not as they were written; without that, a key may have no number, or
      * that of another.
      */
-    static open(bytes, options = {}) { return checked(new PerfectHash(new Copied(KIND, bytes)), options); }
+    static open(bytes, options) { return openedAs(PerfectHash, KIND, bytes, options); }
 
     /** How many keys there are. */
     get length() { return this.#length; }
@@ -135,7 +144,7 @@ export class PerfectHash {
 
     /** The numbers of several keys, as get() answers them. */
     getList(keys) {
-        const all = Array.from(keys), n = all.length;
+        const all = listOf(keys), n = all.length;
         return withRoom(24 * n, list => {
             const prints = list + 8 * n, to = prints + 8 * n;
             put(all, this.#seed, this.#prints[2], list, prints);
@@ -155,6 +164,8 @@ export class PerfectHash {
     free() { this.#held.free(); }
     [dispose]() { this.free(); }
 }
+
+shows(PerfectHash, "PerfectHash", it => ({ keys: it.length }));
 
 const CALLS = [["bitm_hash_block_size", "bitm_hash_block_build"], ["bitm_hash_block_size_seeded", "bitm_hash_block_build_seeded"]];
 

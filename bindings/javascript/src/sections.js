@@ -1,9 +1,10 @@
 // Sections of a caller's own in a block of any kind, after those of its kind: notes, samples and the like.
 import { BESIDE, bytesAt, calls, smallest, wordsAt } from "./core.js";
+import { sizeWith, writeWith } from "./extending.js";
+import { bytesOf, isIterable } from "./given.js";
 import { BITM_SECTION, STATUS } from "./layout.js";
-import { bytesOf } from "./lists.js";
 import { withRoom } from "./memory.js";
-import { WrongTables, answerOf, big, called, refused } from "./numbers.js";
+import { WrongTables, big, refused } from "./numbers.js";
 
 /** The first role that no kind has: from it on roles are yours, and their items are bytes. */
 export const OWN_ROLE = 65536;
@@ -29,7 +30,7 @@ function withBlock(bytes, body) {
 
 /** A role, and a copy of the items that are to be its section: `{ role, bytes, count }`. */
 function addedOf(pair) {
-    if (typeof pair !== "object" || pair === null || typeof pair[Symbol.iterator] !== "function") throw new TypeError("bitm: a section is a role and its items");
+    if (!isIterable(pair)) throw new TypeError("bitm: a section is a role and its items");
     const [given, items] = pair, role = big(given, "role"), bytes = bytesOf(items, "the items of a section").slice();
     const each = itemsOf(role).BYTES_PER_ELEMENT;
     if (bytes.length % each !== 0) throw new RangeError(`bitm: an item of role ${role} has ${each} bytes, and ${bytes.length} bytes were given`);
@@ -38,12 +39,12 @@ function addedOf(pair) {
 
 /** The bytes of a block with one section more. */
 const withOne = (block, { role, bytes, count }) => withBlock(block, (from, words) => {
-    const size = answerOf("bitm_block_extended_size", from, words, smallest(role), count), needed = Math.ceil(bytes.length / 8);
+    const size = sizeWith(from, words, { role, count }), items_len = Math.ceil(bytes.length / 8);
     if (size < 0) throw failure(size);
-    return withRoom(8 * (needed + size), items => {
-        const to = items + 8 * needed;
-        bytesAt(items, 8 * needed).fill(0).set(bytes);
-        const status = called("bitm_block_extend", from, words, role, count, items, needed, to, size);
+    return withRoom(8 * (items_len + size), items => {
+        const to = items + 8 * items_len;
+        bytesAt(items, 8 * items_len).fill(0).set(bytes);
+        const status = writeWith(from, words, { role, count, items, items_len }, to, size);
         if (status !== 0) throw failure(-status);
         return bytesAt(to, 8 * size).slice();
     });
@@ -59,8 +60,7 @@ const withOne = (block, { role, bytes, count }) => withBlock(block, (from, words
  *     section(noted, OWN_ROLE);       // the seven bytes
  */
 export function extend(block, added) {
-    if (typeof added !== "object" || added === null || typeof added[Symbol.iterator] !== "function")
-        throw new TypeError("bitm: sections must be a Map or another iterable of pairs of a role and items");
+    if (!isIterable(added)) throw new TypeError("bitm: sections must be a Map or another iterable of pairs of a role and items");
     const all = Array.from(added, addedOf), bytes = bytesOf(block, "a block").slice(); // last, for an iterable may run code
     if (all.length === 0 && !isWritten(bytes)) throw failure(-STATUS.WRONG);
     return all.reduce(withOne, bytes);

@@ -1,9 +1,10 @@
 import { BESIDE, calls, numberAt } from "./core.js";
-import { Copied, InBlock, checked } from "./in_block.js";
+import { Copied, InBlock, openedAs } from "./in_block.js";
 import { BITM_LIST_COUNTS, BITM_SPARSE, STATUS } from "./layout.js";
 import { answers, copyIn, numbersOf } from "./lists.js";
 import { dispose, withRoom } from "./memory.js";
 import { WrongTables, must, orNone, orThrow, place } from "./numbers.js";
+import { shows } from "./shown.js";
 
 const KIND = { name: "SparseBits", what: "sparse bits", open: "bitm_sparse_open", check: "bitm_sparse_check", layout: BITM_SPARSE };
 
@@ -45,7 +46,7 @@ export class SparseBits {
      * `check` is false, all of them are looked at, and WrongTables is thrown where they are not as they were written; without
      * that, answers may be wrong, but no position is past the end, and a rank is at most its position.
      */
-    static open(bytes, options = {}) { return checked(new SparseBits(new Copied(KIND, bytes)), options); }
+    static open(bytes, options) { return openedAs(SparseBits, KIND, bytes, options); }
 
     /** How many bits there are. */
     get length() { return this.#length; }
@@ -110,3 +111,5 @@ export class SparseBits {
     free() { this.#held.free(); }
     [dispose]() { this.free(); }
 }
+
+shows(SparseBits, "SparseBits", it => ({ bits: it.length, ones: it.count() }));

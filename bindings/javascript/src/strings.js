@@ -1,26 +1,28 @@
 import { BESIDE, bytesAt, calls, numberAt } from "./core.js";
-import { Copied, InBlock, checked } from "./in_block.js";
+import { Copied, InBlock, openedAs } from "./in_block.js";
+import { isIterable, optionsOf, typeOf } from "./given.js";
 import { BITM_LIST_COUNTS, BITM_STRINGS } from "./layout.js";
 import { withHash } from "./levels.js";
 import { copyIn, copyOut } from "./lists.js";
 import { dispose, withRoom } from "./memory.js";
 import { WrongTables, big, called, must, orNone, orThrow, place } from "./numbers.js";
 import { encoded, withBytes } from "./patterns.js";
+import { shows } from "./shown.js";
 
 const KIND = { name: "Strings", what: "strings", open: "bitm_strings_open", check: "bitm_strings_check", layout: BITM_STRINGS };
+const decoder = new TextDecoder("utf-8", { ignoreBOM: true });
 /** The seeds that are tried where none is given. */
 const SEEDS = [0n, 1n];
 
 function bytesIn(string) {
     const bytes = encoded(string, "a string");
-    if (!bytes) throw new TypeError(`bitm: a string is a string or a Uint8Array, and not ${string === null ? "null" : typeof string}`);
+    if (!bytes) throw new TypeError(`bitm: a string is a string or a Uint8Array, and not ${typeOf(string)}`);
     return bytes;
 }
 
 /** Copies strings into memory, one after another with where each ends, and runs body([bytes, how many, ends, how many]). */
 function withStrings(given, body) {
-    if (typeof given !== "object" || given === null || typeof given[Symbol.iterator] !== "function")
-        throw new TypeError("bitm: strings must be an array or another iterable of strings");
+    if (!isIterable(given)) throw new TypeError("bitm: strings must be an array or another iterable of strings");
     const all = Array.from(given).map(bytesIn), n = all.length, ends = new Float64Array(n);
     let length = 0;
     all.forEach((it, k) => (ends[k] = length += it.length));
@@ -38,12 +40,12 @@ export class Strings {
     #length;
 
     /**
-     * Strings (as UTF-8) or Uint8Arrays, no two equal. percent: 100 takes least memory, 200 less time; seed is what their hashes
-     * begin with: unless it is given 0, and 1 where that gives two strings one hash.
+     * Strings (as UTF-8) or Uint8Arrays, no two equal. percent: 100 takes least memory, 200 less time; seed is the key of
+     * their hashes, SipHash-1-3: unless it is given 0, and 1 where that gives two strings one hash.
      */
-    constructor(strings, options = {}) {
+    constructor(strings, options) {
         if (strings instanceof Copied) this.#held = new InBlock(KIND, this, strings);
-        else this.#build(strings, options);
+        else this.#build(strings, optionsOf(options));
         this.#length = this.#held.member("hash_keys");
     }
 
@@ -60,7 +62,7 @@ export class Strings {
         const [, length, , n] = spelled;
         return withRoom(8 * n, hashes => {
             must(called("bitm_strings_hashes", ...spelled, seed, hashes, n), "strings");
-            return withHash(hashes, n, { percent }, hash => {
+            return withHash(hashes, n, { percent, tries: undefined }, hash => {
                 const words = orThrow(calls.bitm_strings_size(hash.words_len, hash.sizes_len, n, length), "strings", n);
                 this.#held = new InBlock(KIND, this, words, to => {
                     must(called("bitm_strings_build", hash.at, seed, ...spelled, to, words), "strings");
@@ -74,7 +76,7 @@ export class Strings {
      * `check` is false, all of them are looked at, and WrongTables is thrown where they are not as they were written; without
      * that, a string may have no number, but a number that is found is that of the string which stands there.
      */
-    static open(bytes, options = {}) { return checked(new Strings(new Copied(KIND, bytes)), options); }
+    static open(bytes, options) { return openedAs(Strings, KIND, bytes, options); }
 
     /** How many strings there are. */
     get length() { return this.#length; }
@@ -106,10 +108,10 @@ export class Strings {
         return length === undefined ? undefined : bytesAt(this.#held.member("bytes") + numberAt(BESIDE), length).slice();
     }
 
-    /** The same as a string, of bytes in UTF-8. */
+    /** The same as a string, of bytes in UTF-8; U+FFFD where they are none. */
     text(number) {
         const bytes = this.get(number);
-        return bytes && new TextDecoder("utf-8", { ignoreBOM: true }).decode(bytes);
+        return bytes && decoder.decode(bytes);
     }
 
     /** The strings, as bytes, in the order of their numbers. */
@@ -125,3 +127,5 @@ export class Strings {
     free() { this.#held.free(); }
     [dispose]() { this.free(); }
 }
+
+shows(Strings, "Strings", it => ({ strings: it.length }));

@@ -1,19 +1,23 @@
 import { BESIDE, bytesAt, calls, numberAt } from "./core.js";
-import { Copied, InBlock, Made, checked } from "./in_block.js";
+import { Copied, InBlock, Made, openedAs } from "./in_block.js";
+import { optionsOf } from "./given.js";
 import { BITM_TEXT, STATUS } from "./layout.js";
 import { copyIn, copyOut, numbersOf } from "./lists.js";
 import { dispose, withRoom } from "./memory.js";
 import { must, orThrow, place, upTo } from "./numbers.js";
 import { encoded, withBytes, withPattern } from "./patterns.js";
+import { shows } from "./shown.js";
 
 const KIND = { name: "TextIndex", what: "the index of a text", open: "bitm_text_open", check: "bitm_text_check", layout: BITM_TEXT };
 
 const COUNT = { numbers: "bitm_text_count", bytes: "bitm_text_count_bytes" };
 const LOCATE = { numbers: "bitm_text_locate", bytes: "bitm_text_locate_bytes" };
 
+const decoder = new TextDecoder("utf-8", { ignoreBOM: true });
+
 /** Each how many letters a position is kept. */
 function stepOf(options) {
-    const step = place(options.step ?? 32, "step");
+    const step = place(optionsOf(options).step ?? 32, "step");
     if (step < 1 || step >= 2 ** 32) throw new RangeError(`bitm: the step must be 1 to 2^32 - 1, and is ${step}`);
     return step;
 }
@@ -38,7 +42,7 @@ export class TextIndex {
      * The index of a text: a string, as its bytes in UTF-8, or bytes in a Uint8Array. Each `step` bytes (32) a position is kept:
      * the fewer, the less memory, and the longer it takes to find a position or a part.
      */
-    static of(text, options = {}) {
+    static of(text, options) {
         const step = stepOf(options), bytes = encoded(text, "the text");
         if (!bytes) throw new TypeError("bitm: the text must be a string or a Uint8Array; TextIndex.ofLetters takes numbers");
         return withBytes(bytes, (at, n) => {
@@ -50,7 +54,7 @@ export class TextIndex {
     }
 
     /** The index of numbers below `letters`, for each of which 8 bytes are kept. A pattern is then a list of numbers too. */
-    static ofLetters(numbers, letters, options = {}) {
+    static ofLetters(numbers, letters, options) {
         const step = stepOf(options), most = 2 ** 32 - 1, below = upTo(letters, most, "letters");
         const { items } = numbersOf(numbers, "numbers"), n = items.length;
         const room = orThrow(calls.bitm_text_size_letters(n, below, step, BESIDE), "the numbers", n), words = numberAt(BESIDE);
@@ -69,7 +73,7 @@ export class TextIndex {
      * WrongTables is thrown where they are not as they were written; without that, answers may be wrong, but a position is
      * one of the text's, or its end, and a count no more than there are of these.
      */
-    static open(bytes, options = {}) { return checked(new TextIndex(new Copied(KIND, bytes)), options); }
+    static open(bytes, options) { return openedAs(TextIndex, KIND, bytes, options); }
 
     /** How many letters the text has. */
     get length() { return this.#length; }
@@ -100,8 +104,8 @@ export class TextIndex {
      * The positions at which a pattern stands, in the order of the rest of the text from there on: without the first `from` of
      * them, and at most `limit`.
      */
-    locate(pattern, options = {}) {
-        const from = place(options.from ?? 0, "from"), most = place(options.limit ?? Number.MAX_SAFE_INTEGER, "limit");
+    locate(pattern, options) {
+        const given = optionsOf(options), from = place(given.from ?? 0, "from"), most = place(given.limit ?? Number.MAX_SAFE_INTEGER, "limit");
         return this.#with(pattern, (form, at, n) => {
             const room = Math.min(this.#count(form, at, n), most);
             return withRoom(8 * room, out => {
@@ -142,8 +146,12 @@ export class TextIndex {
         });
     }
 
-    /** The same as a string, of bytes in UTF-8. */
-    text(from = 0, to = this.#length) { return new TextDecoder().decode(Uint8Array.from(this.slice(from, to))); }
+    /** The same as a string, of bytes in UTF-8; U+FFFD where they are none. TypeError where letters have more than 8 bits. */
+    text(from = 0, to = this.#length) {
+        const letters = this.slice(from, to);
+        if (Array.isArray(letters)) throw new TypeError("bitm: the letters are numbers and no bytes: slice() has them");
+        return decoder.decode(letters);
+    }
 
     /** Whether the block is as it was written and holds the index of a text, by going over all of it and through the text. */
     check() { return this.#held.check(); }
@@ -155,3 +163,5 @@ export class TextIndex {
     free() { this.#held.free(); }
     [dispose]() { this.free(); }
 }
+
+shows(TextIndex, "TextIndex", it => ({ letters: it.length, width: it.width }));

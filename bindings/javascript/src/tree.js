@@ -1,10 +1,11 @@
 import { BESIDE, calls } from "./core.js";
-import { Copied, InBlock, checked } from "./in_block.js";
+import { Copied, InBlock, openedAs } from "./in_block.js";
 import { BITM_TREE } from "./layout.js";
 import { answers, copyIn, numbersOf } from "./lists.js";
 import { dispose, withRoom } from "./memory.js";
 import { childrenOf, isNode, ofNode } from "./nodes.js";
 import { orNone, orThrow, place } from "./numbers.js";
+import { shows } from "./shown.js";
 
 const KIND = { name: "Tree", what: "a tree", open: "bitm_tree_open", check: "bitm_tree_check", layout: BITM_TREE };
 
@@ -36,7 +37,7 @@ export class Tree {
      * `check` is false, all of them are looked at, and WrongTables is thrown where they are not as they were written; without
      * that, answers may be wrong, but a parent is less than its child, and no node is past the end.
      */
-    static open(bytes, options = {}) { return checked(new Tree(new Copied(KIND, bytes)), options); }
+    static open(bytes, options) { return openedAs(Tree, KIND, bytes, options); }
 
     /** How many nodes there are. */
     get length() { return this.#length; }
@@ -93,3 +94,5 @@ export class Tree {
     free() { this.#held.free(); }
     [dispose]() { this.free(); }
 }
+
+shows(Tree, "Tree", it => ({ nodes: it.length }));

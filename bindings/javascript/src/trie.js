@@ -1,12 +1,14 @@
 import { BESIDE, bytesAt, calls, numberAt } from "./core.js";
 import { BitVector, wordsOf } from "./bit_vector.js";
-import { Copied, InBlock, Made, checked } from "./in_block.js";
+import { Copied, InBlock, Made, openedAs } from "./in_block.js";
+import { optionsOf } from "./given.js";
 import { BITM_TRIE, STATUS } from "./layout.js";
 import { copyIn, copyOut, numbersOf } from "./lists.js";
 import { dispose, withRoom } from "./memory.js";
 import { childrenOf, isNode, ofNode } from "./nodes.js";
 import { answerOf, must, orNone, orThrow, place, whole, within } from "./numbers.js";
 import { encoded, rising, withPattern } from "./patterns.js";
+import { shows } from "./shown.js";
 
 const KIND = { name: "Trie", what: "a trie", open: "bitm_trie_open", check: "bitm_trie_check", layout: BITM_TRIE };
 const FIND = { numbers: "bitm_trie_find", bytes: "bitm_trie_find_bytes" };
@@ -23,10 +25,10 @@ export class Trie {
      * The degree of each node, level by level; the labels of the nodes from 1 on, a string (as UTF-8) or numbers of `width` bits
      * (1 to 63; 8 unless it is given); and `ends`, a BitVector that says for each node whether a word ends there, or none.
      */
-    constructor(degrees, labels, options = {}) {
+    constructor(degrees, labels, options) {
         if (degrees instanceof Copied) this.#held = new InBlock(KIND, this, degrees);
         else if (degrees instanceof Made) this.#held = new InBlock(KIND, this, degrees.words, degrees.fill);
-        else this.#build(numbersOf(degrees, "degrees").items, numbersOf(encoded(labels, "labels") ?? labels, "labels").items, options);
+        else this.#build(numbersOf(degrees, "degrees").items, numbersOf(encoded(labels, "labels") ?? labels, "labels").items, optionsOf(options));
         this.#length = this.#held.member("tree_len");
         this.#width = this.#held.member("width");
         this.#hasEnds = this.#held.member("ends_len") > 0;
@@ -35,15 +37,18 @@ export class Trie {
     #build(degrees, labels, { width = 8, ends }) {
         const n = degrees.length, bits = within(width, 1, 63, "width");
         if (ends !== undefined && !(ends instanceof BitVector)) throw new TypeError("bitm: ends is a BitVector");
-        if (ends !== undefined && ends.length !== n) throw new RangeError(`bitm: there are ${n} nodes, and ${ends.length} ends`);
+        const [at, words_len, length] = ends === undefined ? [0, 0, n] : wordsOf(ends);
+        if (length !== n) throw new RangeError(`bitm: there are ${n} nodes, and ${length} ends`);
         withRoom(8 * (n + labels.length), list => {
-            const marks = list + 8 * n, parts = [list, n, marks, labels.length, bits, ...(ends === undefined ? [0, 0] : wordsOf(ends))];
+            const marks = list + 8 * n, parts = [list, n, marks, labels.length, bits, at, words_len];
             copyIn(degrees, list, "degrees");
             copyIn(labels, marks, "labels");
             const words = orThrow(calls.bitm_trie_size(n, bits, ends === undefined ? 0 : 1), "the number of nodes", n);
             this.#held = new InBlock(KIND, this, words, at => {
                 const got = calls.bitm_trie_build(...parts, at, words);
-                if (got === -STATUS.WRONG) throw new RangeError("bitm: the degrees are those of no tree, or the labels none for it");
+                // a length that is wrong is that of the labels: the others were asked for, or compared
+                if (got === -STATUS.WRONG || got === -STATUS.BAD_SIZE)
+                    throw new RangeError("bitm: the degrees are those of no tree, or the labels none for it");
                 must(got, "the nodes");
             });
         });
@@ -75,7 +80,7 @@ export class Trie {
      * that, answers may be wrong, but a parent is less than its child, no node is past the end, and a word is no longer than
      * the number of its node.
      */
-    static open(bytes, options = {}) { return checked(new Trie(new Copied(KIND, bytes)), options); }
+    static open(bytes, options) { return openedAs(Trie, KIND, bytes, options); }
 
     /** How many nodes there are. */
     get length() { return this.#length; }
@@ -152,3 +157,5 @@ export class Trie {
     free() { this.#held.free(); }
     [dispose]() { this.free(); }
 }
+
+shows(Trie, "Trie", it => ({ nodes: it.length, width: it.width }));

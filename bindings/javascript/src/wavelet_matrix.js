@@ -1,9 +1,11 @@
 import { BESIDE, calls, wordsAt } from "./core.js";
-import { Copied, InBlock, checked } from "./in_block.js";
+import { Copied, InBlock, openedAs } from "./in_block.js";
+import { optionsOf } from "./given.js";
 import { BITM_MATRIX, STATUS } from "./layout.js";
 import { answers, copyIn, copyOut, itemsAt, numbersOf } from "./lists.js";
 import { dispose, withRoom } from "./memory.js";
 import { answerOf, must, orNone, orThrow, place, upTo, whole } from "./numbers.js";
+import { shows } from "./shown.js";
 import { bitsToStore } from "./words.js";
 
 const KIND = { name: "WaveletMatrix", what: "a wavelet matrix", open: "bitm_matrix_open", check: "bitm_matrix_check", layout: BITM_MATRIX };
@@ -20,15 +22,15 @@ export class WaveletMatrix {
      * The numbers. Each is kept in `width` bits (1 to 64), which is as many as the largest has unless it is given. With `quarters`
      * the block takes an eighth more, and most queries read fewer words.
      */
-    constructor(numbers, options = {}) {
+    constructor(numbers, options) {
         if (numbers instanceof Copied) this.#held = new InBlock(KIND, this, numbers);
-        else this.#build(numbersOf(numbers, "numbers").items, checkedWidth(options.width), options.quarters === true);
+        else this.#build(numbersOf(numbers, "numbers").items, optionsOf(options));
         this.#length = this.#held.member("len");
         this.#width = this.#held.member("width");
     }
 
-    #build(items, given, quarters) {
-        const n = items.length;
+    #build(items, options) {
+        const n = items.length, given = checkedWidth(options.width), quarters = options.quarters === true;
         withRoom(24 * n, list => {
             copyIn(items, list, "numbers");
             const width = given ?? widthOf(items), words = orThrow(calls.bitm_matrix_size(n, width, quarters), "the numbers", n);
@@ -45,7 +47,7 @@ export class WaveletMatrix {
      * `check` is false, all of them are looked at, and WrongTables is thrown where they are not as they were written; without
      * that, answers may be wrong, but no index is past the end, and no number has more bits than the width.
      */
-    static open(bytes, options = {}) { return checked(new WaveletMatrix(new Copied(KIND, bytes)), options); }
+    static open(bytes, options) { return openedAs(WaveletMatrix, KIND, bytes, options); }
 
     /** How many numbers there are. */
     get length() { return this.#length; }
@@ -163,6 +165,8 @@ export class WaveletMatrix {
     free() { this.#held.free(); }
     [dispose]() { this.free(); }
 }
+
+shows(WaveletMatrix, "WaveletMatrix", it => ({ numbers: it.length, width: it.width }));
 
 /** n numbers in memory, each with its count. */
 function paired(numbers, counts, n) {

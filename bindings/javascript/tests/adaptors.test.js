@@ -11,6 +11,9 @@ import { Tally } from "./plain.js";
 
 const beside = new URL("../", import.meta.url), tally = new Tally();
 
+// These write numbers up to the first index that has none; their status, BITM_NONE, says so.
+const STOPS = new Set(["bitm_sequence_get_list", "bitm_matrix_get_list"]);
+
 const isAnswer = (call, k) => k === call.parameters.length - 1 && /^uint(32|64)_t \*$/.test(call.parameters[k].type);
 
 function both(call, parts) {
@@ -26,7 +29,7 @@ function both(call, parts) {
     const wanted = isStatus && status !== 0 ? -status : value < 2n ** 53n ? Number(value) : NaN;
     tally.same(got, wanted, () => `${call.name}(${given})`);
     assert.ok(Buffer.compare(arena(), after) === 0, `${call.name}(${given}) wrote something else`);
-    return !isStatus || status === 0;
+    return !isStatus || status === 0 || (status === 1 && STOPS.has(call.name));
 }
 
 test("each adaptor does what its export does", () => {
@@ -76,13 +79,12 @@ const LEFT_OUT = {
     bitm_bytes_set25: "as bitm_bytes_get57",
     bitm_index_count: "a rank at the length gives the same number with fewer reads",
     bitm_hash_level: "bitm_hash_build builds all levels",
-    bitm_stored_index: "bitm_stored_build writes the header of an index",
-    bitm_index_build_samples: "bitm_stored_build writes the samples too",
-    bitm_index_samples_len: "bitm_stored_index_room says how long all parts are",
-    bitm_index_block_size: "toBytes() writes the format of bitm_stored_, which has samples too",
-    bitm_index_block_build: "as bitm_index_block_size",
-    bitm_sequence_block_size: "toBytes() writes the format of bitm_stored_",
-    bitm_sequence_block_build: "as bitm_sequence_block_size",
+    bitm_stored_index: "toBytes() writes blocks; files of version 2 are read alone",
+    bitm_stored_index_room: "as bitm_stored_index",
+    bitm_stored_build: "as bitm_stored_index",
+    bitm_stored_sequence: "as bitm_stored_index",
+    bitm_sequence_sizes: "bitm_sequence_block_size says how long the block is",
+    bitm_sequence_build: "bitm_sequence_block_build builds all parts",
     bitm_prefix_sums: "there are no shards here yet",
     bitm_prefix_sums_check: "as bitm_prefix_sums",
     bitm_shards_find: "as bitm_prefix_sums",

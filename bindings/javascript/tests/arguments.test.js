@@ -116,8 +116,8 @@ test("after free() every method throws a TypeError", () => {
         assert.equal(it.byteLength, 0);
         for (const method of Reflect.ownKeys(kind)) {
             const found = Object.getOwnPropertyDescriptor(kind, method).value;
-            if (typeof found !== "function" || ["constructor", "free"].includes(method) || String(method).includes("dispose")) continue;
-            const takesOther = /^(and|or|xor|andNot|intersection|union|difference|symmetricDifference|is\w+|equals|setRange)$/.test(String(method));
+            if (typeof found !== "function" || ["constructor", "free"].includes(method) || /dispose|inspect/.test(String(method))) continue;
+            const takesOther = /^(and|or|xor|andNot|intersection|union|difference|symmetricDifference|count(Union|Intersection|Difference|SymmetricDifference)|is\w+|equals|setRange)$/.test(String(method));
             const args = ARGUMENTS[method] ?? (/List$/.test(String(method)) ? [[0]] : method === "setRange" ? [0, other] : takesOther && name !== "Index" ? [other] : [0]);
             assert.throws(() => { const got = it[method](...args); if (typeof got?.next === "function") got.next(); }, TypeError, `${name}.${String(method)}`);
             if (takesOther && typeof other[method] === "function") assert.throws(() => (method === "setRange" ? other.setRange(0, it) : other[method](it)), TypeError, `${name}.${String(method)} of it`);

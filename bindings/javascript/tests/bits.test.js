@@ -106,6 +106,20 @@ test("set operations as those of Set", () => {
     assert.ok(left.clone().and(left).equals(left) && left.clone().or(left).equals(left));
 });
 
+test("counts of set operations, of which no vector is made", () => {
+    for (const n of [0, 1, 63, 64, 65, 777, 65535, 65536, 65537, 131072, 200001]) {
+        const a = booleans(n, n + 1), b = booleans(n, n + 2, 9), left = BitVector.fromBooleans(a), right = BitVector.fromBooleans(b), { used } = bitm.memoryUse();
+        const cases = { countIntersection: (x, y) => x && y, countUnion: (x, y) => x || y, countSymmetricDifference: (x, y) => x !== y, countDifference: (x, y) => x && !y };
+        for (const [name, of] of Object.entries(cases)) {
+            tally.same(left[name](right), a.filter((x, k) => of(x, b[k])).length, () => `${name} of ${n}`);
+            tally.same(left[name](left), a.filter(x => of(x, x)).length, () => `${name} of ${n} with itself`);
+        }
+        tally.list([left.count(), right.count(), bitm.memoryUse().used], [a.filter(x => x).length, b.filter(x => x).length, used], "what was compared stays");
+        left.free();
+        right.free();
+    }
+});
+
 test("changes beside an array", () => {
     const r = random(8), bits = booleans(900, 8), v = BitVector.fromBooleans(bits);
     for (let round = 0; round < 600; round++) {

@@ -1,7 +1,7 @@
 // Cursors beside arrays; intersections and unions beside sets; sequences that are freed, and parts of damaged files.
 import assert from "node:assert/strict";
 import { test } from "node:test";
-import { Tally, bitm, random, unlessWrong } from "./plain.js";
+import { bitm, random, sectionAt, Tally, unlessWrong } from "./plain.js";
 
 const { Cursor, EliasFano, WrongTables, intersect, open, union } = bitm;
 const tally = new Tally();
@@ -50,6 +50,8 @@ test("intersections and unions are those of sets", () => {
         tally.list(union(made.values(), BigInt(from), limit), any.filter(it => it >= from).slice(0, limit), "union from a number");
         tally.list(made[0].union(...made.slice(1)).toArray(), any, "union as a sequence");
         tally.list(made[0].intersection(...made.slice(1)).toArray(), all, "intersection as a sequence");
+        tally.same(made[0].countUnion(...made.slice(1)), any.length, () => "countUnion");
+        tally.same(made[0].countIntersection(...made.slice(1)), all.length, () => "countIntersection");
         for (const it of made) it.free();
     }
     assert.deepEqual(union([]), []);
@@ -111,10 +113,10 @@ test("a cursor keeps its sequence", () => {
 });
 
 test("parts of damaged files: numbers that rise, or WrongTables", () => {
-    const r = random(9), made = new EliasFano(Float64Array.from({ length: 300 }, () => r() % 9000).sort()), file = made.toBytes();
+    const r = random(9), made = new EliasFano(Float64Array.from({ length: 300 }, () => r() % 9000).sort()), file = made.toBytes(), from = sectionAt(file, 0);
     for (let round = 0; round < 300; round++) {
         const bad = file.slice();
-        for (let k = 0; k < 6; k++) bad[192 + (r() % (bad.length - 192))] ^= 1 << r() % 8;
+        for (let k = 0; k < 6; k++) bad[from + (r() % (bad.length - from))] ^= 1 << r() % 8;
         const s = open(bad, { check: false });
         for (const call of [() => [...s.cursor()], () => union([s, made], 5), () => intersect([s, made]), () => s.union(made).toArray()]) {
             const found = unlessWrong(call) ?? [];

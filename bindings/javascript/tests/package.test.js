@@ -16,8 +16,8 @@ const has = tool => spawnSync(tool, ["--version"]).status === 0;
 const read = name => readFileSync(join(root, name), "utf8");
 
 test("the modules have the sums that stand beside them, and import nothing", () => {
-    const lines = read("wasm/SHA256SUMS").trim().split("\n").map(it => it.split(/\s+/));
-    assert.deepEqual(lines.map(it => it[1]), ["bitm32.wasm", "bitm64.wasm", "calls32.wasm", "calls64.wasm"]);
+    const lines = [...read("wasm/PROVED").matchAll(/^([0-9a-f]{64})  (\S+)$/gm)].map(it => it.slice(1));
+    assert.deepEqual(lines.map(it => it[1]).sort(), ["bitm32.wasm", "bitm64.wasm", "calls32.wasm", "calls64.wasm"]);
     for (const [sum, name] of lines) assert.equal(createHash("sha256").update(readFileSync(join(root, "wasm", name))).digest("hex"), sum, name);
     assert.deepEqual(WebAssembly.Module.imports(new WebAssembly.Module(readFileSync(join(root, "wasm/bitm32.wasm")))), []);
 });
@@ -76,11 +76,14 @@ function withoutRepository(cwd, args) {
     return execFileSync("unshare", ["-rm", "sh", "-c", hidden, top, process.execPath, ...args], run);
 }
 
+/** The blocks of README.md in a language. */
+const blocksOf = language => [...read("README.md").matchAll(new RegExp(`\`\`\`${language}\\n([^]*?)\`\`\``, "g"))].map(it => it[1]);
+
 test("the lines of README.md, against the packed package", { skip: !has("npm") && "npm is not here" }, () => {
     const folder = installed();
     const names = ["LICENSE", "README.md", "package.json", ...(has("esbuild") ? ["page"] : []), "src", "types", "wasm"];
     assert.deepEqual(readdirSync(join(folder, "node_modules/bitm")).sort(), names);
-    const lines = [...read("README.md").matchAll(/```js\n([^]*?)```/g)].map(it => it[1]).join("\n").split("\n");
+    const lines = blocksOf("js").filter(it => !it.startsWith("// app.js")).join("\n").split("\n");
     const plain = 'const shown = it => JSON.stringify(it, (_, x) => typeof x === "bigint" ? `${x}n` : x === undefined ? "undefined" : Number.isNaN(x) ? "NaN" : ArrayBuffer.isView(x) ? Array.from(x) : x);';
     const checked = lines.map(line => {
         const [, call, said] = /^(.*?);\s*\/\/ (.*)$/.exec(line) ?? [];
@@ -91,6 +94,34 @@ test("the lines of README.md, against the packed package", { skip: !has("npm") &
     writeFileSync(join(folder, "readme.js"), `let count = 0; ${plain}\n${checked.join("\n")}\nconsole.log(count);`);
     const got = Number(withoutRepository(folder, ["readme.js"]));
     assert.ok(got >= 20, `${got} lines of README.md were compared`);
+});
+
+test("each bundle that README.md has esbuild make runs alone", { skip: !(has("esbuild") && has("npm")) && "esbuild is not here" }, () => {
+    const folder = installed(), app = blocksOf("js").find(it => it.startsWith("// app.js")), elsewhere = mkdtempSync(join(room, "bundles-"));
+    const commands = blocksOf("sh").find(it => it.startsWith("esbuild")).trim().split("\n").map(it => it.split("#")[0].trim().split(/\s+/));
+    writeFileSync(join(folder, "app.js"), app);
+    assert.equal(commands.length, 3);
+    for (const [tool, ...words] of commands) {
+        const made = words.at(-1).replace("--outfile=", ""), alone = join(elsewhere, made.replace("page.js", "page.cjs"));
+        execFileSync(tool, [...words, "--log-level=warning"], { cwd: folder });
+        copyFileSync(join(folder, made), alone);
+        assert.equal(withoutRepository(elsewhere, [alone]), "2 4\n", made);
+    }
+});
+
+test("npm pack without esbuild says what is missing, and how to do without it", () => {
+    const { status, stderr } = spawnSync(process.execPath, ["one_file.mjs", join(room, "none.js")], { cwd: root, env: { PATH: room }, encoding: "utf8" });
+    assert.equal(status, 1);
+    assert.match(stderr, /^bitm: esbuild is not here.*\n.*npm pack --ignore-scripts.*\n.*npm install PATH\/bindings\/javascript.*\n$/);
+});
+
+test("the line for JavaScript in the README of the repository, and its program, in an empty folder", { skip: !(has("npm") && existsSync(join(root, "../../VERSION"))) && "there is no repository" }, () => {
+    const readme = readFileSync(join(root, "../../README.md"), "utf8"), [, install] = /`(npm install \.\.\/vokhuliza\/bindings\/javascript)`/.exec(readme);
+    const [program, said] = ["javascript", "output"].map(it => new RegExp(`^\`\`\`${it}\\n([^]*?)^\`\`\``, "m").exec(readme)[1]);
+    const empty = mkdtempSync(join(room, "empty-")), command = install.replace("../vokhuliza", join(root, "../.."));
+    execFileSync("sh", ["-c", `${command} --offline --no-audit --no-fund --silent`], { cwd: empty });
+    writeFileSync(join(empty, "x.mjs"), program);
+    assert.equal(execFileSync(process.execPath, ["x.mjs"], { cwd: empty, encoding: "utf8" }), said);
 });
 
 const USE = `import { BitVector, Cursor, Dictionary, Index, EliasFano, SparseBits, PerfectHash, Strings, Trie, WaveletMatrix, TextIndex, intersect, open, union, NO_ANSWER, WrongTables } from "bitm";
@@ -117,6 +148,9 @@ const few = new PerfectHash(new Set(["a", 1n]), { tries: 64, percent: 100, finge
 const noted: Uint8Array = extend(few.toBytes(), [[OWN_ROLE, Uint8Array.of(1)], [7n, new Uint32Array(2)]]), more: Uint8Array = extend(noted.buffer, new Map([[OWN_ROLE + 1, new DataView(noted.buffer)]]));
 const items: Uint8Array | Uint32Array | BigUint64Array | undefined = section(noted, OWN_ROLE), roles: (number | bigint)[] = sections(more).map(([role]) => role), fine: boolean = isWritten(extend(more, sections(noted)));
 void [seeds, items, roles, fine];
+const vector = BitVector.fromPositions([1]), both: number = vector.countIntersection(vector) + vector.countUnion(vector) + vector.countDifference(vector) + numbers.countIntersection(numbers, numbers);
+const json: () => never = vector.toJSON;
+void [both, json];
 void [numberOf, known, spelled, spoken, each, names.has("bob"), names.seed];
 const trie = new Trie([2, 0, 1n, 0], "abe", { width: 9, ends: BitVector.fromPositions([1], 4) }), node: number | undefined = trie.find([98n]), deepest: { node: number; count: number } = trie.longest("bee");
 const label: number | bigint | undefined = trie.label(3n), ends: boolean | undefined = Trie.open(trie.toBytes(), { check: false }).isEnd(1), letters: Uint8Array | (number | bigint)[] | undefined = trie.word(3);
@@ -131,7 +165,7 @@ const WRONG = ["index.rank('1')", "index.rank()", "const x: number = index.selec
     "new Index([1, 2])", "index.selectList([1]).byteLength", "open('name')", "new PerfectHash([{}])", "index.set(1)", "matrix.select(1)", "const y: number = matrix.get(0)", "TextIndex.of([1])",
     "TextIndex.ofLetters([1])", "new Cursor([1])", "cursor.nextGeq('1')", "const z: number = words.get(1)", "new Strings('ada')", "new Strings([1])", "const s: string = names.get(0)", "names.findList('ada')", "new Dictionary(['1'])", "intersect(numbers)", "union([index])",
     "new PerfectHash(['a'], { tries: '64' })", "few.hasSeeds = true", "PerfectHash.open('a')", "extend(noted)", "extend(noted, { 65536: noted })", "extend(noted, [['7', noted]])", "extend('block', [])", "section(noted)",
-    "const b: Uint8Array = section(noted, OWN_ROLE)", "sections(few)", "isWritten('block')", "matrix.top()", "matrix.intersect(0, 1)", "new Trie([1, 0])", "trie.find(98)", "const w: number = trie.find('b')", "new Trie([1, 0], 'a', { ends: [1] })"];
+    "const b: Uint8Array = section(noted, OWN_ROLE)", "sections(few)", "isWritten('block')", "matrix.top()", "matrix.intersect(0, 1)", "new Trie([1, 0])", "trie.find(98)", "vector.countUnion(index)", "numbers.countUnion([1])", "const t: string = JSON.parse(index)", "const w: number = trie.find('b')", "new Trie([1, 0], 'a', { ends: [1] })"];
 
 test("tsc takes the types, and refuses what is wrong", { skip: !(has("tsc") && has("npm")) && "tsc is not here" }, () => {
     const folder = installed(), base = ["--strict", "--noEmit", "--target", "es2022", "--lib", "es2022,dom"];

@@ -56,6 +56,9 @@ export function lowerBound(items, x) {
     return low;
 }
 
+/** Where section k of a block begins, by its directory (docs/FORMAT.md). */
+export const sectionAt = (block, k) => Number(new DataView(block.buffer, block.byteOffset).getBigUint64(128 + 32 * k + 8, true));
+
 /** What a call answers; undefined where it throws the error of wrong tables. */
 export function unlessWrong(call) {
     try {

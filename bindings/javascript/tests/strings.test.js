@@ -58,14 +58,22 @@ test("strings are their bytes in UTF-8", () => {
     assert.throws(() => new Strings(["ü", Uint8Array.of(195, 188)]), /two strings are equal/);
 });
 
-test("another seed where two strings have one hash", () => {
-    // By seed 0 these have one hash, and by others they have not.
+test("strings that FNV-1a gives one hash have numbers by each seed", () => {
     const two = ["8yn0iYCKYHlIj4-BwPqk", "GReLUrM4wMqfg9yzV3KQ"];
-    assert.throws(() => new Strings(two, { seed: 0 }), /another seed/);
+    assert.equal(new Strings(two).seed, 0);
+    for (const seed of [0, 1, 256, 5n]) {
+        const found = new Strings(two, { seed });
+        assert.equal(found.seed, Number(seed));
+        compare(found, two);
+    }
+});
+
+test("strings that SipHash-1-3 gives one hash by the seed 0 have the seed 1", () => {
+    const two = ["DfPggx7rn3H", "t_0e0z8MQ6G"];
     const found = new Strings(two);
     assert.equal(found.seed, 1);
     compare(found, two);
-    assert.equal(new Strings(two, { seed: 5 }).seed, 5);
+    assert.throws(() => new Strings(two, { seed: 0 }), /two strings are equal, or have one hash/);
 });
 
 test("arguments that are wrong", () => {

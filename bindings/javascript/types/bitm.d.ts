@@ -19,10 +19,16 @@ export const VERSION: string;
 /** The tables are not those of the bits, or the file is none: it was damaged. */
 export class WrongTables extends Error {}
 
-/** An Index or an EliasFano of the bytes of a file, which are copied once. */
+/**
+ * An Index or an EliasFano of the bytes of a block, which are copied once: WrongTables where they are not as they were
+ * written, unless `check` is false. A file of version 2 of the format is read too and made a block, for which a
+ * sequence takes 8 bytes a number until the call ends; its parts have no checksum, so the check finds only what does
+ * not fit.
+ */
 export function open(bytes: Bytes, options?: OpenOptions): Index | EliasFano;
 
-/** How many bytes of WebAssembly memory there are, and how many hold values. */
+/** How many bytes of WebAssembly memory there are, and how many hold values: also those that are garbage, until a later
+ *  task frees them. */
 export function memoryUse(): { total: number; used: number };
 
 /** The position, 0 to 63, of the 1 bit of a 64-bit word with the given rank. */

@@ -8,6 +8,7 @@ export class BitVector implements Iterable<boolean> {
     constructor(length: Whole);
     /** The bits at these positions are 1. Without a length, the largest position is the last bit. */
     static fromPositions(positions: Wholes, length?: Whole): BitVector;
+    /** TypeError if one is neither a boolean nor 0 or 1. */
     static fromBooleans(bits: Iterable<Bit>): BitVector;
     /** From bytes, the lowest bit of each first. */
     static fromBytes(bytes: Bytes, length?: Whole): BitVector;
@@ -57,25 +58,35 @@ export class BitVector implements Iterable<boolean> {
     clone(): BitVector;
     equals(other: BitVector): boolean;
 
-    /** These change this vector; other has as many bits. */
+    /** These change this vector; other has as many bits, else RangeError. */
     and(other: BitVector): this;
     or(other: BitVector): this;
     xor(other: BitVector): this;
     andNot(other: BitVector): this;
     not(): this;
-    /** These make a new one. */
+    /** These make a new one, which takes as much memory as this. A loop has to free() it: no garbage is freed inside one
+     *  task. */
     intersection(other: BitVector): BitVector;
     union(other: BitVector): BitVector;
     symmetricDifference(other: BitVector): BitVector;
     difference(other: BitVector): BitVector;
     complement(): BitVector;
+    /** How many 1 bits these would have: none is made. other has as many bits, else RangeError. One pass over both. */
+    countIntersection(other: BitVector): number;
+    countUnion(other: BitVector): number;
+    countSymmetricDifference(other: BitVector): number;
+    countDifference(other: BitVector): number;
+    /** Whether each 1 bit is one of other too; each of other one of these; no position has a 1 bit in both. */
     isSubsetOf(other: BitVector): boolean;
     isSupersetOf(other: BitVector): boolean;
     isDisjointFrom(other: BitVector): boolean;
 
-    /** Gives the memory back at once; after that every call throws a TypeError. */
+    /** Gives the memory back at once; after that a call throws a TypeError. */
     free(): void;
+    /** What `using` calls: free(). */
     [Symbol.dispose](): void;
+    /** Throws a TypeError: JSON has no form of it. Keep its toBytes(). */
+    toJSON(): never;
 }
 
 export interface IndexOptions {
@@ -91,6 +102,7 @@ export class Index implements Iterable<boolean> {
     static fromBooleans(bits: Iterable<Bit>, options?: IndexOptions): Index;
 
     readonly length: number;
+    /** How many bytes the block with bits, tables and samples has. */
     readonly byteLength: number;
     get(position: Whole): boolean;
     /** How many 1 bits, or 0 bits, there are before a position, which is at most length. */
@@ -125,12 +137,16 @@ export class Index implements Iterable<boolean> {
     zeros(from?: Whole): IterableIterator<number>;
     [Symbol.iterator](): IterableIterator<boolean>;
     toBitVector(): BitVector;
-    /** Whether tables and samples are those of the bits, by going over all. */
+    /** Whether the block is as it was written and holds bits with their tables, by going over all of it. */
     check(): boolean;
-    /** The bytes of a file: what open() takes, and the C library and its other bindings. */
+    /** The bytes of the block: what open() takes, and the C library and its other bindings. */
     toBytes(): Uint8Array;
+    /** Gives the memory back at once; after that a call throws a TypeError. */
     free(): void;
+    /** What `using` calls: free(). */
     [Symbol.dispose](): void;
+    /** Throws a TypeError: JSON has no form of it. Keep its toBytes(). */
+    toJSON(): never;
 }
 
 /** Bits of which few are 1 bits, and that do not change: the positions of these alone take memory. */
@@ -179,6 +195,10 @@ export class SparseBits {
     check(): boolean;
     /** The bytes of the block. */
     toBytes(): Uint8Array;
+    /** Gives the memory back at once; after that a call throws a TypeError. */
     free(): void;
+    /** What `using` calls: free(). */
     [Symbol.dispose](): void;
+    /** Throws a TypeError: JSON has no form of it. Keep its toBytes(). */
+    toJSON(): never;
 }

@@ -17,7 +17,8 @@ export type Bit = boolean | number | bigint;
 /** Bytes: any view, or a buffer. */
 export type Bytes = ArrayBuffer | SharedArrayBuffer | ArrayBufferView;
 
+/** Options are an object's own properties: what it inherits is not looked at. TypeError where they are no object. */
 export interface OpenOptions {
-    /** Whether to look at all parts, and throw WrongTables where they are not right: true unless given. */
+    /** Whether to look at all bytes, and throw WrongTables where they are not as they were written: true if not given. */
     check?: boolean;
 }

@@ -2,6 +2,8 @@
 
 import type { Whole, Wholes, NumberArray, Bytes, OpenOptions } from "./common.js";
 
+/** A key. Equal keys are those that a Map holds for equal, and bytes that are equal. A string is hashed as its units of
+ *  UTF-16, so it may have lone surrogates. */
 export type Key = string | number | bigint | Uint8Array;
 
 export interface PerfectHashOptions {
@@ -31,8 +33,12 @@ export class PerfectHash {
     check(): boolean;
     /** The bytes of the block. */
     toBytes(): Uint8Array;
+    /** Gives the memory back at once; after that a call throws a TypeError. */
     free(): void;
+    /** What `using` calls: free(). */
     [Symbol.dispose](): void;
+    /** Throws a TypeError: JSON has no form of it. Keep its toBytes(). */
+    toJSON(): never;
 }
 
 export interface DictionaryOptions {
@@ -69,8 +75,12 @@ export class Dictionary implements Iterable<number | bigint> {
     check(): boolean;
     /** The bytes of the block. */
     toBytes(): Uint8Array;
+    /** Gives the memory back at once; after that a call throws a TypeError. */
     free(): void;
+    /** What `using` calls: free(). */
     [Symbol.dispose](): void;
+    /** Throws a TypeError: JSON has no form of it. Keep its toBytes(). */
+    toJSON(): never;
 }
 
 export interface StringsOptions {
@@ -80,7 +90,8 @@ export interface StringsOptions {
     seed?: Whole;
 }
 
-/** A string, as its bytes in UTF-8, or bytes; and a list of such, which is no string. */
+/** A string, as its bytes in UTF-8, or bytes; and a list of such, which is no string. TypeError where a string is not
+ *  well formed: a lone surrogate has no bytes in UTF-8. */
 export type StringOrBytes = string | Uint8Array;
 export type StringsOrBytes = Iterable<StringOrBytes> & object;
 
@@ -100,7 +111,7 @@ export class Strings implements Iterable<Uint8Array> {
     findList(strings: StringsOrBytes): (number | undefined)[];
     /** The string of a number, as bytes. */
     get(number: Whole): Uint8Array | undefined;
-    /** The same as a string, of bytes in UTF-8. */
+    /** The same as a string, of bytes in UTF-8; U+FFFD where they are none. */
     text(number: Whole): string | undefined;
     /** The strings, as bytes, in the order of their numbers. */
     [Symbol.iterator](): IterableIterator<Uint8Array>;
@@ -109,6 +120,10 @@ export class Strings implements Iterable<Uint8Array> {
     check(): boolean;
     /** The bytes of the block. */
     toBytes(): Uint8Array;
+    /** Gives the memory back at once; after that a call throws a TypeError. */
     free(): void;
+    /** What `using` calls: free(). */
     [Symbol.dispose](): void;
+    /** Throws a TypeError: JSON has no form of it. Keep its toBytes(). */
+    toJSON(): never;
 }

@@ -8,6 +8,7 @@ export class EliasFano implements Iterable<number | bigint> {
     constructor(numbers: Wholes);
 
     readonly length: number;
+    /** How many bytes the block has. */
     readonly byteLength: number;
     /** The number at an index, which counts from the end if it is negative. */
     at(index: number | bigint): number | bigint | undefined;
@@ -44,17 +45,25 @@ export class EliasFano implements Iterable<number | bigint> {
     toBigUint64Array(): BigUint64Array;
     /** RangeError if a number is 2^53 or more. */
     toFloat64Array(): Float64Array;
-    /** The numbers that all of these have, each once; the numbers that any has. */
+    /** The numbers that all of these have, each once; the numbers that any has: a new one, which a loop has to free(). */
     intersection(...others: EliasFano[]): EliasFano;
     union(...others: EliasFano[]): EliasFano;
+    /** How many numbers these would have: none is made. */
+    countIntersection(...others: EliasFano[]): number;
+    countUnion(...others: EliasFano[]): number;
     /** A position at the first number, which moves forward only. */
     cursor(): Cursor;
 
-    /** Whether all parts are those of some sequence, by going over all. */
+    /** Whether the block is as it was written and holds a sequence, by going over all of it. */
     check(): boolean;
+    /** The bytes of the block: what open() takes, and the C library and its other bindings. */
     toBytes(): Uint8Array;
+    /** Gives the memory back at once; after that a call throws a TypeError. */
     free(): void;
+    /** What `using` calls: free(). */
     [Symbol.dispose](): void;
+    /** Throws a TypeError: JSON has no form of it. Keep its toBytes(). */
+    toJSON(): never;
 }
 
 /** A position in an EliasFano: at a number, or at the end. As an iterator it gives the number where it stands, and moves on to the
@@ -68,8 +77,12 @@ export class Cursor implements IterableIterator<number | bigint> {
     nextGeq(value: Whole): number | bigint | undefined;
     next(): IteratorResult<number | bigint, undefined>;
     [Symbol.iterator](): this;
+    /** Gives the memory back at once; after that a call throws a TypeError. */
     free(): void;
+    /** What `using` calls: free(). */
     [Symbol.dispose](): void;
+    /** Throws a TypeError: JSON has no form of it. Keep the toBytes() of its sequence, and its index. */
+    toJSON(): never;
 }
 
 /** The numbers from `from` on that each of the sequences has, or that any has: rising, each once, the first `limit` of them. */
@@ -133,6 +146,10 @@ export class WaveletMatrix implements Iterable<number | bigint> {
     check(): boolean;
     /** The bytes of the block. */
     toBytes(): Uint8Array;
+    /** Gives the memory back at once; after that a call throws a TypeError. */
     free(): void;
+    /** What `using` calls: free(). */
     [Symbol.dispose](): void;
+    /** Throws a TypeError: JSON has no form of it. Keep its toBytes(). */
+    toJSON(): never;
 }

@@ -3,7 +3,8 @@
 import type { Whole, Wholes, NumberArray, Bytes, OpenOptions } from "./common.js";
 import type { BitVector } from "./bits.js";
 
-/** A string (as UTF-8), bytes, or letters. */
+/** A string (as UTF-8), bytes, or letters. TypeError where a string is not well formed: a lone surrogate has no bytes in
+ *  UTF-8. */
 export type Pattern = string | Uint8Array | Wholes;
 
 export interface LocateOptions {
@@ -20,7 +21,7 @@ export interface StepOptions { step?: Whole }
 export class TextIndex {
     /** Made by of() and ofLetters(), or opened by open(). */
     constructor(block: never);
-    /** The index of a string, as its bytes in UTF-8, or of bytes. */
+    /** The index of a string, as its bytes in UTF-8, or of bytes. TypeError where the string is not well formed. */
     static of(text: string | Uint8Array, options?: StepOptions): TextIndex;
     /** The index of numbers below `letters`, for each of which 8 bytes are kept. RangeError where a number is not below it. */
     static ofLetters(numbers: Wholes, letters: Whole, options?: StepOptions): TextIndex;
@@ -41,15 +42,20 @@ export class TextIndex {
     get(position: Whole): number | bigint;
     /** The letters from one position on and before another: bytes, or an array where a letter may have more bits. */
     slice(from?: Whole, to?: Whole): Uint8Array | (number | bigint)[];
-    /** The same as a string, of bytes in UTF-8. */
+    /** The same as a string, of bytes in UTF-8; U+FFFD where they are none. TypeError where letters have more than 8
+     *  bits. */
     text(from?: Whole, to?: Whole): string;
 
     /** Whether the block is as it was written and holds the index of a text, by going over all of it and through the text. */
     check(): boolean;
     /** The bytes of the block. */
     toBytes(): Uint8Array;
+    /** Gives the memory back at once; after that a call throws a TypeError. */
     free(): void;
+    /** What `using` calls: free(). */
     [Symbol.dispose](): void;
+    /** Throws a TypeError: JSON has no form of it. Keep its toBytes(). */
+    toJSON(): never;
 }
 
 /** A tree whose nodes are numbered level by level: the root is 0, and the children of a node follow one another. */
@@ -88,8 +94,12 @@ export class Tree {
     check(): boolean;
     /** The bytes of the block. */
     toBytes(): Uint8Array;
+    /** Gives the memory back at once; after that a call throws a TypeError. */
     free(): void;
+    /** What `using` calls: free(). */
     [Symbol.dispose](): void;
+    /** Throws a TypeError: JSON has no form of it. Keep its toBytes(). */
+    toJSON(): never;
 }
 
 export interface TrieOptions {
@@ -135,6 +145,10 @@ export class Trie {
     check(): boolean;
     /** The bytes of the block. */
     toBytes(): Uint8Array;
+    /** Gives the memory back at once; after that a call throws a TypeError. */
     free(): void;
+    /** What `using` calls: free(). */
     [Symbol.dispose](): void;
+    /** Throws a TypeError: JSON has no form of it. Keep its toBytes(). */
+    toJSON(): never;
 }

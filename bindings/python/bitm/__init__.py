@@ -13,7 +13,7 @@ indexes of texts, minimal perfect hashes, dictionaries of numbers and strings, t
 The answers are those of the C library, where they are proved to be plain counting. What this package adds (checks of
 arguments, Python's conventions) is tested.
 """
-from collections.abc import MutableSequence, Sequence
+from collections import abc as _abc
 
 from . import _more, _shard_docs
 from ._core import BitVector, Cursor, Dictionary, EliasFano, Index, PerfectHash, SparseBits, Strings, TextIndex, Tree, Trie, WaveletMatrix, WrongTables
@@ -32,7 +32,7 @@ __all__ = [
 
 _more.complete()
 _shard_docs.complete(Shards)
-Sequence.register(Index)
-Sequence.register(EliasFano)
-Sequence.register(WaveletMatrix)
-MutableSequence.register(BitVector)
+_abc.Sequence.register(Index)
+_abc.Sequence.register(EliasFano)
+_abc.Sequence.register(WaveletMatrix)
+_abc.MutableSequence.register(BitVector)

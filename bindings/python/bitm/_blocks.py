@@ -1,7 +1,8 @@
 """What the values over one block have beside their queries: the block itself, and a value over one that exists already."""
 import array
 import itertools
-from typing import Any, List
+import types
+from typing import Any, List, Optional
 
 from . import _core
 from ._files import load
@@ -13,25 +14,31 @@ BLOCKS = (
     (_core.SparseBits, "Sparse bits", "SparseBits([3, 100, 101, 4000], 5000)", 4, "rank(101)", 2),
     (_core.Dictionary, "A dictionary", "Dictionary([4, 9, 49])", 3, "get(50, -1)", -1),
     (_core.Strings, "Strings", 'Strings(["ada"])', 1, 'find("ada")', 0),
-    (_core.PerfectHash, "A perfect hash with seeds", 'PerfectHash(["zero"], tries=64)', 1, 'get("zero")', 0),
+    (_core.PerfectHash, "A perfect hash", 'PerfectHash(["zero"])', 1, 'get("zero")', 0),
     (_core.WaveletMatrix, "A list of numbers", "WaveletMatrix([3, 1, 4, 1, 5, 1])", 6, "rank(1, 4)", 2),
     (_core.TextIndex, "The index of a text", 'TextIndex(b"banana")', 6, 'count(b"ana")', 2),
 )
 
 
-def _over(text: str) -> Any:
-    def over(cls: Any, block: Any) -> Any:
-        return _core.over(cls, (), (block,))
+def method(kind: Any, name: str, function: Any, doc: Optional[str] = None) -> Any:
+    """A copy of a function that help() shows as a method of that name: the stubs have its types."""
+    made = types.FunctionType(function.__code__, function.__globals__, name, function.__defaults__, function.__closure__)
+    made.__kwdefaults__, made.__module__, made.__qualname__ = function.__kwdefaults__, "bitm", f"{kind.__name__}.{name}"
+    made.__doc__ = function.__doc__ if doc is None else doc
+    return made
 
-    over.__doc__ = text
-    return classmethod(over)
+
+def give(kind: Any, name: str, function: Any, doc: Optional[str] = None) -> None:
+    """Gives a type of the extension a method."""
+    setattr(kind, name, method(kind, name, function, doc))
+
+
+def _over(cls: Any, block: Any) -> Any:
+    return _core.over(cls, (), (block,))
 
 
 def _block(self: Any) -> memoryview:
-    _, windows = _core.parts(self)
-    if len(windows) != 1:
-        raise ValueError("a perfect hash without seeds is in no block")
-    return memoryview(windows[0])
+    return memoryview(_core.block(self))
 
 
 def text_open(cls: Any, path: Any) -> Any:
@@ -46,7 +53,7 @@ def text_open(cls: Any, path: Any) -> Any:
     found = load(path, mmap=True)
     if not isinstance(found, _core.TextIndex):
         raise ValueError(f"{path!r} is a stored {type(found).__name__}, not the index of a text")
-    return found if cls is _core.TextIndex else _core.over(cls, *_core.parts(found))
+    return found if cls is _core.TextIndex else _core.over(cls, (), (_core.block(found),))
 
 
 def text_find_all(self: Any, pattern: Any) -> List[int]:
@@ -85,19 +92,32 @@ def complete() -> None:
     """Gives the types of the extension what stands here."""
     for kind, what, made, count, query, answer in BLOCKS:
         name = kind.__name__
-        setattr(kind, "over", _over(f"""{what} in a block that exists already, in a buffer that it holds and does not copy.
-    ValueError where header or directory of the block are not right; the rest is not looked at: call `check`.
+        setattr(kind, "over", classmethod(method(kind, "over", _over, f"""{what} in a block that exists already, in a buffer that it holds
+    and does not copy. ValueError where header or directory of the block are not right; the rest is not looked at: call
+    `check`.
 
     >>> block = {made}.block
     >>> {name}.over(block).{query}
     {answer}
-    """))
+    """)))
         setattr(kind, "block", property(_block, doc=f"""The words of the block, to be read: what `{name}.over` takes, and the
     bytes of the file.
 
     >>> {made}.block[3]  # a word of the header
     {count}
     """))
-    setattr(_core.Trie, "of_words", classmethod(trie_of_words))
-    setattr(_core.TextIndex, "open", classmethod(text_open))
-    setattr(_core.TextIndex, "find_all", text_find_all)
+    setattr(_core.Index, "block", property(_block, doc="""The words of the block, to be read: the bytes of the file, and what
+    `extend` takes. Where the index was not loaded from a block, one is made at each call.
+
+    >>> Index(BitVector.from_bits("0101101")).block[3]  # a word of the header: how many bits
+    7
+    """))
+    setattr(_core.EliasFano, "block", property(_block, doc="""The words of the block, to be read: the bytes of the file, and what
+    `extend` takes. Where the sequence is over parts, as `over` makes it, one is made at each call.
+
+    >>> EliasFano([2, 3, 5]).block[3]  # a word of the header: how many numbers
+    3
+    """))
+    setattr(_core.Trie, "of_words", classmethod(method(_core.Trie, "of_words", trie_of_words)))
+    setattr(_core.TextIndex, "open", classmethod(method(_core.TextIndex, "open", text_open)))
+    give(_core.TextIndex, "find_all", text_find_all)

@@ -1,68 +1,27 @@
 """Files: what save writes and load takes."""
-import array
 import contextlib
 import errno
 import io
 import mmap as mapped
+import operator
 import os
 import secrets
 import stat
-from typing import Any, BinaryIO, Callable, List, Optional, Tuple, Union
+from typing import Any, BinaryIO, Callable, Optional, Tuple, Union
 
 from . import _core
 
 PathLike = Union[str, bytes, "os.PathLike[str]", "os.PathLike[bytes]"]
 Stored = Union["_core.Index", "_core.EliasFano", "_core.SparseBits", "_core.PerfectHash", "_core.Dictionary", "_core.Strings", "_core.Tree",
                "_core.Trie", "_core.WaveletMatrix", "_core.TextIndex"]
-Piece = Tuple[int, Any]
-HEADER = 192
+HEADER = 192  # bytes, in version 2; those of a block are fewer
 
 
-def _pieces(value: Any) -> Tuple[int, List[Piece]]:
-    """The size of the file of a value, and where each piece of it begins. There is one look at the value, and the pieces
-    keep their memory, whoever closes it meanwhile."""
-    numbers, windows = _core.parts(value)
-    if isinstance(value, _core.EliasFano):
-        header, size, (words, upper, lower, low, *_) = _core.sequence_header(*numbers, *map(len, windows))
-        return size, [(0, header), *zip((low, words, upper, lower), windows)]
-    if len(windows) == 1:  # a block
-        return 8 * len(windows[0]), [(0, windows[0])]
-    if isinstance(value, _core.Index):
-        return _index_pieces(numbers, windows)
-    header, size, begins = _core.index_header(64 * len(windows[0]), 0, 0, 0, 0)
-    pieces: List[Piece] = [(0, header), *zip(begins, windows[:3])]
-    sizes, prints = windows[3:]
-    for piece in (array.array("Q", [*numbers, len(sizes), len(prints)]), sizes, prints):
-        pieces.append((size, piece))
-        size += 8 * len(piece)
-    return size, pieces
-
-
-def _index_pieces(numbers: Any, windows: Any) -> Tuple[int, List[Piece]]:
-    length, ones_log2, zeros_log2 = numbers
-    if length <= 64 * (len(windows[0]) - 1):  # tables of fewer words are other tables
-        words = memoryview(windows[0])[: -(-length // 64)]
-        numbers, windows = _core.parts(_core.Index(words, length, sample_log2=ones_log2 or zeros_log2 or None))
-        length, ones_log2, zeros_log2 = numbers
-    words, upper, lower, samples, starts, samples0, starts0 = windows
-    header, size, begins = _core.index_header(length, ones_log2, len(samples), zeros_log2, len(samples0))
-    return size, [(0, header), *zip(begins, (words, upper, lower, b"", starts, starts0, samples, samples0))]
-
-
-def _into(write: Callable[[Any], Any], size: int, pieces: List[Piece]) -> None:
-    """Writes the pieces in their order, with zeros between them."""
-    done = 0
-    for at, piece in sorted(pieces, key=lambda it: it[0]):
-        data = memoryview(piece).cast("B") if len(piece) else memoryview(b"")
-        if not data.nbytes:
-            continue
-        if done < at:
-            write(bytes(at - done))
-        done = at + data.nbytes
-        while data.nbytes:
-            data = data[_written(write, data) :]
-    if done < size:
-        write(bytes(size - done))
+def _into(write: Callable[[Any], Any], block: Any) -> None:
+    """Writes the words of a block."""
+    data = memoryview(block).cast("B")
+    while data.nbytes:
+        data = data[_written(write, data) :]
 
 
 def _written(write: Callable[[Any], Any], data: Any) -> int:
@@ -76,7 +35,9 @@ def _written(write: Callable[[Any], Any], data: Any) -> int:
 
 
 def save(self: Any, target: Any, /) -> None:
-    """Writes the value into a file, from which `bitm.load` takes it: a path, or a file object with `write`.
+    """Writes the block of the value into a file, from which `bitm.load` takes it: a path, or a file object with `write`. Of a
+    value that is in no block one is made, which takes as much memory as the file: of an index, unless it was loaded from a
+    block, and of what was loaded from a file of format version 2.
 
     A path is written beside it first, into a new file without a name, synced, given an unforeseeable name, and put in its
     place: a write that fails leaves what stood there. A process that is killed leaves nothing more, but for a file
@@ -89,14 +50,13 @@ def save(self: Any, target: Any, /) -> None:
     [2, 3, 5]
     """
     if hasattr(target, "write"):
-        size, pieces = _pieces(self)
-        _into(target.write, size, pieces)
+        _into(target.write, _core.block(self))
     else:
         path = os.path.realpath(os.fsencode(target))
-        _put(path, *_pieces(self))  # after __fspath__, which may close the value
+        _put(path, _core.block(self))  # after __fspath__, which may close the value
 
 
-def _put(path: bytes, size: int, pieces: List[Piece]) -> None:
+def _put(path: bytes, block: Any) -> None:
     """Writes a new file beside a path, and puts it in its place."""
     try:
         mode: Optional[int] = os.stat(path).st_mode
@@ -111,7 +71,7 @@ def _put(path: bytes, size: int, pieces: List[Piece]) -> None:
         with open(number, "wb", buffering=0) as file:
             if mode is not None:
                 os.fchmod(number, stat.S_IMODE(mode))
-            _into(file.write, size, pieces)
+            _into(file.write, block)
             os.fsync(number)
             if not is_named:
                 os.link(f"/proc/self/fd/{number}", beside, src_dir_fd=number, follow_symlinks=True)  # what the link leads to
@@ -159,8 +119,8 @@ def loads(data: Any, /) -> Stored:
     return _core.stored_load(flat[: flat.nbytes // 8 * 8])
 
 
-# By the mark, where the header has the size of the file: of an index, a sequence or a hash, and of a block.
-_SIZE_AT = {_core.index_header(0, 0, 0, 0, 0)[0][:8]: 32, b"bitmtab\x03": 16}
+# By the mark, whose last byte is the version, where the header has the size of the file: version 3 are blocks.
+_SIZE_AT = {b"bitmtab\x02": 32, b"bitmtab\x03": 16}
 
 
 def _look(head: bytes, size: Optional[int], shown: str) -> None:
@@ -176,8 +136,9 @@ def load(source: Union[PathLike, int, BinaryIO], *, mmap: bool = False) -> Store
     path: see `loads`.
 
     ValueError where it has no header of this format and byte order, or is shorter than its header says: the header is
-    looked at first. The contents of the parts are not checked: call `check`. A mapped file must not be truncated while
-    the value is used.
+    looked at first. The contents are not checked: call `check`, which says whether they are what was written. A file of
+    format version 2 is read too, but its check finds only what does not fit. A mapped file must not be truncated while the
+    value is used.
 
     >>> Index(BitVector.from_bits("0101101")).save("bits")
     >>> with load("bits", mmap=True) as index:
@@ -189,7 +150,9 @@ def load(source: Union[PathLike, int, BinaryIO], *, mmap: bool = False) -> Store
             raise ValueError("a file object is read, not mapped: pass its path or its descriptor")
         return _loaded(_read(source, "the file object"), "the file object")
     shown = repr(source)
-    with open(source, "rb", closefd=not isinstance(source, int)) as file:
+    named: Any = source
+    named = operator.index(named) if hasattr(named, "__index__") else named
+    with open(named, "rb", closefd=not isinstance(named, int)) as file:
         return _loaded(_held(file, mmap, shown), shown)
 
 

@@ -6,6 +6,7 @@ import pickle
 from typing import Any, Callable, Optional, Tuple
 
 from . import _blocks, _core, _sets
+from ._blocks import give
 from ._files import save
 
 
@@ -200,7 +201,7 @@ def blake(key: Any, seed: int) -> Tuple[int, int]:
     return int.from_bytes(both[:8], "little"), int.from_bytes(both[8:], "little")
 
 
-# ---- pickles: the memory of a value goes out of band where the pickler wants that
+# ---- pickles: the block of a value, out of band where the pickler wants that. Older ones have numbers and parts.
 
 
 def _packed(window: Any, protocol: int) -> Any:
@@ -219,8 +220,7 @@ def reduce(self: Any, protocol: Any) -> Any:
     if isinstance(self, _core.BitVector):
         made: Any = (_vector, (type(self), _packed(self, protocol), len(self)))
     else:
-        numbers, windows = _core.parts(self)
-        made = (_value, (type(self), numbers, *(_packed(it, protocol) for it in windows)))
+        made = (_value, (type(self), (), _packed(_core.block(self), protocol)))
     state = getattr(self, "__dict__", None)
     return (*made, state) if state else made
 
@@ -236,25 +236,28 @@ def _copy(share: Callable[[Any], Any]) -> Callable[[Any], Any]:
     return copy
 
 
+# What is saved: a type, one of it, a query and its answer.
+KEPT = (*((kind, made, query, answer) for kind, _, made, _, query, answer in _blocks.BLOCKS),
+        (_core.Index, 'Index(BitVector.from_bits("0101"))', "rank(2)", 1), (_core.EliasFano, "EliasFano([2, 3, 5])", "first_at_least(3)", 1))
+
+
 def complete() -> None:
     """Gives the types of the extension those methods that stand here, in `_blocks` and in `_sets`."""
     _blocks.complete()
     _sets.complete()
-    kept = (_core.Index, _core.EliasFano, _core.SparseBits, _core.PerfectHash, _core.Dictionary, _core.Strings, _core.Tree, _core.Trie,
-            _core.WaveletMatrix, _core.TextIndex)
-    for kind in kept:
-        setattr(kind, "save", save)
-        setattr(kind, "__copy__", _copy(getattr(kind, "__copy__")))
-    for each in (_core.BitVector, *kept):
-        setattr(each, "__reduce_ex__", reduce)
-    setattr(_core.BitVector, "to_numpy", vector_to_numpy)
-    setattr(_core.BitVector, "reverse", vector_reverse)
-    setattr(_core.BitVector, "remove", vector_remove)
-    setattr(_core.Index, "index", index_index)
+    for kind, made, query, answer in KEPT:
+        example = f'>>> {made}.save("file")\n    >>> load("file").{query}\n    {answer}\n    '
+        give(kind, "save", save, save.__doc__ and save.__doc__.split(">>>")[0] + example)
+        give(kind, "__copy__", _copy(getattr(kind, "__copy__")))
+    for each in (_core.BitVector, *(it[0] for it in KEPT)):
+        give(each, "__reduce_ex__", reduce)
+    for name, function in (("to_numpy", vector_to_numpy), ("reverse", vector_reverse), ("remove", vector_remove)):
+        give(_core.BitVector, name, function)
+    give(_core.Index, "index", index_index)
     for name in ("to_numpy", "__array__"):
-        setattr(_core.Index, name, index_to_numpy)
-        setattr(_core.EliasFano, name, sequence_to_numpy)
-        setattr(_core.WaveletMatrix, name, matrix_to_numpy)
-    setattr(_core.Index, "over", classmethod(index_over))
-    setattr(_core.EliasFano, "over", classmethod(sequence_over))
+        give(_core.Index, name, index_to_numpy)
+        give(_core.EliasFano, name, sequence_to_numpy)
+        give(_core.WaveletMatrix, name, matrix_to_numpy)
+    for kind, over in ((_core.Index, index_over), (_core.EliasFano, sequence_over)):
+        setattr(kind, "over", classmethod(_blocks.method(kind, "over", over)))
     setattr(_core.EliasFano, "parts", property(parts))

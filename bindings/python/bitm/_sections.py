@@ -20,7 +20,8 @@ def _format_of(role: int) -> str:
 def _role(given: SupportsIndex) -> int:
     role = operator.index(given)
     if not 0 <= role < 2**64:
-        raise OverflowError(f"a role is 0 to 2**64 - 1, not {role}")
+        shown = role if role.bit_length() < 1000 else f"a number of {role.bit_length()} bits"
+        raise OverflowError(f"a role is 0 to 2**64 - 1, not {shown}")
     return role
 
 

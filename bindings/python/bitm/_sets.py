@@ -1,7 +1,7 @@
 """Sequences of numbers as sets: what all of several have, and what any of them has. Cursors of the library move over them."""
 from typing import TYPE_CHECKING, Any, Iterable, List, Literal, Optional, SupportsIndex, overload
 
-from . import _core
+from . import _blocks, _core
 
 if TYPE_CHECKING:
     from ._core import EliasFano
@@ -83,5 +83,5 @@ def _union(self: Any, *others: Any) -> "_core.EliasFano":
 
 def complete() -> None:
     """Gives sequences those methods that stand here."""
-    setattr(_core.EliasFano, "intersection", _intersection)
-    setattr(_core.EliasFano, "union", _union)
+    _blocks.give(_core.EliasFano, "intersection", _intersection)
+    _blocks.give(_core.EliasFano, "union", _union)

@@ -143,7 +143,7 @@ def _write(folder: str, shards: Sequence[Part]) -> None:
     """Writes the manifest beside the old one, and puts it in its place: who reads it sees either whole."""
     data = {"format": FORMAT, "version": VERSION, "shards": [it._asdict() for it in shards]}
     made = json.dumps(data, indent=1).encode()
-    _files._put(os.path.realpath(os.fsencode(os.path.join(folder, MANIFEST))), len(made), [(0, made)])
+    _files._put(os.path.realpath(os.fsencode(os.path.join(folder, MANIFEST))), made)
 
 
 # ---- the shards as one

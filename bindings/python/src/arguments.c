@@ -1,10 +1,35 @@
 /* Arguments of calls, and the answers and exceptions that all types share. */
 #include "core.h"
 
+/* What is said of a value: its repr, but of a number that is longer than Python prints how many bits it has. NULL and
+ * an error. */
+static PyObject *shown(PyObject *value)
+{
+    PyObject *text = PyObject_Repr(value);
+    if (text != NULL || !PyLong_Check(value) || !PyErr_ExceptionMatches(PyExc_ValueError))
+        return text;
+    PyErr_Clear();
+    PyObject *bits = PyObject_CallMethod(BORROWED(&PyLong_Type), "bit_length", "O", value);
+    text = bits == NULL ? NULL : PyUnicode_FromFormat("a number of %S bits", bits);
+    Py_XDECREF(bits);
+    return text;
+}
+
+void refuse_value(PyObject *exception, const char *format, PyObject *value)
+{
+    PyObject *text = shown(value);
+    if (text != NULL)
+        PyErr_Format(exception, format, text);
+    Py_XDECREF(text);
+}
+
 static int out_of_range(PyObject *value, const char *what)
 {
     PyErr_Clear();
-    PyErr_Format(PyExc_OverflowError, "%s has to be at least 0 and below 2**64, not %R", what, value);
+    PyObject *text = shown(value);
+    if (text != NULL)
+        PyErr_Format(PyExc_OverflowError, "%s has to be at least 0 and below 2**64, not %S", what, text);
+    Py_XDECREF(text);
     return -1;
 }
 
@@ -49,7 +74,7 @@ int bit_slowly(PyObject *value)
 {
     int bit = bit_sought(value);
     if (bit == -1)
-        PyErr_Format(PyExc_ValueError, "a bit is true or false, not %R", value);
+        refuse_value(PyExc_ValueError, "a bit is true or false, not %S", value);
     return bit < 0 ? -1 : bit;
 }
 

@@ -38,6 +38,29 @@ Py_ssize_t bits_len(PyObject *self)
 
 typedef int (*looker)(PyObject *, Bits *);
 
+/* The bits at count positions, each step after the one before it. A look at signals may run Python code, so the words
+ * are held: those of a vector as by a buffer. */
+static PyObject *bits_apart(PyObject *self, const Bits *bits, Py_ssize_t start, Py_ssize_t step, Py_ssize_t count)
+{
+    Vector *made = vector_new(Vector_Type, (uint64_t)count);
+    Vector *vector = PyObject_TypeCheck(self, Vector_Type) ? (Vector *)self : NULL;
+    Memory *memory = made == NULL || vector != NULL ? NULL : memory_kept(self);
+    if (made == NULL || (vector == NULL && memory == NULL)) {
+        DROP(made);
+        return NULL;
+    }
+    if (vector != NULL)
+        vector->exports++;
+    for (Py_ssize_t i = 0; i < count && interrupted((size_t)i) == 0; i++)
+        bitm_set_bit_at(made->words, (uint64_t)i, bitm_bit_at(bits->words, (uint64_t)(start + i * step)));
+    if (vector != NULL)
+        vector->exports--;
+    DROP(memory);
+    if (PyErr_Occurred())
+        Py_CLEAR(made);
+    return (PyObject *)made;
+}
+
 static PyObject *slice_of(PyObject *self, PyObject *key, looker look)
 {
     Bits bits;
@@ -46,7 +69,9 @@ static PyObject *slice_of(PyObject *self, PyObject *key, looker look)
         return NULL;
     Py_ssize_t len = bits.len > (uint64_t)PY_SSIZE_T_MAX ? PY_SSIZE_T_MAX : (Py_ssize_t)bits.len;
     Py_ssize_t count = PySlice_AdjustIndices(len, &start, &stop, step);
-    return (PyObject *)vector_of_slice(&bits, start, step, count);
+    if (step == 1)
+        return (PyObject *)vector_of_range(&bits, (uint64_t)start, (uint64_t)count);
+    return bits_apart(self, &bits, start, step, count);
 }
 
 static inline PyObject *item_of(PyObject *self, Py_ssize_t index, int from_end, looker look)
@@ -140,6 +165,8 @@ static int positions_fill(Positions *it)
 static PyObject *positions_next(PyObject *self)
 {
     Positions *it = (Positions *)self;
+    if (it->at == it->count && PyErr_CheckSignals()) /* which may run Python code, and so this */
+        return NULL;
     if (it->at == it->count && (positions_fill(it) || it->count == 0))
         return NULL;
     return boxed(it->room[it->at++]);

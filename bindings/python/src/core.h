@@ -36,12 +36,12 @@
 #define KEYWORDS(name, function, arguments, text) METHOD(name, function, METH_FASTCALL | METH_KEYWORDS, arguments, text)
 
 extern PyObject *WrongTables;
-extern PyTypeObject *Memory_Type, *Window_Type, *Positions_Type, *Numbers_Type, *Cursor_Type, *Vector_Type, *Index_Type,
-    *Sequence_Type, *Sparse_Type, *Dictionary_Type, *Strings_Type, *Hash_Type, *Tree_Type, *Trie_Type, *Matrix_Type,
-    *Text_Type, *ShardSet_Type;
-extern PyType_Spec memory_spec, window_spec, positions_spec, numbers_spec, cursor_spec, vector_spec, index_spec,
-    sequence_spec, sparse_spec, dictionary_spec, strings_spec, hash_spec, tree_spec, trie_spec, matrix_spec, text_spec,
-    shard_set_spec;
+extern PyTypeObject *Memory_Type, *Window_Type, *Positions_Type, *Numbers_Type, *SparseWalk_Type, *Cursor_Type,
+    *Vector_Type, *Index_Type, *Sequence_Type, *Sparse_Type, *Dictionary_Type, *Strings_Type, *Hash_Type, *Tree_Type,
+    *Trie_Type, *Matrix_Type, *Text_Type, *ShardSet_Type;
+extern PyType_Spec memory_spec, window_spec, positions_spec, numbers_spec, sparse_walk_spec, cursor_spec, vector_spec,
+    index_spec, sequence_spec, sparse_spec, dictionary_spec, strings_spec, hash_spec, tree_spec, trie_spec, matrix_spec,
+    text_spec, shard_set_spec;
 
 /* ---- arguments.c */
 
@@ -57,6 +57,9 @@ static inline int number(PyObject *value, const char *what, uint64_t *out)
     }
     return number_slowly(value, what, out); /* also for 2^64 - 1 itself */
 }
+
+/* Raises an exception whose format has %S for a value, whose number of digits may be any. */
+void refuse_value(PyObject *exception, const char *format, PyObject *value);
 
 /* The index of bits[key], not above PY_SSIZE_T_MAX and below 0 where it counts from the end: -1 and IndexError or
  * TypeError. Runs Python code. */
@@ -106,6 +109,16 @@ static inline PyObject *boxed(uint64_t answer)
     return LIKELY(answer <= LONG_MAX) ? PyLong_FromLong((long)answer) : PyLong_FromUnsignedLongLong(answer);
 }
 static inline PyObject *boxed_bit(uint64_t bit) { return Py_NewRef(bit ? Py_True : Py_False); }
+
+/* In a loop that may go on for long: looks at signals now and then, so that Ctrl-C ends it. -1 and an error. Runs
+ * Python code. */
+static inline int interrupted(size_t turn) { return (turn & 0xfff) == 0xfff ? PyErr_CheckSignals() : 0; }
+
+/* The next item of an iterator, which may have no end: NULL at its end, or with an error. */
+static inline PyObject *next_item(PyObject *iterator, size_t turn)
+{
+    return interrupted(turn) ? NULL : PyIter_Next(iterator);
+}
 
 /* The answer of a query that may have none. By address: the call that writes it may be another argument. */
 static inline PyObject *answer_or_none(uint32_t status, const uint64_t *out)
@@ -158,8 +171,10 @@ enum { MOST_BUFFERS = 8 };
 
 /* Never given to Python code, and never changed once it is made. All of it stays until the last reference is gone: a
  * call that runs without the GIL holds a reference, and close drops one. */
-typedef struct {
+typedef struct Memory {
     PyObject_HEAD int held_count, own_count;
+    struct Memory *next;   /* of those that wait to be freed */
+    struct Memory *behind; /* memory of another value, in which all of this lies; or NULL */
     Py_buffer held[MOST_BUFFERS];
     void *own[MOST_BUFFERS];
     size_t own_bytes;
@@ -173,7 +188,7 @@ typedef struct {
     struct bitm_trie trie;
     struct bitm_matrix matrix;
     struct bitm_text text;
-    const uint64_t *block; /* the words of the block of a value over one */
+    const uint64_t *block; /* the words of the block of a value that is in one; else NULL */
     size_t block_len;
     const uint64_t *prints; /* the fingerprints of a hash: a number of print_width bits for each key */
     size_t prints_len;
@@ -194,7 +209,8 @@ int memory_words(Memory *it, PyObject *from, const uint64_t **words, size_t *len
 /* The items of a buffer, of the given size each: in place, or copied where they are not aligned. */
 int memory_items(Memory *it, PyObject *from, size_t size, const void **at, size_t *len);
 
-/* Whether it is of the class of that name, in a module that the program has imported: nothing is imported here. */
+/* Whether it is of the class of that name, in a module that the program has imported: nothing is imported here. -1 and
+ * MemoryError. */
 int is_instance(PyObject *it, const char *module, const char *name);
 
 /* ---- value.c: an object that has memory, and what Python code may see of it */
@@ -233,8 +249,9 @@ PyObject *value_copy(PyObject *self, PyObject *none);
 PyObject *value_sizeof(PyObject *self, PyObject *none);
 extern PyMemberDef value_members[];
 
-#define VALUE_METHODS                                                                                                  \
-    METHOD("close", value_close, METH_NOARGS, "($self, /)", VALUE_CLOSE),                                              \
+/* What each value has, with an example of its type. */
+#define VALUE_METHODS(made)                                                                                            \
+    METHOD("close", value_close, METH_NOARGS, "($self, /)", VALUE_CLOSE(made)),                                        \
         {"__enter__", value_enter, METH_NOARGS, NULL}, {"__exit__", value_exit, METH_VARARGS, NULL},                   \
         {"__copy__", value_copy, METH_NOARGS, NULL},                                                                   \
     {                                                                                                                  \
@@ -248,9 +265,9 @@ extern PyMemberDef value_members[];
         Py_tp_members, value_members                                                                                   \
     }
 #define VALUE_FLAGS (Py_TPFLAGS_DEFAULT | Py_TPFLAGS_HAVE_GC | Py_TPFLAGS_BASETYPE)
-#define VALUE_CLOSED                                                                                                   \
+#define VALUE_CLOSED(made)                                                                                             \
     {                                                                                                                  \
-        "closed", value_closed, NULL, DOC(VALUE_CLOSED_DOC), NULL                                                      \
+        "closed", value_closed, NULL, DOC("Whether it was closed." EXAMPLE(made ".closed") PRINTS("False")), NULL      \
     }
 
 /* An iterator over another object. */
@@ -342,6 +359,9 @@ int equal_number(PyObject *value, uint64_t *out);
 PyObject *numbers_new(PyObject *sequence, uint64_t from, uint64_t stop, int is_reversed);
 PyObject *numbers_from(PyObject *sequence, PyObject *const *args, Py_ssize_t count, PyObject *keywords);
 PyObject *numbers_compare(PyObject *self, PyObject *other, int how);
+
+/* Writes all numbers of a memory that is kept, without the GIL: -1 and WrongTables. */
+int numbers_all(const Memory *it, uint64_t *out);
 PyObject *sequence_slice(PyObject *self, PyObject *slice);
 PyObject *sequence_window(PyObject *module, PyObject *self);
 PyObject *sequence_merged(PyObject *module, PyObject *args);
@@ -374,8 +394,6 @@ int keys_hash(Keys *it, PyObject *keys, uint64_t mark, uint64_t seed);
 void keys_drop(Keys *it);
 
 PyObject *stored_load(PyObject *module, PyObject *file);
-PyObject *stored_index_header(PyObject *module, PyObject *args);
-PyObject *stored_sequence_header(PyObject *module, PyObject *args);
 
 /* ---- shard_set.c, shards.c */
 /* Counts of shards, and the indexes of those that are mapped so far. The index of another has no bits, so that the

@@ -180,27 +180,27 @@ static PyMethodDef methods[] = {
     METHOD("check", dictionary_check, METH_NOARGS, "($self, /)",
            "Whether the block is as it was written and holds a dictionary: looks at all of it." OF("squares.check()")
                PRINTS("True")),
-    VALUE_METHODS,
+    VALUE_METHODS("Dictionary([4, 9, 49])"),
     {NULL, NULL, 0, NULL}};
 
 static PyGetSetDef attributes[] = {
     {"keys", dictionary_keys, NULL,
      DOC("The keys in the order of their numbers, to be read." OF("squares.keys[squares[49]]") PRINTS("49")), NULL},
     {"seed", dictionary_seed, NULL, DOC("What is added to each key to hash it." OF("squares.seed") PRINTS("0")), NULL},
-    VALUE_CLOSED,
+    VALUE_CLOSED("Dictionary([4, 9, 49])"),
     {NULL, NULL, NULL, NULL, NULL}};
 
 #define DICTIONARY_DOC                                                                                                 \
     "Dictionary(keys, *, percent=100, seed=None)\n--\n\n"                                                              \
-    "Numbers, each with a number of its own below how many there are, in one block of memory: a minimal perfect hash " \
-    "and the keys, so that a number that is no key has none. A key takes about 67 bits. percent is how many bits the " \
-    "levels have for each 100 keys." EXAMPLE("squares = Dictionary([4, 9, 49])")                                       \
-        THEN("49 in squares, 50 in squares, sorted(squares[key] for key in squares)")                                  \
-            PRINTS("(True, False, [0, 1, 2])")
+    "Numbers, each with a number of its own below how many there are, in one block of memory: a minimal\n"             \
+    "perfect hash and the keys, so that a number that is no key has none.\n\n"                                         \
+    "A key takes about 67 bits. percent is how many bits the levels have for each 100 keys."                           \
+    EXAMPLE("squares = Dictionary([4, 9, 49])")                                                                        \
+    THEN("49 in squares, 50 in squares, sorted(squares[key] for key in squares)")                                      \
+    PRINTS("(True, False, [0, 1, 2])")
 
 static PyType_Slot slots[] = {VALUE_SLOTS(DICTIONARY_DOC, dictionary_init, methods, attributes, dictionary_repr),
                               {Py_tp_iter, dictionary_iter},
-                              {Py_tp_hash, PyObject_HashNotImplemented},
                               {Py_sq_contains, dictionary_contains},
                               {Py_mp_length, dictionary_len},
                               {Py_mp_subscript, dictionary_subscript},

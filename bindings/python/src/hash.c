@@ -98,8 +98,10 @@ static int is_right(const Memory *it)
 {
     const struct bitm_index *index = &it->seeded.hash.index;
     uint64_t ones = 0;
-    if (it->block != NULL)
+    if (it->block != NULL && it->seeded.seeds != NULL)
         return bitm_hash_block_check_seeded(it->block, it->block_len) == BITM_OK;
+    if (it->block != NULL)
+        return bitm_hash_block_check(it->block, it->block_len) == BITM_OK;
     return bitm_index_check(index) == BITM_OK && bitm_index_rank(index, true, index->bits_len, &ones) == BITM_OK &&
            ones == it->seeded.hash.keys;
 }
@@ -133,15 +135,15 @@ static PyObject *hash_has_seeds(PyObject *self, void *none)
 {
     const Memory *it = memory_of(self);
     (void)none;
-    return it == NULL ? NULL : boxed_bit(it->block != NULL);
+    return it == NULL ? NULL : boxed_bit(it->seeded.seeds != NULL);
 }
 
 static PyMethodDef methods[] = {KEYWORDS("get", hash_get, "($self, key, default=None)", HASH_GET),
                                 KEYWORDS("get_list", hash_get_list, "($self, keys, *, missing=None)", HASH_GET_LIST),
                                 METHOD("check", hash_check, METH_NOARGS, "($self, /)", HASH_CHECK),
-                                VALUE_METHODS,
+                                VALUE_METHODS("PerfectHash(['zero', 'one'])"),
                                 {NULL, NULL, 0, NULL}};
-static PyGetSetDef attributes[] = {VALUE_CLOSED,
+static PyGetSetDef attributes[] = {VALUE_CLOSED("PerfectHash(['zero', 'one'])"),
                                    {"seed", hash_seed, NULL, DOC(HASH_SEED), NULL},
                                    {"bits", hash_bits, NULL, DOC(HASH_BITS), NULL},
                                    {"hash", hash_name, NULL, DOC(HASH_HASH), NULL},

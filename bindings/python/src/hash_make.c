@@ -1,16 +1,20 @@
-/* bitm.PerfectHash: how one is made. With seeds all of it is in one block. */
+/* bitm.PerfectHash: how one is made, in one block, with seeds or without. */
 #include "values.h"
 
 /* ---- opened */
 
-/* Fills in what lies in the block of a hash with seeds: whether it has all. The section after those of the hash has the
+/* Fills in what lies in the block of a hash: whether it has all. The section after those of the hash has the
  * fingerprints, a word with their width and their words, and its role is the mark, which says how keys are hashed. */
-enum { PRINTS_SECTION = 5 };
+enum { PRINTS_SECTION = 4 }; /* of a hash without seeds, which are one section more */
 static int block_taken(Memory *it)
 {
     struct bitm_section prints = {0};
-    if (bitm_hash_block_open_seeded(it->block, it->block_len, &it->seeded, &it->seed) != BITM_OK ||
-        bitm_block_section(it->block, it->block_len, PRINTS_SECTION, &prints) != BITM_OK || prints.words_len == 0 ||
+    size_t at = PRINTS_SECTION;
+    if (bitm_hash_block_open_seeded(it->block, it->block_len, &it->seeded, &it->seed) == BITM_OK)
+        at++;
+    else if (bitm_hash_block_open(it->block, it->block_len, &it->seeded.hash, &it->seed) != BITM_OK)
+        return 0;
+    if (bitm_block_section(it->block, it->block_len, at, &prints) != BITM_OK || prints.words_len == 0 ||
         prints.count != 8 * (uint64_t)prints.words_len)
         return 0;
     it->mark = prints.role;
@@ -37,73 +41,7 @@ int hash_opened(Memory *it)
     return -1;
 }
 
-/* ---- without seeds */
-
-/* The words of all levels. -1 and an error; 1 where two hashes are equal. */
-static int build_levels(Memory *it, const Keys *keys, uint32_t percent)
-{
-    size_t count = it->seeded.hash.keys, first = bitm_hash_level_len(count, percent);
-    if (first > (size_t)PY_SSIZE_T_MAX / 128) {
-        PyErr_NoMemory();
-        return -1;
-    }
-    /* All levels together have some e^(100 / percent) times the words of the first, and each has one at least. */
-    size_t most = 8 * first + 2 * LEVELS;
-    uint64_t *hashes = room_for(count), *again = room_for(first), *words = memory_own(it, most, 8);
-    uint64_t *sizes = words == NULL ? NULL : memory_own(it, LEVELS, 8), levels = 0, used = 0, left = 0;
-    uint32_t status = BITM_BAD_SIZE;
-    if (hashes != NULL && again != NULL && sizes != NULL) {
-        Py_BEGIN_ALLOW_THREADS
-        memcpy(hashes, keys->hashes, 8 * count);
-        status =
-            bitm_hash_build(hashes, count, percent, words, most, again, first, sizes, LEVELS, &levels, &used, &left);
-        Py_END_ALLOW_THREADS
-    }
-    free(hashes);
-    free(again);
-    it->seeded.hash.sizes = sizes;
-    it->seeded.hash.sizes_len = (size_t)levels;
-    it->seeded.hash.index.words = words;
-    it->seeded.hash.index.words_len = (size_t)used;
-    it->seeded.hash.index.bits_len = 64 * used;
-    return PyErr_Occurred() ? -1 : status != BITM_OK || left > 0;
-}
-
-/* Gives back the room that no level took, and builds the tables and the fingerprints. -1 and an error. */
-static int build_tables(Memory *it, const Keys *keys)
-{
-    struct bitm_index *index = &it->seeded.hash.index;
-    uint64_t *words = aligned_resize(it->own[0], 8 * index->words_len, 8 * index->words_len + 8), ones;
-    if (words != NULL)
-        it->own[0] = words;
-    it->own_bytes = 8 * (index->words_len + LEVELS);
-    index->words = it->own[0];
-    index->upper_len = bitm_index_upper_len(index->words_len);
-    index->lower_len = bitm_index_lower_len(index->words_len);
-    it->prints_len = bitm_bits_words_len(it->seeded.hash.keys * it->print_width);
-    uint64_t *upper = memory_own(it, index->upper_len, 8),
-             *lower = upper == NULL ? NULL : memory_own(it, index->lower_len, 8);
-    uint64_t *prints = lower == NULL ? NULL : memory_own(it, it->prints_len, 8);
-    uint32_t status;
-    if (prints == NULL)
-        return -1;
-    memset(prints, 0, 8 * it->prints_len);
-    index->upper = upper;
-    index->lower = lower;
-    it->prints = prints;
-    Py_BEGIN_ALLOW_THREADS
-    status = bitm_index_build(index->words, index->words_len, upper, index->upper_len, lower, index->lower_len, &ones);
-    if (status == BITM_OK)
-        status = bitm_hash_set_prints(&it->seeded.hash, keys->hashes, keys->count, keys->prints, keys->count, prints,
-                                      it->prints_len, (uint32_t)it->print_width);
-    Py_END_ALLOW_THREADS
-    if (status == BITM_OK)
-        return 0;
-    (void)wrong();
-    return -1;
-}
-
-/* ---- with seeds */
+/* ---- made */
 
 typedef struct {
     uint64_t width, percent, seed, mark, tries;
@@ -134,16 +72,22 @@ static uint64_t *prints_built(const struct bitm_seeded_hash *hash, const Keys *k
 /* The words of the block of the hash without fingerprints, in a piece of malloc's. NULL and an error. */
 static uint64_t *plain_built(const struct bitm_seeded_hash *hash, uint64_t seed, size_t *len)
 {
-    const struct bitm_index *index = &hash->hash.index;
+    const struct bitm_hash *plain = &hash->hash;
+    const uint64_t *words = plain->index.words;
+    const size_t words_len = plain->index.words_len;
     uint64_t wanted;
-    uint32_t status = bitm_hash_block_size_seeded(index->words_len, hash->hash.sizes_len, &wanted);
+    uint32_t status = hash->seeds != NULL ? bitm_hash_block_size_seeded(words_len, plain->sizes_len, &wanted)
+                                          : bitm_hash_block_size(words_len, plain->sizes_len, &wanted);
     uint64_t *made = status == BITM_OK ? room_for(wanted) : NULL;
     if (made == NULL)
         return PyErr_Occurred() ? NULL : (uint64_t *)PyErr_NoMemory();
     *len = (size_t)wanted;
     Py_BEGIN_ALLOW_THREADS
-    status = bitm_hash_block_build_seeded(index->words, index->words_len, hash->seeds, hash->seeds_len,
-                                          hash->hash.sizes, hash->hash.sizes_len, seed, made, *len);
+    if (hash->seeds != NULL)
+        status = bitm_hash_block_build_seeded(words, words_len, hash->seeds, hash->seeds_len, plain->sizes,
+                                              plain->sizes_len, seed, made, *len);
+    else
+        status = bitm_hash_block_build(words, words_len, plain->sizes, plain->sizes_len, seed, made, *len);
     Py_END_ALLOW_THREADS
     if (status == BITM_OK)
         return made;
@@ -170,8 +114,26 @@ static int block_built(Memory *it, const uint64_t *plain, size_t plain_len, uint
     return -1;
 }
 
+Memory *hash_in_block(Memory *from)
+{
+    size_t plain_len = 0, prints_len = 1 + from->prints_len;
+    uint64_t *prints = room_for(prints_len), *plain = NULL;
+    if (prints == NULL)
+        return NULL;
+    prints[0] = from->print_width;
+    if (from->prints_len > 0)
+        memcpy(prints + 1, from->prints, 8 * from->prints_len);
+    plain = plain_built(&from->seeded, from->seed, &plain_len);
+    Memory *it = plain == NULL ? NULL : memory_new();
+    if (it != NULL && block_built(it, plain, plain_len, from->mark, prints, prints_len))
+        Py_CLEAR(it);
+    free(prints);
+    free(plain);
+    return it;
+}
+
 /* The hash of keys in rooms for its levels. -1 and an error; 1 where two hashes are equal. */
-static int seeded_in(Memory *it, const Keys *keys, const Settings *how, Levels *in)
+static int built_in(Memory *it, const Keys *keys, const Settings *how, Levels *in)
 {
     struct bitm_seeded_hash hash = {.seeds = in->seeds};
     size_t prints_len = 0, plain_len = 0;
@@ -182,7 +144,7 @@ static int seeded_in(Memory *it, const Keys *keys, const Settings *how, Levels *
     Py_END_ALLOW_THREADS
     if (status != BITM_OK)
         return 1;
-    hash.seeds_len = hash.hash.index.words_len;
+    hash.seeds_len = in->seeds == NULL ? 0 : hash.hash.index.words_len;
     uint64_t *prints = prints_built(&hash, keys, how->width, &prints_len);
     uint64_t *plain = prints == NULL ? NULL : plain_built(&hash, it->seed, &plain_len);
     int made = plain == NULL ? -1 : block_built(it, plain, plain_len, how->mark, prints, prints_len);
@@ -196,12 +158,12 @@ static uint32_t percent_of(const Settings *how)
     return how->percent > UINT32_MAX ? UINT32_MAX : (uint32_t)how->percent;
 }
 
-static int build_seeded(Memory *it, const Keys *keys, const Settings *how)
+static int build(Memory *it, const Keys *keys, const Settings *how)
 {
     Levels levels;
     int made = levels_room(&levels, keys->count, percent_of(how), (uint16_t)how->tries);
     if (made == 0)
-        made = seeded_in(it, keys, how, &levels);
+        made = built_in(it, keys, how, &levels);
     levels_drop(&levels);
     return made;
 }
@@ -217,13 +179,8 @@ static Memory *built(PyObject *given, const Settings *how, uint64_t seed)
     Memory *it = memory_new();
     int status = -1;
     if (it != NULL) {
-        it->seeded.hash.keys = keys.count;
-        it->print_width = how->width;
         it->seed = seed;
-        it->mark = how->mark;
-        status = how->tries > 0 ? build_seeded(it, &keys, how) : build_levels(it, &keys, percent_of(how));
-        if (status == 0 && how->tries == 0)
-            status = build_tables(it, &keys);
+        status = build(it, &keys, how);
     }
     keys_drop(&keys);
     if (status == 0)

@@ -7,6 +7,8 @@
 int index_opened(Memory *it)
 {
     uint64_t ones;
+    if (it->block != NULL)
+        return index_block_opened(it);
     if (bitm_index_rank(&it->index, true, it->index.bits_len, &ones) != BITM_BAD_SIZE)
         return 0;
     PyErr_SetString(PyExc_ValueError, "the length of a table does not fit the number of words");
@@ -114,8 +116,9 @@ static PyObject *index_count(PyObject *self, PyObject *const *args, Py_ssize_t c
 static int is_right(const Memory *it)
 {
     const struct bitm_index *index = &it->index;
-    return bitm_index_check(index) == BITM_OK &&
-           (index->ones.log2 == 0 || bitm_index_check_samples(index, true) == BITM_OK) &&
+    const uint32_t status =
+        it->block != NULL ? bitm_index_block_check(it->block, it->block_len) : bitm_index_check(index);
+    return status == BITM_OK && (index->ones.log2 == 0 || bitm_index_check_samples(index, true) == BITM_OK) &&
            (index->zeros.log2 == 0 || bitm_index_check_samples(index, false) == BITM_OK);
 }
 
@@ -167,11 +170,13 @@ static PyMethodDef methods[] = {
     KEYWORDS("ones", bits_ones, "($self, start=0, stop=None, *, reverse=False)", INDEX_ONES),
     KEYWORDS("zeros", bits_zeros, "($self, start=0, stop=None, *, reverse=False)", INDEX_ZEROS),
     METHOD("check", index_check, METH_NOARGS, "($self, /)", INDEX_CHECK),
-    VALUE_METHODS,
+    VALUE_METHODS("Index(BitVector.from_bits('0101'))"),
     {NULL, NULL, 0, NULL}};
 
 static PyGetSetDef attributes[] = {
-    VALUE_CLOSED, {"words", index_words, NULL, DOC(INDEX_WORDS), NULL}, {NULL, NULL, NULL, NULL, NULL}};
+    VALUE_CLOSED("Index(BitVector.from_bits('0101'))"),
+    {"words", index_words, NULL, DOC(INDEX_WORDS), NULL},
+    {NULL, NULL, NULL, NULL, NULL}};
 
 static PyType_Slot slots[] = {VALUE_SLOTS(INDEX_DOC, index_init, methods, attributes, index_repr),
                               {Py_tp_richcompare, bits_compare},

@@ -4,13 +4,15 @@
 
 #define INDEX_DOC                                                                                                      \
     "Index(bits, length=None, *, sample_log2=None)\n--\n\n"                                                            \
-    "Rank and selection over bits, which stay where they are: a BitVector, or a buffer of 64-bit words or of bytes. "  \
-    "They must not change while the index is used; check says whether they have. Samples of each 2**sample_log2 bits " \
-    "(7 to 31) make selections faster.\n\n"                                                                            \
-    "The tables take some 3 % of the bits' memory (Zhou, Andersen and Kaminsky, SEA 2013). Building reads each word "  \
-    "once. ValueError where there are fewer bits than length, TypeError for a buffer of other items. A query of a "    \
-    "closed index raises ValueError, and over tables that are not those of the bits WrongTables." EXAMPLE(             \
-        "index = Index(BitVector.from_bits('0101101'))") THEN("index.rank(4), index.select(2)") PRINTS("(2, 4)")
+    "Rank and selection over bits, which stay where they are: a BitVector, or a buffer of 64-bit words or\n"           \
+    "of bytes. They must not change while the index is used; check says whether they have.\n\n"                        \
+    "Samples of each 2**sample_log2 bits (7 to 31) make selections faster.\n\n"                                        \
+    "The tables take some 3 % of the bits' memory (Zhou, Andersen and Kaminsky, SEA 2013). Building reads\n"           \
+    "each word once. ValueError where there are fewer bits than length, TypeError for a buffer of other\n"             \
+    "items. A query of a closed index raises ValueError, and over tables that are not those of the bits\n"             \
+    "WrongTables."                                                                                                     \
+    EXAMPLE("index = Index(BitVector.from_bits('0101101'))") THEN("index.rank(4), index.select(2)")                    \
+    PRINTS("(2, 4)")
 
 #define INDEX_RANK                                                                                                     \
     "How many 1 bits there are before a position, which may be the length. IndexError past it. Reads two entries of "  \
@@ -63,7 +65,8 @@
     "The positions of the 0 bits in a range, rising or falling." EXAMPLE(                                              \
         "list(Index(BitVector.from_bits('0101101')).zeros())") PRINTS("[0, 2, 5]")
 #define INDEX_CHECK                                                                                                    \
-    "Whether the tables, and the samples, are those of the bits. Reads each word once." EXAMPLE(                       \
+    "Whether the tables, and the samples, are those of the bits; of a block that was loaded also whether it is as it " \
+    "was written. Reads all of it. Of a file of format version 2 it finds only what does not fit." EXAMPLE(            \
         "words = bytearray(800)") THEN("index = Index(words)") THEN("words[3] = 1") THEN("index.check()")              \
         PRINTS("False")
 #define INDEX_WORDS                                                                                                    \

@@ -46,7 +46,7 @@ static int iterate(Integers *it, PyObject *from, const char *what)
     uint64_t found;
     if (iterator == NULL)
         return -1;
-    while ((value = PyIter_Next(iterator)) != NULL) {
+    while ((value = next_item(iterator, it->len)) != NULL) {
         int status = number(value, what, &found);
         Py_DECREF(value);
         if (status || append(it, &room, found))
@@ -65,7 +65,10 @@ int integers_take(Integers *it, PyObject *from, const char *what)
     memset(it, 0, sizeof *it);
     if (!PyObject_CheckBuffer(from))
         return iterate(it, from, what);
-    if (PyObject_TypeCheck(from, Vector_Type) || is_instance(from, "bitarray", "bitarray")) {
+    int is_of_bits = PyObject_TypeCheck(from, Vector_Type) ? 1 : is_instance(from, "bitarray", "bitarray");
+    if (is_of_bits < 0)
+        return -1;
+    if (is_of_bits) {
         PyErr_Format(PyExc_TypeError, "numbers are needed, not the bits of %R: see BitVector.ones", Py_TYPE(from));
         return -1; /* their buffers are words and bytes */
     }

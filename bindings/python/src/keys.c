@@ -152,7 +152,7 @@ static int each_hash(Keys *it, PyObject *keys, uint64_t mark, uint64_t seed)
 {
     PyObject *iterator = PyObject_GetIter(keys), *key;
     size_t room = 0;
-    while (iterator != NULL && (key = PyIter_Next(iterator)) != NULL) {
+    while (iterator != NULL && (key = next_item(iterator, it->count)) != NULL) {
         uint64_t both[2];
         int status = key_hash(key, mark, seed, both);
         Py_DECREF(key);
@@ -169,8 +169,11 @@ static int each_hash(Keys *it, PyObject *keys, uint64_t mark, uint64_t seed)
 int keys_hash(Keys *it, PyObject *keys, uint64_t mark, uint64_t seed)
 {
     PyObject *is_whole = Py_False;
+    int is_array = mark == MARK_SIP ? is_instance(keys, "numpy", "ndarray") : 0;
     *it = (Keys){NULL, NULL, 0};
-    if (mark == MARK_SIP && is_instance(keys, "numpy", "ndarray") && PyObject_CheckBuffer(keys)) {
+    if (is_array < 0)
+        return -1;
+    if (is_array && PyObject_CheckBuffer(keys)) {
         is_whole = more("is_whole", PyTuple_Pack(1, keys));
         Py_XDECREF(is_whole);
     }

@@ -2,7 +2,8 @@
  * their buffer matters to a call. */
 #include "core.h"
 
-enum { BLOCK = 2048 };
+enum { BLOCK = 512 };    /* twice on the stack, of which a thread may have 32 KiB */
+enum { TURN = 1 << 20 }; /* queries from one look at signals to the next */
 enum { PLAIN, NONES, MASK, FILL, RAISE, TRUTHS };
 
 static int how_of(PyObject *missing, int kind, int of_numpy, uint64_t *fill)
@@ -26,6 +27,8 @@ int answers_begin(Answers *it, PyObject *queries, PyObject *missing, int kind)
 {
     memset(it, 0, sizeof *it);
     it->of_numpy = is_instance(queries, "numpy", "ndarray");
+    if (it->of_numpy < 0)
+        return -1;
     it->how = how_of(missing, kind, it->of_numpy, &it->fill);
     return it->how < 0 ? -1 : 0;
 }
@@ -93,7 +96,8 @@ typedef struct {
     uint64_t missing;
 } Outcome;
 
-/* The queries of a list: of one number each, answered by `call`, or of two, of which `second` has the other, by `pairs`. */
+/* The queries of a list: of one number each, answered by `call`, or of two, of which `second` has the other, by
+ * `pairs`. */
 typedef struct {
     list_call call;
     pairs_call pairs;
@@ -109,31 +113,42 @@ static size_t load(const Queries *it, size_t at, size_t count, uint64_t *first, 
     return it->pairs == NULL ? found : integers_load(&it->second, at, found, second);
 }
 
-static Outcome run(const Queries *queries, const Memory *memory, uint64_t *out)
+/* Answers the queries from it->at on, up to an end, unless something stops it. Needs no GIL. */
+static void run(const Queries *queries, const Memory *memory, uint64_t *out, Outcome *it, size_t end)
 {
     uint64_t in[BLOCK], second[BLOCK];
-    Outcome it = {DONE, 0, 0};
-    for (; it.at < queries->first.len; it.at += BLOCK) {
+    while (it->why == DONE && it->at < end) {
         struct bitm_list_counts counts = {0, 0};
-        size_t left = queries->first.len - it.at, count = left < BLOCK ? left : BLOCK,
-               found = load(queries, it.at, count, in, second);
-        uint32_t status = queries->pairs == NULL
-                              ? queries->call(memory, queries->one, in, out + it.at, found, &counts)
-                              : queries->pairs(memory, in, second, out + it.at, found, &counts);
-        it.missing += counts.missing;
-        it.why = counts.missing && queries->kind != SOME ? PAST
-                 : status != BITM_OK || counts.wrong     ? WRONG
-                 : found < count                         ? BELOW
-                                                         : DONE;
-        if (it.why == PAST)
-            while (out[it.at] != BITM_NO_ANSWER)
-                it.at++;
-        if (it.why == BELOW)
-            it.at += found;
-        if (it.why != DONE)
-            break;
+        uint64_t *answers = out + it->at;
+        size_t count = end - it->at < BLOCK ? end - it->at : BLOCK, found = load(queries, it->at, count, in, second);
+        uint32_t status = queries->pairs == NULL ? queries->call(memory, queries->one, in, answers, found, &counts)
+                                                 : queries->pairs(memory, in, second, answers, found, &counts);
+        it->missing += counts.missing;
+        it->why = counts.missing && queries->kind != SOME ? PAST
+                  : status != BITM_OK || counts.wrong     ? WRONG
+                  : found < count                         ? BELOW
+                                                          : DONE;
+        if (it->why == PAST)
+            while (out[it->at] != BITM_NO_ANSWER)
+                it->at++;
+        else
+            it->at += found;
     }
-    return it;
+}
+
+/* Answers all queries, without the GIL but for a look at signals now and then. -1 and an error of theirs. */
+static int run_all(const Queries *queries, const Memory *memory, uint64_t *out, Outcome *it)
+{
+    const size_t len = queries->first.len;
+    do {
+        const size_t end = len - it->at < TURN ? len : it->at + TURN;
+        Py_BEGIN_ALLOW_THREADS
+        run(queries, memory, out, it, end);
+        Py_END_ALLOW_THREADS
+        if (PyErr_CheckSignals())
+            return -1;
+    } while (it->why == DONE && it->at < len);
+    return 0;
 }
 
 static void refuse(const Outcome *it, const Queries *queries, const char *const whats[2])
@@ -158,13 +173,10 @@ static PyObject *answered(PyObject *self, const Queries *queries, Answers *answe
     /* The Python code of the arguments has run; now the reference keeps the memory, whoever closes the value. */
     Memory *memory = memory_kept(self);
     if (memory != NULL && answers_room(answers, queries->first.len) == 0) {
-        Outcome outcome;
-        Py_BEGIN_ALLOW_THREADS
-        outcome = run(queries, memory, answers->out);
-        Py_END_ALLOW_THREADS
-        if (outcome.why == DONE)
+        Outcome outcome = {DONE, 0, 0};
+        if (run_all(queries, memory, answers->out, &outcome) == 0 && outcome.why == DONE)
             made = answers_end(answers, outcome.missing);
-        else
+        else if (!PyErr_Occurred())
             refuse(&outcome, queries, whats);
     }
     answers_drop(answers);

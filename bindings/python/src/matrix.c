@@ -82,8 +82,7 @@ static PyObject *items_of(const Memory *it, Py_ssize_t start, Py_ssize_t step, s
     PyObject *found = NULL;
     for (size_t i = 0; out != NULL && i < count; i++)
         indices[i] = (uint64_t)(start + (Py_ssize_t)i * step);
-    if (out != NULL && bitm_matrix_get_list(&it->matrix, indices, count, out, count, &written) == BITM_OK &&
-        written == count)
+    if (out != NULL && bitm_matrix_get_list(&it->matrix, indices, count, out, count, &written) == BITM_OK)
         found = list_of(out, count, 0);
     else if (out != NULL)
         (void)wrong();
@@ -137,17 +136,25 @@ static PyObject *matrix_count(PyObject *self, PyObject *value)
     return counted(self, value, &count) ? NULL : boxed(count);
 }
 
-static PyObject *matrix_index(PyObject *self, PyObject *value)
+static PyObject *matrix_index(PyObject *self, PyObject *const *args, Py_ssize_t count, PyObject *keywords)
 {
-    uint64_t sought, out = 0;
+    PyObject *value;
+    uint64_t sought, before = 0, out = 0, start, stop;
+    if (range_taken("number", args, count, keywords, &value, &start, &stop))
+        return NULL;
     int may_be = equal_number(value, &sought);
     Memory *it = may_be < 0 ? NULL : memory_of(self);
     if (it == NULL)
         return NULL;
-    uint32_t status = may_be ? bitm_matrix_select(&it->matrix, sought, 0, &out) : BITM_NONE;
+    uint32_t status = may_be ? bitm_matrix_rank(&it->matrix, sought, (size_t)start, &before) : BITM_NONE;
     if (status == BITM_OK)
+        status = bitm_matrix_select(&it->matrix, sought, before, &out);
+    if (status == BITM_OK && out < stop)
         return boxed(out);
-    return status == BITM_NONE ? PyErr_Format(PyExc_ValueError, "%R is not in the list", value) : wrong();
+    if (status != BITM_OK && status != BITM_NONE)
+        return wrong();
+    refuse_value(PyExc_ValueError, "%S is not in the list", value);
+    return NULL;
 }
 
 /* ---- queries */
@@ -218,7 +225,7 @@ RANGE(previous_value, bitm_matrix_previous_value, "bound")
 
 /* ---- lists */
 
-LIST_UNTIL_NONE(get, bitm_matrix_get_list, matrix, number_at)
+LIST_UNTIL_NONE(get, bitm_matrix_get_list, matrix)
 LIST(matrix, get_list, get, true, EACH, "an index")
 
 #define PAIRS(name, call, other, what)                                                                                 \
@@ -293,31 +300,30 @@ static PyMethodDef methods[] = {
           "The index of numbers[i] with ranks[i] such numbers before it, for each i, in the manner of the numbers." OF(
               ".select_list([1, 5, 2], [2, 0, 0])") PRINTS("[5, 4, None]")),
     PLAIN(count, "How often a number is in the list." OF(".count(1)") PRINTS("3")),
-    PLAIN(index, "The first index of a number; ValueError where there is none." OF(".index(1)") PRINTS("1")),
+    NAMED(index, "($self, number, start=0, stop=None)",
+          "The first index of a number, in a range of indexes; ValueError where there is none." OF(".index(1)") PRINTS("1")),
     METHOD("check", matrix_check, METH_NOARGS, "($self, /)",
            "Whether the block is as it was written and holds a matrix: looks at all of it." OF(".check()")
                PRINTS("True")),
-    VALUE_METHODS,
+    VALUE_METHODS("WaveletMatrix([3, 1, 4])"),
     {NULL, NULL, 0, NULL}};
 
 static PyGetSetDef attributes[] = {
     {"width", matrix_width, NULL, DOC("How many bits each number has at most." OF(".width") PRINTS("3")), NULL},
-    VALUE_CLOSED,
+    VALUE_CLOSED("WaveletMatrix([3, 1, 4])"),
     {NULL, NULL, NULL, NULL, NULL}};
 
 #define MATRIX_DOC                                                                                                     \
     "WaveletMatrix(numbers, *, width=None, quarters=False)\n--\n\n"                                                    \
-    "A list of numbers in any order, in one block of memory of about 1.03 * width bits a number: where and how often " \
-    "a "                                                                                                               \
-    "number is there, and which numbers of a range are the least. width is how many bits each has at most: those of "  \
-    "the "                                                                                                             \
-    "largest one, where it is not given. With quarters the block takes an eighth more, and most queries read fewer "   \
-    "words." EXAMPLE("numbers = WaveletMatrix([3, 1, 4, 1, 5, 1])")                       \
-        THEN("numbers[4], numbers.rank(1, 4), numbers.select(1, 2), numbers.quantile(3)") PRINTS("(5, 2, 5, 3)")
+    "A list of numbers in any order, in one block of memory of about 1.03 * width bits a number: where\n"              \
+    "and how often a number is there, and which numbers of a range are the least.\n\n"                                 \
+    "width is how many bits each has at most: those of the largest one, where it is not given. With\n"                 \
+    "quarters the block takes an eighth more, and most queries read fewer words."                                      \
+    EXAMPLE("numbers = WaveletMatrix([3, 1, 4, 1, 5, 1])")                                                             \
+    THEN("numbers[4], numbers.rank(1, 4), numbers.select(1, 2), numbers.quantile(3)") PRINTS("(5, 2, 5, 3)")
 
 static PyType_Slot slots[] = {VALUE_SLOTS(MATRIX_DOC, matrix_init, methods, attributes, matrix_repr),
                               {Py_tp_iter, matrix_iter},
-                              {Py_tp_hash, PyObject_HashNotImplemented},
                               {Py_sq_length, matrix_len},
                               {Py_sq_item, matrix_item},
                               {Py_sq_contains, matrix_contains},

@@ -1,22 +1,60 @@
 /* The memory that an index, a sequence or a hash reads: buffers that others lend, and its own. */
 #include "vector.h"
 
+/* Gives a buffer back: that of a vector to the vector itself, whatever its class makes of buffers. */
+static void give_back(Py_buffer *held)
+{
+    PyObject *lender = held->obj;
+    if (lender == NULL || !PyObject_TypeCheck(lender, Vector_Type)) {
+        PyBuffer_Release(held);
+        return;
+    }
+    vector_release(lender, held);
+    Py_DECREF(lender);
+}
+
+static void memory_free(Memory *it)
+{
+    PyTypeObject *type = Py_TYPE(BORROWED(it));
+    for (int i = 0; i < it->held_count; i++)
+        give_back(&it->held[i]);
+    for (int i = 0; i < it->own_count; i++)
+        aligned_free(it->own[i]);
+    DROP(it->behind);
+    ((freefunc)PyType_GetSlot(type, Py_tp_free))(it);
+    Py_DECREF(type);
+}
+
+/* A value may be over the words of another, that over those of a third, and so on, and the last reference drops them
+ * all. Past some depth a memory waits until those above it are gone, so that the stack does not grow with their number.
+ * Each thread has its own: giving back a buffer may run Python code, and so other threads. */
+enum { DEEPEST = 16 };
+static _Thread_local int depth;
+static _Thread_local Memory *waiting;
+
 static void memory_dealloc(PyObject *self)
 {
     Memory *it = (Memory *)self;
-    PyTypeObject *type = Py_TYPE(self);
     PyObject_GC_UnTrack(self);
-    for (int i = 0; i < it->held_count; i++)
-        PyBuffer_Release(&it->held[i]);
-    for (int i = 0; i < it->own_count; i++)
-        aligned_free(it->own[i]);
-    ((freefunc)PyType_GetSlot(type, Py_tp_free))(self);
-    Py_DECREF(type);
+    if (depth == DEEPEST) {
+        it->next = waiting;
+        waiting = it;
+        return;
+    }
+    depth++;
+    memory_free(it);
+    while (depth == 1 && waiting != NULL) {
+        Memory *next = waiting;
+        waiting = next->next;
+        memory_free(next);
+    }
+    depth--;
 }
 
 /* Whether the garbage collector may clear a lender while its buffer is held. Not a memoryview: in 3.11 its tp_clear
  * raises BufferError, and the process ends. Nor a ctypes array, which frees its memory. Such lenders are not shown to
- * the collector: they live until the buffer is given back, and a cycle through their own attributes is not collected. */
+ * the collector: they live until the buffer is given back, and a cycle through their own attributes is not collected.
+ */
 static int is_cleared_safely(PyObject *lender)
 {
     return lender != NULL &&
@@ -28,6 +66,7 @@ static int memory_traverse(PyObject *self, visitproc visit, void *arg)
 {
     Memory *it = (Memory *)self;
     Py_VISIT(Py_TYPE(self));
+    Py_VISIT(it->behind);
     for (int i = 0; i < it->held_count; i++)
         if (is_cleared_safely(it->held[i].obj))
             Py_VISIT(it->held[i].obj);
@@ -53,7 +92,9 @@ void *memory_own(Memory *it, uint64_t count, size_t size)
     return it->own[it->own_count++] = room;
 }
 
-/* The next buffer that is held, from one look: of one dimension, without gaps. NULL and an error. */
+/* The next buffer that is held, from one look: of one dimension, without gaps. Of a vector it is that of its words,
+ * also where its class has a __buffer__ of its own, so that its length in bits is that of the words. NULL and an error.
+ */
 static Py_buffer *hold(Memory *it, PyObject *from)
 {
     if (it->held_count == MOST_BUFFERS) {
@@ -61,7 +102,8 @@ static Py_buffer *hold(Memory *it, PyObject *from)
         return NULL;
     }
     Py_buffer *held = &it->held[it->held_count];
-    if (PyObject_GetBuffer(from, held, PyBUF_RECORDS_RO))
+    if (PyObject_TypeCheck(from, Vector_Type) ? vector_buffer(from, held, PyBUF_RECORDS_RO)
+                                              : PyObject_GetBuffer(from, held, PyBUF_RECORDS_RO))
         return NULL;
     it->held_count++;
     if (held->ndim != 1) {
@@ -123,15 +165,21 @@ int memory_items(Memory *it, PyObject *from, size_t size, const void **at, size_
     return placed(it, held, size, 0, at, len);
 }
 
-/* A class of a module that is imported already, as a new reference; else NULL, and no error. */
+/* Leaves no error but that of memory: then what was sought may be there. */
+static void forgive(void)
+{
+    if (PyErr_Occurred() && !PyErr_ExceptionMatches(PyExc_MemoryError))
+        PyErr_Clear();
+}
+
+/* A class of a module that is imported already, as a new reference; else NULL, and no error but MemoryError. */
 static PyObject *type_in(const char *module, const char *name)
 {
     PyObject *text = PyUnicode_InternFromString(module), *found = text == NULL ? NULL : PyImport_GetModule(text);
     PyObject *type = found == NULL ? NULL : PyObject_GetAttrString(found, name);
     Py_XDECREF(text);
     Py_XDECREF(found);
-    if (type == NULL)
-        PyErr_Clear();
+    forgive();
     return type;
 }
 
@@ -139,10 +187,9 @@ int is_instance(PyObject *it, const char *module, const char *name)
 {
     PyObject *type = type_in(module, name);
     int found = type == NULL ? 0 : PyObject_IsInstance(it, type);
-    if (found < 0)
-        PyErr_Clear();
     Py_XDECREF(type);
-    return found == 1;
+    forgive();
+    return PyErr_Occurred() ? -1 : found == 1;
 }
 
 /* Its own copy of a bitarray in our order of bits (its usual one is the other), which is then held. */
@@ -159,10 +206,8 @@ static int words_of_bitarray(Memory *it, PyObject *from, const void **at, size_t
             PyErr_SetString(PyExc_TypeError, "the package bitarray is not installed");
         return -1;
     }
-    if (placed(it, held, 8, 1, at, len))
-        return -1;
-    *bits = (uint64_t)count < 64 * (uint64_t)*len ? (uint64_t)count : 64 * (uint64_t)*len;
-    return 0;
+    *bits = (uint64_t)count;
+    return placed(it, held, 8, 1, at, len);
 }
 
 static int words_of_buffer(Memory *it, PyObject *from, const void **at, size_t *len, uint64_t *bits)
@@ -185,15 +230,20 @@ static int words_of_buffer(Memory *it, PyObject *from, const void **at, size_t *
 int memory_words(Memory *it, PyObject *from, const uint64_t **words, size_t *len, uint64_t *bits)
 {
     const void *at = NULL;
-    int status;
-    if (PyObject_TypeCheck(from, Vector_Type)) {
+    int status, is_vector = PyObject_TypeCheck(from, Vector_Type),
+                is_bitarray = is_vector ? 0 : is_instance(from, "bitarray", "bitarray");
+    if (is_bitarray < 0)
+        return -1;
+    if (is_vector) {
         status = memory_items(it, from, 8, &at, len);
-        *bits = ((Vector *)from)->bits.len; /* which stays, for its buffer is held */
-    } else if (is_instance(from, "bitarray", "bitarray")) {
+        *bits = ((Vector *)from)->bits.len; /* which stays, for its words are held */
+    } else if (is_bitarray) {
         status = words_of_bitarray(it, from, &at, len, bits);
     } else {
         status = words_of_buffer(it, from, &at, len, bits);
     }
     *words = at;
+    if (status == 0 && *bits > 64 * (uint64_t)*len)
+        *bits = 64 * (uint64_t)*len; /* no more than are held, whatever a class says */
     return status;
 }

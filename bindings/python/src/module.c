@@ -2,13 +2,12 @@
 #include "values.h"
 
 PyObject *WrongTables;
-PyTypeObject *Memory_Type, *Window_Type, *Positions_Type, *Numbers_Type, *Cursor_Type, *Vector_Type, *Index_Type,
-    *Sequence_Type, *Sparse_Type, *Dictionary_Type, *Strings_Type, *Hash_Type, *Tree_Type, *Trie_Type, *Matrix_Type,
-    *Text_Type, *ShardSet_Type;
+PyTypeObject *Memory_Type, *Window_Type, *Positions_Type, *Numbers_Type, *SparseWalk_Type, *Cursor_Type, *Vector_Type,
+    *Index_Type, *Sequence_Type, *Sparse_Type, *Dictionary_Type, *Strings_Type, *Hash_Type, *Tree_Type, *Trie_Type,
+    *Matrix_Type, *Text_Type, *ShardSet_Type;
 
 static PyMethodDef functions[] = {{"stored_load", stored_load, METH_O, NULL},
-                                  {"index_header", stored_index_header, METH_VARARGS, NULL},
-                                  {"sequence_header", stored_sequence_header, METH_VARARGS, NULL},
+                                  {"block", block_of_value, METH_O, NULL},
                                   {"parts", parts_of, METH_O, NULL},
                                   {"over", parts_over, METH_VARARGS, NULL},
                                   {"trie_of_sorted", trie_of_sorted, METH_VARARGS, NULL},
@@ -63,6 +62,7 @@ static int filled(PyObject *module)
                  {&window_spec, &Window_Type, NULL},
                  {&positions_spec, &Positions_Type, NULL},
                  {&numbers_spec, &Numbers_Type, NULL},
+                 {&sparse_walk_spec, &SparseWalk_Type, NULL},
                  {&cursor_spec, &Cursor_Type, "Cursor"},
                  {&vector_spec, &Vector_Type, "BitVector"},
                  {&index_spec, &Index_Type, "Index"},

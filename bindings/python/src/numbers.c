@@ -16,7 +16,7 @@ typedef struct {
 static int numbers_at(const Memory *it, uint64_t from, uint64_t *out, size_t count)
 {
     uint64_t written = 0;
-    if (bitm_sequence_items(&it->sequence, from, out, count, &written) == BITM_OK && written == count)
+    if (bitm_sequence_items(&it->sequence, from, out, count, &written) == BITM_OK)
         return 0;
     (void)wrong();
     return -1;
@@ -43,6 +43,8 @@ static int numbers_fill(Numbers *it)
 static PyObject *numbers_next(PyObject *self)
 {
     Numbers *it = (Numbers *)self;
+    if (it->at == it->count && PyErr_CheckSignals()) /* which may run Python code, and so this */
+        return NULL;
     if (it->at == it->count && numbers_fill(it) <= 0)
         return NULL;
     size_t at = it->is_reversed ? it->count - 1 - it->at : it->at;
@@ -166,7 +168,7 @@ static int numbers_apart(const Memory *it, Py_ssize_t start, Py_ssize_t step, ui
         indexes[i] = (uint64_t)(start + (Py_ssize_t)i * step);
     uint32_t status = bitm_sequence_get_list(&it->sequence, indexes, count, out, count, &written);
     free(indexes);
-    if (status == BITM_OK && written == count)
+    if (status == BITM_OK)
         return 0;
     (void)wrong();
     return -1;
@@ -190,23 +192,30 @@ PyObject *sequence_slice(PyObject *self, PyObject *slice)
     return made;
 }
 
-PyObject *numbers_compare(PyObject *self, PyObject *other, int how)
+/* Whether two sequences have the same numbers: -1 and an error. */
+static int are_same(const Memory *a, const Memory *b)
 {
     uint64_t left[ROOM], right[ROOM];
-    if ((how != Py_EQ && how != Py_NE) || !PyObject_TypeCheck(other, Sequence_Type))
-        Py_RETURN_NOTIMPLEMENTED;
-    Memory *a = memory_of(self), *b = a == NULL ? NULL : memory_of(other);
-    if (b == NULL)
-        return NULL;
     size_t len = a->sequence.len;
     int is_same = len == b->sequence.len;
-    for (size_t from = 0; is_same && from < len; from += ROOM) {
+    for (size_t from = 0; is_same > 0 && from < len; from += ROOM) {
         size_t count = len - from < ROOM ? len - from : ROOM;
-        if (numbers_at(a, from, left, count) || numbers_at(b, from, right, count))
-            return NULL;
+        if (interrupted(from / ROOM) || numbers_at(a, from, left, count) || numbers_at(b, from, right, count))
+            return -1;
         is_same = memcmp(left, right, 8 * count) == 0;
     }
-    return PyBool_FromLong((how == Py_EQ) == is_same);
+    return is_same;
+}
+
+PyObject *numbers_compare(PyObject *self, PyObject *other, int how)
+{
+    if ((how != Py_EQ && how != Py_NE) || !PyObject_TypeCheck(other, Sequence_Type))
+        Py_RETURN_NOTIMPLEMENTED;
+    Memory *a = memory_kept(self), *b = a == NULL ? NULL : memory_kept(other);
+    int is_same = b == NULL ? -1 : are_same(a, b);
+    DROP(a);
+    DROP(b);
+    return is_same < 0 ? NULL : PyBool_FromLong((how == Py_EQ) == is_same);
 }
 
 /* ---- what bitm/_more.py asks */
@@ -218,26 +227,28 @@ int is_sequence(PyObject *self)
     return PyObject_TypeCheck(self, Sequence_Type);
 }
 
+int numbers_all(const Memory *it, uint64_t *out)
+{
+    const size_t len = it->sequence.len;
+    uint64_t written = 0;
+    uint32_t status;
+    Py_BEGIN_ALLOW_THREADS
+    status = bitm_sequence_items(&it->sequence, 0, out, len, &written);
+    Py_END_ALLOW_THREADS
+    if (status != BITM_OK)
+        (void)wrong();
+    return PyErr_Occurred() ? -1 : 0;
+}
+
 /* All numbers, in memory that Python code may look at. */
 PyObject *sequence_window(PyObject *module, PyObject *self)
 {
-    uint64_t *room = NULL, written = 0;
-    uint32_t status;
+    uint64_t *room = NULL;
     (void)module;
     Memory *it = is_sequence(self) ? memory_kept(self) : NULL;
-    if (it == NULL)
-        return NULL;
-    size_t len = it->sequence.len;
-    PyObject *window = window_new(len, &room);
-    if (window != NULL) {
-        Py_BEGIN_ALLOW_THREADS
-        status = bitm_sequence_items(&it->sequence, 0, room, len, &written);
-        Py_END_ALLOW_THREADS
-        if (status != BITM_OK || written < len) {
-            Py_CLEAR(window);
-            (void)wrong();
-        }
-    }
+    PyObject *window = it == NULL ? NULL : window_new(it->sequence.len, &room);
+    if (window != NULL && numbers_all(it, room))
+        Py_CLEAR(window);
     DROP(it);
     return window;
 }

@@ -1,4 +1,5 @@
-/* The numbers and the memory that make a value: for pickles, files, and values over memory that exists already. */
+/* The numbers and the memory that make a value, and values over memory that exists already: over a block, or over parts
+ * as files of version 2 and older pickles have them. */
 #include "values.h"
 
 /* Memory of len items of the given size. */
@@ -8,7 +9,7 @@ typedef struct {
     size_t size;
 } Part;
 
-/* Where the numbers and the parts of a kind of value stand in its memory: a hash may be in a block, or in parts. */
+/* Where the numbers and the parts of a kind of value stand in its memory, or where its block does. */
 typedef struct {
     int numbers_count, parts_count;
     uint64_t *numbers[4];
@@ -20,8 +21,7 @@ typedef struct {
         (const void **)&(pointer), &(length), size                                                                     \
     }
 
-/* Whether it is a class of a value: of those that the error names; TypeError else. */
-static int is_value(PyObject *type)
+int is_value(PyObject *type)
 {
     PyTypeObject *it = (PyTypeObject *)type;
     if (PyType_IsSubtype(it, Index_Type) || PyType_IsSubtype(it, Sequence_Type) || PyType_IsSubtype(it, Hash_Type) ||
@@ -62,13 +62,15 @@ static void layout_of(PyObject *type, Memory *it, int is_block, Layout *out)
                        PART(it->seeded.hash.sizes, it->seeded.hash.sizes_len, 8), PART(it->prints, it->prints_len, 8)}};
     Layout of_block = {0, 1, {NULL}, {PART(it->block, it->block_len, 8)}};
     PyTypeObject *kind = (PyTypeObject *)type;
-    *out = PyType_IsSubtype(kind, Index_Type)               ? of_index
-           : PyType_IsSubtype(kind, Sequence_Type)          ? of_sequence
-           : PyType_IsSubtype(kind, Hash_Type) && !is_block ? of_hash
-                                                            : of_block;
+    *out = is_block                                ? of_block
+           : PyType_IsSubtype(kind, Index_Type)    ? of_index
+           : PyType_IsSubtype(kind, Sequence_Type) ? of_sequence
+           : PyType_IsSubtype(kind, Hash_Type)     ? of_hash
+                                                   : of_block;
 }
 
-/* parts(value): its numbers and windows of its memory, as two tuples, which are what over takes. */
+/* parts(value): the numbers of an index, a sequence or a hash and windows of its memory, as two tuples, which are what
+ * over takes; of other values the block. */
 PyObject *parts_of(PyObject *module, PyObject *self)
 {
     PyObject *type = BORROWED(Py_TYPE(self));
@@ -79,7 +81,7 @@ PyObject *parts_of(PyObject *module, PyObject *self)
     Memory *it = memory_kept(self);
     if (it == NULL)
         return NULL;
-    layout_of(type, it, it->block != NULL, &layout);
+    layout_of(type, it, 0, &layout);
     PyObject *numbers = PyTuple_New(layout.numbers_count),
              *windows = numbers == NULL ? NULL : PyTuple_New(layout.parts_count);
     for (int i = 0; windows != NULL && i < layout.numbers_count; i++) {

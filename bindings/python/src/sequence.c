@@ -8,6 +8,9 @@ int sequence_opened(Memory *it)
 {
     const struct bitm_sequence *sequence = &it->sequence;
     uint64_t first;
+    if (it->block != NULL &&
+        block_opened("a sequence", bitm_sequence_block_open(it->block, it->block_len, &it->sequence) == BITM_OK))
+        return -1;
     /* Each number is a 1 bit of the words: a small file that claims 2^33 numbers is refused before len() says so. */
     if (bitm_sequence_get(sequence, 0, &first) != BITM_BAD_SIZE && sequence->len / 64 <= sequence->words_len)
         return 0;
@@ -15,31 +18,34 @@ int sequence_opened(Memory *it)
     return -1;
 }
 
-/* The parts of numbers that nobody else can change: three passes read them. */
+/* The block of numbers that nobody else can change: four passes read them. */
 static int build(Memory *it, const uint64_t *items, size_t count)
 {
-    struct bitm_sequence_lens lens;
-    if (bitm_sequence_sizes(count, count == 0 ? 0 : items[count - 1], &lens) != BITM_OK) {
+    uint64_t len, *block;
+    uint32_t status;
+    if (bitm_sequence_block_size(count, count == 0 ? 0 : items[count - 1], &len) != BITM_OK) {
         PyErr_SetString(PyExc_ValueError, "2**56 numbers or more");
         return -1;
     }
-    uint64_t *low = memory_own(it, lens.low_len, 8), *words = low == NULL ? NULL : memory_own(it, lens.words_len, 8);
-    uint64_t *upper = words == NULL ? NULL : memory_own(it, lens.upper_len, 8);
-    uint64_t *lower = upper == NULL ? NULL : memory_own(it, lens.lower_len, 8), width = 0;
-    uint32_t status;
-    if (lower == NULL)
+    if ((block = block_room(it, len)) == NULL)
         return -1;
     Py_BEGIN_ALLOW_THREADS
-    status = bitm_sequence_build(items, count, low, lens.low_len, words, lens.words_len, upper, lens.upper_len, lower,
-                                 lens.lower_len, &width);
+    status = bitm_sequence_block_build(items, count, block, (size_t)len);
     Py_END_ALLOW_THREADS
-    struct bitm_sequence made = {count, width,          low,   lens.low_len,   words, lens.words_len,
-                                 upper, lens.upper_len, lower, lens.lower_len, NULL, 0};
-    it->sequence = made;
     if (status == BITM_OK)
-        return 0;
+        return sequence_opened(it);
     PyErr_SetString(PyExc_ValueError, "a number is less than the one before it");
     return -1;
+}
+
+Memory *sequence_in_block(Memory *from)
+{
+    uint64_t *items = room_for(from->sequence.len);
+    Memory *it = items == NULL || numbers_all(from, items) ? NULL : memory_new();
+    if (it != NULL && build(it, items, from->sequence.len))
+        Py_CLEAR(it);
+    free(items);
+    return it;
 }
 
 static int sequence_init(PyObject *self, PyObject *args, PyObject *keywords)
@@ -139,13 +145,19 @@ static int standing(PyObject *self, PyObject *value, uint64_t *first, uint64_t *
     return -1;
 }
 
-static PyObject *sequence_index(PyObject *self, PyObject *value)
+static PyObject *sequence_index(PyObject *self, PyObject *const *args, Py_ssize_t count, PyObject *keywords)
 {
-    uint64_t first = 0, last = 0;
+    PyObject *value;
+    uint64_t first = 0, last = 0, start, stop;
+    if (range_taken("value", args, count, keywords, &value, &start, &stop))
+        return NULL;
     int found = standing(self, value, &first, &last);
-    if (found == 0)
-        PyErr_Format(PyExc_ValueError, "%R is not in the sequence", value);
-    return found == 1 ? boxed(first) : NULL;
+    first = first < start ? start : first;
+    if (found == 1 && first <= last && first < stop)
+        return boxed(first);
+    if (found >= 0)
+        refuse_value(PyExc_ValueError, "%S is not in the sequence", value);
+    return NULL;
 }
 
 static PyObject *sequence_count(PyObject *self, PyObject *value)
@@ -157,7 +169,7 @@ static PyObject *sequence_count(PyObject *self, PyObject *value)
 
 /* ---- lists */
 
-LIST_UNTIL_NONE(get, bitm_sequence_get_list, sequence, number_at)
+LIST_UNTIL_NONE(get, bitm_sequence_get_list, sequence)
 LIST_OF(firsts, bitm_sequence_first_at_least_list, sequence)
 LIST_OF(lasts, bitm_sequence_last_at_most_list, sequence)
 LIST_OF(contained, bitm_sequence_contains_list, sequence)
@@ -168,7 +180,11 @@ LIST(sequence, contains_list, contained, true, BOOLS, "the value")
 
 /* ---- the rest */
 
-static int is_right(const Memory *it) { return bitm_sequence_check(&it->sequence) == BITM_OK; }
+static int is_right(const Memory *it)
+{
+    return (it->block != NULL ? bitm_sequence_block_check(it->block, it->block_len)
+                              : bitm_sequence_check(&it->sequence)) == BITM_OK;
+}
 
 static PyObject *sequence_check(PyObject *self, PyObject *none)
 {
@@ -204,7 +220,7 @@ static PyObject *sequence_repr(PyObject *self)
     uint64_t few[6] = {0}, written = 0;
     size_t len = it->sequence.len, most = len < 6 ? len : 6;
     char shown[6 * 22 + 1] = {0}, *end = shown;
-    if (bitm_sequence_items(&it->sequence, 0, few, most, &written) != BITM_OK || written < most)
+    if (bitm_sequence_items(&it->sequence, 0, few, most, &written) != BITM_OK)
         return PyUnicode_FromFormat("<EliasFano of %zu numbers, wrong parts>", len);
     for (size_t i = 0; i < written; i++)
         end += snprintf(end, 23, i ? ", %llu" : "%llu", (unsigned long long)few[i]);
@@ -226,14 +242,14 @@ static PyMethodDef methods[] = {
     NAMED(items, "($self, start=0, stop=None, *, reverse=False)", SEQUENCE_ITEMS),
     KEYWORDS("from_value", numbers_from, "($self, value, *, reverse=False)", SEQUENCE_FROM_VALUE),
     METHOD("cursor", cursor_new, METH_NOARGS, "($self, /)", SEQUENCE_CURSOR),
-    PLAIN("index", sequence_index, "($self, value, /)", SEQUENCE_INDEX),
+    NAMED(index, "($self, value, start=0, stop=None)", SEQUENCE_INDEX),
     PLAIN("count", sequence_count, "($self, value, /)", SEQUENCE_COUNT),
     METHOD("check", sequence_check, METH_NOARGS, "($self, /)", SEQUENCE_CHECK),
     {"__reversed__", sequence_reversed, METH_NOARGS, NULL},
-    VALUE_METHODS,
+    VALUE_METHODS("EliasFano([2, 3, 5])"),
     {NULL, NULL, 0, NULL}};
 
-static PyGetSetDef attributes[] = {VALUE_CLOSED, {NULL, NULL, NULL, NULL, NULL}};
+static PyGetSetDef attributes[] = {VALUE_CLOSED("EliasFano([2, 3, 5])"), {NULL, NULL, NULL, NULL, NULL}};
 
 static PyType_Slot slots[] = {VALUE_SLOTS(SEQUENCE_DOC, sequence_init, methods, attributes, sequence_repr),
                               {Py_tp_iter, sequence_iter},

@@ -4,13 +4,14 @@
 
 #define SEQUENCE_DOC                                                                                                   \
     "EliasFano(numbers)\n--\n\n"                                                                                       \
-    "Numbers from 0 to 2**64 - 1 that do not fall (equal ones may follow each other), in about log2(m / n) + 2 bits "  \
-    "each where n of them are below m. It has the calls of a tuple, and successors and predecessors.\n\n"              \
-    "The numbers may be a buffer of whole numbers of any width, or an iterable. ValueError where one is less than "    \
-    "the "                                                                                                             \
-    "one before it. A query of a closed sequence raises ValueError, and over parts that are not those of a sequence "  \
-    "(of a damaged file) WrongTables." EXAMPLE("primes = EliasFano([2, 3, 5, 7, 11, 13])")                             \
-        THEN("primes[4], primes[1:3], 7 in primes") PRINTS("(11, [3, 5], True)")
+    "Numbers from 0 to 2**64 - 1 that do not fall (equal ones may follow each other), in about log2(m /\n"             \
+    "n) + 2 bits each where n of them are below m. It has the calls of a tuple, and successors and\n"                  \
+    "predecessors.\n\n"                                                                                                \
+    "The numbers may be a buffer of whole numbers of any width, or an iterable. ValueError where one is\n"             \
+    "less than the one before it. A query of a closed sequence raises ValueError, and over parts that are\n"           \
+    "not those of a sequence (of a damaged file) WrongTables."                                                         \
+    EXAMPLE("primes = EliasFano([2, 3, 5, 7, 11, 13])") THEN("primes[4], primes[1:3], 7 in primes")                    \
+    PRINTS("(11, [3, 5], True)")
 
 #define SEQUENCE_FIRST_AT_LEAST                                                                                        \
     "Successor: the least index whose number is at least value, or None. Costs two selections, and a read for each "   \
@@ -46,12 +47,12 @@
     "A Cursor at the first number. Costs three selections." EXAMPLE("EliasFano([2, 3, 5, 7, 11]).cursor().number")     \
         PRINTS("2")
 #define SEQUENCE_INDEX                                                                                                 \
-    "The first index of a number; ValueError where it is not in the sequence." EXAMPLE(                                \
+    "The first index of a number, in a range of indexes; ValueError where it has none." EXAMPLE(                       \
         "EliasFano([2, 3, 5, 7, 11]).index(5)") PRINTS("2")
 #define SEQUENCE_COUNT "How often a number is in the sequence." EXAMPLE("EliasFano([2, 3, 3, 3]).count(3)") PRINTS("3")
 #define SEQUENCE_CHECK                                                                                                 \
-    "Whether the parts are those of some sequence. Goes over all of them." EXAMPLE("EliasFano([2, 3]).check()")        \
-        PRINTS("True")
+    "Whether the block is as it was written and holds a sequence: looks at all of it. Of parts, and so of a file of "  \
+    "format version 2, it finds only what does not fit." EXAMPLE("EliasFano([2, 3]).check()") PRINTS("True")
 
 #define NUMBERS_SEEK                                                                                                   \
     "Moves on to the first number, of those that are left, that is at least value, or backwards at most value; "       \
@@ -65,12 +66,13 @@
         "walk = reversed(EliasFano([2, 3, 5, 7, 11]))") THEN("walk.next_leq(6), next(walk)") PRINTS("(5, 3)")
 
 #define CURSOR_DOC                                                                                                     \
-    "A position in an EliasFano, made by its cursor(): at a number, or at the end. It moves forward only, and past "   \
-    "equal numbers at once. As an iterator it gives the number where it stands, and moves on to the next greater "     \
-    "one.\n\n"                                                                                                         \
-    "ValueError once the sequence is closed or made anew, WrongTables over parts that are not those of a "             \
-    "sequence." EXAMPLE("cursor = EliasFano([2, 3, 3, 7, 11]).cursor()")                                               \
-        THEN("cursor.next_geq(3), next(cursor), list(cursor)") PRINTS("(3, 3, [7, 11])")
+    "A position in an EliasFano, made by its cursor(): at a number, or at the end. It moves forward only,\n"           \
+    "and past equal numbers at once. As an iterator it gives the number where it stands, and moves on to\n"            \
+    "the next greater one.\n\n"                                                                                        \
+    "ValueError once the sequence is closed or made anew, WrongTables over parts that are not those of a\n"            \
+    "sequence."                                                                                                        \
+    EXAMPLE("cursor = EliasFano([2, 3, 3, 7, 11]).cursor()")                                                           \
+    THEN("cursor.next_geq(3), next(cursor), list(cursor)") PRINTS("(3, 3, [7, 11])")
 #define CURSOR_NEXT_GEQ                                                                                                \
     "Moves to the first number from here on that is at least value, and returns it; stays where the number here is. "  \
     "None where each is less: the cursor is at the end then. A number that is near costs 25 words, another one three " \

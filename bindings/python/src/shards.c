@@ -1,7 +1,7 @@
 /* Lists of queries of shards: one call of the library for each part of a list. And which shards a list reads. */
 #include "core.h"
 
-enum { BLOCK = 2048 };
+enum { BLOCK = 512 }; /* on the stack */
 enum { PART = 1 << 17 }; /* queries that are grouped at once: their order stays in a processor's caches */
 
 /* Marks the shards that have the queries, up to the first that is below 0: BITM_OK, or BITM_WRONG. Needs no GIL. */

@@ -4,7 +4,6 @@
 int sparse_opened(Memory *it)
 {
     int is_open = bitm_sparse_open(it->block, it->block_len, &it->sparse) == BITM_OK;
-    it->sequence = it->sparse.positions;
     if (!is_open || it->sparse.bits_len <= PY_SSIZE_T_MAX)
         return block_opened("sparse bits", is_open);
     PyErr_SetString(PyExc_ValueError, "there are 2**63 bits or more");
@@ -73,6 +72,71 @@ static Py_ssize_t sparse_len(PyObject *self) { return value_len(self, length); }
 static PyObject *sparse_item(PyObject *self, Py_ssize_t index) { return item_at(self, index, 0, &ITEMS); }
 static PyObject *sparse_subscript(PyObject *self, PyObject *key) { return item_for(self, key, &ITEMS); }
 
+/* Whether any bit is of a kind. */
+static int sparse_contains(PyObject *self, PyObject *value)
+{
+    uint64_t position;
+    int bit = bit_sought(value);
+    Memory *it = bit < -1 ? NULL : memory_of(self);
+    if (it == NULL)
+        return -1;
+    uint32_t status = bit < 0 ? BITM_NONE : bitm_sparse_next(&it->sparse, bit, 0, &position);
+    if (status == BITM_OK || status == BITM_NONE)
+        return status == BITM_OK;
+    (void)wrong();
+    return -1;
+}
+
+/* ---- the bits one after another */
+
+typedef struct {
+    Walk walk;        /* over SparseBits */
+    uint64_t at, one; /* the bit that is next, and the 1 bit at it or after it: past the end where there is none */
+} SparseWalk;
+
+/* The first 1 bit from a position on. -1 and an error. */
+static int one_from(const Memory *it, uint64_t from, uint64_t *one)
+{
+    uint32_t status = bitm_sparse_next(&it->sparse, true, from, one);
+    if (status == BITM_NONE)
+        *one = UINT64_MAX;
+    else if (status != BITM_OK)
+        (void)wrong();
+    return status == BITM_OK || status == BITM_NONE ? 0 : -1;
+}
+
+static PyObject *walk_next(PyObject *self)
+{
+    SparseWalk *it = (SparseWalk *)self;
+    if (interrupted((size_t)it->at)) /* which may run Python code, and so this */
+        return NULL;
+    Memory *memory = it->walk.source == NULL ? NULL : memory_of(it->walk.source);
+    if (memory == NULL || it->at >= length(memory))
+        return NULL;
+    const int bit = it->at == it->one;
+    if (bit && one_from(memory, it->at + 1, &it->one))
+        return NULL;
+    it->at++;
+    return boxed_bit(bit);
+}
+
+static PyObject *sparse_iter(PyObject *self)
+{
+    uint64_t one;
+    SparseWalk *it = (SparseWalk *)PyType_GenericAlloc(SparseWalk_Type, 0);
+    Memory *memory = it == NULL ? NULL : memory_of(self); /* after the object, for making that may collect */
+    if (memory == NULL || one_from(memory, 0, &one)) {
+        DROP(it);
+        return NULL;
+    }
+    it->walk.source = Py_NewRef(self);
+    it->one = one;
+    return (PyObject *)it;
+}
+
+static PyType_Slot walk_slots[] = {{Py_tp_iternext, walk_next}, WALK_SLOTS, {0, NULL}};
+PyType_Spec sparse_walk_spec = {"bitm._core._SparseWalk", sizeof(SparseWalk), 0, WALK_FLAGS, walk_slots};
+
 /* ---- one query */
 
 BIT_QUERIES(sparse)
@@ -103,12 +167,18 @@ BIT_LISTS(sparse)
 
 BLOCK_CHECK(sparse)
 
-/* The same memory, as the sequence that it holds. */
+/* The sequence that it holds, in its memory. */
 static PyObject *sparse_positions(PyObject *self, void *none)
 {
-    Memory *it = memory_kept(self);
+    Memory *behind = memory_kept(self), *it = behind == NULL ? NULL : memory_new();
     (void)none;
-    return it == NULL ? NULL : value_new(BORROWED(Sequence_Type), it);
+    if (it == NULL) {
+        DROP(behind);
+        return NULL;
+    }
+    it->behind = behind;
+    it->sequence = behind->sparse.positions;
+    return value_new(BORROWED(Sequence_Type), it);
 }
 
 static PyObject *sparse_repr(PyObject *self)
@@ -158,27 +228,29 @@ static PyMethodDef methods[] = {
     METHOD("check", sparse_check, METH_NOARGS, "($self, /)",
            "Whether the block is as it was written and holds sparse bits: looks at all of it." OF(".check()")
                PRINTS("True")),
-    VALUE_METHODS,
+    VALUE_METHODS("SparseBits([3, 100], 5000)"),
     {NULL, NULL, 0, NULL}};
 
 static PyGetSetDef attributes[] = {
     {"positions", sparse_positions, NULL,
      DOC("The positions of the 1 bits, as an EliasFano over the same memory." OF(".positions[3]") PRINTS("4000")),
      NULL},
-    VALUE_CLOSED,
+    VALUE_CLOSED("SparseBits([3, 100], 5000)"),
     {NULL, NULL, NULL, NULL, NULL}};
 
 #define SPARSE_DOC                                                                                                     \
     "SparseBits(positions, length=None)\n--\n\n"                                                                       \
-    "Bits of which few are 1 bits, in one block of memory: the positions of the 1 bits, each greater than the one "    \
-    "before it, and how many bits there are: up to the last 1 bit, where it is not given. A 1 bit takes about "        \
-    "2 + log2(n / m) bits where there are m among n. The queries are those of an Index." EXAMPLE(                      \
-        "bits = SparseBits([3, 100, 101, 4000], 5000)") THEN("bits[100], bits.rank(101), bits.select0(3), len(bits)")  \
-        PRINTS("(True, 2, 4, 5000)")
+    "Bits of which few are 1 bits, in one block of memory: the positions of the 1 bits, each greater than\n"           \
+    "the one before it, and how many bits there are: up to the last 1 bit, where it is not given.\n\n"                 \
+    "A 1 bit takes about 2 + log2(n / m) bits where there are m among n.\n\n"                                          \
+    "The queries are those of an Index."                                                                               \
+    EXAMPLE("bits = SparseBits([3, 100, 101, 4000], 5000)")                                                            \
+    THEN("bits[100], bits.rank(101), bits.select0(3), len(bits)") PRINTS("(True, 2, 4, 5000)")
 
 static PyType_Slot slots[] = {VALUE_SLOTS(SPARSE_DOC, sparse_init, methods, attributes, sparse_repr),
-                              {Py_tp_hash, PyObject_HashNotImplemented},
                               {Py_sq_length, sparse_len},
+                              {Py_tp_iter, sparse_iter},
+                              {Py_sq_contains, sparse_contains},
                               {Py_sq_item, sparse_item},
                               {Py_mp_length, sparse_len},
                               {Py_mp_subscript, sparse_subscript},

@@ -107,7 +107,7 @@ static int spelled_take(Spelled *it, PyObject *from)
         return -1;
     }
     PyObject *iterator = spelled_room(it, 0) ? NULL : PyObject_GetIter(from), *item;
-    while (iterator != NULL && (item = PyIter_Next(iterator)) != NULL) {
+    while (iterator != NULL && (item = next_item(iterator, it->count)) != NULL) {
         int failed = spelled_put(it, item);
         Py_DECREF(item);
         if (failed)
@@ -318,27 +318,27 @@ static PyMethodDef methods[] = {
     METHOD("check", strings_check, METH_NOARGS, "($self, /)",
            "Whether the block is as it was written and holds strings: looks at all of it." OF("names.check()")
                PRINTS("True")),
-    VALUE_METHODS,
+    VALUE_METHODS("Strings(['ada', 'bob'])"),
     {NULL, NULL, 0, NULL}};
 
 static PyGetSetDef attributes[] = {
-    {"seed", strings_seed, NULL, DOC("What the hashes of the strings begin with." OF("names.seed") PRINTS("0")), NULL},
-    VALUE_CLOSED,
+    {"seed", strings_seed, NULL, DOC("The key of the hashes of the strings." OF("names.seed") PRINTS("0")), NULL},
+    VALUE_CLOSED("Strings(['ada', 'bob'])"),
     {NULL, NULL, NULL, NULL, NULL}};
 
 #define STRINGS_DOC                                                                                                    \
     "Strings(strings, *, percent=100, seed=None)\n--\n\n"                                                              \
-    "Strings, each with a number of its own below how many there are, in one block of memory: a minimal perfect hash " \
-    "and the strings, so that what is none of them has no number. A string is bytes, or a str as its UTF-8, and "      \
-    "comes "                                                                                                           \
-    "back as bytes; it takes these and about 67 bits. percent is how many bits the levels have for each 100 strings; " \
-    "seed is what their hashes, FNV-1a, begin with: where it is not given 0, or 1 if that gives two strings one "      \
-    "hash." EXAMPLE("names = Strings(['ada', 'bob', 'eve'])")                                                          \
-        THEN("'bob' in names, 'bo' in names, names[names.find('eve')], len(names)") PRINTS("(True, False, b'eve', 3)")
+    "Strings, each with a number of its own below how many there are, in one block of memory: a minimal\n"             \
+    "perfect hash and the strings, so that what is none of them has no number.\n\n"                                    \
+    "A string is bytes, or a str as its UTF-8, and comes back as bytes; it takes these and about 67 bits.\n\n"         \
+    "percent is how many bits the levels have for each 100 strings; seed is the key of their hashes,\n"                \
+    "SipHash-1-3: where it is not given 0, or 1 if that gives two strings one hash."                                   \
+    EXAMPLE("names = Strings(['ada', 'bob', 'eve'])")                                                                  \
+    THEN("'bob' in names, 'bo' in names, names[names.find('eve')], len(names)")                                        \
+    PRINTS("(True, False, b'eve', 3)")
 
 static PyType_Slot slots[] = {VALUE_SLOTS(STRINGS_DOC, strings_init, methods, attributes, strings_repr),
                               {Py_tp_iter, strings_iter},
-                              {Py_tp_hash, PyObject_HashNotImplemented},
                               {Py_sq_length, strings_len},
                               {Py_sq_item, strings_item},
                               {Py_sq_contains, strings_contains},

@@ -215,7 +215,7 @@ static PyMethodDef methods[] = {
            "part of the text a list. A word is kept for each letter of the alphabet; ValueError where a number is not "
            "below `letters`." EXAMPLE("index = TextIndex.of_letters([1, 0, 2000, 0, 2000, 0], letters=2001)")
                THEN("index.find_all([0, 2000]), index[4:6]") PRINTS("([1, 3], [2000, 0])")),
-    VALUE_METHODS,
+    VALUE_METHODS("TextIndex(b'banana')"),
     {NULL, NULL, 0, NULL}};
 
 static PyGetSetDef attributes[] = {
@@ -223,25 +223,23 @@ static PyGetSetDef attributes[] = {
      DOC("How many bits a letter takes: of bytes as many as the number of different bytes needs." OF(".width")
              PRINTS("2")),
      NULL},
-    VALUE_CLOSED,
+    VALUE_CLOSED("TextIndex(b'banana')"),
     {NULL, NULL, NULL, NULL, NULL}};
 
 #define TEXT_DOC                                                                                                       \
     "TextIndex(text, step=32)\n--\n\n"                                                                                 \
-    "The index of a text of bytes, by which a pattern is counted in a time that does not depend on the text's "        \
-    "length. "                                                                                                         \
-    "The text is not needed any more: `index[from:to]` is a part of it. Each `step` bytes a position is kept: the "    \
-    "fewer, "                                                                                                          \
-    "the less memory, and the longer it takes to find a position or a part. Building takes linear time, and eight "    \
-    "bytes "                                                                                                           \
-    "for each of the text while it works. TextIndex.of_letters() takes a list of numbers, TextIndex.open() maps the "  \
-    "file that save() or the program `bitm text build` wrote, and TextIndex.over() takes its bytes." EXAMPLE(          \
-        "index = TextIndex(b'banana')")                                                                                \
-        THEN("len(index), index.count(b'ana'), index.find_all(b'ana'), index[1:4], b'nab' in index")                   \
-            PRINTS("(6, 2, [1, 3], b'ana', False)")
+    "The index of a text of bytes, by which a pattern is counted in a time that does not depend on the\n"              \
+    "text's length. The text is not needed any more: `index[from:to]` is a part of it.\n\n"                            \
+    "Each `step` bytes a position is kept: the fewer, the less memory, and the longer it takes to find a\n"            \
+    "position or a part.\n\n"                                                                                          \
+    "Building takes linear time, and eight bytes for each of the text while it works.\n\n"                             \
+    "TextIndex.of_letters() takes a list of numbers, TextIndex.open() maps the file that save() or the\n"              \
+    "program `bitm text build` wrote, and TextIndex.over() takes its bytes."                                           \
+    EXAMPLE("index = TextIndex(b'banana')")                                                                            \
+    THEN("len(index), index.count(b'ana'), index.find_all(b'ana'), index[1:4], b'nab' in index")                       \
+    PRINTS("(6, 2, [1, 3], b'ana', False)")
 
 static PyType_Slot slots[] = {VALUE_SLOTS(TEXT_DOC, text_init, methods, attributes, text_repr),
-                              {Py_tp_hash, PyObject_HashNotImplemented},
                               {Py_sq_contains, text_contains},
                               {Py_mp_length, text_len},
                               {Py_mp_subscript, text_subscript},

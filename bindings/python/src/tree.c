@@ -112,19 +112,18 @@ static PyMethodDef methods[] = {
     METHOD("check", tree_check, METH_NOARGS, "($self, /)",
            "Whether the block is as it was written and holds a tree: looks at all of it." EXAMPLE(
                "Tree([2, 0, 1, 0]).check()") PRINTS("True")),
-    VALUE_METHODS,
+    VALUE_METHODS("Tree([2, 0, 1, 0])"),
     {NULL, NULL, 0, NULL}};
 
-static PyGetSetDef attributes[] = {VALUE_CLOSED, {NULL, NULL, NULL, NULL, NULL}};
+static PyGetSetDef attributes[] = {VALUE_CLOSED("Tree([2, 0, 1, 0])"), {NULL, NULL, NULL, NULL, NULL}};
 
 #define TREE_DOC                                                                                                       \
     "Tree(degrees)\n--\n\n"                                                                                            \
-    "A tree in one block of memory, from the degree of each node, which is how many children it has. Nodes are "       \
-    "numbered level by level: the root is 0, and the children of a node follow one another." EXAMPLE(                  \
-        "tree = Tree([2, 0, 1, 0])") THEN("tree.parent(3), list(tree.children(0))") PRINTS("(2, [1, 2])")
+    "A tree in one block of memory, from the degree of each node, which is how many children it has.\n\n"              \
+    "Nodes are numbered level by level: the root is 0, and the children of a node follow one another."                 \
+    EXAMPLE("tree = Tree([2, 0, 1, 0])") THEN("tree.parent(3), list(tree.children(0))") PRINTS("(2, [1, 2])")
 
 static PyType_Slot slots[] = {VALUE_SLOTS(TREE_DOC, tree_init, methods, attributes, tree_repr),
-                              {Py_tp_hash, PyObject_HashNotImplemented},
                               {Py_sq_length, tree_len},
                               {0, NULL}};
 PyType_Spec tree_spec = {"bitm.Tree", sizeof(Value), 0, VALUE_FLAGS, slots};

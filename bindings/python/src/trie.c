@@ -15,7 +15,13 @@ typedef struct {
     uint32_t width;
 } Parts;
 
-/* A copy of the words of bits, which others may change; none of None. -1 and an error. */
+static int no_ends(void)
+{
+    PyErr_SetString(PyExc_ValueError, "the ends are not a bit for each node");
+    return -1;
+}
+
+/* A copy of the words of bits, which others may change: one for each node at least. None of None. -1 and an error. */
 static int ends_take(Parts *it, PyObject *from)
 {
     const uint64_t *words;
@@ -23,9 +29,12 @@ static int ends_take(Parts *it, PyObject *from)
     if (from == NULL || from == Py_None)
         return 0;
     Memory *held = memory_new();
-    if (held != NULL && memory_words(held, from, &words, &it->ends_len, &bits) == 0 &&
-        (it->ends = room_for(it->ends_len)) != NULL)
-        memcpy(it->ends, words, 8 * it->ends_len);
+    if (held != NULL && memory_words(held, from, &words, &it->ends_len, &bits) == 0) {
+        if (bits < it->count)
+            (void)no_ends();
+        else if ((it->ends = room_for(it->ends_len)) != NULL)
+            memcpy(it->ends, words, 8 * it->ends_len);
+    }
     DROP(held);
     return it->ends == NULL ? -1 : 0;
 }
@@ -47,7 +56,8 @@ static int built(Memory *it, const Parts *from)
         return trie_opened(it);
     PyErr_SetString(PyExc_ValueError, status == BITM_WRONG
                                           ? "the degrees are those of no tree, or the labels none for it"
-                                          : "the width is not 1 to 63, or the ends are not a bit for each node");
+                                          : "the width is not 1 to 63, or the ends are not a bit for each node, or the "
+                                            "labels not one for each node but the root");
     return -1;
 }
 
@@ -97,7 +107,7 @@ static int grown(Memory *it, const uint8_t *bytes, size_t bytes_len, const uint6
         return trie_opened(it);
     if (!PyErr_Occurred())
         PyErr_SetString(PyExc_ValueError,
-                        status == BITM_WRONG ? "the words do not rise" : "the starts are those of no words");
+                        status == BITM_UNSORTED ? "the words do not rise" : "the starts are those of no words");
     return -1;
 }
 
@@ -270,7 +280,7 @@ static PyMethodDef methods[] = {
     METHOD("check", trie_check, METH_NOARGS, "($self, /)",
            "Whether the block is as it was written and holds a trie: looks at all of it." OF(".check()")
                PRINTS("True")),
-    VALUE_METHODS,
+    VALUE_METHODS("Trie.of_words(['a', 'be'])"),
     {NULL, NULL, 0, NULL}};
 
 static PyGetSetDef attributes[] = {
@@ -278,22 +288,23 @@ static PyGetSetDef attributes[] = {
     {"has_ends", trie_has_ends, NULL,
      DOC("Whether there is a bit for each node that says whether a word ends there." OF(".has_ends") PRINTS("True")),
      NULL},
-    VALUE_CLOSED,
+    VALUE_CLOSED("Trie.of_words(['a', 'be'])"),
     {NULL, NULL, NULL, NULL, NULL}};
 
 #define TRIE_DOC                                                                                                       \
     "Trie(degrees, labels, width=8, ends=None)\n--\n\n"                                                                \
-    "A trie in one block of memory: a tree, from the degree of each node, in which each node but the root has a "      \
-    "label, and the labels of the children of a node rise, so that a word leads to at most one node. `labels` has "    \
-    "those of the nodes from 1 on, bytes or numbers of `width` bits each, 1 to 63; `ends`, a BitVector or words, has " \
-    "a bit for each node that says whether a word ends there. Words are bytes, a str as UTF-8, or lists of labels. "   \
-    "`word in trie` says whether it leads to a node at which a word ends: never where there are no ends. `of_words` "  \
-    "makes a trie of words." EXAMPLE(                                                                                  \
-        "trie = Trie([2, 0, 1, 0], b'abe', ends=BitVector.from_bits('0111'))  # a, b and be")                          \
-        THEN("trie.find(b'be'), trie.find(b'e'), trie.word(2), 'be' in trie") PRINTS("(3, None, b'b', True)")
+    "A trie in one block of memory: a tree, from the degree of each node, in which each node but the root\n"           \
+    "has a label, and the labels of the children of a node rise, so that a word leads to at most one\n"                \
+    "node.\n\n"                                                                                                        \
+    "`labels` has those of the nodes from 1 on, bytes or numbers of `width` bits each, 1 to 63; `ends`, a\n"           \
+    "BitVector or words, has a bit for each node that says whether a word ends there, or is None.\n\n"                 \
+    "Words are bytes, a str as UTF-8, or lists of labels. `word in trie` says whether it leads to a node\n"            \
+    "at which a word ends: never where there are no ends.\n\n"                                                         \
+    "`of_words` makes a trie of words."                                                                                \
+    EXAMPLE("trie = Trie([2, 0, 1, 0], b'abe', ends=BitVector.from_bits('0111'))  # a, b and be")                      \
+    THEN("trie.find(b'be'), trie.find(b'e'), trie.word(2), 'be' in trie") PRINTS("(3, None, b'b', True)")
 
 static PyType_Slot slots[] = {VALUE_SLOTS(TRIE_DOC, trie_init, methods, attributes, trie_repr),
-                              {Py_tp_hash, PyObject_HashNotImplemented},
                               {Py_sq_length, trie_len},
                               {Py_sq_contains, trie_contains},
                               {0, NULL}};

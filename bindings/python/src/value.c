@@ -1,4 +1,4 @@
-/* Index, EliasFano and PerfectHash as Python objects: closing, copying, and what Python code may see of their memory. */
+/* Values as Python objects: closing, copying, and what Python code may see of their memory. */
 #include "core.h"
 
 PyMemberDef value_members[] = {{"__weaklistoffset__", T_PYSSIZET, offsetof(Value, weak), READONLY, NULL},

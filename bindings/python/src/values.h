@@ -22,6 +22,19 @@ int text_opened(Memory *it);
 int trie_opened(Memory *it);
 PyObject *trie_of_sorted(PyObject *module, PyObject *args);
 
+/* ---- block.c, index_block.c, and sequence.c and hash_make.c: new memory with the block of a value that is in none,
+ * where that is kept meanwhile; NULL and an error */
+PyObject *block_of_value(PyObject *module, PyObject *self);
+Memory *index_in_block(Memory *from);
+Memory *sequence_in_block(Memory *from);
+Memory *hash_in_block(Memory *from);
+
+/* Opens the block of an index, with the samples that are in sections of it. -1 and ValueError. */
+int index_block_opened(Memory *it);
+
+/* ---- parts.c: whether it is a class of a value: of those that the error names; TypeError else */
+int is_value(PyObject *type);
+
 /* ---- hash_make.c, sections.c */
 int hash_init(PyObject *self, PyObject *args, PyObject *keywords);
 PyObject *section_added(PyObject *module, PyObject *args);
@@ -50,7 +63,7 @@ uint64_t *block_room(Memory *it, uint64_t len);
 PyObject *value_checked(PyObject *self, int (*is_right)(const Memory *it));
 
 /* The end of a list whose call stops at the first item without an answer, after `written` others, which are not wanted
- * then: that item is missing where its own status says that there is none, else wrong. */
+ * then: that item is missing where the status says that there is none, else wrong. */
 uint32_t stopped_at(uint64_t written, uint32_t status, uint64_t *out, struct bitm_list_counts *counts);
 
 /* ---- the items of a value, as those of a list */
@@ -206,6 +219,19 @@ typedef struct {
 int pattern_take(Pattern *it, PyObject *from, const char *what, const char *no_text);
 void pattern_drop(Pattern *it);
 
+/* Item, start and stop of the method index: -1 and an error. Runs Python code. */
+static inline int range_taken(const char *item, PyObject *const *args, Py_ssize_t count, PyObject *keywords,
+                              PyObject **value, uint64_t *start, uint64_t *stop)
+{
+    const char *const names[] = {item, "start", "stop"};
+    PyObject *given[3];
+    if (pick("index", names, 1, 3, args, count, keywords, given) || number_or(given[1], 0, "the start", start) ||
+        number_or(given[2], UINT64_MAX, "the stop", stop))
+        return -1;
+    *value = given[0];
+    return 0;
+}
+
 /* ---- numbers of keys */
 
 /* The number of a key: 1, 0 where it has none, -1 and an error. */
@@ -252,17 +278,17 @@ static inline PyObject *number_or_error(PyObject *self, finder found, PyObject *
         return call(&it->member, in, count, out, count, counts);                                                       \
     }
 
-/* The same of a call that stops at the first item without an answer, which `one_of` answers too. */
-#define LIST_UNTIL_NONE(name, call, member, one_of)                                                                    \
+/* The same of a call that stops at the first item without an answer, and says by its status why. */
+#define LIST_UNTIL_NONE(name, call, member)                                                                            \
     static uint32_t name(const Memory *it, bool one, const uint64_t *in, uint64_t *out, size_t count,                  \
                          struct bitm_list_counts *counts)                                                              \
     {                                                                                                                  \
-        uint64_t written = 0, answer;                                                                                  \
+        uint64_t written = 0;                                                                                          \
         (void)one;                                                                                                     \
         uint32_t status = call(&it->member, in, count, out, count, &written);                                          \
-        if (status != BITM_OK || written == count)                                                                     \
+        if (status != BITM_NONE && status != BITM_WRONG)                                                               \
             return status;                                                                                             \
-        return stopped_at(written, one_of(it, in[written], &answer), out, counts);                                     \
+        return stopped_at(written, status, out, counts);                                                               \
     }
 
 /* The method of a class for a list. */

@@ -111,16 +111,6 @@ Vector *vector_of_range(const Bits *from, uint64_t begin, uint64_t count)
     return made;
 }
 
-Vector *vector_of_slice(const Bits *from, Py_ssize_t start, Py_ssize_t step, Py_ssize_t count)
-{
-    if (step == 1)
-        return vector_of_range(from, (uint64_t)start, (uint64_t)count);
-    Vector *made = vector_new(Vector_Type, (uint64_t)count);
-    for (Py_ssize_t i = 0; made != NULL && i < count; i++)
-        bitm_set_bit_at(made->words, (uint64_t)i, bitm_bit_at(from->words, (uint64_t)(start + i * step)));
-    return made;
-}
-
 static PyObject *vector_repr(PyObject *self)
 {
     const Bits *bits = &((Vector *)self)->bits;
@@ -134,7 +124,7 @@ static PyObject *vector_repr(PyObject *self)
 
 /* ---- memory */
 
-static int vector_buffer(PyObject *self, Py_buffer *out, int flags)
+int vector_buffer(PyObject *self, Py_buffer *out, int flags)
 {
     Vector *it = (Vector *)self;
     out->obj = NULL;
@@ -159,7 +149,7 @@ static int vector_buffer(PyObject *self, Py_buffer *out, int flags)
     return 0;
 }
 
-static void vector_release(PyObject *self, Py_buffer *held)
+void vector_release(PyObject *self, Py_buffer *held)
 {
     (void)held;
     ((Vector *)self)->exports--;

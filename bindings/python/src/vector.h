@@ -20,22 +20,27 @@ typedef struct {
 /* A new vector of the given number of 0 bits; NULL and MemoryError. */
 Vector *vector_new(PyTypeObject *type, uint64_t len);
 
-/* A new BitVector of count bits from a position on; of bits that are step positions apart. The caller knows that they
- * are inside. */
+/* A new BitVector of count bits from a position on. The caller knows that they are inside. */
 Vector *vector_of_range(const Bits *from, uint64_t begin, uint64_t count);
-Vector *vector_of_slice(const Bits *from, Py_ssize_t start, Py_ssize_t step, Py_ssize_t count);
 
 /* Copies bits that are inside both. */
 void vector_copy_range(Vector *to, uint64_t to_begin, const Bits *from, uint64_t from_begin, uint64_t count);
 
-/* A new vector of what from_bits takes. */
-PyObject *vector_of(PyTypeObject *type, PyObject *from);
+/* A new BitVector of what from_bits takes. */
+Vector *vector_of(PyObject *from);
 
 /* Another length, whose new bits are 0; all bits of another vector, whose own these become. -1 and BufferError where
  * others use the words. */
 int vector_resize(Vector *it, uint64_t len);
 int vector_take(Vector *it, Vector *other);
 int vector_is_used(const Vector *it);
+
+/* The buffer of its words, which locks the length until it is released. A class of Python's may have other buffers. */
+int vector_buffer(PyObject *self, Py_buffer *out, int flags);
+void vector_release(PyObject *self, Py_buffer *held);
+
+/* A vector of a class that has the words of a new BitVector, or of NULL and an error; takes the reference. */
+PyObject *vector_as(PyObject *type, Vector *made);
 
 /* vector_make.c, vector_list.c */
 PyObject *vector_from_bits(PyObject *type, PyObject *from);

@@ -4,11 +4,12 @@
 
 #define VECTOR_DOC                                                                                                     \
     "BitVector(length=0)\n--\n\n"                                                                                      \
-    "Bits that can be read, counted and changed; 0 bits at first. It has the calls of a list of bools, and its "       \
-    "buffer is its words, to be read.\n\n"                                                                             \
-    "MemoryError where there is no memory: then, as after each call that raises, the bits are as they were. "          \
-    "BufferError where a call would change the length while others use the words (an Index, a memoryview)." EXAMPLE(   \
-        "bits = BitVector(5)") THEN("bits[1] = bits[4] = True") THEN("bits") PRINTS("BitVector('01001')")
+    "Bits that can be read, counted and changed; 0 bits at first. It has the calls of a list of bools,\n"              \
+    "and its buffer is its words, to be read.\n\n"                                                                     \
+    "MemoryError where there is no memory: then, as after each call that raises, the bits are as they\n"               \
+    "were. BufferError where a call would change the length while others use the words (an Index, a\n"                 \
+    "memoryview)."                                                                                                     \
+    EXAMPLE("bits = BitVector(5)") THEN("bits[1] = bits[4] = True") THEN("bits") PRINTS("BitVector('01001')")
 
 #define VECTOR_FROM_BITS                                                                                               \
     "The bits of an iterable, each true or false; of a string of 0 and 1, a bitarray, or an array of bools. "          \

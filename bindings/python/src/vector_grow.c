@@ -37,7 +37,8 @@ static int slice_delete(Vector *it, Py_ssize_t start, Py_ssize_t step, Py_ssize_
 static int slice_assign(Vector *it, Py_ssize_t start, Py_ssize_t step, Py_ssize_t count, const Bits *other)
 {
     if (other->len != (uint64_t)count) {
-        PyErr_Format(PyExc_ValueError, "%llu bits cannot replace a slice of %zd", (unsigned long long)other->len, count);
+        PyErr_Format(PyExc_ValueError, "%llu bits cannot replace a slice of %zd", (unsigned long long)other->len,
+                     count);
         return -1;
     }
     for (Py_ssize_t i = 0; i < count; i++)
@@ -63,8 +64,7 @@ static int assign_slice(Vector *it, PyObject *key, PyObject *value)
     int bit = 0, is_bit = value != NULL && (PyBool_Check(value) || PyLong_Check(value));
     if (PySlice_Unpack(key, &start, &stop, &step) || (is_bit && (bit = bit_of(value)) < 0))
         return -1;
-    if (value != NULL && !is_bit &&
-        (other = (Vector *)vector_of(Vector_Type, value)) == NULL) /* a copy, also of itself */
+    if (value != NULL && !is_bit && (other = vector_of(value)) == NULL) /* a copy, also of itself */
         return -1;
     Py_ssize_t count = PySlice_AdjustIndices((Py_ssize_t)it->bits.len, &start, &stop, step);
     const Bits *bits = other == NULL ? &nothing : &other->bits;
@@ -113,7 +113,7 @@ PyObject *vector_append(PyObject *self, PyObject *value)
 
 PyObject *vector_extend(PyObject *self, PyObject *values)
 {
-    Vector *it = (Vector *)self, *other = (Vector *)vector_of(Vector_Type, values);
+    Vector *it = (Vector *)self, *other = vector_of(values);
     if (other == NULL)
         return NULL;
     uint64_t before = it->bits.len;

@@ -1,7 +1,7 @@
 /* bitm.BitVector: bits at many positions. */
 #include "vector.h"
 
-enum { BLOCK = 2048 };
+enum { BLOCK = 512 }; /* on the stack, of which a thread may have 32 KiB */
 
 /* What stopped a list: a number below 0, or a position past the end; and at which item. */
 typedef struct {
@@ -35,7 +35,7 @@ static Outcome go_over(const Integers *from, Vector *to, int one, uint64_t len, 
         size_t count = from->len - it.at < BLOCK ? from->len - it.at : BLOCK,
                found = integers_load(from, it.at, count, in), i = 0;
         if (to != NULL ? set_block(to, one, in, found) > 0 : look_at_block(in, found, len, most)) {
-            while (in[i] < len)
+            while (i + 1 < found && in[i] < len)
                 i++;
             Outcome past = {PAST, it.at + i, in[i]};
             return past;
@@ -75,10 +75,10 @@ static int length_for(const Integers *positions, uint64_t *length)
     return PyErr_Occurred() ? -1 : 0;
 }
 
-static Vector *of_positions(PyTypeObject *type, const Integers *positions, uint64_t length)
+static Vector *of_positions(const Integers *positions, uint64_t length)
 {
     Outcome outcome;
-    Vector *made = vector_new(type, length);
+    Vector *made = vector_new(Vector_Type, length);
     if (made == NULL)
         return NULL;
     Py_BEGIN_ALLOW_THREADS
@@ -101,9 +101,9 @@ PyObject *vector_from_indices(PyObject *type, ARGUMENTS)
         return NULL;
     int is_given = given[1] != NULL && given[1] != Py_None;
     if (is_given || length_for(&positions, &length) == 0)
-        made = of_positions((PyTypeObject *)type, &positions, length);
+        made = of_positions(&positions, length);
     integers_drop(&positions);
-    return (PyObject *)made;
+    return vector_as(type, made);
 }
 
 /* ---- BitVector.set_list */
@@ -122,8 +122,8 @@ PyObject *vector_set_list(PyObject *self, ARGUMENTS)
     int bit = given[1] == NULL ? 1 : bit_of(given[1]);
     if (bit < 0 || integers_take(&positions, given[0], "a position"))
         return NULL;
-    uint64_t len = it->bits.len; /* the Python code of the arguments has run */
     int status = it->exports > 0 ? integers_own(&positions) : 0;
+    uint64_t len = it->bits.len; /* the Python code of the arguments has run, and of the buffer that was given back */
     if (status == 0) {
         Outcome outcome = go_over(&positions, NULL, bit, len, &most);
         if (outcome.why == DONE)

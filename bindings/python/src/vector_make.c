@@ -1,6 +1,20 @@
 /* bitm.BitVector: what it is made of. */
 #include "vector.h"
 
+/* A vector of a class that has the words of a new BitVector, which is dropped: that one was filled where no other
+ * thread could reach it. An object of a subclass is the collector's from its birth, so that gc.get_objects() gives it
+ * to all. */
+PyObject *vector_as(PyObject *type, Vector *made)
+{
+    if (made == NULL || type == BORROWED(Vector_Type))
+        return (PyObject *)made;
+    Vector *it = vector_new((PyTypeObject *)type, 0);
+    if (it != NULL && vector_take(it, made))
+        Py_CLEAR(it);
+    DROP(made);
+    return (PyObject *)it;
+}
+
 /* Copies the first bits into a new vector, which nobody else has yet: without the GIL, but from another BitVector,
  * whose bits may change meanwhile. */
 static void copied(Vector *made, PyObject *from, const Bits *bits)
@@ -15,7 +29,7 @@ static void copied(Vector *made, PyObject *from, const Bits *bits)
 }
 
 /* The first bits of words, copied; of all where no length is given. */
-static PyObject *of_words(PyTypeObject *type, PyObject *from, int is_given, uint64_t length)
+static Vector *of_words(PyObject *from, int is_given, uint64_t length)
 {
     Bits bits;
     Vector *made = NULL;
@@ -25,11 +39,11 @@ static PyObject *of_words(PyTypeObject *type, PyObject *from, int is_given, uint
         if (len > bits.len)
             PyErr_Format(PyExc_ValueError, "the buffer has %llu bits, not %llu", (unsigned long long)bits.len,
                          (unsigned long long)len);
-        else if ((made = vector_new(type, len)) != NULL)
+        else if ((made = vector_new(Vector_Type, len)) != NULL)
             copied(made, from, &bits);
     }
     DROP(it);
-    return (PyObject *)made;
+    return made;
 }
 
 PyObject *vector_from_words(PyObject *type, ARGUMENTS)
@@ -39,7 +53,7 @@ PyObject *vector_from_words(PyObject *type, ARGUMENTS)
     uint64_t length;
     if (pick("from_words", names, 1, 2, args, count, keywords, given) || number_or(given[1], 0, "the length", &length))
         return NULL;
-    return of_words((PyTypeObject *)type, given[0], given[1] != NULL && given[1] != Py_None, length);
+    return vector_as(type, of_words(given[0], given[1] != NULL && given[1] != Py_None, length));
 }
 
 /* ---- bits */
@@ -56,12 +70,12 @@ static int read_text(Vector *to, const char *text)
     return 1;
 }
 
-static PyObject *of_text(PyTypeObject *type, PyObject *text)
+static Vector *of_text(PyObject *text)
 {
     Py_ssize_t count;
     int is_text;
     const char *at = PyUnicode_AsUTF8AndSize(text, &count);
-    Vector *made = at == NULL ? NULL : vector_new(type, (uint64_t)count);
+    Vector *made = at == NULL ? NULL : vector_new(Vector_Type, (uint64_t)count);
     if (made == NULL)
         return NULL;
     Py_BEGIN_ALLOW_THREADS
@@ -71,25 +85,26 @@ static PyObject *of_text(PyTypeObject *type, PyObject *text)
         PyErr_SetString(PyExc_ValueError, "a string of bits has 0 and 1 alone");
         Py_CLEAR(made);
     }
-    return (PyObject *)made;
+    return made;
 }
 
 /* NumPy packs the bits itself. */
-static PyObject *of_array(PyTypeObject *type, PyObject *array)
+static Vector *of_array(PyObject *array)
 {
-    PyObject *both = more("packed_bits", PyTuple_Pack(1, array)), *made = NULL, *bytes = NULL;
+    PyObject *both = more("packed_bits", PyTuple_Pack(1, array)), *bytes = NULL;
+    Vector *made = NULL;
     unsigned long long count;
     if (both != NULL && PyArg_ParseTuple(both, "OK", &bytes, &count))
-        made = of_words(type, bytes, 1, count);
+        made = of_words(bytes, 1, count);
     Py_XDECREF(both);
     return made;
 }
 
-static PyObject *of_iterable(PyTypeObject *type, PyObject *from)
+static Vector *of_iterable(PyObject *from)
 {
     PyObject *iterator = PyObject_GetIter(from), *value;
-    Vector *made = iterator == NULL ? NULL : vector_new(type, 0);
-    while (made != NULL && (value = PyIter_Next(iterator)) != NULL) {
+    Vector *made = iterator == NULL ? NULL : vector_new(Vector_Type, 0);
+    while (made != NULL && (value = next_item(iterator, (size_t)made->bits.len)) != NULL) {
         int bit = -1;
         if (PyUnicode_Check(value) || PyBytes_Check(value))
             PyErr_Format(PyExc_TypeError, "a bit is true or false, not %R", value);
@@ -103,22 +118,26 @@ static PyObject *of_iterable(PyTypeObject *type, PyObject *from)
     Py_XDECREF(iterator);
     if (PyErr_Occurred())
         Py_CLEAR(made);
-    return (PyObject *)made;
+    return made;
 }
 
-PyObject *vector_of(PyTypeObject *type, PyObject *from)
+Vector *vector_of(PyObject *from)
 {
     if (PyUnicode_Check(from))
-        return of_text(type, from);
-    if (PyObject_TypeCheck(from, Vector_Type) || is_instance(from, "bitarray", "bitarray"))
-        return of_words(type, from, 0, 0);
-    if (is_instance(from, "numpy", "ndarray"))
-        return of_array(type, from);
+        return of_text(from);
+    int is_of_words = PyObject_TypeCheck(from, Vector_Type) ? 1 : is_instance(from, "bitarray", "bitarray"),
+        is_array = is_of_words ? 0 : is_instance(from, "numpy", "ndarray");
+    if (is_of_words < 0 || is_array < 0)
+        return NULL;
+    if (is_of_words)
+        return of_words(from, 0, 0);
+    if (is_array)
+        return of_array(from);
     if (PyBytes_Check(from) || PyByteArray_Check(from) || PyMemoryView_Check(from)) {
         PyErr_SetString(PyExc_TypeError, "bytes are not bits: see BitVector.from_words, or pass a string of 0 and 1");
         return NULL;
     }
-    return of_iterable(type, from);
+    return of_iterable(from);
 }
 
-PyObject *vector_from_bits(PyObject *type, PyObject *from) { return vector_of((PyTypeObject *)type, from); }
+PyObject *vector_from_bits(PyObject *type, PyObject *from) { return vector_as(type, vector_of(from)); }

@@ -1,12 +1,44 @@
 """For the tests of the values over one block: what is stored, copied and closed, blocks that were changed, and values that are closed
 while threads query them."""
 import copy
+import io
+import os
+import pathlib
 import pickle
 import threading
 
 import pytest
 
 import bitm
+
+# Files of format version 2, and a pickle of values in parts.
+VERSION_2 = pathlib.Path(__file__).parent / "version_2"
+
+
+def bytes_of(value):
+    file = io.BytesIO()
+    value.save(file)
+    return file.getvalue()
+
+
+def refused(data, path, is_file):
+    with pytest.raises(ValueError):
+        bitm.loads(data)
+    with pytest.raises(ValueError):
+        bitm.load(io.BytesIO(data))
+    if is_file:
+        path.write_bytes(data)
+        with open(path, "rb") as file:
+            for it in (path, file):
+                with pytest.raises(ValueError, match="stored|is not the block|was saved here"):
+                    bitm.load(it)
+        number = os.open(path, os.O_RDONLY)
+        with pytest.raises(ValueError):
+            bitm.load(number)
+        os.close(number)
+        if data:
+            with pytest.raises(ValueError):
+                bitm.load(path, mmap=True)
 
 
 def stored_and_copied(value, path):

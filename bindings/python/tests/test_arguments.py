@@ -47,6 +47,25 @@ def test_numbers(bad, error):
             call(good)
 
 
+def test_numbers_that_are_too_long_to_be_printed():
+    long = 10**5000
+    _, sequence, vector = values()
+    for bad in (long, -long, Number(long)):
+        for call in single() + [lambda it, f=f: f([it]) for f in lists()]:
+            with pytest.raises(OverflowError, match="below 2.*64, not a number of 16610 bits"):
+                call(bad)
+    for call in (vector.append, vector.index, lambda it: vector.fill(it), lambda it: vector.set_list([1], it)):
+        with pytest.raises(ValueError, match="a bit is true or false, not a number of 16610 bits"):
+            call(long)
+    for call in (sequence.index, bitm.WaveletMatrix([1]).index):
+        with pytest.raises(ValueError, match="a number of 16610 bits is not in the"):
+            call(long)
+    for role in (long, -1):
+        with pytest.raises(OverflowError, match="a role is 0 to"):
+            bitm.extend(bitm.Tree([0]).block, {role: b""})
+    assert long not in sequence and sequence.count(long) == 0 and bitm.PerfectHash(["a"], bits=64).get(long) is None
+
+
 def test_buffers():
     bad = [array.array("d", [1.0]), array.array("f", [1.0]), memoryview(bytes(8)).cast("?"), memoryview(bytes(16)).cast("Q", [1, 2]),
            memoryview(bytes(16)).cast("B", [4, 4]), "01"]
@@ -193,6 +212,9 @@ def test_wrong_parts_of_a_sequence():
     for call in (lambda: sequence[999], lambda: list(sequence), lambda: sequence.get_list([999]), lambda: sequence[0:5], lambda: sequence.to_numpy()):
         with pytest.raises(WrongTables):
             call()
+    for past_the_end in (lambda: sequence[1000], lambda: sequence.get_list([1000, 999])):
+        with pytest.raises(IndexError):
+            past_the_end()
     for parts in ((100000, width, low), (1000, 64, low), (1000, width, low[:1])):
         with pytest.raises(ValueError):
             EliasFano.over(*parts, bits, upper, lower)

@@ -1,22 +1,11 @@
 """Each break that an attack found in the ctypes package, as a program of its own: it has to answer right, or raise."""
-import subprocess
 import sys
 import unittest
 
-START = """
-import array, copy, gc, os, pickle, sys, tempfile, threading, time
-import bitm
-room = tempfile.mkdtemp()
-path = os.path.join(room, "it")
-"""
+from programs import Program
 
 
-class Attack(unittest.TestCase):
-    def run_program(self, text, says, timeout=120):
-        # The environment stays as it is (LD_PRELOAD of a sanitizer too).
-        done = subprocess.run([sys.executable, "-X", "faulthandler", "-c", START + text], capture_output=True, text=True, timeout=timeout)
-        self.assertEqual((done.returncode, done.stdout.split("\n")[:-1]), (0, says), done.stderr[-4000:])
-
+class Attack(Program):
     # 1. the collector finalizes what holds a buffer before what asks
 
     def test_cycle_with_a_finalizer_that_asks_a_mapped_index(self):
@@ -280,7 +269,7 @@ for it in (bitm.Index(b, sample_log2=7), bitm.EliasFano([1, 2, 3]), bitm.Perfect
         else: assert made.has_seeds is it.has_seeds
     other = copy.copy(it); it.close(); assert not other.closed and other.check()
 kept = []; data = pickle.dumps(bitm.Index(b"\\xff" * 80000), 5, buffer_callback=kept.append)
-assert len(data) < 1000 and len(kept) == 3, (len(data), len(kept))
+assert len(data) < 1000 and len(kept) == 1, (len(data), len(kept))
 again = pickle.loads(data, buffers=kept); assert again.check() and again.select(639999) == 639999
 class Sub(bitm.BitVector): pass
 s = Sub.from_bits("011"); s.name = "x"; t = copy.copy(s); assert type(t) is Sub and t.name == "x" and t == s

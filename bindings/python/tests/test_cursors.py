@@ -234,9 +234,44 @@ def test_threads_merge_and_close_at_once():
     assert not wrong
 
 
+def answer_of(call):
+    try:
+        return call()
+    except WrongTables:
+        return WrongTables
+
+
+def union_by_calls(cursors, start):
+    """The least of what the cursors answer, again and again."""
+    found = []
+    while start <= MOST:
+        answers = [it for it in [cursor.next_geq(start) for cursor in cursors] if it is not None]
+        if not answers:
+            break
+        found.append(min(answers))
+        start = found[-1] + 1
+    return found
+
+
+def intersection_by_calls(first, others, start):
+    """Each answer of the first cursor, where the others answer it too."""
+    found = []
+    while start <= MOST:
+        number = first.next_geq(start)
+        if number is None:
+            break
+        others_from = next((it for it in (cursor.next_geq(number) for cursor in others) if it != number), number)
+        if others_from is None:
+            break
+        if others_from == number:
+            found.append(number)
+        start = max(others_from, number + 1)
+    return found
+
+
 def test_parts_of_no_sequence():
-    """Each call ends: with numbers that rise, or WrongTables."""
-    draw = random.Random(3)
+    """A merge answers what its cursors do, call by call, and WrongTables exactly where one of these calls does."""
+    draw, ended = random.Random(3), []
     for _ in range(300):
         made = EliasFano(sorted(draw.randrange(4000) for _ in range(200)))
         width, *parts = made.parts
@@ -245,12 +280,17 @@ def test_parts_of_no_sequence():
             for _ in range(draw.randrange(4)):
                 part[draw.randrange(len(part))] ^= 1 << draw.randrange(8)
         wrong = EliasFano.over(200, width, *parts)
-        for call in (lambda: list(wrong.cursor()), lambda: union([wrong, made], 9), lambda: intersect([made, wrong]), lambda: intersect([wrong])):
-            try:
-                found = call()
-            except WrongTables:
-                continue
-            assert found == sorted(set(found)) and len(found) <= 400
+        for call, by_calls in (
+            (lambda: list(wrong.cursor()), lambda: union_by_calls([wrong.cursor()], 0)),
+            (lambda: union([wrong, made], 9), lambda: union_by_calls([wrong.cursor(), made.cursor()], 9)),
+            (lambda: union([made, wrong]), lambda: union_by_calls([made.cursor(), wrong.cursor()], 0)),
+            (lambda: intersect([made, wrong]), lambda: intersection_by_calls(made.cursor(), [wrong.cursor()], 0)),
+            (lambda: intersect([wrong, made, made], 7), lambda: intersection_by_calls(wrong.cursor(), [made.cursor()] * 2, 7)),
+        ):
+            found = answer_of(call)
+            assert found == answer_of(by_calls)
+            ended.append(found is WrongTables)
+            assert found is WrongTables or found == sorted(set(found)) and len(found) <= 400
         try:
             cursor = wrong.cursor()
         except WrongTables:
@@ -261,6 +301,7 @@ def test_parts_of_no_sequence():
             except WrongTables:
                 continue
             assert found is None or found >= value
+    assert any(ended) and not all(ended)
 
 
 def test_words_with_no_bit():

@@ -1,6 +1,7 @@
 """What help() says: each public item has a text with an example, and each example prints what it says."""
 import doctest
 import inspect
+import re
 
 import pytest
 
@@ -36,6 +37,16 @@ def test_the_example_of(name, item, tmp_path, monkeypatch):
 def test_the_examples_of_the_module():
     failed, examples = doctest.testmod(bitm)
     assert failed == 0 and examples > 5
+
+
+def test_texts_are_of_their_class():
+    """`dir` has the names of the package alone; what classes share has an example of each, under the name by which it is called."""
+    assert {it for it in dir(bitm) if not it.startswith("_")} - {"shards"} == set(bitm.__all__)
+    for name, item in items():
+        kind, _, method = name.partition(".")
+        assert method not in ("close", "closed", "save", "over", "block") or re.search(rf"\b{kind}[.(]", item.__doc__), name
+        assert not inspect.isroutine(item) or item.__name__ == (method or kind), name
+        assert method or not inspect.isclass(item) or max(map(len, inspect.getdoc(item).split("\n"))) <= 140, name
 
 
 def test_signatures_are_those_that_are_shown():

@@ -6,7 +6,7 @@ import random
 
 import pytest
 from block_values import answer_of, refuses_another, refuses_once_closed, stored_and_copied, wrong_while_closed
-from blocks import as_bytes, block, of_hash, of_seeded_hash, packed
+from blocks import as_bytes, block, hash_sections, of_hash, of_seeded_hash, packed
 from hypothesis import given, settings, strategies as st
 from test_keys import TEXT, mixed, siphash
 
@@ -76,14 +76,23 @@ def test_the_block_is_that_of_the_documents(count):
         as_plain(PerfectHash.over(wanted), keys_of(count), [])
 
 
-def test_without_tries_nothing_is_new():
+def test_without_tries_there_are_no_seeds():
     plain, data = PerfectHash(keys_of(50)), io.BytesIO()
     plain.save(data)
     assert not plain.has_seeds and not bitm.loads(data.getvalue()).has_seeds and plain.get_list(keys_of(50)) == PerfectHash(keys_of(50), tries=None).get_list(keys_of(50))
-    with pytest.raises(ValueError, match="no block"):
-        plain.block
-    with pytest.raises(ValueError, match="no block"):
-        PerfectHash([]).block
+    assert data.getvalue() == bytes(plain.block) and [role for role, _ in bitm.sections(plain.block)] == [1, 2, 3, 4, MARK]
+
+
+@pytest.mark.parametrize("count", [0, 1, 5, 300])
+def test_the_block_without_seeds_is_that_of_the_documents(count):
+    for percent, bits, seed in ((100, 16, 0), (200, 0, 5), (50, 64, 2**64 - 1)):
+        keys = keys_of(count)
+        hashes = {key: siphash(key.encode(), seed, TEXT) for key in keys}
+        sections, order = hash_sections(list(hashes.values()), percent)
+        prints = packed([mixed(it) >> k & 1 for it in order for k in range(bits)])
+        wanted = as_bytes(block(5, count, 0, [*sections, (MARK, [bits, *prints], 8 + 8 * len(prints))], a=seed))
+        numbers = PerfectHash(keys, percent=percent, bits=bits, seed=seed)
+        assert bytes(numbers.block) == wanted and PerfectHash.over(wanted).get_list(keys) == [order.index(hashes[key]) for key in keys]
 
 
 def test_blake2b_and_numpy():

@@ -2,6 +2,7 @@
 bytes were changed or cut off."""
 import bisect
 import gc
+import itertools
 import random
 
 import pytest
@@ -70,6 +71,9 @@ def as_plain(bits, positions, length):
     assert bits.get_list(inside) == [it in positions for it in inside]
     assert bits.rank_list(up_to) == [bits.rank(it) for it in up_to] and bits.rank0_list(up_to) == [bits.rank0(it) for it in up_to]
     assert bits.select_list(asked) == [bits.select(it) for it in asked] and bits.select0_list(asked) == [bits.select0(it) for it in asked]
+    assert (1 in bits, False in bits, 2 in bits, "1" in bits) == (bool(positions), len(positions) < length, False, False)
+    taken = set(positions)
+    assert list(itertools.islice(bits, 5000)) == [it in taken for it in range(min(length, 5000))]
 
 
 @pytest.mark.parametrize("count, most", [(0, 1), (1, 1), (1, 2**60), (2, 9), (63, 1), (64, 2), (65, 40), (400, 5), (500, 2**40), (2100, 3)])
@@ -122,8 +126,6 @@ def test_arguments_that_are_too_large():
     assert bits.select_list([3, 4], missing=9) == [4000, 9] and bits.count(True) == 4 and bits.count(bit=0) == 4996
     with pytest.raises(ValueError):
         bits.count(2)
-    with pytest.raises(TypeError):
-        hash(bits)
     assert repr(bits) == "<SparseBits of 5000 bits, 4 ones>" and [bits[i] for i in (3, -1000, -1)] == [True, True, False]
 
 

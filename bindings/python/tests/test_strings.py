@@ -12,7 +12,9 @@ from bitm import Strings
 
 NAMES = ["ada", "bob", "eve"]
 ODD = [b"", b"\0", b"\0\0", b"a", b"a\0", b"\xff", "ü".encode(), b"x" * 10000]
-# By seed 0 these two have one hash, and by others they have not.
+# By SipHash-1-3 with the seed 0 these two have one hash, and with the seed 1 they have not.
+ONE_SIPHASH = ["DfPggx7rn3H", "t_0e0z8MQ6G"]
+# By FNV-1a these two have one hash, and by SipHash-1-3 they have not.
 ONE_HASH = ["8yn0iYCKYHlIj4-BwPqk", "GReLUrM4wMqfg9yzV3KQ"]
 
 
@@ -90,14 +92,21 @@ def test_strings_of_each_kind():
     assert found.find_list(dict.fromkeys(NAMES)) == [found.find(it) for it in NAMES]
 
 
-def test_another_seed_where_two_strings_have_one_hash():
-    with pytest.raises(ValueError, match="another seed"):
-        Strings(ONE_HASH, seed=0)
-    assert (Strings(ONE_HASH).seed, Strings(ONE_HASH, seed=5).seed, Strings(NAMES).seed) == (1, 5, 0)
-    as_plain(Strings(ONE_HASH), ONE_HASH)
+def test_strings_that_fnv_gives_one_hash_have_numbers_by_each_seed():
+    assert (Strings(ONE_HASH).seed, Strings(ONE_HASH, seed=5).seed, Strings(NAMES).seed) == (0, 5, 0)
+    for seed in (0, 1, 256, 2**64 - 1):
+        as_plain(Strings(ONE_HASH, seed=seed), ONE_HASH)
     for twice in (["a", "a"], ["a", b"a"], ["", ""], [*NAMES, "ada"]):
         with pytest.raises(ValueError, match="two strings are equal"):
             Strings(twice)
+
+
+def test_strings_of_one_hash_have_another_seed():
+    found = Strings(ONE_SIPHASH)
+    assert found.seed == 1
+    as_plain(found, ONE_SIPHASH)
+    with pytest.raises(ValueError, match="take another seed"):
+        Strings(ONE_SIPHASH, seed=0)
 
 
 def test_wrong_arguments():
@@ -117,7 +126,7 @@ def test_wrong_arguments():
     with pytest.raises(IndexError, match="1 items"):
         found.find_list(["ada", "x"], missing="error")
     for call, error in ((lambda: Strings(NAMES, seed=-1), OverflowError), (lambda: Strings(NAMES, seed=2**64), OverflowError), (lambda: Strings(NAMES, percent="x"), TypeError),
-                        (lambda: Strings(NAMES, 100), TypeError), (lambda: hash(found), TypeError), (lambda: Strings(), TypeError), (lambda: found.find(), TypeError),
+                        (lambda: Strings(NAMES, 100), TypeError), (lambda: Strings(), TypeError), (lambda: found.find(), TypeError),
                         (lambda: found.find_list(), TypeError), (lambda: found.find_list(NAMES, 9), TypeError), (lambda: found.find_list(NAMES, missing=-1), OverflowError)):
         with pytest.raises(error):
             call()

@@ -187,8 +187,6 @@ def test_wrong_arguments():
     for call in (lambda: index.locate(), lambda: index.locate(b"s", 0, 1, 2), lambda: index.locate(b"s", other=1), index.count):
         with pytest.raises(TypeError):
             call()
-    with pytest.raises(TypeError):
-        hash(index)
     assert repr(index) == "<TextIndex of 37 letters>"
 
 

@@ -59,12 +59,18 @@ def test_ends_may_be_missing():
 
 
 def test_parts_of_no_trie_are_refused():
-    for parts in (([2, 0, 1, 0], b"bae"), ([2, 0, 1, 0], b"aae"), ([2, 0, 1, 0], b"ab"), ([0, 1], b"a"), ([], b""), ([1, 0], [256])):
+    for parts in (([2, 0, 1, 0], b"bae"), ([2, 0, 1, 0], b"aae"), ([0, 1], b"a"), ([], b""), ([1, 0], [256])):
         with pytest.raises(ValueError, match="no tree, or the labels"):
+            Trie(*parts)
+    for parts in (([2, 0, 1, 0], b"ab"), ([2, 0, 1, 0], b"abea"), ([2, 0, 1, 0], b""), ([0, 1], b"ab"), ([], b"a")):
+        with pytest.raises(ValueError, match="the labels not one for each node but the root"):
             Trie(*parts)
     for width, ends in ((0, None), (64, None), (2**64 - 1, None), (8, b"\1" * 16)):
         with pytest.raises(ValueError, match="width is not 1 to 63, or the ends"):
             Trie([2, 0, 1, 0], b"abe", width, ends)
+    for ends in (b"", BitVector(), BitVector(3), BitVector.from_bits("111")):
+        with pytest.raises(ValueError, match="the ends are not a bit for each node"):
+            Trie([2, 0, 1, 0], b"abe", ends=ends)
     for wrong, error in ((("a",), TypeError), ((None, b""), TypeError), (([1, 0], "a"), TypeError), (([1, 0], b"a", -1), OverflowError),
                          (([1, 0], b"a", 8, 5), TypeError)):
         with pytest.raises(error):

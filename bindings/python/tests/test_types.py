@@ -76,8 +76,6 @@ def test_small_duties(kind):
     assert sys.getsizeof(value) > sys.getsizeof(small) > 40
     if kind < 3:
         assert isinstance(value, Sequence)
-        with pytest.raises(TypeError):
-            hash(value)
     assert isinstance(value, MutableSequence) == (kind == 0)
     assert type(value).__module__ == "bitm" and type(value).__doc__
     if kind:
@@ -92,6 +90,18 @@ def test_small_duties(kind):
     with pytest.raises(TypeError):
         value < value
     assert (value == 5) is False and (value != "x") is True
+
+
+def test_what_is_compared_by_its_content_has_no_hash_and_all_else_is_hashed_as_an_object():
+    others = (bitm.SparseBits([1]), bitm.Dictionary([1]), bitm.Strings(["a"]), bitm.Tree([0]), bitm.Trie([0], b""), bitm.WaveletMatrix([1]), bitm.TextIndex(b"a"))
+    for value in (*values(), *others):
+        if type(value).__eq__ is object.__eq__:
+            other = copy.copy(value)
+            assert value != other and {value: 5, other: 6}[value] == 5
+        else:
+            assert isinstance(value, (BitVector, Index, EliasFano)) and value == copy.copy(value)
+            with pytest.raises(TypeError, match="unhashable"):
+                hash(value)
 
 
 def test_memory_is_given_back_when_the_last_reader_is_gone():
@@ -234,6 +244,25 @@ def test_a_vector_is_a_mutable_sequence_and_an_index_a_sequence():
     for name in MutableSequence.__abstractmethods__ | {"append", "clear", "extend", "remove", "reverse", "pop", "__iadd__", "__iter__", "index", "count"}:
         assert hasattr(vector, name), name
     assert list(reversed(index)) == list(index)[::-1]
+
+
+def test_the_index_of_a_number_in_a_range_is_that_of_a_list():
+    numbers = [1, 3, 3, 3, 7]
+    for value in (EliasFano(numbers), bitm.WaveletMatrix(numbers)):
+        for number, start, stop in itertools.product((1, 3, 7, 3.0, 4, "x"), range(7), (*range(7), 2**64 - 1)):
+            try:
+                wanted = numbers.index(number, start, min(stop, 9))
+            except ValueError:
+                with pytest.raises(ValueError, match="is not in the"):
+                    value.index(number, start, stop)
+            else:
+                assert value.index(number, start, stop=stop) == wanted
+        assert value.index(3) == value.index(3, 1) == value.index(3, start=0, stop=None) == 1
+        for bad in (-1, 2**64):
+            with pytest.raises(OverflowError):
+                value.index(3, bad)
+        with pytest.raises(TypeError):
+            value.index()
 
 
 def test_fingerprints_let_as_many_others_pass_as_their_bits_say():

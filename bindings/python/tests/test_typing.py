@@ -18,6 +18,15 @@ index, sequence, numbers = bitm.Index(bits), bitm.EliasFano([1, 2]), bitm.Perfec
 shards, names = bitm.Shards("x"), bitm.Strings(["a", b"b", bytearray(b"c")], seed=3)
 array = numpy.array([1, 2], dtype=numpy.int64)
 """
+# Functions of a user's that take what each of these is registered as.
+CALLS = """
+from bisect import bisect_left
+from typing import MutableSequence, Sequence
+def total(numbers: Sequence[int]) -> int: return sum(numbers) + bisect_left(numbers, 2) + numbers.index(1, 0, 5)
+def shown(bits: Sequence[bool]) -> str: return "".join(map(str, reversed(bits)))
+def grown(bits: MutableSequence[bool]) -> None: bits.append(True); bits[0] = False; bits += [True]
+total(sequence); total(bitm.WaveletMatrix([1])); total(index); shown(bits); shown(index); grown(bits)
+"""
 EXPRESSIONS = """bits[1]; bits[1:]; bits & bits; ~bits; bits << 1; list(bits.ones()); bits.next_one(1); bits.to_numpy(); bits.words; bits.copy()
 bits.set_list([1]); bits.set_list(array, 0); sequence.union(sequence); sequence.items(reverse=True).next_leq(3); numbers.seed; numbers.bits; numbers.hash
 index.rank(3); index.select(3); index.rank_list([1]); index.rank_list(array); index.select_list(range(3)); index.select_list(array); index[1:3]
@@ -59,7 +68,7 @@ def test_no_expression_of_a_user_has_a_part_of_an_unknown_type(tmp_path):
     path = tmp_path / "lines.py"
     plain = [it for it in EXPRESSIONS if "array" not in it and "numpy" not in it]
     made = [it for it in LINES.replace(", numpy", "").splitlines() if "numpy" not in it]
-    path.write_text("\n".join([*made, *plain, ""]))
+    path.write_text("\n".join([*made, *plain, CALLS]))
     assert mypy("--disallow-any-expr", "--disallow-any-explicit", "--disallow-any-decorated", "--disallow-any-unimported", str(path)) == ""
 
 

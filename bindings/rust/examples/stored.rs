@@ -1,7 +1,7 @@
 //! Writes an index and a sequence into the first folder, and reads those of all: what other languages wrote too.
 use bitm_proved::{
-    bytes_of, words_from_bytes, CombinedSampling, ConstCombinedSamplingDensity, EliasFano, Index, Queries, Rank,
-    RankSelect101111, Select, Select0, Sequence,
+    bytes_of, CombinedSampling, ConstCombinedSamplingDensity, EliasFano, Index, Queries, Rank, RankSelect101111,
+    Select, Select0,
 };
 use std::{env, error::Error, fs, path::Path};
 
@@ -26,14 +26,9 @@ fn write(folder: &Path) -> Result<(), Box<dyn Error>> {
     Ok(())
 }
 
-/// The whole words of a file.
-fn words_of(path: &Path) -> Result<Vec<u64>, Box<dyn Error>> {
-    Ok(words_from_bytes(&fs::read(path)?)?)
-}
-
 fn read(folder: &Path) -> Result<(), Box<dyn Error>> {
-    let index = Index::from_words(words_of(&folder.join("index"))?)?;
-    let sequence = Sequence::from_words(words_of(&folder.join("sequence"))?)?;
+    let index = Index::read(folder.join("index"))?;
+    let sequence = EliasFano::read(folder.join("sequence"))?;
     assert!(index.check() && sequence.check() && index.view().len() == BITS);
     let (mut ones, mut zeros) = (0, 0);
     for i in 0..BITS {

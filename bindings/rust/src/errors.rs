@@ -73,7 +73,7 @@ pub enum StoredError {
     /// assert_eq!(Index::from_bytes(inside).err(), Some(StoredError::Misaligned));
     /// ```
     Misaligned,
-    /// They have no header of this format, version and byte order, or are fewer than it says.
+    /// They have no header of this format, of a version and byte order that is read, or are fewer than it says.
     ///
     /// ```
     /// use bitm_proved::{Index, StoredError};
@@ -96,6 +96,15 @@ pub enum StoredError {
     /// assert_eq!(Index::build([7u64]).to_stored(65).err(), Some(StoredError::WrongLength)); // 65 bits of 64
     /// ```
     WrongLength,
+    /// The tables are not those of the words, or the parts not those of a sequence: they are not stored.
+    ///
+    /// ```
+    /// use bitm_proved::{IndexView, StoredError};
+    /// let view = IndexView::new(&[7], 64, &[0], &[u64::MAX])?; // no words have such tables
+    /// assert_eq!(view.to_words(), Err(StoredError::WrongTables));
+    /// # Ok::<(), bitm_proved::WrongTables>(())
+    /// ```
+    WrongTables,
     /// A block has 16 sections already, or a length does not fit: that of the items of a section, or of the block with it.
     ///
     /// ```
@@ -121,6 +130,7 @@ impl fmt::Display for StoredError {
         f.write_str(match self {
             StoredError::Misaligned => "the bytes do not begin at a multiple of 8",
             StoredError::NotWhole => "this is not a file of this format, or not a whole one",
+            StoredError::WrongTables => return WrongTables.fmt(f),
             StoredError::OtherKind => "this is a sequence where an index is expected, or an index where a sequence is",
             StoredError::WrongLength => "the length of a table, or of the bits, does not fit the words",
             StoredError::NoSection => "the block has 16 sections, or a length does not fit the items of a section",
@@ -175,7 +185,8 @@ pub enum ListError {
         /// How many the second has.
         second: usize,
     },
-    /// The tables are not those of the words; `WRONG_TABLES` stands for the answers that it shows in.
+    /// The tables are not those of the words; `WRONG_TABLES` stands for the answers that it shows in. A list of the
+    /// numbers at indices stops at the first of these.
     ///
     /// ```
     /// use bitm_proved::{IndexView, ListError, Queries};
@@ -260,6 +271,13 @@ impl From<std::io::Error> for OpenError {
 impl From<StoredError> for OpenError {
     fn from(why: StoredError) -> Self {
         OpenError::Stored(why)
+    }
+}
+
+#[cfg(feature = "std")]
+impl From<NoMemory> for OpenError {
+    fn from(why: NoMemory) -> Self {
+        OpenError::Stored(why.into())
     }
 }
 

@@ -186,7 +186,7 @@ by_view! { WaveletMatrix;
         &self, first: Range<usize>, second: Range<usize>, least: u64, numbers: &mut [u64]
     ) -> Result<Option<usize>, WrongTables>;
 
-    /// The numbers at a list of indices, up to the first that has none.
+    /// The numbers at a list of indices, up to the first past the end; an error where the block turns out to be wrong.
     ///
     /// ```
     /// let numbers = bitm_proved::WaveletMatrix::build(&[3, 1, 4])?;

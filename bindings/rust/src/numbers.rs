@@ -128,7 +128,9 @@ by_view! { Sequence;
     /// ```
     pub fn is_empty(&self) -> bool;
 
-    /// Whether the parts are those of some sequence.
+    /// Whether the parts are those of a sequence; and of a block whether it is as it was written, by the checksum of
+    /// each section. A file of format version 2 has no checksum of its numbers: there `check` finds only what does not
+    /// fit together, and other numbers may pass.
     ///
     /// ```
     /// use bitm_proved::{EliasFano, Sequence};
@@ -138,7 +140,7 @@ by_view! { Sequence;
     /// ```
     pub fn check(&self) -> bool;
 
-    /// The numbers at a list of indexes, up to the first that has none.
+    /// The numbers at a list of indexes, up to the first past the end; an error where the parts turn out to be wrong.
     ///
     /// ```
     /// let primes = bitm_proved::EliasFano::build(&[2, 3, 5, 7])?;
@@ -178,7 +180,11 @@ by_view! { Sequence;
 }
 
 impl<O> Sequence<O> {
-    /// The words of a file of this sequence.
+    /// The words of a file of this sequence, which are a block.
+    ///
+    /// # Errors
+    /// `NoMemory` where memory is refused; `WrongTables` where the sequence was read from a file of format version 2,
+    /// and its parts do not fit together.
     ///
     /// ```
     /// use bitm_proved::{EliasFano, Sequence};

@@ -3,6 +3,7 @@ use crate::errors::{sure, ListError, StoredError, WrongTables};
 use crate::iterators::{past_the_end, BitIterator, BitOnesIterator, BitZerosIterator};
 use crate::sys::view::IndexView;
 use alloc::vec::Vec;
+use core::cmp::Ordering;
 use core::ops::Range;
 
 /// In a list of answers: there is no such position or number.
@@ -335,8 +336,12 @@ pub trait Queries {
         BitIterator::with_range(view.words(), 0..view.len())
     }
 
-    /// The words of a file of the first `bits_len` bits, with its samples. `WrongLength` where there are
-    /// fewer bits.
+    /// The words of a file of the first `bits_len` bits: a block, with samples where the index has some. Tables and
+    /// samples of fewer bits are built anew.
+    ///
+    /// # Errors
+    /// `WrongLength` where there are fewer bits, `WrongTables` where all bits are stored and the tables are not those
+    /// of the words, and `NoMemory` where memory is refused.
     ///
     /// ```
     /// use bitm_proved::{Index, Queries, Rank, StoredError};
@@ -348,9 +353,10 @@ pub trait Queries {
     /// ```
     fn to_stored(&self, bits_len: usize) -> Result<Vec<u64>, StoredError> {
         let view = self.view();
-        if bits_len > view.len() {
-            return Err(StoredError::WrongLength);
+        match bits_len.cmp(&view.len()) {
+            Ordering::Less => view.block_of(bits_len),
+            Ordering::Equal => view.to_words(),
+            Ordering::Greater => Err(StoredError::WrongLength),
         }
-        view.cut(bits_len).to_words()
     }
 }

@@ -3,6 +3,8 @@ pub(crate) mod block;
 pub(crate) mod bytes;
 pub(crate) mod cursor;
 pub(crate) mod dictionary;
+#[cfg(all(feature = "mmap", unix))]
+pub(crate) mod files;
 pub(crate) mod hash;
 pub(crate) mod held;
 #[cfg(all(feature = "std", target_os = "linux"))]
@@ -16,6 +18,8 @@ pub(crate) mod memory;
 pub(crate) mod owned;
 pub(crate) mod owner;
 pub(crate) mod parts;
+#[cfg(feature = "std")]
+pub(crate) mod read;
 pub(crate) mod reads;
 pub(crate) mod sections;
 pub(crate) mod seeded;
@@ -28,6 +32,7 @@ pub(crate) mod tables;
 pub(crate) mod text;
 pub(crate) mod tree;
 pub(crate) mod trie;
+pub(crate) mod version2;
 pub(crate) mod view;
 pub(crate) mod writes;
 

@@ -194,6 +194,11 @@ fn inside(list: &WaveletMatrixView<'_>, random: &mut Random) -> usize {
         let found = list.checked_select(number, index % 3);
         assert!(found.map_or(true, |it| it.is_none_or(|it| it < len)));
         wrong += [rank, less, found].iter().filter(|it| it.is_err()).count();
+        let mut one = [0];
+        match list.get_list(&[index], &mut one) {
+            Ok(numbers) => assert!(numbers.len() == usize::from(index < len) && numbers.iter().all(|it| *it <= most)),
+            Err(why) => assert!(index < len && why == ListError::WrongTables { wrong: 1 }),
+        }
     }
     wrong
 }

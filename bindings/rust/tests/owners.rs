@@ -193,36 +193,6 @@ fn tables_that_a_user_wrote_are_noticed() {
     assert!(file.is_ok(), "fewer words have tables of their own");
 }
 
-#[cfg(all(feature = "mmap", unix))]
-mod mapped {
-    use bitm_proved::{
-        bytes_of, EliasFano, Index, IndexFile, OpenError, Queries, Rank, Select, SequenceFile, StoredError,
-    };
-    use std::fs;
-
-    #[test]
-    fn a_mapped_file_answers_and_is_shared() {
-        let folder = std::env::temp_dir().join(format!("bitm-owners-{}", std::process::id()));
-        fs::create_dir_all(&folder).expect("a folder");
-        let (path, other) = (folder.join("index"), folder.join("sequence"));
-        let made = Index::build(vec![0b1011u64; 1000]);
-        fs::write(&path, bytes_of(&made.to_stored(63_999).expect("so many"))).expect("written");
-        let numbers = EliasFano::build(&[2, 3, 5]).expect("sorted");
-        fs::write(&other, bytes_of(&numbers.to_stored().expect("right"))).expect("written");
-        let index = IndexFile::open(&path).expect("just written");
-        assert!(index.check());
-        let answers = std::thread::spawn(move || (index.rank(63_999), index.select(2999), index.try_rank(64_000)));
-        assert_eq!(answers.join().expect("no panic"), (3000, 63_939, None));
-        assert!(SequenceFile::open(&other).expect("just written").iter().eq([2, 3, 5]));
-        let why = IndexFile::open(&other).expect_err("a sequence");
-        assert!(matches!(why, OpenError::Stored(StoredError::OtherKind)));
-        assert!(matches!(IndexFile::open(folder.join("none")), Err(OpenError::System(_))));
-        fs::write(&other, "").expect("written");
-        assert!(matches!(IndexFile::open(&other), Err(OpenError::Stored(StoredError::NotWhole))));
-        fs::remove_dir_all(&folder).expect("removed");
-    }
-}
-
 #[test]
 fn the_archive_is_of_this_version() {
     let numbers = env!("CARGO_PKG_VERSION").split('.').map(|it| it.parse().unwrap_or(0));

@@ -32,7 +32,13 @@ fn values_come_back_and_spoilt_ones_are_refused() {
     let text = serde_json::to_string(&numbers).expect("memory");
     let read: EliasFano = serde_json::from_str(&text).expect("whole");
     assert!(read.iter().eq([2, 3, 5, 900]));
-    // Of the other kind, cut short, with a word of the index spoilt: each is an error.
+    // The words of a file of version 2 are read too.
+    let old = words_from_bytes(include_bytes!("common/sequence.v2")).expect("memory");
+    let read: EliasFano = serde_json::from_str(&serde_json::to_string(&old).expect("memory")).expect("whole");
+    assert!(read.iter().eq((0..100).map(|i| i * i)));
+    // Of the other kind, cut short, with a word of the index spoilt, no list: each is an error.
+    let why = serde_json::from_str::<EliasFano>("7").expect_err("a number");
+    assert!(why.to_string().contains("expected the words of a file"), "{why}");
     assert!(serde_json::from_str::<Index<Vec<u64>>>(&text).is_err());
     assert!(serde_json::from_str::<EliasFano>("[1,2,3]").is_err());
     let mut words = index.to_stored(128).expect("inside");

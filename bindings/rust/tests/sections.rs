@@ -4,7 +4,8 @@ use bitm_proved::sections::{
     extend, extended, extended_by_bytes, extended_size, is_written, section, Section, OWN_ROLE,
 };
 use bitm_proved::{
-    bytes_of, Dictionary, EliasFano, SeededHash, SparseBits, StoredError, Strings, TextIndex, Tree, Trie, WaveletMatrix,
+    bytes_of, words_from_bytes, Dictionary, SeededHash, SparseBits, StoredError, Strings, TextIndex, Tree, Trie,
+    WaveletMatrix,
 };
 use common::{with_one_bit_changed, Random};
 
@@ -118,7 +119,7 @@ fn what_is_spoilt_or_no_block_is_refused() {
         }
         assert!(to.iter().all(|it| *it == 7));
     });
-    let sequence = EliasFano::build(&[2, 3, 5]).expect("sorted").to_stored().expect("memory");
+    let sequence = words_from_bytes(include_bytes!("common/sequence.v2")).expect("memory"); // a file, but no block
     for other in [&[][..], &block[..block.len() - 1], &block[1..], &[7; 40], &[0; 40], &[u64::MAX; 40], &sequence] {
         assert!(!is_written(other));
         assert_eq!(section(other, 0), Err(StoredError::NotWhole));

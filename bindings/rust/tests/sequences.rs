@@ -133,6 +133,9 @@ fn what_is_not_sorted_or_not_a_sequence_is_refused() {
     let zeros = [0u64];
     let none = SequenceView::new(3, 0, [&[], &zeros, &zeros, &zeros]).expect("the lengths fit");
     assert!(!none.check() && none.checked_get(1) == Err(WrongTables));
+    assert_eq!(none.get_list(&[1, 3], &mut [0; 2]), Err(ListError::WrongTables { wrong: 1 }));
+    assert_eq!((none.get_list(&[3, 1], &mut [0; 2]), none.checked_get(3)), (Ok(&[][..]), Ok(None)));
+    assert!(none.items(0, &mut [0; 3]).is_empty());
     assert_eq!(none.checked_contains(0), Err(WrongTables));
     assert!(SequenceView::new(3, 7, [&[], &zeros, &zeros, &zeros]).is_err());
     let says = common::says(move || assert_eq!(none.iter().next(), None));

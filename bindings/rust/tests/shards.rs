@@ -1,6 +1,6 @@
 //! Shards as one index of the joined bits, beside plain counting; which shard holds what; counts that are wrong.
 mod common;
-use bitm_proved::{build_tables, table_lens, IndexView, ListError, Place, PrefixCounts, ShardedIndex, WrongTables};
+use bitm_proved::{build_tables, table_lens, BuildError, IndexView, ListError, Place, PrefixCounts, ShardedIndex};
 use common::{bits_of, Random};
 
 /// Words with their tables, of which the first bits count.
@@ -109,12 +109,22 @@ fn lists_are_counted_in_the_joined_bits() {
 }
 
 #[test]
-fn counts_that_do_not_fit_are_none() {
-    assert_eq!(PrefixCounts::new(&[1, 2], &[1]), None);
-    assert_eq!(PrefixCounts::new(&[u64::MAX, 1], &[0, 0]), None);
-    assert!(PrefixCounts::new(&[u64::MAX, 0], &[0, 0]).is_some());
-    let strange = PrefixCounts::new(&[1, 2], &[9, 9]).unwrap();
-    assert_eq!((strange.find_one(12), strange.find_zero(0)), (Some(Place { shard: 1, within: 3 }), None));
+fn counts_that_do_not_fit_are_refused() {
+    assert_eq!(PrefixCounts::new(&[1, 2], &[1]), Err(BuildError::Pairs { first: 2, second: 1 }));
+    assert_eq!(PrefixCounts::new(&[], &[1]), Err(BuildError::Pairs { first: 0, second: 1 }));
+    assert_eq!(PrefixCounts::new(&[u64::MAX, 1], &[0, 0]), Err(BuildError::TooManyBits));
+    assert!(PrefixCounts::new(&[u64::MAX, 0], &[0, 0]).is_ok());
+    assert!(PrefixCounts::new(&[], &[]).is_ok_and(|it| it.find(0).is_none()));
+}
+
+#[test]
+fn more_1_bits_than_bits_are_refused_in_any_shard() {
+    assert_eq!(PrefixCounts::new(&[1, 2], &[9, 9]), Err(BuildError::MoreOnes { shard: 0 }));
+    assert_eq!(PrefixCounts::new(&[10, 10], &[20, 0]), Err(BuildError::MoreOnes { shard: 0 })); // not more in all
+    assert_eq!(PrefixCounts::new(&[10, 0, 10], &[10, 1, 0]), Err(BuildError::MoreOnes { shard: 1 }));
+    assert_eq!(PrefixCounts::new(&[10, 10], &[10, 11]), Err(BuildError::MoreOnes { shard: 1 }));
+    let full = PrefixCounts::new(&[10, 10], &[10, 10]).unwrap();
+    assert_eq!((full.find_one(19), full.find_zero(0)), (Some(Place { shard: 1, within: 9 }), None));
 }
 
 #[test]
@@ -122,7 +132,7 @@ fn wrong_tables_are_an_error_or_inside() {
     let (words, upper, lower) = ([u64::MAX; 4], [7], [u64::MAX]);
     let view = IndexView::new(&words, 256, &upper, &lower).unwrap();
     match ShardedIndex::new(&[view, view]) {
-        Err(WrongTables) => {}
+        Err(why) => assert_eq!(why, BuildError::WrongTables),
         Ok(all) => {
             for number in [0, 1, 255, 256, 300, 512, 513] {
                 assert!(all.rank(number).map_or(true, |it| it.map_or(number > 512, |rank| rank <= number)));

@@ -2,11 +2,11 @@
 //! parts that are spoilt never lead outside.
 mod common;
 use bitm_proved::{
-    bytes_of, ArrayWithRank101111, BinaryRankSearch, CombinedSampling, ConstCombinedSamplingDensity, EliasFano, Index,
-    IndexView, Queries, Rank, RankSelect101111, Sampling, Select, Select0, Select0ForRank101111, SelectForRank101111,
-    SelectionStrategy, Sequence, SequenceView, StoredError, WrongTables,
+    bytes_of, sections, ArrayWithRank101111, BinaryRankSearch, CombinedSampling, ConstCombinedSamplingDensity,
+    EliasFano, Index, IndexView, Queries, Rank, RankSelect101111, Sampling, Select, Select0, Select0ForRank101111,
+    SelectForRank101111, SelectionStrategy, Sequence, SequenceView, StoredError, WrongTables,
 };
-use common::{bits_of, positions_of, Random};
+use common::{bits_of, first_section, positions_of, Random};
 
 fn as_a_list<T: Queries + Rank + Select + Select0>(index: &T, plain: &[bool], random: &mut Random) {
     let (ones, zeros) = (positions_of(plain, true), positions_of(plain, false));
@@ -75,6 +75,64 @@ fn fewer_bits_are_stored_with_samples_of_their_own() {
 }
 
 #[test]
+fn samples_stand_in_sections_after_those_of_the_index() {
+    let words: Vec<u64> = (0..40).map(|i| u64::from(i % 2 == 0) * u64::MAX).collect(); // 1280 bits of each kind
+    let sampling = Sampling { ones: Some(7), zeros: Some(8) };
+    let file = Index::try_build(words, 2560, sampling).expect("2560 bits").to_stored(2560).expect("right");
+    let found: Vec<_> = (0..8).map_while(|i| sections::section(&file, i).expect("a block")).collect();
+    let roles: Vec<u64> = found.iter().map(|it| it.role).collect();
+    assert_eq!(roles, [1, 2, 3, 7, 0x3161_7473_6d74_6962, 8, 0x3061_7473_6d74_6962]);
+    let counts: Vec<usize> = found[3..].iter().map(|it| it.count).collect();
+    assert_eq!(counts, [10, 16, 5, 16]); // 1280 bits by 128 and by 256; two numbers of eight bytes each
+    assert_eq!((found[4].words, found[6].words), (&[7, 0][..], &[8, 0][..]));
+}
+
+/// A block of 2560 bits, half of them 1 bits, with those two sections after its own.
+fn sampled_by(samples: (u64, usize, &[u64]), starts: (u64, usize, &[u64])) -> Vec<u64> {
+    let file = Index::build([0xFFFF_FFFFu64; 40]).to_stored(2560).expect("right");
+    let one = sections::extended(&file, samples.0, samples.1, samples.2).expect("a section");
+    sections::extended(&one, starts.0, starts.1, starts.2).expect("a section")
+}
+
+#[test]
+fn samples_of_lengths_that_no_index_has_are_left_out_and_no_answer_depends_on_any() {
+    let (ones, zeros, role) = (0x3161_7473_6d74_6962, 0x3061_7473_6d74_6962, 7);
+    let any = [u64::MAX; 11];
+    let kept = sampled_by((role, 20, &any[..10]), (ones, 16, &[7, u64::MAX]));
+    let left = [
+        sampled_by((role, 21, &any), (ones, 16, &[7, 0])), // of 2560 bits at most 20 are sampled
+        sampled_by((role, 2, &any[..1]), (ones, 16, &[6, 0])),
+        sampled_by((role, 2, &any[..1]), (ones, 16, &[32, 0])),
+        sampled_by((role, 2, &any[..1]), (ones, 16, &[1 << 32 | 7, 0])),
+        sampled_by((role, 2, &any[..1]), (ones, 15, &[7, 0])),
+        sampled_by((role, 2, &any[..1]), (ones, 8, &[7])),
+        sampled_by((role, 2, &any[..1]), (ones, 24, &[7, 0, 0])),
+        sampled_by((role, 2, &any[..1]), (ones, 0, &[])),
+        sampled_by((role, 2, &any[..1]), (zeros, 16, &[7, 0])),
+        sampled_by((ones, 16, &[7, 0]), (role, 2, &any[..1])),
+    ];
+    for (file, has) in left.iter().map(|it| (it, false)).chain([(&kept, true)]) {
+        let read = IndexView::from_words(file).expect("an index");
+        assert_eq!((read.samples(true).is_some(), read.samples(false)), (has, None));
+        assert!((0..1280).all(|rank| read.select(rank) == rank / 32 * 64 + rank % 32));
+        assert_eq!(read.to_words().as_ref(), Ok(file));
+    }
+}
+
+#[test]
+fn tables_that_are_not_those_of_the_words_are_not_stored() {
+    let words = [7u64; 40];
+    let wrong = IndexView::new(&words, 2560, &[1], &[0, 0]).expect("lengths that fit");
+    assert_eq!(wrong.to_words(), Err(StoredError::WrongTables));
+    let made = EliasFano::build(&[2, 3, 5]).expect("sorted");
+    let [low, _, upper, lower] = made.view().parts();
+    let wrong = SequenceView::new(3, made.view().width(), [low, &[0], upper, lower]).expect("lengths that fit");
+    assert_eq!(wrong.to_words(), Err(StoredError::WrongTables));
+    let right = SequenceView::new(3, made.view().width(), made.view().parts()).expect("its own parts");
+    assert_eq!(right.to_words(), made.to_stored());
+}
+
+#[test]
 fn headers_that_lie_and_bytes_that_are_cut_or_begin_elsewhere_are_refused() {
     let made: ArrayWithRank101111 = vec![0xF0F0; 40].into_boxed_slice().into();
     let good = made.to_stored(2500).expect("so many bits are there");
@@ -109,7 +167,7 @@ fn spoilt_parts_never_lead_outside() {
     let made = Index::try_build(words, 5000, sampling).expect("5000 bits");
     let good = made.to_stored(5000).expect("so many bits are there");
     let mut wrong = 0;
-    for at in 24..good.len() {
+    for at in first_section(&good)..good.len() {
         let mut file = good.clone();
         file[at] ^= random.next() | 1;
         let read = IndexView::from_words(&file).expect("the header is right");
@@ -137,7 +195,7 @@ fn spoilt_sequences_never_lead_outside() {
     let items: Vec<u64> = (0..1000).map(|i| 1000 * i + random.next() % 1000).collect();
     let good = EliasFano::build(&items).expect("sorted").to_stored().expect("right");
     let mut wrong = 0;
-    for at in 24..good.len() {
+    for at in first_section(&good)..good.len() {
         let mut file = good.clone();
         file[at] ^= random.next() | 1;
         let read = Sequence::from_words(&file).expect("the header is right");

@@ -1,8 +1,9 @@
 //! Why something is not built.
-use super::NoMemory;
+use super::{NoMemory, WrongTables};
 use core::{error::Error, fmt};
 
-/// Why an index, a sequence, sparse bits, a hash, a tree, a trie, a list of numbers or the index of a text was not built.
+/// Why an index, a sequence, sparse bits, a hash, a tree, a trie, a list of numbers, the index of a text, prefix counts
+/// or an index over shards was not built.
 ///
 /// ```
 /// use bitm_proved::{BuildError, EliasFano};
@@ -125,6 +126,44 @@ pub enum BuildError {
     /// assert_eq!(TextIndex::build(b"banana", 0).err(), Some(BuildError::WrongStep));
     /// ```
     WrongStep,
+    /// The two lists are not as long as each other.
+    ///
+    /// ```
+    /// use bitm_proved::{BuildError, PrefixCounts};
+    /// assert_eq!(PrefixCounts::new(&[10, 7], &[4]), Err(BuildError::Pairs { first: 2, second: 1 }));
+    /// ```
+    Pairs {
+        /// How many numbers the first list has.
+        first: usize,
+        /// How many the second has.
+        second: usize,
+    },
+    /// A shard is said to have more 1 bits than bits.
+    ///
+    /// ```
+    /// use bitm_proved::{BuildError, PrefixCounts};
+    /// assert_eq!(PrefixCounts::new(&[10, 7], &[4, 8]), Err(BuildError::MoreOnes { shard: 1 }));
+    /// ```
+    MoreOnes {
+        /// The first such shard.
+        shard: usize,
+    },
+    /// The shards have 2^64 bits or more together.
+    ///
+    /// ```
+    /// use bitm_proved::{BuildError, PrefixCounts};
+    /// assert_eq!(PrefixCounts::new(&[u64::MAX, 1], &[0, 0]), Err(BuildError::TooManyBits));
+    /// ```
+    TooManyBits,
+    /// The tables of a shard are not those of its words.
+    ///
+    /// ```
+    /// use bitm_proved::{BuildError, IndexView, ShardedIndex};
+    /// let shard = IndexView::new(&[7], 64, &[u64::MAX], &[u64::MAX])?; // no words have such tables
+    /// assert_eq!(ShardedIndex::new(&[shard]).err(), Some(BuildError::WrongTables));
+    /// # Ok::<(), bitm_proved::WrongTables>(())
+    /// ```
+    WrongTables,
     /// Memory was refused.
     ///
     /// ```
@@ -150,6 +189,10 @@ impl fmt::Display for BuildError {
             BuildError::NotATree => f.write_str("the degrees are those of no tree"),
             BuildError::UnsortedWord { index } => write!(f, "word {index} does not stand after the one before it"),
             BuildError::NotATrie => f.write_str("the degrees, labels, width and ends are those of no trie"),
+            BuildError::Pairs { first, second } => write!(f, "the lists of pairs have {first} and {second} numbers"),
+            BuildError::MoreOnes { shard } => write!(f, "shard {shard} has more 1 bits than bits"),
+            BuildError::TooManyBits => f.write_str("the shards have 2^64 bits or more"),
+            BuildError::WrongTables => WrongTables.fmt(f),
             BuildError::NoMemory(why) => why.fmt(f),
         }
     }
@@ -160,5 +203,11 @@ impl Error for BuildError {}
 impl From<NoMemory> for BuildError {
     fn from(why: NoMemory) -> Self {
         BuildError::NoMemory(why)
+    }
+}
+
+impl From<WrongTables> for BuildError {
+    fn from(_: WrongTables) -> Self {
+        BuildError::WrongTables
     }
 }

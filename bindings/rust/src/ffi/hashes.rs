@@ -113,7 +113,8 @@ pub struct bitm_strings {
     pub bytes: *const u64,
     pub bytes_len: usize,
     pub seed: u64,
-    pub reserved: [u64; 2usize],
+    pub kind: u64,
+    pub reserved: [u64; 1usize],
 }
 extern "C" {
     pub fn bitm_strings_hash(string: *const u8, string_len: usize, seed: u64, out: *mut u64) -> u32;

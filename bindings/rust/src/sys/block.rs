@@ -1,11 +1,15 @@
-//! Blocks: trees, tries, lists of numbers, sparse bits, hashes with seeds, dictionaries, strings and indexes of texts are each
-//! one slice of words, which is also their file. What all views of blocks have.
+//! Blocks: a structure of any kind in one slice of words, which is also its file. What all views of blocks have.
 use crate::errors::{StoredError, WrongTables};
 use crate::sys::{query, OK};
 use core::mem::MaybeUninit;
 
 /// The first word of each block: the letters `bitmtab`, and the version.
 const MARK: u64 = u64::from_ne_bytes(*b"bitmtab\x03");
+
+/// Whether the words of a file begin as a block does.
+pub(crate) fn is_block(file: &[u64]) -> bool {
+    file.first() == Some(&MARK)
+}
 
 /// The words of the block that begins a file, by its first words.
 fn block_in(file: &[u64]) -> Option<&[u64]> {
@@ -64,8 +68,13 @@ impl<'a, P: Parts> Block<'a, P> {
     }
 
     pub(crate) fn check(&self) -> bool {
+        Self::is_written(self.words)
+    }
+
+    /// Whether a block is as it was written and holds such a structure.
+    pub(crate) fn is_written(block: &[u64]) -> bool {
         // SAFETY: a slice.
-        unsafe { P::CHECK(self.words.as_ptr(), self.words.len()) == OK }
+        unsafe { P::CHECK(block.as_ptr(), block.len()) == OK }
     }
 
     /// Makes a query of the parts, whose pointers lie in the borrowed block.
@@ -117,6 +126,9 @@ macro_rules! views {
         impl<'a> $view<'a> {
             /// Of the block that begins the words of a file. What its sections hold is not tested: `check` does that.
             ///
+            /// # Errors
+            /// `NotWhole` where the words begin with no such block, or are fewer than it has.
+            ///
             /// ```
             #[doc = concat!("use bitm_proved::{StoredError, ", stringify!($view), "};")]
             #[doc = concat!("let made = ", $made, ";")]
@@ -131,6 +143,9 @@ macro_rules! views {
             }
 
             /// Of the bytes of a file, which begin at a multiple of 8.
+            ///
+            /// # Errors
+            /// As of `from_words`; `Misaligned` where they begin elsewhere.
             ///
             /// ```
             #[doc = concat!("use bitm_proved::{bytes_of, StoredError, ", stringify!($view), "};")]

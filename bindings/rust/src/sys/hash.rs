@@ -114,6 +114,10 @@ fn raw(words: &[u64], tables: &Tables, sizes: &[u64], keys: usize) -> bitm_hash 
 impl PerfectHash {
     /// Of the hashes of keys, in the space that takes least memory.
     ///
+    /// # Errors
+    /// `EqualHashes` where two hashes are equal, `TooLong` where there are too many, and `NoMemory` where memory is
+    /// refused.
+    ///
     /// ```
     /// use bitm_proved::{BuildError, PerfectHash};
     /// assert_eq!(PerfectHash::build(vec![5, 7, 9])?.len(), 3);
@@ -125,6 +129,9 @@ impl PerfectHash {
     }
 
     /// As `build`, with levels of `percent` bits for each 100 hashes that are left: more are faster.
+    ///
+    /// # Errors
+    /// As of `build`.
     ///
     /// ```
     /// assert_eq!(bitm_proved::PerfectHash::build_with(vec![1, 2, 3], 200)?.len(), 3);

@@ -4,6 +4,8 @@ use crate::sys::held::Held;
 use crate::sys::memory::words_of;
 use crate::sys::tables::{OwnSamples, Tables};
 use crate::sys::view::IndexView;
+#[cfg(feature = "std")]
+use alloc::vec::Vec;
 use core::{fmt, mem};
 
 /// An index and the owner of its words: a vector, a box, an `Arc`, a mapped file, or any other `AsRef<[u64]>`.
@@ -71,6 +73,9 @@ impl<O: AsRef<[u64]>> Index<O> {
 
     /// An index over the first `bits_len` bits of the words.
     ///
+    /// # Errors
+    /// `TooLong` where the words have fewer bits, or are 2^58 or more, and `NoMemory` where memory is refused.
+    ///
     /// ```
     /// use bitm_proved::{BuildError, Index, Rank, Sampling};
     /// let index = Index::try_build([0b1011u64], 3, Sampling::default())?; // of 64 bits the first 3
@@ -104,7 +109,12 @@ impl<O: AsRef<[u64]>> Index<O> {
         Ok(Index { view, tables, held })
     }
 
-    /// The index in a file, whose words the owner has. The contents of its parts are not tested: `check` does that.
+    /// The index in a file, whose words the owner has: in a block, with the samples that stand in it, or in a file of
+    /// format version 2. What the file holds is not tested: `check` does that.
+    ///
+    /// # Errors
+    /// `NotWhole` where these are no such words, or fewer than the file has; `OtherKind` where they are a sequence;
+    /// `NoMemory` where memory is refused.
     ///
     /// ```
     /// use bitm_proved::{Index, Queries, Rank};
@@ -125,6 +135,9 @@ impl<O: AsRef<[u64]>> Index<O> {
 impl<O: AsRef<[u8]>> Index<O> {
     /// The index in a file, whose bytes the owner has; they begin at a multiple of 8.
     ///
+    /// # Errors
+    /// As of `from_words`; `Misaligned` where they begin elsewhere.
+    ///
     /// ```
     /// use bitm_proved::{bytes_of, words_from_bytes, Index, Queries, Rank, StoredError};
     /// let file = Index::build(vec![0b1011u64]).to_stored(64)?;
@@ -141,6 +154,29 @@ impl<O: AsRef<[u8]>> Index<O> {
         let view = IndexView::from_words(words)?;
         let tables = None;
         Ok(Index { view, tables, held })
+    }
+}
+
+#[cfg(feature = "std")]
+impl Index<Vec<u64>> {
+    /// The index in the file at a path, which is copied into memory. What the file holds is not tested: `check` does
+    /// that.
+    ///
+    /// # Errors
+    /// `OpenError::System` where the system refuses the file, and `OpenError::Stored` as of `from_words`.
+    ///
+    /// ```
+    /// use bitm_proved::{bytes_of, Index, OpenError, Queries, Rank};
+    /// let path = std::env::temp_dir().join(format!("bitm-read-index-{}", std::process::id()));
+    /// assert!(matches!(Index::read(&path), Err(OpenError::System(_)))); // there is no such file
+    /// std::fs::write(&path, bytes_of(&Index::build(vec![0b1011u64]).to_stored(64)?))?;
+    /// let index = Index::read(&path)?;
+    /// assert!(index.check() && index.rank(64) == 3);
+    /// # std::fs::remove_file(&path)?;
+    /// # Ok::<(), OpenError>(())
+    /// ```
+    pub fn read(path: impl AsRef<std::path::Path>) -> Result<Self, crate::errors::OpenError> {
+        Ok(Index::from_words(crate::sys::read::words_from_file(path)?)?)
     }
 }
 
@@ -172,14 +208,15 @@ impl<O> Index<O> {
         self.held.into_owner()
     }
 
-    /// Whether tables and samples are those of the words.
+    /// Whether tables and samples are those of the words; and of a block whether it is as it was written, by the
+    /// checksum of each section. A file of format version 2 has no checksum of its words: there `check` finds only what
+    /// does not fit together.
     ///
     /// ```
     /// use bitm_proved::{Index, Queries};
     /// let mut file = Index::build(vec![u64::MAX; 9]).to_stored(64)?;
     /// assert!(Index::from_words(&file[..])?.check());
-    /// let first = file.iter().position(|it| *it == u64::MAX).unwrap();
-    /// file[first] = 0; // 64 bits fewer than the tables count
+    /// *file.iter_mut().find(|it| **it == u64::MAX).unwrap() ^= 1; // one bit is another
     /// assert!(!Index::from_words(&file[..])?.check());
     /// # Ok::<(), bitm_proved::StoredError>(())
     /// ```

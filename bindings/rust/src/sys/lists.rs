@@ -1,7 +1,7 @@
 //! Lists of queries, each of which one call of the archive answers.
 use crate::errors::ListError;
 use crate::ffi::words::bitm_list_counts;
-use crate::sys::OK;
+use crate::sys::{NONE, OK, WRONG};
 
 /// Makes a list of queries, with one answer each; how many have none, for which `NO_ANSWER` stands. The call gets a
 /// pointer to the answers, how many there is room for, and a pointer to the counts.
@@ -30,8 +30,8 @@ pub(crate) fn list_answer(
     }
 }
 
-/// Makes a list of queries whose answers end with the first that has none. The call gets a pointer to the answers, how
-/// many there is room for, and a pointer to how many it has written.
+/// Makes a list of queries whose answers end before the first that has none. The call gets a pointer to the answers,
+/// how many there is room for, and a pointer to how many it has written; its status says why there are no more.
 pub(crate) fn query_items(
     queries: usize,
     out: &mut [u64],
@@ -39,7 +39,8 @@ pub(crate) fn query_items(
 ) -> Result<&[u64], ListError> {
     let (room, mut written) = (out.len(), 0);
     match call(out.as_mut_ptr(), room, &mut written) {
-        OK => Ok(&out[..written as usize]),
+        OK | NONE => Ok(&out[..written as usize]),
+        WRONG => Err(ListError::WrongTables { wrong: 1 }),
         _ => Err(ListError::Lengths { queries, room }),
     }
 }

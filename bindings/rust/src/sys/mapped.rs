@@ -15,20 +15,20 @@ extern "C" {
     fn munmap(at: *mut c_void, len: usize) -> c_int;
 }
 
-/// The bytes of a file, mapped: they are read from it as they are used.
+/// The bytes of a file, mapped: they are read from it as they are used, and all processes that map the file share them.
 ///
-/// The file has to stay as it is while it is mapped. If somebody writes to it, answers may be any; if somebody cuts it,
-/// the system ends the program.
+/// To map a file takes `unsafe`; [`words_from_file`](crate::words_from_file) and the `read` of each structure, such as
+/// [`Index::read`](crate::Index::read), copy it into memory and take none.
 ///
 /// ```
-/// # fn main() -> std::io::Result<()> {
 /// let path = std::env::temp_dir().join(format!("bitm-mapped-{}", std::process::id()));
 /// std::fs::write(&path, "12345678")?;
-/// let mapped = bitm_proved::Mapped::open(&path)?;
+/// // SAFETY: nobody writes to the file or truncates it while it is mapped.
+/// let mapped = unsafe { bitm_proved::Mapped::open(&path)? };
 /// let bytes: &[u8] = mapped.as_ref();
 /// assert_eq!(bytes, b"12345678");
-/// # std::fs::remove_file(&path)
-/// # }
+/// # std::fs::remove_file(&path)?;
+/// # Ok::<(), std::io::Error>(())
 /// ```
 #[derive(Debug)]
 pub struct Mapped {
@@ -42,18 +42,33 @@ unsafe impl Send for Mapped {}
 unsafe impl Sync for Mapped {}
 
 impl Mapped {
-    /// The bytes of a file.
+    /// Maps the file at a path.
+    ///
+    /// # Safety
+    /// Until the value is dropped, nobody may write to the file or truncate it: neither this process nor another. The
+    /// bytes are borrowed as a shared slice, which must not change; and where the file was truncated, the system ends a
+    /// program that reads after its end.
+    ///
+    /// # Errors
+    /// The error of the system, where it refuses the file or the memory.
     ///
     /// ```
-    /// # fn main() -> std::io::Result<()> {
     /// let path = std::env::temp_dir().join(format!("bitm-mapped-open-{}", std::process::id()));
-    /// assert!(bitm_proved::Mapped::open(&path).is_err()); // there is no such file
     /// std::fs::write(&path, "")?;
-    /// assert!(bitm_proved::Mapped::open(&path)?.as_ref().is_empty());
-    /// # std::fs::remove_file(&path)
-    /// # }
+    /// // SAFETY: nobody writes to the file or truncates it while it is mapped.
+    /// let empty = unsafe { bitm_proved::Mapped::open(&path)? };
+    /// assert!(empty.as_ref().is_empty());
+    /// # std::fs::remove_file(&path)?;
+    /// # Ok::<(), std::io::Error>(())
     /// ```
-    pub fn open(path: impl AsRef<Path>) -> Result<Self> {
+    ///
+    /// Without `unsafe` it is refused:
+    ///
+    /// ```compile_fail,E0133
+    /// let mapped = bitm_proved::Mapped::open("numbers.bitm")?;
+    /// # Ok::<(), std::io::Error>(())
+    /// ```
+    pub unsafe fn open(path: impl AsRef<Path>) -> Result<Self> {
         let file = File::open(path)?;
         let len = usize::try_from(file.metadata()?.len())
             .ok()
@@ -63,7 +78,8 @@ impl Mapped {
             let at = NonNull::<u64>::dangling().cast();
             return Ok(Mapped { at, len });
         }
-        // SAFETY: the system chooses the address, so nothing that is mapped is replaced.
+        // SAFETY: the system chooses the address, so nothing that is mapped is replaced; that the bytes stay is the
+        // caller's duty.
         let at = unsafe {
             let fd = file.as_raw_fd();
             mmap(ptr::null_mut(), len, PROT_READ, MAP_PRIVATE, fd, 0)

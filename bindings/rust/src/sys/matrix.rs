@@ -242,7 +242,7 @@ impl<'a> WaveletMatrixView<'a> {
         unsafe { self.block.find(|it, n| bitm_matrix_intersect(it, a, b, c, d, least, list, room, n)) }
     }
 
-    /// The numbers at a list of indices, up to the first that has none.
+    /// The numbers at a list of indices, up to the first past the end; an error where the block turns out to be wrong.
     ///
     /// ```
     /// let numbers = bitm_proved::WaveletMatrix::build(&[3, 1, 4])?;

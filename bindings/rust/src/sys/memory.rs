@@ -57,10 +57,16 @@ pub(crate) fn copied<T: Number>(numbers: &[T]) -> Result<Vec<T>, NoMemory> {
     Ok(copy)
 }
 
+/// An empty vector with room for `len` items.
+pub(crate) fn with_room<T>(len: usize) -> Result<Vec<T>, NoMemory> {
+    let mut list = Vec::new();
+    list.try_reserve_exact(len).map_err(|_| NoMemory { bytes: len.saturating_mul(size_of::<T>()) })?;
+    Ok(list)
+}
+
 /// A vector of one item.
 pub(crate) fn one<T>(item: T) -> Result<Vec<T>, NoMemory> {
-    let mut list = Vec::new();
-    list.try_reserve_exact(1).map_err(|_| NoMemory { bytes: size_of::<T>() })?;
+    let mut list = with_room(1)?;
     list.push(item);
     Ok(list)
 }
@@ -101,7 +107,17 @@ pub fn bytes_of(words: &[u64]) -> &[u8] {
     unsafe { slice::from_raw_parts(words.as_ptr().cast(), size_of_val(words)) }
 }
 
+/// The bytes of words.
+#[cfg(feature = "std")]
+pub(crate) fn bytes_of_mut(words: &mut [u64]) -> &mut [u8] {
+    // SAFETY: as of `bytes_of`, and any eight bytes are a number.
+    unsafe { slice::from_raw_parts_mut(words.as_mut_ptr().cast(), size_of_val(words)) }
+}
+
 /// The whole words of bytes, as a file has them, copied: the bytes may begin anywhere.
+///
+/// # Errors
+/// `NoMemory` where memory is refused.
 ///
 /// ```
 /// use bitm_proved::{bytes_of, words_from_bytes};

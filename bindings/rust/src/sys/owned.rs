@@ -1,8 +1,8 @@
-//! A sequence and the owner of its parts.
-use crate::errors::{BuildError, StoredError};
+//! A sequence and the owner of its file.
+use crate::errors::{made, BuildError, StoredError};
 use crate::sys::held::Held;
-use crate::sys::memory::zeroed;
-use crate::sys::owner::owners;
+use crate::sys::memory::copied;
+use crate::sys::owner::owners_of_blocks;
 use crate::sys::sequence::{build, SequenceView};
 use alloc::vec::Vec;
 use core::fmt;
@@ -18,12 +18,12 @@ use core::fmt;
 /// assert!(primes.contains(7) && !primes.contains(8) && !primes.is_empty() && primes.check());
 /// # Ok::<(), bitm_proved::BuildError>(())
 /// ```
-pub struct Sequence<O> {
+pub struct Sequence<O = Vec<u64>> {
     view: SequenceView<'static>,
     held: Held<O>,
 }
 
-/// A sequence whose parts stand in one vector.
+/// A sequence in a vector.
 ///
 /// ```
 /// use bitm_proved::EliasFano;
@@ -36,6 +36,10 @@ pub type EliasFano = Sequence<Vec<u64>>;
 impl EliasFano {
     /// The sequence of the numbers, each of which is at least the one before it.
     ///
+    /// # Errors
+    /// `NotSorted` where a number is less than the one before it, `TooLong` where there are 2^56 numbers or more, and
+    /// `NoMemory` where memory is refused.
+    ///
     /// ```
     /// use bitm_proved::{BuildError, EliasFano};
     /// let squares = EliasFano::build(&[0, 1, 4, 4, 9])?;
@@ -44,54 +48,11 @@ impl EliasFano {
     /// # Ok::<(), BuildError>(())
     /// ```
     pub fn build(items: &[u64]) -> Result<Self, BuildError> {
-        let (all, width, lens) = build(items)?;
-        let made = Self::over(all, items.len(), width, lens);
-        made.map_err(|why| match why {
-            StoredError::NoMemory(why) => BuildError::NoMemory(why),
-            _ => BuildError::TooLong { len: items.len() },
-        })
-    }
-
-    fn over(all: Vec<u64>, len: usize, width: u64, lens: [usize; 4]) -> Result<Self, StoredError> {
-        let held = Held::new(all)?;
-        // SAFETY: `Sequence` hands it out only for as long as it is borrowed itself.
-        let mut rest = unsafe { held.borrowed::<[u64]>() };
-        let parts = lens.map(|it| {
-            let (part, after) = rest.split_at(it);
-            rest = after;
-            part
-        });
-        let view = SequenceView::new(len, width, parts).map_err(|_| StoredError::WrongLength)?;
-        Ok(Sequence { view, held })
-    }
-
-    /// A copy; an error where memory is refused.
-    ///
-    /// ```
-    /// use bitm_proved::EliasFano;
-    /// assert_eq!(EliasFano::build(&[2, 3])?.try_clone()?.get(1), Some(3));
-    /// # Ok::<(), Box<dyn std::error::Error>>(())
-    /// ```
-    pub fn try_clone(&self) -> Result<Self, StoredError> {
-        let parts = self.view().parts();
-        let lens = parts.map(<[u64]>::len);
-        let mut all = zeroed(lens.iter().sum())?;
-        let mut rest = &mut all[..];
-        for part in parts {
-            let (to, after) = rest.split_at_mut(part.len());
-            to.copy_from_slice(part);
-            rest = after;
-        }
-        Self::over(all, self.len(), self.view().width(), lens)
+        Self::of_block(build(items)?, BuildError::TooLong { len: items.len() })
     }
 }
 
-impl Clone for EliasFano {
-    fn clone(&self) -> Self {
-        crate::errors::made(self.try_clone())
-    }
-}
-
-owners! { Sequence with SequenceView;
-    "sequence", "bitm_proved::EliasFano::build(&[2, 3, 5])?", "3", "&made.to_stored()?"
+owners_of_blocks! { Sequence with SequenceView;
+    "sequence", "bitm_proved::EliasFano::build(&[2, 3, 5])?", "3", "&made.to_stored()?",
+    |it| it.view().block().unwrap_or(it.owner())
 }

@@ -8,6 +8,10 @@ macro_rules! owners {
             #[doc = concat!("The ", $it, " in a file, whose words the owner has. What the file holds is not tested:")]
             /// `check` does that.
             ///
+            /// # Errors
+            /// `NotWhole` where these are no such words, or fewer than the file has; `NoMemory` where memory is
+            /// refused.
+            ///
             /// ```
             #[doc = concat!("use bitm_proved::", stringify!($kind), ";")]
             #[doc = concat!("let made = ", $made, ";")]
@@ -26,6 +30,9 @@ macro_rules! owners {
         impl<O: AsRef<[u8]>> $kind<O> {
             #[doc = concat!("The ", $it, " in a file, whose bytes the owner has; they begin at a multiple of 8.")]
             ///
+            /// # Errors
+            /// As of `from_words`; `Misaligned` where they begin elsewhere.
+            ///
             /// ```
             #[doc = concat!("use bitm_proved::{bytes_of, ", stringify!($kind), "};")]
             #[doc = concat!("let made = ", $made, ";")]
@@ -39,6 +46,30 @@ macro_rules! owners {
                 // SAFETY: as of `from_words`.
                 let view = $view::from_bytes(unsafe { held.borrowed() })?;
                 Ok($kind { view, held })
+            }
+        }
+
+        #[cfg(feature = "std")]
+        impl $kind<Vec<u64>> {
+            #[doc = concat!("The ", $it, " in the file at a path, which is copied into memory. What the file holds is")]
+            /// not tested: `check` does that.
+            ///
+            /// # Errors
+            /// `OpenError::System` where the system refuses the file, and `OpenError::Stored` as of `from_words`.
+            ///
+            /// ```
+            #[doc = concat!("use bitm_proved::{bytes_of, ", stringify!($kind), "};")]
+            #[doc = concat!("let made = ", $made, ";")]
+            #[doc = concat!("let name = format!(\"bitm-read-", stringify!($kind), "-{}\", std::process::id());")]
+            /// let path = std::env::temp_dir().join(name);
+            #[doc = concat!("std::fs::write(&path, bytes_of(", $file, "))?;")]
+            #[doc = concat!("let read = ", stringify!($kind), "::read(&path)?;")]
+            #[doc = concat!("assert!(read.view().check() && read.view().len() == ", $len, ");")]
+            /// # std::fs::remove_file(&path)?;
+            /// # Ok::<(), Box<dyn std::error::Error>>(())
+            /// ```
+            pub fn read(path: impl AsRef<std::path::Path>) -> Result<Self, crate::errors::OpenError> {
+                Ok($kind::from_words(crate::sys::read::words_from_file(path)?)?)
             }
         }
 
@@ -91,10 +122,16 @@ macro_rules! owners {
 }
 pub(crate) use owners;
 
-/// As `owners`, of a block, which can be copied.
+/// As `owners`, of a block that is built, and which can be copied. Where it is not said what a copy copies, and what
+/// the words of its file are, both are its block.
 macro_rules! owners_of_blocks {
     ($kind:ident with $view:ident; $it:literal, $made:literal, $len:literal) => {
-        crate::sys::owner::owners!($kind with $view; $it, $made, $len, "made.view().block()");
+        crate::sys::owner::owners_of_blocks!(
+            $kind with $view; $it, $made, $len, "made.view().block()", |it| it.view().block());
+    };
+    ($kind:ident with $view:ident; $it:literal, $made:literal, $len:literal, $file:literal,
+     |$own:ident| $words:expr) => {
+        crate::sys::owner::owners!($kind with $view; $it, $made, $len, $file);
 
         impl $kind {
             /// Of a block that was built; `otherwise` where it is none.
@@ -105,7 +142,10 @@ macro_rules! owners_of_blocks {
                 })
             }
 
-            /// A copy; an error where memory is refused.
+            /// A copy.
+            ///
+            /// # Errors
+            /// `NoMemory` where memory is refused.
             ///
             /// ```
             #[doc = concat!("let made = ", $made, ";")]
@@ -113,7 +153,8 @@ macro_rules! owners_of_blocks {
             /// # Ok::<(), Box<dyn std::error::Error>>(())
             /// ```
             pub fn try_clone(&self) -> Result<Self, StoredError> {
-                $kind::from_words(copied(self.view().block())?)
+                let $own = self;
+                $kind::from_words(copied($words)?)
             }
         }
 

@@ -1,12 +1,12 @@
 //! Monotone integer sequences (Elias-Fano) in borrowed parts.
 use crate::errors::{BuildError, ListError, WrongTables};
 use crate::ffi::blocks::*;
-use crate::ffi::words::{bitm_list_counts, bitm_sequence_lens};
+use crate::ffi::words::bitm_list_counts;
+use crate::sys::block::Block;
 use crate::sys::lists::{query_items, query_list};
 use crate::sys::memory::{as_u64, as_u64_mut, zeroed};
 use crate::sys::{query, OK, UNSORTED};
 use alloc::vec::Vec;
-use core::marker::PhantomData;
 use core::{fmt, slice};
 
 type One = unsafe extern "C" fn(*const bitm_sequence, u64, *mut u64) -> u32;
@@ -28,7 +28,8 @@ type Many =
 #[derive(Clone, Copy)]
 pub struct SequenceView<'a> {
     raw: bitm_sequence,
-    borrows: PhantomData<&'a [u64]>,
+    /// The block that all of it stands in, where there is one.
+    block: Option<&'a [u64]>,
 }
 
 // SAFETY: the pointers are those of shared slices, and no call has state.
@@ -39,11 +40,23 @@ unsafe impl Sync for SequenceView<'_> {}
 impl<'a> SequenceView<'a> {
     /// Of parts whose lengths fit together, as the call wrote them that opened a block of that lifetime.
     pub(crate) fn of(raw: bitm_sequence) -> Self {
-        SequenceView { raw, borrows: PhantomData }
+        SequenceView { raw, block: None }
     }
 
-    /// Of `len` numbers with `width` low bits: low bits, words of the high bits, and the two tables of these words. An
-    /// error where a length does not fit.
+    /// As the sequence of that block, in which all parts stand.
+    pub(crate) fn in_block(mut self, block: &'a [u64]) -> Self {
+        self.block = Some(block);
+        self
+    }
+
+    pub(crate) fn block(&self) -> Option<&'a [u64]> {
+        self.block
+    }
+
+    /// Of `len` numbers with `width` low bits: low bits, words of the high bits, and the two tables of these words.
+    ///
+    /// # Errors
+    /// `WrongTables` where a length does not fit the others.
     ///
     /// ```
     /// use bitm_proved::{EliasFano, SequenceView, WrongTables};
@@ -70,7 +83,7 @@ impl<'a> SequenceView<'a> {
             samples: core::ptr::null(),
             samples_len: 0,
         };
-        let view = SequenceView { raw, borrows: PhantomData };
+        let view = Self::of(raw);
         // There is no number at index `len`, so an error is one of the lengths.
         view.call(bitm_sequence_get, len as u64)?;
         Ok(view)
@@ -139,7 +152,9 @@ impl<'a> SequenceView<'a> {
             .map(|(at, len)| unsafe { slice::from_raw_parts(at, len) })
     }
 
-    /// Whether the parts are those of some sequence.
+    /// Whether the parts are those of a sequence; and of a block whether it is as it was written, by the checksum of
+    /// each section. A file of format version 2 has no checksum of its numbers: there `check` finds only what does not
+    /// fit together, and other numbers may pass.
     ///
     /// ```
     /// use bitm_proved::{EliasFano, SequenceView};
@@ -151,8 +166,11 @@ impl<'a> SequenceView<'a> {
     /// # Ok::<(), Box<dyn std::error::Error>>(())
     /// ```
     pub fn check(&self) -> bool {
-        // SAFETY: a view, which borrows its slices.
-        unsafe { bitm_sequence_check(&self.raw) == OK }
+        match self.block {
+            Some(block) => Block::<bitm_sequence>::is_written(block),
+            // SAFETY: a view, which borrows its slices.
+            None => unsafe { bitm_sequence_check(&self.raw) == OK },
+        }
     }
 
     /// The number at an index; `None` exactly where there is none.
@@ -220,12 +238,13 @@ impl<'a> SequenceView<'a> {
     /// ```
     pub fn items<'b>(&self, from: usize, out: &'b mut [u64]) -> &'b [u64] {
         let (to, room, mut written) = (out.as_mut_ptr(), out.len(), 0);
+        // The lengths of a view are right, and how many were written says whether the parts are.
         // SAFETY: a view, a mutable slice, and room for one number.
-        let status = unsafe { bitm_sequence_items(&self.raw, from as u64, to, room, &mut written) };
-        &out[..if status == OK { written as usize } else { 0 }]
+        let _ = unsafe { bitm_sequence_items(&self.raw, from as u64, to, room, &mut written) };
+        &out[..written as usize]
     }
 
-    /// The numbers at a list of indexes, up to the first that has none.
+    /// The numbers at a list of indexes, up to the first past the end; an error where the parts turn out to be wrong.
     ///
     /// ```
     /// let primes = bitm_proved::EliasFano::build(&[2, 3, 5, 7])?;
@@ -293,25 +312,18 @@ impl fmt::Debug for SequenceView<'_> {
     }
 }
 
-/// The parts of a sequence of the numbers, one after another, and the number of low bits of each number.
-pub(crate) fn build(items: &[u64]) -> Result<(Vec<u64>, u64, [usize; 4]), BuildError> {
+/// The block of a sequence of the numbers.
+pub(crate) fn build(items: &[u64]) -> Result<Vec<u64>, BuildError> {
     let too_long = BuildError::TooLong { len: items.len() };
-    let lens = sizes(items).ok_or(too_long)?;
-    let [low, words, upper, lower] =
-        [lens.low_len, lens.words_len, lens.upper_len, lens.lower_len].map(|it| it as usize);
-    let mut all = zeroed(low + words + upper + lower)?;
-    let (low_part, rest) = all.split_at_mut(low);
-    let (words_part, rest) = rest.split_at_mut(words);
-    let (upper_part, lower_part) = rest.split_at_mut(upper);
-    let (from, mut width) = (items.as_ptr(), 0);
-    // SAFETY: five slices that do not overlap, four of them mutable, and room for one number.
-    let status = unsafe {
-        let (l, w) = (low_part.as_mut_ptr(), words_part.as_mut_ptr());
-        let (u, t) = (upper_part.as_mut_ptr(), lower_part.as_mut_ptr());
-        bitm_sequence_build(from, items.len(), l, low, w, words, u, upper, t, lower, &mut width)
-    };
-    match status {
-        OK => Ok((all, width, [low, words, upper, lower])),
+    let (largest, mut size) = (items.last().copied().unwrap_or(0), 0);
+    // SAFETY: numbers are passed, and room for one.
+    if unsafe { bitm_sequence_block_size(items.len(), largest, &mut size) } != OK {
+        return Err(too_long);
+    }
+    let mut block = zeroed(size as usize)?;
+    // SAFETY: a shared and a mutable slice, which do not overlap.
+    match unsafe { bitm_sequence_block_build(items.as_ptr(), items.len(), block.as_mut_ptr(), block.len()) } {
+        OK => Ok(block),
         UNSORTED => Err(BuildError::NotSorted { index: unsorted(items) }),
         _ => Err(too_long),
     }
@@ -319,11 +331,4 @@ pub(crate) fn build(items: &[u64]) -> Result<(Vec<u64>, u64, [usize; 4]), BuildE
 
 fn unsorted(items: &[u64]) -> usize {
     items.windows(2).position(|it| it[1] < it[0]).map_or(0, |it| it + 1)
-}
-
-fn sizes(items: &[u64]) -> Option<bitm_sequence_lens> {
-    let largest = items.last().copied().unwrap_or(0);
-    let mut out = bitm_sequence_lens { width: 0, low_len: 0, words_len: 0, upper_len: 0, lower_len: 0 };
-    // SAFETY: numbers are passed, and room for the sizes.
-    (unsafe { bitm_sequence_sizes(items.len(), largest, &mut out) } == OK).then_some(out)
 }

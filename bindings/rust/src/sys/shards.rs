@@ -1,9 +1,9 @@
 //! Bits in shards: which shard holds a position or a rank, and shards of one process asked as one.
-use crate::errors::WrongTables;
+use crate::errors::{BuildError, WrongTables};
 use crate::ffi::words::*;
+use crate::sys::memory::{with_room, zeroed};
 use crate::sys::view::IndexView;
 use crate::sys::{query, NONE, OK};
-use alloc::vec;
 use alloc::vec::Vec;
 use core::marker::PhantomData;
 
@@ -13,28 +13,28 @@ mod lists;
 ///
 /// ```
 /// use bitm_proved::{Place, PrefixCounts};
-/// let counts = PrefixCounts::new(&[10, 0, 7], &[4, 0, 2]).ok_or("2^64 bits or more")?;
-/// let place = counts.find(12).ok_or("past the end")?;
+/// let counts = PrefixCounts::new(&[10, 0, 7], &[4, 0, 2])?;
+/// let place = counts.find(12).unwrap();
 /// assert_eq!(place, Place { shard: 2, within: 2 });
 /// assert_eq!(counts.bits_before()[place.shard] + place.within, 12);
-/// # Ok::<(), &str>(())
+/// # Ok::<(), bitm_proved::BuildError>(())
 /// ```
 #[derive(Clone, Copy, PartialEq, Eq, Debug)]
 pub struct Place {
     /// The shard.
     ///
     /// ```
-    /// let counts = bitm_proved::PrefixCounts::new(&[10, 7], &[4, 2]).ok_or("2^64 bits or more")?;
+    /// let counts = bitm_proved::PrefixCounts::new(&[10, 7], &[4, 2])?;
     /// assert_eq!([9, 10].map(|position| counts.find(position).map(|it| it.shard)), [Some(0), Some(1)]);
-    /// # Ok::<(), &str>(())
+    /// # Ok::<(), bitm_proved::BuildError>(())
     /// ```
     pub shard: usize,
     /// The position, or the rank, in the shard.
     ///
     /// ```
-    /// let counts = bitm_proved::PrefixCounts::new(&[10, 7], &[4, 2]).ok_or("2^64 bits or more")?;
+    /// let counts = bitm_proved::PrefixCounts::new(&[10, 7], &[4, 2])?;
     /// assert_eq!([9, 10].map(|position| counts.find(position).map(|it| it.within)), [Some(9), Some(0)]);
-    /// # Ok::<(), &str>(())
+    /// # Ok::<(), bitm_proved::BuildError>(())
     /// ```
     pub within: u64,
 }
@@ -47,12 +47,12 @@ pub struct Place {
 ///
 /// ```
 /// use bitm_proved::{Place, PrefixCounts};
-/// let counts = PrefixCounts::new(&[1000, 0, 700], &[480, 0, 351]).ok_or("2^64 bits or more")?;
+/// let counts = PrefixCounts::new(&[1000, 0, 700], &[480, 0, 351])?;
 /// assert_eq!(counts.find(1005), Some(Place { shard: 2, within: 5 }));
 /// assert_eq!(counts.find_one(480), Some(Place { shard: 2, within: 0 }));
 /// assert_eq!((counts.find_zero(519), counts.find_one(831)), (Some(Place { shard: 0, within: 519 }), None));
 /// assert_eq!((counts.bits_before(), counts.ones_before()), (&[0, 1000, 1000, 1700][..], &[0, 480, 480, 831][..]));
-/// # Ok::<(), &str>(())
+/// # Ok::<(), bitm_proved::BuildError>(())
 /// ```
 #[derive(Clone, PartialEq, Eq, Debug)]
 pub struct PrefixCounts {
@@ -60,35 +60,49 @@ pub struct PrefixCounts {
     ones: Vec<u64>,
 }
 
-/// The sums of the numbers before each; `None` where that of all is 2^64 or more.
-fn sums(numbers: &[u64]) -> Option<Vec<u64>> {
-    let mut out = vec![0; numbers.len() + 1];
+/// The sums of the numbers before each; `TooManyBits` where the sum of all is 2^64 or more.
+fn sums(numbers: &[u64]) -> Result<Vec<u64>, BuildError> {
+    let mut out = zeroed(numbers.len() + 1)?;
     // SAFETY: a shared and a mutable slice.
-    let status = unsafe { bitm_prefix_sums(numbers.as_ptr(), numbers.len(), out.as_mut_ptr(), out.len()) };
-    (status == OK).then_some(out)
+    match unsafe { bitm_prefix_sums(numbers.as_ptr(), numbers.len(), out.as_mut_ptr(), out.len()) } {
+        OK => Ok(out),
+        _ => Err(BuildError::TooManyBits),
+    }
 }
 
 impl PrefixCounts {
-    /// Of the bits and the 1 bits of each shard; `None` where these are not as many, or are 2^64 or more together.
+    /// Of how many bits, and how many 1 bits, each shard has.
+    ///
+    /// # Errors
+    /// `Pairs` where the lists are not as long as each other, `MoreOnes` where a shard has more 1 bits than bits,
+    /// `TooManyBits` where all shards have 2^64 bits or more, and `NoMemory` where memory is refused.
     ///
     /// ```
-    /// use bitm_proved::PrefixCounts;
-    /// assert!(PrefixCounts::new(&[10, 0, 7], &[4, 0, 2]).is_some());
-    /// assert!(PrefixCounts::new(&[10, 0, 7], &[4, 0]).is_none()); // not as many
-    /// assert!(PrefixCounts::new(&[u64::MAX, 1], &[0, 0]).is_none()); // 2^64 bits
+    /// use bitm_proved::{BuildError, PrefixCounts};
+    /// assert_eq!(PrefixCounts::new(&[10, 0, 7], &[4, 0, 2])?.bits_before(), [0, 10, 10, 17]);
+    /// let shorter = PrefixCounts::new(&[10, 0, 7], &[4, 0]);
+    /// assert_eq!(shorter, Err(BuildError::Pairs { first: 3, second: 2 }));
+    /// assert_eq!(PrefixCounts::new(&[10, 7], &[4, 8]), Err(BuildError::MoreOnes { shard: 1 }));
+    /// assert_eq!(PrefixCounts::new(&[u64::MAX, 1], &[0, 0]), Err(BuildError::TooManyBits));
+    /// # Ok::<(), BuildError>(())
     /// ```
-    pub fn new(bits: &[u64], ones: &[u64]) -> Option<Self> {
-        let (bits, ones) = (sums(bits)?, sums(ones)?);
-        (bits.len() == ones.len()).then_some(PrefixCounts { bits, ones })
+    pub fn new(bits: &[u64], ones: &[u64]) -> Result<Self, BuildError> {
+        if bits.len() != ones.len() {
+            return Err(BuildError::Pairs { first: bits.len(), second: ones.len() });
+        }
+        match bits.iter().zip(ones).position(|(bits, ones)| ones > bits) {
+            Some(shard) => Err(BuildError::MoreOnes { shard }),
+            None => Ok(PrefixCounts { bits: sums(bits)?, ones: sums(ones)? }),
+        }
     }
 
     /// How many bits there are before each shard, and last in all.
     ///
     /// ```
     /// use bitm_proved::PrefixCounts;
-    /// let counts = PrefixCounts::new(&[10, 0, 7], &[4, 0, 2]).ok_or("2^64 bits or more")?;
+    /// let counts = PrefixCounts::new(&[10, 0, 7], &[4, 0, 2])?;
     /// assert_eq!(counts.bits_before(), [0, 10, 10, 17]);
-    /// # Ok::<(), &str>(())
+    /// # Ok::<(), bitm_proved::BuildError>(())
     /// ```
     pub fn bits_before(&self) -> &[u64] {
         &self.bits
@@ -98,9 +112,9 @@ impl PrefixCounts {
     ///
     /// ```
     /// use bitm_proved::PrefixCounts;
-    /// let counts = PrefixCounts::new(&[10, 0, 7], &[4, 0, 2]).ok_or("2^64 bits or more")?;
+    /// let counts = PrefixCounts::new(&[10, 0, 7], &[4, 0, 2])?;
     /// assert_eq!(counts.ones_before(), [0, 4, 4, 6]);
-    /// # Ok::<(), &str>(())
+    /// # Ok::<(), bitm_proved::BuildError>(())
     /// ```
     pub fn ones_before(&self) -> &[u64] {
         &self.ones
@@ -129,11 +143,11 @@ impl PrefixCounts {
     ///
     /// ```
     /// use bitm_proved::{Place, PrefixCounts};
-    /// let counts = PrefixCounts::new(&[10, 0, 7], &[4, 0, 2]).ok_or("2^64 bits or more")?;
+    /// let counts = PrefixCounts::new(&[10, 0, 7], &[4, 0, 2])?;
     /// assert_eq!(counts.find(9), Some(Place { shard: 0, within: 9 }));
     /// assert_eq!(counts.find(10), Some(Place { shard: 2, within: 0 }));
     /// assert_eq!(counts.find(17), None);
-    /// # Ok::<(), &str>(())
+    /// # Ok::<(), bitm_proved::BuildError>(())
     /// ```
     pub fn find(&self, position: u64) -> Option<Place> {
         self.place(BITM_POSITIONS, position)
@@ -143,27 +157,26 @@ impl PrefixCounts {
     ///
     /// ```
     /// use bitm_proved::{Place, PrefixCounts};
-    /// let counts = PrefixCounts::new(&[10, 0, 7], &[4, 0, 2]).ok_or("2^64 bits or more")?;
+    /// let counts = PrefixCounts::new(&[10, 0, 7], &[4, 0, 2])?;
     /// assert_eq!(counts.find_one(3), Some(Place { shard: 0, within: 3 }));
     /// assert_eq!(counts.find_one(5), Some(Place { shard: 2, within: 1 }));
     /// assert_eq!(counts.find_one(6), None);
-    /// # Ok::<(), &str>(())
+    /// # Ok::<(), bitm_proved::BuildError>(())
     /// ```
     pub fn find_one(&self, rank: u64) -> Option<Place> {
         self.place(BITM_ONES, rank)
     }
 
-    /// The shard that holds the 0 bit with a rank; `None` where there is none. Over counts of more 1 bits than bits it may
-    /// name any shard.
+    /// The shard that holds the 0 bit with a rank; `None` where there is none.
     ///
     /// ```
     /// use bitm_proved::{Place, PrefixCounts};
-    /// let counts = PrefixCounts::new(&[10, 0, 7], &[4, 0, 2]).ok_or("2^64 bits or more")?;
+    /// let counts = PrefixCounts::new(&[10, 0, 7], &[4, 0, 2])?;
     /// // Of 0 bits the shards have 6, none and 5.
     /// assert_eq!(counts.find_zero(5), Some(Place { shard: 0, within: 5 }));
     /// assert_eq!(counts.find_zero(6), Some(Place { shard: 2, within: 0 }));
     /// assert_eq!(counts.find_zero(11), None);
-    /// # Ok::<(), &str>(())
+    /// # Ok::<(), bitm_proved::BuildError>(())
     /// ```
     pub fn find_zero(&self, rank: u64) -> Option<Place> {
         self.place(BITM_ZEROS, rank)
@@ -180,7 +193,7 @@ impl PrefixCounts {
 /// let bits = ShardedIndex::new(&[shard, shard])?;
 /// assert_eq!((bits.rank(9)?, bits.rank0(12)?, bits.rank(13)?), (Some(6), Some(4), None));
 /// assert_eq!((bits.select(4)?, bits.select0(3)?, bits.select(8)?), (Some(7), Some(9), None));
-/// # Ok::<(), bitm_proved::WrongTables>(())
+/// # Ok::<(), bitm_proved::BuildError>(())
 /// ```
 #[derive(Clone)]
 pub struct ShardedIndex<'a> {
@@ -195,20 +208,29 @@ unsafe impl Send for ShardedIndex<'_> {}
 unsafe impl Sync for ShardedIndex<'_> {}
 
 impl<'a> ShardedIndex<'a> {
-    /// Of these indexes, whose 1 bits are counted by their tables; an error where a table turns out to be wrong.
+    /// Of these indexes, whose 1 bits are counted by their tables.
+    ///
+    /// # Errors
+    /// `WrongTables` where a table turns out to be wrong, `TooManyBits` where all shards have 2^64 bits or more, and
+    /// `NoMemory` where memory is refused.
     ///
     /// ```
     /// use bitm_proved::{Index, Queries, ShardedIndex};
     /// let (one, two) = (Index::build([7u64]), Index::build([1u64, 0]));
     /// let bits = ShardedIndex::new(&[one.view(), two.view()])?;
     /// assert_eq!((bits.rank(192)?, bits.select(3)?), (Some(4), Some(64)));
-    /// # Ok::<(), bitm_proved::WrongTables>(())
+    /// # Ok::<(), bitm_proved::BuildError>(())
     /// ```
-    pub fn new(shards: &[IndexView<'a>]) -> Result<Self, WrongTables> {
-        let bits: Vec<u64> = shards.iter().map(|it| it.raw().bits_len).collect();
-        let ones: Result<Vec<u64>, WrongTables> = shards.iter().map(ones_of).collect();
-        let counts = PrefixCounts::new(&bits, &ones?).ok_or(WrongTables)?;
-        Ok(ShardedIndex { shards: shards.iter().map(|it| *it.raw()).collect(), counts, borrows: PhantomData })
+    pub fn new(shards: &[IndexView<'a>]) -> Result<Self, BuildError> {
+        let count = shards.len();
+        let (mut all, mut bits, mut ones) = (with_room(count)?, with_room(count)?, with_room(count)?);
+        for shard in shards {
+            all.push(*shard.raw());
+            bits.push(shard.raw().bits_len);
+            ones.push(ones_of(shard)?);
+        }
+        let counts = PrefixCounts::new(&bits, &ones)?;
+        Ok(ShardedIndex { shards: all, counts, borrows: PhantomData })
     }
 
     /// How many bits and 1 bits there are before each shard.
@@ -219,7 +241,7 @@ impl<'a> ShardedIndex<'a> {
     /// let bits = ShardedIndex::new(&[shard.view(), shard.view()])?;
     /// assert_eq!(bits.counts().bits_before(), [0, 64, 128]);
     /// assert_eq!(bits.counts().ones_before(), [0, 3, 6]);
-    /// # Ok::<(), bitm_proved::WrongTables>(())
+    /// # Ok::<(), bitm_proved::BuildError>(())
     /// ```
     pub fn counts(&self) -> &PrefixCounts {
         &self.counts
@@ -252,7 +274,7 @@ impl<'a> ShardedIndex<'a> {
     /// let shard = Index::build([7u64]); // 3 bits of 1, then 61 of 0
     /// let bits = ShardedIndex::new(&[shard.view(), shard.view()])?;
     /// assert_eq!((bits.rank(66)?, bits.rank(128)?, bits.rank(129)?), (Some(5), Some(6), None));
-    /// # Ok::<(), bitm_proved::WrongTables>(())
+    /// # Ok::<(), bitm_proved::BuildError>(())
     /// ```
     pub fn rank(&self, position: u64) -> Result<Option<u64>, WrongTables> {
         self.call(bitm_shards_rank, true, position)
@@ -265,7 +287,7 @@ impl<'a> ShardedIndex<'a> {
     /// let shard = Index::build([7u64]); // 3 bits of 1, then 61 of 0
     /// let bits = ShardedIndex::new(&[shard.view(), shard.view()])?;
     /// assert_eq!((bits.rank0(66)?, bits.rank0(128)?, bits.rank0(129)?), (Some(61), Some(122), None));
-    /// # Ok::<(), bitm_proved::WrongTables>(())
+    /// # Ok::<(), bitm_proved::BuildError>(())
     /// ```
     pub fn rank0(&self, position: u64) -> Result<Option<u64>, WrongTables> {
         self.call(bitm_shards_rank, false, position)
@@ -278,7 +300,7 @@ impl<'a> ShardedIndex<'a> {
     /// let shard = Index::build([7u64]); // 3 bits of 1, then 61 of 0
     /// let bits = ShardedIndex::new(&[shard.view(), shard.view()])?;
     /// assert_eq!((bits.select(2)?, bits.select(3)?, bits.select(6)?), (Some(2), Some(64), None));
-    /// # Ok::<(), bitm_proved::WrongTables>(())
+    /// # Ok::<(), bitm_proved::BuildError>(())
     /// ```
     pub fn select(&self, rank: u64) -> Result<Option<u64>, WrongTables> {
         self.call(bitm_shards_select, true, rank)
@@ -291,7 +313,7 @@ impl<'a> ShardedIndex<'a> {
     /// let shard = Index::build([7u64]); // 3 bits of 1, then 61 of 0
     /// let bits = ShardedIndex::new(&[shard.view(), shard.view()])?;
     /// assert_eq!((bits.select0(60)?, bits.select0(61)?, bits.select0(122)?), (Some(63), Some(67), None));
-    /// # Ok::<(), bitm_proved::WrongTables>(())
+    /// # Ok::<(), bitm_proved::BuildError>(())
     /// ```
     pub fn select0(&self, rank: u64) -> Result<Option<u64>, WrongTables> {
         self.call(bitm_shards_select, false, rank)
@@ -304,7 +326,7 @@ impl<'a> ShardedIndex<'a> {
     /// let shard = Index::build([7u64]); // 3 bits of 1, then 61 of 0
     /// let bits = ShardedIndex::new(&[shard.view(), shard.view()])?;
     /// assert_eq!((bits.next_one(2)?, bits.next_one(3)?, bits.next_one(67)?), (Some(2), Some(64), None));
-    /// # Ok::<(), bitm_proved::WrongTables>(())
+    /// # Ok::<(), bitm_proved::BuildError>(())
     /// ```
     pub fn next_one(&self, from: u64) -> Result<Option<u64>, WrongTables> {
         self.call(bitm_shards_next, true, from)
@@ -317,7 +339,7 @@ impl<'a> ShardedIndex<'a> {
     /// let shard = Index::build([7u64]); // 3 bits of 1, then 61 of 0
     /// let bits = ShardedIndex::new(&[shard.view(), shard.view()])?;
     /// assert_eq!((bits.next_zero(0)?, bits.next_zero(64)?, bits.next_zero(128)?), (Some(3), Some(67), None));
-    /// # Ok::<(), bitm_proved::WrongTables>(())
+    /// # Ok::<(), bitm_proved::BuildError>(())
     /// ```
     pub fn next_zero(&self, from: u64) -> Result<Option<u64>, WrongTables> {
         self.call(bitm_shards_next, false, from)
@@ -331,7 +353,7 @@ impl<'a> ShardedIndex<'a> {
     /// let shard = Index::build([7u64]); // 3 bits of 1, then 61 of 0
     /// let bits = ShardedIndex::new(&[shard.view(), shard.view()])?;
     /// assert_eq!((bits.previous_one(63)?, bits.previous_one(500)?, bits.previous_one(0)?), (Some(2), Some(66), Some(0)));
-    /// # Ok::<(), bitm_proved::WrongTables>(())
+    /// # Ok::<(), bitm_proved::BuildError>(())
     /// ```
     pub fn previous_one(&self, from: u64) -> Result<Option<u64>, WrongTables> {
         self.call(bitm_shards_previous, true, from)
@@ -345,7 +367,7 @@ impl<'a> ShardedIndex<'a> {
     /// let shard = Index::build([7u64]); // 3 bits of 1, then 61 of 0
     /// let bits = ShardedIndex::new(&[shard.view(), shard.view()])?;
     /// assert_eq!((bits.previous_zero(66)?, bits.previous_zero(2)?), (Some(63), None));
-    /// # Ok::<(), bitm_proved::WrongTables>(())
+    /// # Ok::<(), bitm_proved::BuildError>(())
     /// ```
     pub fn previous_zero(&self, from: u64) -> Result<Option<u64>, WrongTables> {
         self.call(bitm_shards_previous, false, from)

@@ -1,97 +1,98 @@
-//! Indexes and sequences in files, as `bitm.h` lays them out: the same bytes from each language.
-use crate::errors::StoredError;
+//! Indexes and sequences in files: each is a block, the same bytes from each language. Files of format version 2 are
+//! read too.
+use crate::errors::{BuildError, StoredError};
+use crate::ffi::blocks::*;
 use crate::ffi::words::*;
-use crate::sys::memory::{halves, halves_mut, words_of, zeroed};
-use crate::sys::sequence::SequenceView;
-use crate::sys::tables::{table_lens, OwnSamples, Tables};
-use crate::sys::view::{IndexView, Samples};
-use crate::sys::OK;
+use crate::sys::block::{is_block, Block, Parts};
+use crate::sys::memory::{copied, halves, halves_mut, words_of, zeroed};
+use crate::sys::sections::{extended, section, Section};
+use crate::sys::sequence::{build, SequenceView};
+use crate::sys::tables::samples_len;
+use crate::sys::view::{IndexView, Samples, NO_SAMPLES};
+use crate::sys::{version2, OK};
 use alloc::vec::Vec;
-use core::slice;
 
-/// How many words a header has.
-const HEADER: usize = size_of::<bitm_stored>() / 8;
+// SAFETY: numbers and pointers alone; the call that opens a block writes pointers into it.
+unsafe impl Parts for bitm_index {
+    const OPEN: unsafe extern "C" fn(*const u64, usize, *mut Self) -> u32 = bitm_index_block_open;
+    const CHECK: unsafe extern "C" fn(*const u64, usize) -> u32 = bitm_index_block_check;
 
-fn empty() -> bitm_stored {
-    let none = bitm_span { at: 0, len: 0 };
-    bitm_stored {
-        mark: 0,
-        kind: 0,
-        len: 0,
-        width: 0,
-        size: 0,
-        ones_log2: 0,
-        zeros_log2: 0,
-        words: none,
-        upper: none,
-        lower: none,
-        low: none,
-        starts: none,
-        starts0: none,
-        samples: none,
-        samples0: none,
-        checksum: 0,
+    fn len(&self) -> usize {
+        self.bits_len as usize
     }
 }
 
-fn header(file: &[u64], kind: u32) -> Result<bitm_stored, StoredError> {
-    let mut out = empty();
-    // SAFETY: a slice, and room for a header.
-    match unsafe { bitm_stored_read(file.as_ptr(), file.len(), &mut out) } {
-        OK if out.kind == u64::from(kind) => Ok(out),
-        OK => Err(StoredError::OtherKind),
-        _ => Err(StoredError::NotWhole),
+// SAFETY: numbers and pointers alone; the call that opens a block writes pointers into it.
+unsafe impl Parts for bitm_sequence {
+    const OPEN: unsafe extern "C" fn(*const u64, usize, *mut Self) -> u32 = bitm_sequence_block_open;
+    const CHECK: unsafe extern "C" fn(*const u64, usize) -> u32 = bitm_sequence_block_check;
+
+    fn len(&self) -> usize {
+        self.len
     }
 }
 
-/// The numbers of a span.
-fn part(file: &[u64], span: bitm_span) -> Result<&[u64], StoredError> {
-    let rest = file.get((span.at / 8) as usize..);
-    rest.and_then(|it| it.get(..span.len as usize)).ok_or(StoredError::NotWhole)
+/// The block of a kind that begins the words of a file; `OtherKind` where one of the other kind does.
+fn open<'a, P: Parts, Other: Parts>(file: &'a [u64]) -> Result<Block<'a, P>, StoredError> {
+    Block::open(file).map_err(|why| match Block::<Other>::open(file) {
+        Ok(_) => StoredError::OtherKind,
+        Err(_) => why,
+    })
 }
 
-fn samples(file: &[u64], log2: u64, starts: bitm_span, of: bitm_span) -> Result<Option<Samples<'_>>, StoredError> {
-    if log2 == 0 {
-        return Ok(None);
+/// How many sections the block of an index has of its own: words, and both tables.
+const OWN_SECTIONS: usize = 3;
+
+/// The roles of samples of 1 bits, or of 0 bits, and of the section after them: the letters `bitmsta1`, or `bitmsta0`.
+/// That section has the logarithm of the distance of samples, and then how many samples there are before each upper
+/// block.
+fn roles(one: bool) -> (u64, u64) {
+    match one {
+        true => (7, u64::from_le_bytes(*b"bitmsta1")),
+        false => (8, u64::from_le_bytes(*b"bitmsta0")),
     }
-    let (at, len) = (of.at, of.len.div_ceil(2));
-    let all = halves(part(file, bitm_span { at, len })?);
-    Ok(Some(Samples { samples: &all[..of.len as usize], starts: part(file, starts)?, log2: log2 as u32 }))
 }
 
-fn put(file: &mut [u64], span: bitm_span, from: &[u64]) -> Result<(), StoredError> {
-    if span.len != from.len() as u64 {
-        return Err(StoredError::WrongLength);
-    }
-    let at = (span.at / 8) as usize;
-    file[at..at + from.len()].copy_from_slice(from);
-    Ok(())
+/// The samples in two sections, where their lengths are those that samples of an index have.
+fn samples_of<'a>(view: &IndexView<'a>, samples: Section<'a>, starts: Section<'a>) -> Option<Samples<'a>> {
+    let (&log2, before) = starts.words.split_first()?;
+    let log2 = u32::try_from(log2).ok().filter(|it| (7..=31).contains(it))?;
+    let is_whole = starts.count == 8 * starts.words.len() && before.len() == view.upper().len();
+    let fits = is_whole && samples.count <= samples_len(view.words().len(), log2);
+    fits.then(|| Samples { samples: &halves(samples.words)[..samples.count], starts: before, log2 })
 }
 
-fn put_samples(
-    file: &mut [u64],
-    (starts, samples): (bitm_span, bitm_span),
-    from: Option<Samples<'_>>,
-) -> Result<(), StoredError> {
-    let Some(from) = from else { return Ok(()) };
-    put(file, starts, from.starts)?;
-    let room = halves_mut(&mut file[(samples.at / 8) as usize..]);
-    room[..from.samples.len()].copy_from_slice(from.samples);
-    Ok(())
+/// The samples of a kind that stand in a block after its own sections.
+fn samples_in<'a>(block: &'a [u64], view: &IndexView<'a>, one: bool) -> Option<Samples<'a>> {
+    let from = |first: usize| (first..).map_while(|i| section(block, i).ok().flatten());
+    let mut pairs = from(OWN_SECTIONS).zip(from(OWN_SECTIONS + 1));
+    pairs.find_map(|(samples, starts)| {
+        let is_pair = (samples.role, starts.role) == roles(one);
+        is_pair.then(|| samples_of(view, samples, starts)).flatten()
+    })
 }
 
-/// The words of a file with that header and nothing else.
-fn with_header(header: &bitm_stored) -> Result<Vec<u64>, StoredError> {
-    let mut file = zeroed((header.size / 8) as usize)?;
-    let at: *const bitm_stored = header;
-    // SAFETY: a header is `HEADER` numbers of 64 bits, without gaps.
-    let words = unsafe { slice::from_raw_parts(at.cast::<u64>(), HEADER) };
-    file[..HEADER].copy_from_slice(words);
-    Ok(file)
+/// The block of an index, with sections of samples after its own: one for each 2^`log2` bits of a kind.
+fn with_samples(block: &[u64], one: bool, log2: u32) -> Result<Vec<u64>, StoredError> {
+    let view = IndexView::from_words(block)?;
+    let (role, starts_role) = roles(one);
+    let log2 = log2.clamp(7, 31);
+    let room = samples_len(view.words().len(), log2);
+    let (mut samples, mut starts) = (zeroed(room.div_ceil(2))?, zeroed(1 + view.upper().len())?);
+    let (halves, before) = (&mut halves_mut(&mut samples)[..room], &mut starts[1..]);
+    let used = view.build_samples(one, log2, halves, before).ok_or(StoredError::WrongLength)?;
+    halves[used..].fill(0);
+    starts[0] = u64::from(log2);
+    let sampled = extended(block, role, used, &samples[..used.div_ceil(2)])?;
+    extended(&sampled, starts_role, 8 * starts.len(), &starts)
 }
 
 impl<'a> IndexView<'a> {
-    /// Of the words of a file. The contents of its parts are not tested: `check` does that.
+    /// Of the words of a file: of a block, with the samples that stand in it, or of a file of format version 2. What
+    /// its sections hold is not tested: `check` does that.
+    ///
+    /// # Errors
+    /// `NotWhole` where these are no such words, or fewer than the file has; `OtherKind` where they are a sequence.
     ///
     /// ```
     /// use bitm_proved::{ArrayWithRank101111, IndexView, Queries, Select, StoredError};
@@ -104,23 +105,25 @@ impl<'a> IndexView<'a> {
     /// # Ok::<(), StoredError>(())
     /// ```
     pub fn from_words(file: &'a [u64]) -> Result<Self, StoredError> {
-        let of = header(file, BITM_STORED_INDEX)?;
-        let (words, upper, lower) = (part(file, of.words)?, part(file, of.upper)?, of.lower);
-        let view = IndexView::new(words, of.len as usize, upper, part(file, lower)?);
-        let mut view = view.map_err(|_| StoredError::NotWhole)?;
-        let kept = [
-            samples(file, of.ones_log2, of.starts, of.samples)?,
-            samples(file, of.zeros_log2, of.starts0, of.samples0)?,
-        ];
-        for (one, kept) in [true, false].into_iter().zip(kept) {
-            if let Some(kept) = kept {
-                view = view.with_samples(one, kept);
+        if !is_block(file) {
+            return version2::index_of(file);
+        }
+        let block = open::<bitm_index, bitm_sequence>(file)?;
+        // The call that opens a block names no samples, by pointers that are not null.
+        let parts = bitm_index { ones: NO_SAMPLES, zeros: NO_SAMPLES, ..*block.parts() };
+        let mut view = IndexView::of(parts);
+        for one in [true, false] {
+            if let Some(samples) = samples_in(block.words(), &view, one) {
+                view = view.with_samples(one, samples);
             }
         }
-        Ok(view)
+        Ok(view.in_block(block.words()))
     }
 
-    /// Of the bytes of a file, which begin at a multiple of 8.
+    /// Of the bytes of a file, which begin at a multiple of 8: as `from_words`.
+    ///
+    /// # Errors
+    /// As of `from_words`; `Misaligned` where they begin elsewhere.
     ///
     /// ```
     /// use bitm_proved::{bytes_of, ArrayWithRank101111, IndexView, Queries, Rank};
@@ -133,7 +136,11 @@ impl<'a> IndexView<'a> {
         Self::from_words(words_of(bytes).ok_or(StoredError::Misaligned)?)
     }
 
-    /// The words of a file of this index, with its samples.
+    /// The words of a file of this index: a block, with samples where it has some. A view of a block returns a copy of
+    /// that block; else tables and samples are built anew.
+    ///
+    /// # Errors
+    /// `WrongTables` where the tables are not those of the words; `NoMemory` where memory is refused.
     ///
     /// ```
     /// use bitm_proved::{ArrayWithRank101111, IndexView, Queries, Select};
@@ -144,60 +151,42 @@ impl<'a> IndexView<'a> {
     /// # Ok::<(), bitm_proved::StoredError>(())
     /// ```
     pub fn to_words(&self) -> Result<Vec<u64>, StoredError> {
-        let used = self.len().div_ceil(64);
-        if used < self.words().len() {
-            return self.shorter(&self.words()[..used]);
+        match self.block() {
+            Some(block) => Ok(copied(block)?),
+            None if self.has_tables() => self.block_of(self.len()),
+            None => Err(StoredError::WrongTables),
         }
-        let (ones, zeros, mut of) = (self.samples(true), self.samples(false), empty());
-        let log2 = |by: Option<Samples<'_>>| by.map_or(0, |it| it.log2.clamp(7, 31));
-        let len = |by: Option<Samples<'_>>| by.map_or(0, |it| it.samples.len() as u64);
-        let bits = self.len() as u64;
-        // SAFETY: numbers are passed, and room for a header.
-        let status = unsafe {
-            let (ones_log2, zeros_log2) = (log2(ones), log2(zeros));
-            bitm_stored_index(bits, ones_log2, len(ones), zeros_log2, len(zeros), &mut of)
-        };
+    }
+
+    /// The block of its first bits, whose tables are built anew, and samples too where it has some.
+    pub(crate) fn block_of(&self, bits_len: usize) -> Result<Vec<u64>, StoredError> {
+        let (words, bits, mut size) = (self.words(), bits_len as u64, 0);
+        // SAFETY: a number is passed, and room for one.
+        if unsafe { bitm_index_block_size(bits, &mut size) } != OK {
+            return Err(StoredError::WrongLength);
+        }
+        let mut block = zeroed(size as usize)?;
+        // SAFETY: a shared and a mutable slice, which do not overlap.
+        let status =
+            unsafe { bitm_index_block_build(words.as_ptr(), words.len(), bits, block.as_mut_ptr(), block.len()) };
         if status != OK {
             return Err(StoredError::WrongLength);
         }
-        let mut file = with_header(&of)?;
-        put(&mut file, of.words, self.words())?;
-        put(&mut file, of.upper, self.upper())?;
-        put(&mut file, of.lower, self.lower())?;
-        put_samples(&mut file, (of.starts, of.samples), ones)?;
-        put_samples(&mut file, (of.starts0, of.samples0), zeros)?;
-        Ok(file)
-    }
-
-    /// The file of fewer words, whose tables and samples are others.
-    fn shorter(&self, words: &[u64]) -> Result<Vec<u64>, StoredError> {
-        let wrong = StoredError::WrongLength;
-        let tables = Tables::of(words).map_err(|_| wrong)?;
-        let over = IndexView::new(words, self.len(), &tables.upper, &tables.lower);
-        let mut view = over.map_err(|_| wrong)?;
-        debug_assert_eq!(table_lens(words.len()).0, tables.upper.len());
-        let sampled = |one| {
-            let log2 = self.samples(one).map(|it| it.log2.clamp(7, 31));
-            log2.map(|log2| OwnSamples::of(&view, one, log2)).transpose()
-        };
-        let made = [sampled(true)?, sampled(false)?];
-        for (one, made) in [true, false].into_iter().zip(&made) {
-            if let Some(made) = made {
-                view = view.with_samples(one, made.view());
+        for one in [true, false] {
+            if let Some(samples) = self.samples(one) {
+                block = with_samples(&block, one, samples.log2)?;
             }
         }
-        view.to_words()
-    }
-}
-
-impl OwnSamples {
-    pub(crate) fn view(&self) -> Samples<'_> {
-        Samples { samples: &self.samples, starts: &self.starts, log2: self.log2 }
+        Ok(block)
     }
 }
 
 impl<'a> SequenceView<'a> {
-    /// Of the words of a file. The contents of its parts are not tested: `check` does that.
+    /// Of the words of a file: of a block, or of a file of format version 2. What its sections hold is not tested:
+    /// `check` does that.
+    ///
+    /// # Errors
+    /// `NotWhole` where these are no such words, or fewer than the file has; `OtherKind` where they are an index.
     ///
     /// ```
     /// use bitm_proved::{EliasFano, SequenceView};
@@ -207,13 +196,17 @@ impl<'a> SequenceView<'a> {
     /// # Ok::<(), Box<dyn std::error::Error>>(())
     /// ```
     pub fn from_words(file: &'a [u64]) -> Result<Self, StoredError> {
-        let of = header(file, BITM_STORED_SEQUENCE)?;
-        let (low, words) = (part(file, of.low)?, part(file, of.words)?);
-        let parts = [low, words, part(file, of.upper)?, part(file, of.lower)?];
-        SequenceView::new(of.len as usize, of.width, parts).map_err(|_| StoredError::NotWhole)
+        if !is_block(file) {
+            return version2::sequence_of(file);
+        }
+        let block = open::<bitm_sequence, bitm_index>(file)?;
+        Ok(SequenceView::of(*block.parts()).in_block(block.words()))
     }
 
-    /// Of the bytes of a file, which begin at a multiple of 8.
+    /// Of the bytes of a file, which begin at a multiple of 8: as `from_words`.
+    ///
+    /// # Errors
+    /// As of `from_words`; `Misaligned` where they begin elsewhere.
     ///
     /// ```
     /// use bitm_proved::{bytes_of, EliasFano, SequenceView, StoredError};
@@ -226,7 +219,11 @@ impl<'a> SequenceView<'a> {
         Self::from_words(words_of(bytes).ok_or(StoredError::Misaligned)?)
     }
 
-    /// The words of a file of this sequence.
+    /// The words of a file of this sequence, which are a block. A view of a block returns a copy of that block; else
+    /// the numbers are read, in eight bytes each, and built anew.
+    ///
+    /// # Errors
+    /// `WrongTables` where the parts are not those of a sequence; `NoMemory` where memory is refused.
     ///
     /// ```
     /// use bitm_proved::{EliasFano, SequenceView};
@@ -236,18 +233,20 @@ impl<'a> SequenceView<'a> {
     /// # Ok::<(), Box<dyn std::error::Error>>(())
     /// ```
     pub fn to_words(&self) -> Result<Vec<u64>, StoredError> {
-        let parts = self.parts();
-        let [low_len, words_len, upper_len, lower_len] = parts.map(|it| it.len() as u64);
-        let lens = bitm_sequence_lens { width: self.width(), low_len, words_len, upper_len, lower_len };
-        let mut of = empty();
-        // SAFETY: a number, a struct of numbers, and room for a header.
-        if unsafe { bitm_stored_sequence(self.len() as u64, &lens, &mut of) } != OK {
-            return Err(StoredError::WrongLength);
+        if let Some(block) = self.block() {
+            return Ok(copied(block)?);
         }
-        let mut file = with_header(&of)?;
-        for (span, from) in [of.low, of.words, of.upper, of.lower].into_iter().zip(parts) {
-            put(&mut file, span, from)?;
+        if !self.check() {
+            return Err(StoredError::WrongTables);
         }
-        Ok(file)
+        let mut items = zeroed(self.len())?;
+        let found = self.items(0, &mut items).len();
+        if found < items.len() {
+            return Err(StoredError::WrongTables);
+        }
+        build(&items).map_err(|why| match why {
+            BuildError::NoMemory(why) => StoredError::NoMemory(why),
+            _ => StoredError::WrongTables,
+        })
     }
 }

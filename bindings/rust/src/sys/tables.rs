@@ -2,7 +2,7 @@
 use crate::errors::{BuildError, NoMemory};
 use crate::ffi::words::*;
 use crate::sys::memory::{copied, zeroed};
-use crate::sys::view::IndexView;
+use crate::sys::view::{IndexView, Samples};
 use crate::sys::OK;
 use alloc::vec::Vec;
 
@@ -96,5 +96,9 @@ impl OwnSamples {
         let used = used.unwrap_or(0);
         let samples = copied(&room[..used])?;
         Ok(OwnSamples { samples, starts, log2 })
+    }
+
+    pub(crate) fn view(&self) -> Samples<'_> {
+        Samples { samples: &self.samples, starts: &self.starts, log2: self.log2 }
     }
 }

@@ -1,9 +1,9 @@
 //! Borrowed words with their tables: the struct that each query of the archive takes.
 use crate::errors::{ListError, WrongTables};
 use crate::ffi::words::*;
+use crate::sys::block::Block;
 use crate::sys::lists::query_list;
 use crate::sys::{found, memory, query, OK};
-use core::marker::PhantomData;
 use core::{fmt, ptr, slice};
 
 /// Borrowed samples of one kind of bits. They may hold anything: no answer depends on them.
@@ -71,7 +71,8 @@ pub struct Samples<'a> {
 #[derive(Clone, Copy)]
 pub struct IndexView<'a> {
     raw: bitm_index,
-    borrows: PhantomData<&'a [u64]>,
+    /// The block that all of it stands in, where there is one.
+    block: Option<&'a [u64]>,
 }
 
 // SAFETY: the pointers are those of shared slices, and no call has state.
@@ -84,8 +85,10 @@ pub(crate) const NO_SAMPLES: bitm_samples =
     bitm_samples { samples: ptr::null(), samples_len: 0, starts: ptr::null(), starts_len: 0, log2: 0, reserved: 0 };
 
 impl<'a> IndexView<'a> {
-    /// The first `bits_len` bits of words with their tables; an error where there are fewer bits, or a table is not as
-    /// long as that of the words.
+    /// The first `bits_len` bits of words with their tables.
+    ///
+    /// # Errors
+    /// `WrongTables` where the words have fewer bits, or a table is not as long as theirs.
     ///
     /// ```
     /// use bitm_proved::{build_tables, IndexView, Rank};
@@ -118,7 +121,23 @@ impl<'a> IndexView<'a> {
             zeros: NO_SAMPLES,
             reserved: [0; 2],
         };
-        IndexView { raw, borrows: PhantomData }
+        Self::of(raw)
+    }
+
+    /// Of parts whose lengths are tested, or are tested by each call, and which live as long as the view says.
+    #[inline(always)]
+    pub(crate) fn of(raw: bitm_index) -> Self {
+        IndexView { raw, block: None }
+    }
+
+    /// As the index of that block, in which words, tables and samples stand.
+    pub(crate) fn in_block(mut self, block: &'a [u64]) -> Self {
+        self.block = Some(block);
+        self
+    }
+
+    pub(crate) fn block(&self) -> Option<&'a [u64]> {
+        self.block
     }
 
     /// With samples of the 1 bits, or of the 0 bits where `one` is false: selections of that kind begin at them.
@@ -145,12 +164,7 @@ impl<'a> IndexView<'a> {
         } else {
             self.raw.zeros = raw;
         }
-        self
-    }
-
-    /// The first `bits_len` of its bits, or all where there are fewer.
-    pub(crate) fn cut(mut self, bits_len: usize) -> Self {
-        self.raw.bits_len = self.raw.bits_len.min(bits_len as u64);
+        self.block = None;
         self
     }
 
@@ -305,7 +319,9 @@ impl<'a> IndexView<'a> {
         Some(Samples { samples, starts, log2: raw.log2 })
     }
 
-    /// Whether the tables are those of the words, and the samples too, where there are some.
+    /// Whether the tables are those of the words, and the samples too, where there are some; and of a block whether it
+    /// is as it was written, by the checksum of each section. A file of format version 2 has no checksum of its words:
+    /// there `check` finds only what does not fit together.
     ///
     /// ```
     /// use bitm_proved::{Index, IndexView, Queries};
@@ -317,9 +333,17 @@ impl<'a> IndexView<'a> {
     /// # Ok::<(), bitm_proved::WrongTables>(())
     /// ```
     pub fn check(&self) -> bool {
-        // SAFETY: a view, which borrows its slices.
-        let right = unsafe { bitm_index_check(&self.raw) } == OK;
+        let right = match self.block {
+            Some(block) => Block::<bitm_index>::is_written(block),
+            None => self.has_tables(),
+        };
         right && self.check_samples(true) && self.check_samples(false)
+    }
+
+    /// Whether the tables are those of the words.
+    pub(crate) fn has_tables(&self) -> bool {
+        // SAFETY: a view, which borrows its slices.
+        unsafe { bitm_index_check(&self.raw) == OK }
     }
 
     /// Whether there are no samples, or those that `build_samples` writes where the tables are those of the words.

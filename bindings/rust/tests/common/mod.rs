@@ -52,7 +52,7 @@ pub fn says(call: impl FnOnce() + UnwindSafe) -> String {
 }
 
 /// Where the first section of a block begins, by its directory.
-fn first_section(block: &[u64]) -> usize {
+pub fn first_section(block: &[u64]) -> usize {
     block[17] as usize / 8
 }
 

@@ -28,6 +28,10 @@ pub struct Dictionary<O = Vec<u64>> {
 impl Dictionary {
     /// Of these keys, in the space that takes least memory.
     ///
+    /// # Errors
+    /// `EqualHashes` where two keys are equal, `TooLong` where there are too many keys, and
+    /// `NoMemory` where memory is refused.
+    ///
     /// ```
     /// use bitm_proved::{BuildError, Dictionary};
     /// assert_eq!(Dictionary::build(&[4, 9, 49])?.len(), 3);
@@ -39,6 +43,9 @@ impl Dictionary {
     }
 
     /// As `build`, with levels of `percent` bits for each 100 keys that are left, and a seed that is added to each key.
+    ///
+    /// # Errors
+    /// As of `build`.
     ///
     /// ```
     /// assert_eq!(bitm_proved::Dictionary::build_with(&[4, 9, 49], 200, 7)?.seed(), 7);

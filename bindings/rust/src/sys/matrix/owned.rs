@@ -29,6 +29,9 @@ pub struct WaveletMatrix<O = Vec<u64>> {
 impl WaveletMatrix {
     /// Of numbers, of as many bits as the largest has.
     ///
+    /// # Errors
+    /// `TooLong` where there are too many numbers, and `NoMemory` where memory is refused.
+    ///
     /// ```
     /// use bitm_proved::WaveletMatrix;
     /// let numbers = WaveletMatrix::build(&[3, 1, 4])?;
@@ -40,6 +43,10 @@ impl WaveletMatrix {
     }
 
     /// Of numbers of at most `width` bits, which is 1 to 64.
+    ///
+    /// # Errors
+    /// As of `build`; `TooWide` where a number has more bits than the width, and `WrongWidth` where this is not 1 to
+    /// 64.
     ///
     /// ```
     /// use bitm_proved::{BuildError, WaveletMatrix};
@@ -53,6 +60,9 @@ impl WaveletMatrix {
 
     /// Of numbers of at most `width` bits, with quarters: counts of 1 bits for every eight words. The block takes an
     /// eighth more, and most queries read fewer words.
+    ///
+    /// # Errors
+    /// As of `build_with`.
     ///
     /// ```
     /// use bitm_proved::WaveletMatrix;

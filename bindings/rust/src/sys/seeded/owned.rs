@@ -33,6 +33,10 @@ pub struct SeededHash<O = Vec<u64>> {
 impl SeededHash {
     /// Of the hashes of keys, with levels that take least memory, and 64 seeds that are tried for each word.
     ///
+    /// # Errors
+    /// `EqualHashes` where two hashes are equal, `TooLong` where there are too many, and `NoMemory` where memory is
+    /// refused.
+    ///
     /// ```
     /// use bitm_proved::{BuildError, SeededHash};
     /// assert_eq!(SeededHash::build(vec![5, 7, 9])?.len(), 3);
@@ -46,6 +50,9 @@ impl SeededHash {
     /// As `build`, with levels of `percent` bits for each 100 hashes that are left, and the best of the first `tries`
     /// seeds, at most 256, for each word: more take less memory, and more time to build. The block keeps `seed`, which is
     /// yours.
+    ///
+    /// # Errors
+    /// As of `build`.
     ///
     /// ```
     /// assert_eq!(bitm_proved::SeededHash::build_with(vec![1, 2, 3], 200, 8, 7)?.seed(), 7);

@@ -3,8 +3,8 @@ use super::ShardedIndex;
 use crate::errors::ListError;
 use crate::ffi::words::*;
 use crate::sys::lists::list_answer;
+use crate::sys::memory::zeroed;
 use crate::sys::OK;
-use alloc::vec;
 
 /// Queries of a list that are grouped at once: their order stays in a processor's caches.
 const PART: usize = 1 << 17;
@@ -27,7 +27,8 @@ impl ShardedIndex<'_> {
             return Err(ListError::Lengths { queries: queries.len(), room: out.len() });
         }
         let raw = self.raw();
-        let mut room = vec![0u64; 3 * queries.len().min(PART) + self.shards.len() + 1];
+        // Where memory is refused, the queries are not grouped: the answers are the same, and take longer.
+        let mut room = zeroed::<u64>(3 * queries.len().min(PART) + self.shards.len() + 1).unwrap_or_default();
         let mut all = bitm_list_counts { missing: 0, wrong: 0 };
         for (from, to) in queries.chunks(PART).zip(out.chunks_mut(PART)) {
             let mut counts = bitm_list_counts { missing: 0, wrong: 0 };
@@ -46,8 +47,9 @@ impl ShardedIndex<'_> {
         list_answer(OK, all, queries.len(), queries.len())
     }
 
-    /// Ranks of a list of positions of the joined bits; how many have none, which `NO_ANSWER` stands for. Takes
-    /// memory for three numbers a query, of at most 2^17 at a time, and one a shard.
+    /// Ranks of a list of positions of the joined bits; how many have none, which `NO_ANSWER` stands for. Takes memory
+    /// for three numbers a query, of at most 2^17 at a time, and one a shard; where it is refused, the answers are the
+    /// same and take longer.
     ///
     /// ```
     /// use bitm_proved::{Index, Queries, ShardedIndex, NO_ANSWER};
@@ -56,7 +58,7 @@ impl ShardedIndex<'_> {
     /// let (mut ranks, positions) = ([0; 3], [66, 129, 3]);
     /// assert_eq!(bits.rank_list(&positions, &mut ranks), Ok(1)); // one has none
     /// assert_eq!(ranks, [5, NO_ANSWER as u64, 3]);
-    /// # Ok::<(), bitm_proved::WrongTables>(())
+    /// # Ok::<(), bitm_proved::BuildError>(())
     /// ```
     pub fn rank_list(&self, positions: &[u64], out: &mut [u64]) -> Result<usize, ListError> {
         self.list(bitm_shards_rank_list, true, positions, out)
@@ -71,7 +73,7 @@ impl ShardedIndex<'_> {
     /// let mut ranks = [0; 2];
     /// assert_eq!(bits.rank0_list(&[66, 3], &mut ranks), Ok(0));
     /// assert_eq!(ranks, [61, 0]);
-    /// # Ok::<(), bitm_proved::WrongTables>(())
+    /// # Ok::<(), bitm_proved::BuildError>(())
     /// ```
     pub fn rank0_list(&self, positions: &[u64], out: &mut [u64]) -> Result<usize, ListError> {
         self.list(bitm_shards_rank_list, false, positions, out)
@@ -87,7 +89,7 @@ impl ShardedIndex<'_> {
     /// let mut positions = [0; 3];
     /// assert_eq!(bits.select_list(&[3, 9, 0], &mut positions), Ok(1)); // one has none
     /// assert_eq!(positions, [64, NO_ANSWER as u64, 0]);
-    /// # Ok::<(), bitm_proved::WrongTables>(())
+    /// # Ok::<(), bitm_proved::BuildError>(())
     /// ```
     pub fn select_list(&self, ranks: &[u64], out: &mut [u64]) -> Result<usize, ListError> {
         self.list(bitm_shards_select_list, true, ranks, out)
@@ -102,7 +104,7 @@ impl ShardedIndex<'_> {
     /// let mut positions = [0; 2];
     /// assert_eq!(bits.select0_list(&[61, 0], &mut positions), Ok(0));
     /// assert_eq!(positions, [67, 3]);
-    /// # Ok::<(), bitm_proved::WrongTables>(())
+    /// # Ok::<(), bitm_proved::BuildError>(())
     /// ```
     pub fn select0_list(&self, ranks: &[u64], out: &mut [u64]) -> Result<usize, ListError> {
         self.list(bitm_shards_select_list, false, ranks, out)

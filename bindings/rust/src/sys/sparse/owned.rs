@@ -29,6 +29,10 @@ impl SparseBits {
     /// Of `len` bits, of which those at the positions are 1 bits: each is greater than the one before it, and less than
     /// `len`.
     ///
+    /// # Errors
+    /// `NotRising` where a position is not greater than the one before it, `PastEnd` where one is not less than `len`,
+    /// `TooLong` where there are too many, and `NoMemory` where memory is refused.
+    ///
     /// ```
     /// use bitm_proved::{BuildError, SparseBits};
     /// assert_eq!(SparseBits::build(&[3, 100], 5000)?.len(), 5000);

@@ -11,7 +11,7 @@ use core::fmt;
 /// strings.
 ///
 /// Each string has a number of its own below how many there are; what is none of them has none. The hash of a string is
-/// FNV-1a with a seed. The block is the file of the strings, the same in each language.
+/// SipHash-1-3 with a seed as its key. The block is the file of the strings, the same in each language.
 ///
 /// ```
 /// use bitm_proved::Strings;
@@ -28,6 +28,10 @@ pub struct Strings<O = Vec<u64>> {
 impl Strings {
     /// Of these strings, in the space that takes least memory. Where two have one hash, another seed may mend it.
     ///
+    /// # Errors
+    /// `EqualHashes` where two strings are equal, or have one hash; `TooLong` where there are too many, and
+    /// `NoMemory` where memory is refused.
+    ///
     /// ```
     /// use bitm_proved::{BuildError, Strings};
     /// assert_eq!(Strings::build(&["ada", "bob", ""])?.len(), 3);
@@ -39,6 +43,9 @@ impl Strings {
     }
 
     /// As `build`, with levels of `percent` bits for each 100 strings that are left, and a seed of the hashes.
+    ///
+    /// # Errors
+    /// As of `build`.
     ///
     /// ```
     /// assert_eq!(bitm_proved::Strings::build_with(&["ada", "bob"], 200, 7)?.seed(), 7);

@@ -26,6 +26,10 @@ impl TextIndex {
     /// bytes, 32 say: the fewer, the less memory, and the longer it takes to find a position or a part. Takes linear time,
     /// and eight bytes for each of the text while it works.
     ///
+    /// # Errors
+    /// `WrongStep` where the step is 0, `TooLong` where the text has 2^32 - 1 bytes or more, and `NoMemory` where
+    /// memory is refused.
+    ///
     /// ```
     /// use bitm_proved::TextIndex;
     /// let text = TextIndex::build(b"banana", 32)?;
@@ -37,6 +41,9 @@ impl TextIndex {
     }
 
     /// Of numbers below `letters`, for each of which a word is kept.
+    ///
+    /// # Errors
+    /// As of `build`; `LetterOutside` where a letter is not less than `letters`.
     ///
     /// ```
     /// use bitm_proved::TextIndex;

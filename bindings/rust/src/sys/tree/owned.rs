@@ -27,8 +27,10 @@ pub struct Tree<O = Vec<u64>> {
 impl Tree {
     /// The tree whose nodes have these degrees: how many children each has.
     ///
-    /// `NotATree` exactly where they are those of no tree: there is one child for each node but the root, and the first
-    /// i nodes have at least i children, for each i from 1 to n - 1.
+    /// # Errors
+    /// `NotATree` exactly where they are the degrees of no tree: in a tree of n nodes there is one child for each node
+    /// but the root, and the first i nodes have at least i children, for each i from 1 to n - 1. `NoMemory` where
+    /// memory is refused.
     ///
     /// ```
     /// use bitm_proved::{BuildError, Tree};

@@ -30,8 +30,11 @@ impl Trie {
     /// The trie of these words, with labels of 8 bits and ends. They rise in the order of their bytes, each once, as `sort`
     /// and `dedup` leave them; the empty word may be among them.
     ///
-    /// `UnsortedWord` exactly where a word does not stand after the one before it. Needs memory for a copy of the words, and
-    /// three numbers a node and one a word besides.
+    /// Needs memory for a copy of the words, and three numbers a node and one a word besides.
+    ///
+    /// # Errors
+    /// `UnsortedWord` exactly where a word does not stand after the one before it, `TooLong` where they have too many
+    /// nodes, and `NoMemory` where memory is refused.
     ///
     /// ```
     /// use bitm_proved::{BuildError, Trie};
@@ -50,9 +53,10 @@ impl Trie {
     /// The trie whose nodes have these degrees, and those from 1 on these labels, of `width` bits each, 1 to 63. The ends
     /// are a bit for each node, lowest first, which says whether a word ends there; or no words.
     ///
+    /// # Errors
     /// `NotATrie` exactly where the degrees are those of no tree (`Tree::build`), there is not one label for each node but
     /// the root, a label has more bits than the width, those of the children of a node do not rise, or the width or the
-    /// number of ends is another.
+    /// number of ends is another. `NoMemory` where memory is refused.
     ///
     /// ```
     /// use bitm_proved::{BuildError, Trie};
