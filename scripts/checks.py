@@ -1,5 +1,6 @@
 """What the scripts in Python share: the files of the repository, its crates, and the count of what passed and failed.
 `checks.py CRATE..` prints the libraries below crates, for scripts in bash."""
+import functools
 import pathlib
 import re
 import subprocess
@@ -62,6 +63,7 @@ def files():
     return [name for name in listed.stdout.split() if (TOP / name).is_file()]
 
 
+@functools.lru_cache(None)
 def crates():
     """The crates of crates.txt in its order, each with the libraries that it lists."""
     lines = re.findall(r"^(\w+)[^:#\n]*:(.*)", read("crates.txt"), re.M)
@@ -73,6 +75,7 @@ def exporting():
     return re.findall(r"^(\w+) staticlib:", read("crates.txt"), re.M)
 
 
+@functools.lru_cache(None)
 def below(name):
     """The repository's libraries below a crate, each after those below it."""
     listed, found = crates(), []

@@ -1,8 +1,12 @@
-"""The functions of a file of Rattle, as `rt fmt` lays it out: where each stands, its contract and its body."""
+"""The functions of a file of Rattle, as `rt fmt` lays it out: where each stands, its contract and its body; its ghost
+members; and the definitions of a file of specs."""
 import re
 
 FN = re.compile(r'(\s*)(?:#\[.*?\] *)?(pub(?:\([a-z]+\))? )?(?:final )?(?:const )?(?:unsafe )?(?:extern "C" )?fn (\w+)')
 BLOCK = re.compile(r"(?:unsafe )?(pub )?(?:pub\([a-z]+\) )?(impl|trait)\b(.*)")
+DEFINES = re.compile(r"(?:(?:abbrev|pub|record|data|law|unfoldable) )*([A-Za-z]\w*)(?=[\s:({]|$)")
+GHOST = re.compile(r" *(?:pub )?ghost (\w+)[^{;]*\{")
+CALL = re.compile(r"(?:Ok\()?(?:self\.)?(?:\w+::)*(\w+)(?:::<.*?>)?\(")
 CLAUSE = re.compile(r"^\s*(requires|ensures)\b([^{]*)\{", re.M)
 
 
@@ -51,6 +55,12 @@ class Function:
         """The lines between the braces."""
         return self.lines[self.opens : self.last - 1] if self.opens else []
 
+    def calls(self):
+        """The name of the one function that its body calls, where the body is a line, or None."""
+        line = " ".join(it.strip() for it in self.body() if not it.strip().startswith("//")).rstrip(";")
+        called = CALL.match(line)
+        return called[1] if called and not re.search(r"[;{]", line) else None
+
 
 class Inside:
     """An impl or a trait: its types, the trait last, whether others may call its functions, and the module of these."""
@@ -88,14 +98,40 @@ def homes_of(folder):
 
 def functions_of(file, text, homes=None):
     """The functions of a file, of a crate whose types have these homes."""
-    lines, found, module = text.split("\n"), [], module_of(file)
+    lines = text.split("\n")
+    return [Function(file, lines, at, inside) for at, inside in insides(file, lines, homes) if FN.match(lines[at - 1])]
+
+
+def insides(file, lines, homes=None):
+    """The number of each line, with the impl or trait that it is inside."""
+    module = module_of(file)
     inside = Inside(module, homes)
     for at, line in enumerate(lines, 1):
         head = BLOCK.match(line)
         if head or line == "}":
             inside = Inside(module, homes or {}, head, " ".join([head[3], *lines[at : at + 6]]) if head else "")
-        if FN.match(line):
-            found.append(Function(file, lines, at, inside))
+        yield at, inside
+
+
+def definitions_of(text):
+    """The definitions of a file of specs, by their names: the lines of each, comments apart."""
+    found, name = {}, ""
+    for line in text.split("\n"):
+        first = None if line.startswith(("--", "use ", "pub use ", "pub mod ")) else DEFINES.match(line)
+        name = first[1] if first else name if line.startswith(" ") else ""
+        if name and not line.strip().startswith("--"):
+            found.setdefault(name, []).append(line.rstrip())
+    return {name: "\n".join(lines) for name, lines in found.items()}
+
+
+def ghosts_of(file, text):
+    """The ghost members of a file of Rattle, each with its type or trait: what it is."""
+    found, lines = {}, text.split("\n")
+    for at, inside in insides(file, lines):
+        member = GHOST.match(lines[at - 1])
+        if member:
+            rest = "\n".join(lines[at - 1 :])[member.end() :]
+            found[" for ".join(inside.types[::-1]), member[1]] = " ".join(rest[: closed(rest, 0, "{}") - 1].split())
     return found
 
 

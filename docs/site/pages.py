@@ -13,9 +13,10 @@ import subprocess
 import sys
 
 TOP = pathlib.Path(__file__).resolve().parents[2]
-NAMES = {"c": "C", "cpp": "C++", "rust": "Rust", "python": "Python", "rattle": "Rattle", "js": "JavaScript"}
+NAMES = {"c": "C", "cpp": "C++", "rust": "Rust", "python": "Python", "rattle": "Rattle", "js": "JavaScript",
+         "javascript": "JavaScript"}
 PAGES = re.compile(r"(README|CONTRIBUTING|CHANGELOG)\.md|docs/[\w-]+\.md|docs/guides/[\w-]+\.md|docs/site/reference/[\w-]+\.md"
-                   r"|bindings/(javascript|python|rust)/README\.md|crates/bitm_c/README\.md|crates/\w+/CALLING\.md|examples/demo/README\.md")
+                   r"|bindings/(javascript|python|rust)/README\.md|crates/bitm_c/README\.md|crates/\w+/CALLING\.md|examples/(demo|browser)/README\.md")
 TABS = importlib.util.find_spec("sphinx_inline_tabs") is not None
 
 

@@ -119,9 +119,9 @@ def page(crate, known, entries):
     yield f"(rattle-{crate})=\n# {crate}\n\n" + fenced("\n".join(x[4:] for x in lib.split("\n") if x.startswith("//!"))) + "\n"
     if caller := callers.opening(crate):
         yield f"```rattle\n{caller}\n```\n\n[How to call it](../../crates/{crate}/CALLING.md) goes on from this example.\n\n```{{toctree}}\n:hidden:\n\n../../crates/{crate}/CALLING\n```\n"
-    for name in (x for _, listed in reached(crate)[2] for x in listed):
+    for at, name in ((at, x) for at, listed in reached(crate)[2] for x in listed):
         of = next((c for c in CRATES if c != crate and name in {x.name for x in entries[c] if not x.box}), None)
-        module = next((c for c in CRATES if c != crate and (TOP / c / f"src/{name}.rt").exists()), None)
+        module = next((c for c in (at, *CRATES) if c != crate and (TOP / c / f"src/{name}.rt").exists()), None)
         COUNT[f"name of {crate} without a page: {name}"] += not (of or module)
         handed.setdefault(of or module, []).append(f"[`{name}`](rattle-{of}-{name})" if of else f"`{name}`")
     for other, listed in handed.items():

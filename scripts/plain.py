@@ -1,0 +1,227 @@
+"""The calls without a counter of reads, which scripts/thin holds to their counted bodies.
+
+Such a call is a public function that makes a probe of its tables, or that has a counted twin: `find` has
+`total_find_on`, `find_on`, `find_by` or `find_counted`, with a clause on reads, in its crate or below. It calls its
+twin once, and besides only what hands that its arguments (HANDED): no loop, and no branch but by whether there are
+samples, and in the form of a trait's default, where None is unreachable. PLAIN has those whose body has another name,
+or that call one thing more; OTHERS those that do otherwise, and why."""
+import collections
+import functools
+import re
+
+from checks import below, claim, counts, crates, files, read
+from functions import functions_of
+
+# By file: the calls without a counter, each with the counted body that it runs, or the end of its name after the call's
+# own, or nothing where that is `_on`, and after a `+` what it calls besides. Where a body takes a `Selection` or a
+# `Query`, the counted call runs it too, and stands here as well.
+PLAIN = """
+bitm/src/index.rt try_rank:rank_on try_get_bit:bit_on try_select:select try_select0:select0 rank:try_rank
+    select:try_select select0:try_select0 bit_and_rank
+bitm/src/index/many.rt rank_many select_many select0_many:select_many_on
+bitm/src/ranges.rt ones_between:_in zeros_between:_in next_one:_in next_zero:_in previous_one:_in previous_zero:_in
+    select_from:_in select0_from:_in
+bitm_strategies/src/binary.rt select:_counted select0:_counted
+bitm_strategies/src/combined.rt select:_counted select0:_counted
+bitm_view/src/view.rt rank_of:rank_on rank:rank_of
+elias_fano/src/finding.rt first_at_least:first_from_on+rise+probe_from
+louds/src/counted.rt is_leaf_on:is_leaf_by parent_on:parent_by parent_of_on:parent_of_by child_rank_on:child_rank_by
+    next_sibling_on:next_sibling_by previous_sibling_on:previous_sibling_by zero_on:zero_by
+louds/src/node.rt degree_of:degree_from_on is_leaf_of:ends_after_on children_of:children_from_on parent_of:_by
+louds/src/tree.rt end degree:_from_on+zero child:_from_on+zero children:_from_on+zero zero:_by is_leaf:_by parent:_by
+    child_rank:_by next_sibling:_by previous_sibling:_by
+matrix_levels/src/selecting.rt select_on:select_by try_select_on:try_select_by
+perfect_hash/src/asking.rt number_on:number_by_on number_by_on:number_by
+perfect_hash/src/table.rt get:number number:_by get_counted:number_by_on get_counted_by:number_by_on
+sharded_index/src/shard.rt rank:rank_of
+sparse_bits/src/sparse.rt try_rank:rank_in try_get_bit:bit_in bit_and_rank:_in try_select:select_in
+    try_select0:select0_in
+text_index/src/growing.rt extend:rows_with
+text_index/src/index.rt count locate extract rows_of rows_with position
+text_index/src/matches.rt matches:rows_of
+wavelet_matrix/src/distinct.rt quantile_and_count
+wavelet_matrix/src/queries.rt get get_and_rank get_many rank rank_many select:_by try_select:_by
+wavelet_matrix/src/range_queries.rt count_less range_count quantile next_value previous_value intersect
+"""
+# Public functions that have a twin, or make a probe, and do not run one body: by file, and why.
+OTHERS = {
+    "bitm/src/queries.rt": {"bit_and_rank": "the default of a trait: a bit, and a rank"},
+    "bitm_abi/src/hash.rt": {"number": "one body with seeds, the same without"},
+    "bitm_abi/src/shards.rt": {
+        "rank": "a shard with a wrong length is Wrong", "select": "a shard with a wrong length is Wrong",
+        "select_list": "a shard with a wrong length is Wrong"},
+    "bitm_lists_c/src/moving.rt": {"bitm_cursor_start": "writes where the cursor stands, or says why not"},
+    "block_items/src/items.rt": {"next": "an iterator over items, each of which is one query"},
+    "block_items/src/views.rt": {"item": "a query of the view, whose answer the iterator takes"},
+    "elias_fano/src/finding.rt": {
+        "contains": "a successor, and the number there", "last_at_most": "the successor of the next value"},
+    "elias_fano_view/src/sequence/items.rt": {"items_from": "a selection, and one body for all numbers after it"},
+    "perfect_hash/src/dictionary.rt": {"get": "a number, and the key's fingerprint there"},
+    "seeded_block/src/packed.rt": {"get": "a byte of a word, and no table"},
+    "sharded_index/src/near.rt": {"next": "a rank and a selection", "previous": "a rank and a selection"},
+    "sharded_index/src/selections.rt": {"select_list": "one list for each shard"},
+    "sharded_index/src/shard.rt": {
+        "select": "a call of the view for each kind", "select_list": "a call of the view for each kind"},
+    "sharded_index/src/sharded.rt": {
+        "rank": "the prefix counts, and one shard", "select": "the prefix counts, and one shard"},
+    "sparse_block/src/queries.rt": {
+        "rank": "a successor among the positions", "select": "a number of the positions",
+        "select0": "a search by halves among the positions"},
+    "string_block/src/view.rt": {"get": "two starts of strings, and no table"},
+    "text_block/src/byte_queries.rt": {"extract_bytes": "None where letters are no bytes, else one body"},
+}
+# Bodies that take another way: by file, a text in it, and what takes its place.
+OTHER_WAYS = {
+    "bitm/src/index.rt": {
+        "match self.try_rank(index) {":
+            "let _ = count_bit_ones(self.content().as_slice()); match self.try_rank(index) {",
+        "match self.try_select(rank) {": "self.try_select(rank); match self.try_select(rank) {",
+        "match bit_and_rank_on(&mut self.probe(), place) {":
+            "self.rank(place); match bit_and_rank_on(&mut self.probe(), place) {",
+    },
+    "bitm_view/src/view.rt": {
+        "return self.select_on::<BIT, Probe<'_>, ByTables>(":
+            "self.rank::<BIT>(rank); return self.select_on::<BIT, Probe<'_>, ByTables>(",
+    },
+    "louds_block/src/tree.rt": {
+        "total_degree_on(&mut self.probe(), self.len, node)":
+            "self.children(node); total_degree_on(&mut self.probe(), self.len, node)",
+    },
+    "string_block/src/view.rt": {
+        "self.find_counted(string).0": "self.check(); self.find_counted(string).0",
+    },
+    "trie_block/src/view.rt": {
+        "total_find_on(&mut source,":
+            "total_find_on(&mut self.tree.probe(), &mut labels, self.len(), word); total_find_on(&mut source,",
+    },
+    "louds/src/node.rt": {
+        "ends_after_on(&mut self.probe(), self.len(), node.number, node.place)": "self.is_leaf(node.number)",
+        "parent_of_by(index, &mut probe, self.len(), node.number)": "Some(self.node(self.parent(node.number)?))",
+    },
+    "louds/src/tree.rt": {
+        "parent_by(index, &mut probe, self.len(), node)": "parent_on(&mut probe, self.len(), node)",
+        "is_leaf_by(index, &mut probe, self.len(), node)": "self.degree(node) == 0",
+        "child_rank_by(index,": "self.zero(node); child_rank_by(index,",
+        "next_sibling_by(index,": "next_sibling_by(index, &mut probe, self.len(), node); next_sibling_by(index,",
+        "previous_sibling_by(index,": "if node == 0 { return None; } previous_sibling_by(index,",
+    },
+    "perfect_hash/src/table.rt": {
+        "self.number(self.hash(key))": "self.number(self.hash(key)); self.number(self.hash(key))",
+        "number_by(&query,": "self.index.rank(0); number_by(&query,",
+    },
+    "wavelet_matrix/src/queries.rt": {
+        "levels.select_by(index, &mut probe, number, k)": "levels.select_on(&mut probe, number, k)",
+        "levels.try_select_by(index,": "levels.rank_on(&mut probe, number, k); levels.try_select_by(index,",
+    },
+}
+SOURCES = re.compile(r"crates/(?!test_|example_|program_|tool_)\w+/src/.*\.rt")
+ON_READS = re.compile(r"ReadsAtMost|OnlyReads|OnlySelects|OnlySteps|ReadsLabels|ReadsFragments")
+TWINS = ("total_{}_on", "{}_on", "total_{}_by", "{}_by", "{}_counted", "try_{}")
+COUNTED = re.compile(r"_(?:on|by|in|with|counted)$")
+PROBES = re.compile(r"\b(?:probe|own_parts|no_source)\(")
+BRANCH = re.compile(r"\b(?:if|match|for|while|loop)\b")
+CALL = re.compile(r"\b([a-z_]\w*)(?:::<[^();]*?>)?\(")
+# The forms of a branch that decides nothing: the trait's default, and with samples or without.
+DEFAULT = re.compile(r"match (.*?) \{\s*Some\((\w+)\) => \2,\s*None => unreachable!\(\),\s*\}", re.S)
+SAMPLED = re.compile(r"if samples\.samples\.is_empty\(\) \{\s*return ([^;]*);\s*\}")
+# Calls that read neither words nor tables.
+HANDED = set("""all_parts as_slice by_ones by_zeros hash into_reads is_one keys l1ranks l2ranks len low_digits new
+    no_reads no_source number own_parts parts probe samples sizes tables""".split())
+
+
+def does_one(body, counted, more=None):
+    """Whether a body calls one of these once, with or without samples, and besides only what hands it arguments;
+    without `more` it may answer a field as well."""
+    body = DEFAULT.sub(r"\1", body)
+    ways = [*SAMPLED.findall(body), SAMPLED.sub("", body)]
+    called = [CALL.findall(it) for it in ways]
+    twins = {it for it in counted if all(many.count(it) == 1 for many in called)}
+    known = HANDED | set(more or ())
+    if more is None and not BRANCH.search(body) and set(sum(called, [])) <= HANDED:
+        return True
+    return not BRANCH.search(ways[-1]) and any(set(sum(called, [])) <= known | {it} for it in twins)
+
+
+def listed():
+    """PLAIN: by file, each call with its counted body and what it calls besides."""
+    found = {}
+    for file, calls in re.findall(r"^(\S+)(.*\n(?: .*\n)*)", PLAIN, re.M):
+        for name, _, counted in (it.partition(":") for it in calls.split()):
+            first, *more = (counted or "_on").split("+")
+            found.setdefault(file, {})[name] = name + first if first.startswith("_") else first, more
+    return found
+
+
+@functools.lru_cache(None)
+def functions():
+    """The public functions with a body, by their files."""
+    return {file.removeprefix("crates/"): functions_of(file, read(file)) for file in files() if SOURCES.fullmatch(file)}
+
+
+@functools.lru_cache(None)
+def counted():
+    """The functions with a clause on reads, each with the crates that have one of that name."""
+    found = collections.defaultdict(set)
+    for file, many in functions().items():
+        for it in many:
+            if any(ON_READS.search(words) for _, _, words in it.clauses()):
+                found[it.own].add(file.split("/")[0])
+    return found
+
+
+@functools.lru_cache(None)
+def near_to(crate):
+    """A crate and those below it."""
+    return {crate, *below(crate)} if crate in crates() else {crate}
+
+
+def twins(file, function, body):
+    """The counted bodies that a plain call may run; none where it is no such call."""
+    near = near_to(file.split("/")[0])
+    named = {it.format(function.own) for it in TWINS[:-1]}
+    found = {it for it in named if counted().get(it, set()) & near}
+    if PROBES.search(body):
+        found |= {it for it in CALL.findall(body) if COUNTED.search(it) and counted().get(it, set()) & near}
+    return found | ({f"try_{function.own}"} if found else set())
+
+
+def is_counted(function):
+    """Whether a function has a counter itself, or takes the source that it reads."""
+    head = " ".join(function.lines[function.at - 1 : function.opens])
+    has_source = re.search(r"TableSource|Selection\b|Query\b|\bsource: &mut|ReadCounts", head)
+    return has_source or any(ON_READS.search(words) for _, _, words in function.clauses())
+
+
+def strays(file, many, calls):
+    """The calls of a file that do more or less than run their counted body."""
+    for it in many:
+        body = "\n".join(it.body())
+        if it.own in calls:
+            first, more = calls[it.own]
+            if body and not does_one(body, {first}, more):
+                yield it.own
+        elif it.is_public and body and not is_counted(it):
+            found = twins(file, it, body)
+            if found and not does_one(body, found):
+                yield it.own
+
+
+def run_counted():
+    for file, many in functions().items():
+        calls, others = listed().get(file, {}), OTHERS.get(file, {})
+        found = [*strays(file, many, calls)]
+        bodies = {it: "\n".join(it.body()) for it in many}
+        counts[0] += sum(it.own in calls or bool(it.is_public and body and twins(file, it, body))
+                         for it, body in bodies.items()) - len(found)
+        for name in set(found) - set(others):
+            claim(False, f"crates/{file}: {name} does more or less than run its counted body")
+        for name in set(others) - set(found):
+            claim(False, f"crates/{file}: {name} runs its counted body, or is gone, and OTHERS has it")
+        gone = set(calls) - {it.own for it in many if it.body()}
+        claim(not gone, f"crates/{file}: PLAIN has {', '.join(sorted(gone))}, which are not there")
+        for old, new in OTHER_WAYS.get(file, {}).items():
+            text = read(f"crates/{file}")
+            changed = [*strays(file, functions_of(file, text.replace(old, new)), calls)]
+            claim(old in text and set(changed) - set(found), f"crates/{file}: another way than {old} is not seen")
+    for file in {*listed(), *OTHERS, *OTHER_WAYS} - set(functions()):
+        claim(False, f"crates/{file} is not there, and scripts/plain.py names it")
