@@ -1,5 +1,9 @@
 //! Laws of joined bits. A function here does nothing: its contract is the law, and a caller that wants it calls it.
+ghost use Rattle.std.specs.Prelude.{All};
 ghost use Rattle.sharded_index.specs.Laws.{ItemOfJoined, PickedInJoined, PrefixesAreSums, RankInJoined};
+ghost use Rattle.sharded_index.specs.Sharded.{HaveIndex};
+
+use crate::shard::Shard;
 
 /// An item of a shard is one of the joined bits, after those of the shards before.
 #[tactic(auto, using(crate::proofs::JoinedLaws::item_of_joined))]
@@ -23,3 +27,12 @@ pub fn picked_in_joined()
 pub fn prefixes_are_sums()
     ensures { PrefixesAreSums }
 {}
+
+/// Shards of any bits, each with the right tables, have prefix counts with which an index over them is right. None of
+/// these counts exceeds the number of bits in all.
+#[inline(always)]
+pub fn shards_have_index<S: Shard>(shards: &[S])
+    ensures { All S.right shards.now → HaveIndex S.bits S.right shards.now }
+{
+    let _ = shards;
+}
