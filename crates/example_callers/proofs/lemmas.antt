@@ -1,3 +1,4 @@
+pub mod BetweenLemmas
 pub mod InvertedLemmas
 pub mod ListLemmas
 pub mod PrimeLemmas

@@ -10,6 +10,7 @@
 //! | clear bits in a loop, and keep a set of numbers | `sieve` |
 //! | relate rank and selection in code that is generic over the index | `inverse` |
 //! | intersect two lists of rising numbers | `inverted` |
+//! | find the numbers of a range, and know what is read | `between` |
 //! | number the members of a set densely, and find a member by its number | `dense` |
 //! | keep values by the numbers of a perfect hash | `numbered` |
 //! | find them over levels that came from elsewhere and may be wrong | `numbered_lent` |
@@ -32,6 +33,7 @@
 #![tactic(auto)]
 
 pub mod asking;
+pub mod between;
 pub mod bits_and_ranks;
 pub mod counted;
 pub mod dense;

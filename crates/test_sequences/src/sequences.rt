@@ -4,6 +4,7 @@
 //! one word each.
 use bitm::{BitAccess, GetSize};
 use elias_fano::{EfError, EliasFano};
+use example_callers::between::between;
 use std::alloc::{AllocError, Global};
 use std::process::Abort;
 use std::test::Fail;
@@ -148,6 +149,31 @@ fn expect_nearest(rt: &impl Abort, sequence: &EliasFano) {
     assert!(rt; sequence.low_words() == [0b0111110u64].as_slice());
     for (v, place, is_kept) in NEAREST {
         assert!(rt; (sequence.last_at_most(v), sequence.contains(v)) == (place, is_kept));
+    }
+}
+
+/// Ranges, from a number on and below another, each with the first index at which a number of the first case is at
+/// least the one, and the first at which it is at least the other.
+const RANGES: [(u64, u64, (usize, usize)); 6] = [
+    (4u64, 12u64, (2usize, 5usize)),
+    (8, 11, (4, 4)),
+    (0, 100, (0, 7)),
+    (13, 14, (5, 6)),
+    (25, 30, (7, 7)),
+    (12, 3, (5, 1)),
+];
+
+#[test]
+fn numbers_in_a_range_stand_between_two_searches(rt: HostRuntime) -> Result<(), Fail> {
+    let sequence = EliasFano::build(rt.alloc(), CASES[0].items)?;
+    expect_between(&rt, &sequence);
+    Ok(())
+}
+
+/// Stops where the numbers of a range stand elsewhere in the first case than by hand.
+fn expect_between(rt: &impl Abort, sequence: &EliasFano) {
+    for (from, to, indexes) in RANGES {
+        assert!(rt; between(sequence, from, to) == indexes);
     }
 }
 
