@@ -171,4 +171,4 @@ def test_debian_symbols():
 def test_lintian():
     needs("lintian")
     artefact("libbitm0*.deb")
-    bash(f"lintian --fail-on error --tag-display-limit 0 --allow-root {DIST}/*.deb")
+    bash(f"lintian --fail-on error,warning --tag-display-limit 0 --allow-root {DIST}/*.deb")
