@@ -74,6 +74,16 @@ static inline size_t small_text(uint64_t *block)
     return len;
 }
 
+static inline size_t small_text_of_numbers(uint64_t *block)
+{
+    const uint64_t numbers[5] = {3, 1, 4, 1, 5};
+    uint64_t len, room;
+    uint32_t scratch[64];
+    MUST(bitm_text_size_letters(5, 8, 2, &len, &room) == BITM_OK && len <= ROOM && room <= 64);
+    MUST(bitm_text_build(numbers, 5, 8, 2, scratch, room, block, len) == BITM_OK);
+    return len;
+}
+
 /* The levels of a hash of three keys, with an index, for the kinds that have one. */
 struct small_levels {
     uint64_t words[64], sizes[256], upper[1], lower[2], used, levels;

@@ -1,5 +1,6 @@
-// Files in C++: each flipped bit is seen, what is saved is loaded back, also of nothing and after a move, files of
-// version 2 are read and become blocks, and saving follows symbolic links. files FOLDER: it has the files of version 2.
+// Files in C++: each flipped bit is seen, with a section of the caller's own too, what is saved is loaded back, also of
+// nothing and after a move, files of version 2 are read and become blocks, and saving follows symbolic links. files
+// FOLDER: it has the files of version 2.
 #include "blocks.hpp"
 
 #include <filesystem>
@@ -41,16 +42,27 @@ static Words old_hashes()
 // ---- damage
 
 // Whether the check refuses a file of which any one bit is another.
-template <class Owner> static void flipped(const Owner &given, const fs::path &path)
+template <class Owner> static void no_bit_is_taken(Bytes file)
 {
-    given.save(path);
-    Bytes file = read_file(path);
-    MUST(file == bytes_of(given) && Owner::try_of_bytes(file, verify::yes) && Owner::try_map(path, verify::yes));
+    MUST(Owner::try_of_bytes(file, verify::yes));
     for (std::size_t bit = 0; bit < 8 * file.size(); bit++) {
         file[bit / 8] ^= static_cast<unsigned char>(1 << bit % 8);
         MUST(!Owner::try_of_bytes(file, verify::yes));
         file[bit / 8] ^= static_cast<unsigned char>(1 << bit % 8);
     }
+}
+// Of a file without sections of the caller's own, and with one.
+template <class Owner> static void flipped(const Owner &given, const fs::path &path)
+{
+    given.save(path);
+    Bytes file = read_file(path);
+    MUST(file == bytes_of(given) && Owner::try_map(path, verify::yes));
+    no_bit_is_taken<Owner>(file);
+    const Words note{draw(), draw() >> 8};
+    Words noted(bitm::extended_size(given.block(), bitm::own_role, 15));
+    bitm::extend(given.block(), bitm::own_role, 15, note, noted);
+    const auto *const bytes = reinterpret_cast<const unsigned char *>(noted.data());
+    no_bit_is_taken<Owner>(Bytes(bytes, bytes + 8 * noted.size()));
     file[file.size() / 2] ^= 1;
     std::ofstream(path, std::ios::binary)
         .write(reinterpret_cast<const char *>(file.data()), static_cast<std::streamsize>(file.size()));
@@ -68,6 +80,7 @@ static void damage(const fs::path &path)
     flipped(bitm::tree(degrees), path), flipped(bitm::trie::of_words({"a", "b", "be"}), path);
     flipped(bitm::wavelet_matrix(some), path);
     flipped(bitm::wavelet_matrix(some, 11, bitm::quarters::yes), path), flipped(bitm::text_index("banana"), path);
+    flipped(bitm::text_index::of_letters(Words{3, 1, 4, 1, 5}, 8), path);
 }
 
 // ---- owners of nothing

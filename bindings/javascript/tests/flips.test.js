@@ -1,9 +1,10 @@
-// Each single bit of a file of each kind, flipped: open() refuses it, as long as it looks at all bytes.
+// Each single bit of a file of each kind, flipped: open() refuses it, as long as it looks at all bytes. The same of the file
+// with a section of the caller's own.
 import assert from "node:assert/strict";
 import { test } from "node:test";
 import { bitm } from "./plain.js";
 
-const { BitVector, Dictionary, EliasFano, Index, PerfectHash, SparseBits, Strings, TextIndex, Tree, Trie, WaveletMatrix, WrongTables, open } = bitm;
+const { BitVector, Dictionary, EliasFano, Index, PerfectHash, SparseBits, Strings, TextIndex, Tree, Trie, WaveletMatrix, WrongTables, OWN_ROLE, extend, open } = bitm;
 const bits = BitVector.fromPositions([0, 3, 4, 70, 99, 128], 130), words = ["a", "be", "bee", "ü"];
 
 const FILES = {
@@ -27,13 +28,16 @@ const FILES = {
 
 for (const [name, [value, read]] of Object.entries(FILES)) {
     test(`${name}: no flipped bit is taken`, () => {
-        const bytes = value.toBytes(), before = bitm.memoryUse().used;
-        assert.deepEqual(read(bytes).toBytes(), bytes);
-        for (let bit = 0; bit < 8 * bytes.length; bit++) {
-            const changed = bytes.slice();
-            changed[bit >> 3] ^= 1 << (bit & 7);
-            assert.throws(() => read(changed), WrongTables, `bit ${bit % 8} of byte ${bit >> 3}`);
+        const file = value.toBytes(), before = bitm.memoryUse().used;
+        assert.deepEqual(read(file).toBytes(), file);
+        for (const bytes of [file, extend(file, [[OWN_ROLE, Uint8Array.of(1, 2, 255)]])]) {
+            read(bytes).free();
+            for (let bit = 0; bit < 8 * bytes.length; bit++) {
+                const changed = bytes.slice();
+                changed[bit >> 3] ^= 1 << (bit & 7);
+                assert.throws(() => read(changed), WrongTables, `bit ${bit % 8} of byte ${bit >> 3}`);
+            }
         }
-        assert.ok(bitm.memoryUse().used <= before + bytes.length + 400, "a file that was refused was not freed");
+        assert.ok(bitm.memoryUse().used <= before + file.length + 400, "a file that was refused was not freed");
     });
 }

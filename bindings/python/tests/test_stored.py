@@ -29,11 +29,13 @@ def small_values():
     yield from (Index(bits), Index(bits, sample_log2=7), EliasFano(range(0, 900, 7)), PerfectHash(range(40)), PerfectHash(range(40), tries=4))
     yield from (bitm.SparseBits([3, 100, 101, 4000], 5000), bitm.Dictionary([4, 9, 49]), bitm.Strings(["ada", "bob", "eve"]), bitm.Tree([2, 0, 1, 0]))
     yield from (bitm.Trie.of_words(["a", "be"]), bitm.WaveletMatrix([3, 1, 4, 1]), bitm.WaveletMatrix(range(40), quarters=True), bitm.TextIndex(b"banana"))
+    yield bitm.TextIndex.of_letters([3, 1, 4, 1, 5], 8)
 
 
+@pytest.mark.parametrize("note", [{}, {65536: b"a note"}], ids=["without a note", "with a note"])
 @pytest.mark.parametrize("value", small_values(), ids=lambda it: type(it).__name__)
-def test_no_file_of_which_one_bit_was_flipped_is_accepted(value):
-    data = bytearray(bytes_of(value))
+def test_no_file_of_which_one_bit_was_flipped_is_accepted(value, note):
+    data = bytearray(bitm.extend(bytes_of(value), note))
     assert bitm.loads(bytes(data)).check()
     for at in range(8 * len(data)):
         data[at // 8] ^= 1 << at % 8

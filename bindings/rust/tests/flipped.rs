@@ -1,4 +1,5 @@
-//! Each bit of a small file of each kind, flipped: opening refuses the file, or its check does.
+//! Each bit of a small file of each kind, flipped: opening refuses the file, or its check does. The same of the file with a
+//! section of a caller's own.
 use bitm_proved::{
     sections, Dictionary, EliasFano, Index, Queries, Sampling, SeededHash, SparseBits, StoredError, Strings, TextIndex,
     Tree, Trie, WaveletMatrix,
@@ -8,11 +9,14 @@ use bitm_proved::{
 type Passes = fn(Vec<u64>) -> Result<bool, StoredError>;
 
 fn refuses_each_flipped_bit(kind: &str, file: &[u64], passes: Passes) {
-    assert_eq!(passes(file.to_vec()), Ok(true), "{kind}");
-    for bit in 0..64 * file.len() {
-        let mut spoilt = file.to_vec();
-        spoilt[bit / 64] ^= 1 << (bit % 64);
-        assert_ne!(passes(spoilt), Ok(true), "{kind}: bit {bit}");
+    let noted = sections::extended_by_bytes(file, sections::OWN_ROLE, b"a note").expect("room");
+    for (note, file) in [("without a note", file), ("with a note", &noted)] {
+        assert_eq!(passes(file.to_vec()), Ok(true), "{kind} {note}");
+        for bit in 0..64 * file.len() {
+            let mut spoilt = file.to_vec();
+            spoilt[bit / 64] ^= 1 << (bit % 64);
+            assert_ne!(passes(spoilt), Ok(true), "{kind} {note}: bit {bit}");
+        }
     }
 }
 
@@ -52,20 +56,19 @@ fn of_hashes_dictionaries_and_strings() {
 }
 
 #[test]
-fn of_trees_tries_matrices_and_texts() {
+fn of_trees_and_tries() {
     refuses_each_flipped_bit("tree", Tree::build(&[2, 0, 1, 0]).expect("a tree").block(), passes!(Tree));
     refuses_each_flipped_bit("trie", Trie::of_words(&["a", "be"]).expect("sorted").block(), passes!(Trie));
-    let matrix = WaveletMatrix::build(&[3, 1, 4, 1, 5]).expect("numbers");
-    refuses_each_flipped_bit("matrix", matrix.block(), passes!(WaveletMatrix));
-    let text = TextIndex::build(b"banana", 2).expect("a text");
-    refuses_each_flipped_bit("text", text.view().block(), |file| {
-        TextIndex::from_words(file).map(|it| it.view().check())
-    });
 }
 
 #[test]
-fn of_a_file_with_a_note() {
-    let file = Index::build([7u64]).to_stored(64).expect("right");
-    let noted = sections::extended_by_bytes(&file, sections::OWN_ROLE, b"a note").expect("room");
-    refuses_each_flipped_bit("index with a note", &noted, passes!(Index));
+fn of_matrices_and_texts() {
+    for matrix in [WaveletMatrix::build(&[3, 1, 4, 1, 5]), WaveletMatrix::build_with_quarters(&[3, 1, 4, 1, 5], 3)] {
+        refuses_each_flipped_bit("matrix", matrix.expect("numbers").block(), passes!(WaveletMatrix));
+    }
+    for text in [TextIndex::build(b"banana", 2), TextIndex::build_of_letters(&[3, 1, 4, 1, 5], 8, 2)] {
+        refuses_each_flipped_bit("text", text.expect("a text").view().block(), |file| {
+            TextIndex::from_words(file).map(|it| it.view().check())
+        });
+    }
 }
