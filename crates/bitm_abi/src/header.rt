@@ -1,7 +1,7 @@
 //! The header of a file with an index or a sequence: which lengths it can have, and how it is read.
-ghost use Rattle.std.specs.Prelude.{◌≡◌, ◌+◌, ◌<◌, ◌≤◌, ◌↔◌, ◌⊎◌, IsTrue, length};
-ghost use Rattle.bitm_abi.specs.Stored.{header_in, span_in, HasSampleLens, IsBounded};
-ghost use Rattle.bitm_abi.specs.Stored.{IsIndex, IsIndexOf, IsLaidOut, IsSequence, IsSequenceOf};
+ghost use Rattle.std.specs.Prelude.{◌≡◌, ◌+◌, ◌*◌, ◌<◌, ◌≤◌, ◌↔◌, ◌⊎◌, IfSome, IsTrue, SomeIff, length};
+ghost use Rattle.bitm_abi.specs.Stored.{header_in, span_in, HasSampleLens, IsBounded, IsHeaded, IsStored};
+ghost use Rattle.bitm_abi.specs.Stored.{IsIndex, IsIndexOf, IsLaidOut, IsSequence, IsSequenceOf, LiesWithin};
 
 use crate::layout::{Span, Stored};
 use crate::sequence::SequenceLens;
@@ -108,6 +108,28 @@ pub fn header_at(file: &[u64]) -> Stored
         samples0: span_at(file, 21),
         checksum: file[23],
     }
+}
+
+/// The header of a file that has all the parts of which the header speaks; `None` exactly where the file begins with no
+/// header, or has fewer words than that claims.
+#[tactic(auto, using(crate::proofs::StoredLemmas::lies_within, crate::proofs::StoredLemmas::whole))]
+#[inline(always)]
+pub fn header_of(file: &[u64]) -> Option<Stored>
+    ensures header { SomeIff result (IsHeaded file.now) (header_in file.now) }
+    ensures stored { IfSome result IsStored }
+    ensures inside { IfSome result (λ h. LiesWithin h (8 * length file.now)) }
+{
+    if file.len() < HEADER_WORDS {
+        return None;
+    }
+    let header = header_at(file);
+    if !header.has_shape() || header.size / 8 > file.len() as u64 {
+        return None;
+    }
+    if !header.is_laid_out() {
+        return None;
+    }
+    Some(header)
 }
 
 /// A part of `len` items, without its offset.

@@ -40,7 +40,7 @@ pub use answer::{BAD_SIZE, NONE, OK, UNSORTED, WRONG, as_number, done, report, r
 pub use counts::{ListCounts, code_of, report_list};
 pub use hash::{Hash, LentHash, SeededHash};
 pub use hash_blocks::{hash_at, hash_view};
-pub use header::{HEADER_WORDS, header_at, index_of, sequence_of};
+pub use header::{HEADER_WORDS, header_at, header_of, index_of, sequence_of};
 pub use index::Index;
 pub use layout::{Span, Stored};
 pub use lengths::{has_bits, has_bytes, has_counted_bits, has_range};

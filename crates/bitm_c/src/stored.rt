@@ -3,9 +3,7 @@ ghost use Rattle.std.specs.Prelude.{◌≡◌, ◌≢◌, ◌*◌, ◌<◌, ◌�
 ghost use Rattle.bitm_abi.specs.Stored.{header_in, HasIndexLens, HasSequenceLens, IsHeaded, IsIndexOf, IsSequenceOf};
 ghost use Rattle.bitm_abi.specs.Stored.{IsStored, LiesWithin};
 
-use bitm_abi::{
-    BAD_SIZE, HEADER_WORDS, OK, SequenceLens, Stored, WRONG, header_at, index_of, sequence_of,
-};
+use bitm_abi::{BAD_SIZE, OK, SequenceLens, Stored, WRONG, header_of, index_of, sequence_of};
 use lent_tables::{lower_len, upper_len};
 
 /// Writes the header of an index of `bits_len` bits with the given numbers of samples of 1 bits and of 0 bits; a
@@ -61,7 +59,6 @@ pub extern "C" fn bitm_stored_sequence(len: u64, lens: &SequenceLens, out: &mut 
 }
 
 /// Reads the header of a file that has all the parts of which the header speaks.
-#[tactic(auto, using(bitm_abi::proofs::StoredLemmas::lies_within, bitm_abi::proofs::StoredLemmas::whole))]
 #[unsafe(no_mangle)]
 pub extern "C" fn bitm_stored_read(file: &[u64], out: &mut Stored) -> u32
     ensures ok { (result ≡ 0) ↔ IsHeaded file.now }
@@ -69,16 +66,11 @@ pub extern "C" fn bitm_stored_read(file: &[u64], out: &mut Stored) -> u32
     ensures inside { result ≡ 0 → LiesWithin out.new (8 * length file.now) }
     ensures kept { result ≢ 0 → (result ≡ 3) × (out.new ≡ out.old) }
 {
-    if file.len() < HEADER_WORDS {
-        return WRONG;
+    match header_of(file) {
+        Some(header) => {
+            *out = header;
+            OK
+        }
+        None => WRONG,
     }
-    let header = header_at(file);
-    if !header.has_shape() || header.size / 8 > file.len() as u64 {
-        return WRONG;
-    }
-    if !header.is_laid_out() {
-        return WRONG;
-    }
-    *out = header;
-    OK
 }

@@ -1,6 +1,6 @@
 //! Files of version 2 of the format, which releases before 0.3.0 wrote: bits or a sequence after a header.
 ghost use Rattle.std.specs.Prelude.{◌≡◌, ◌*◌, ◌≤◌, ◌↔◌, IfSome, IsTrue, SomeIff, length};
-ghost use Rattle.bitm_abi.specs.Stored.{end_of, header_in, IsHeaded, LiesWithin};
+ghost use Rattle.bitm_abi.specs.Stored.{end_of, LiesWithin};
 ghost use Rattle.bitm_tables.specs.Tables.{HasSizes, HasTables};
 ghost use Rattle.elias_fano.specs.LentParts.{AreParts};
 ghost use Rattle.program_blocks.specs.Old.{old_bits_in, old_head_in, old_kind_of, old_sequence_in, part_in};
@@ -8,7 +8,7 @@ ghost use Rattle.program_blocks.specs.Old.{sequence_at, tables_at};
 ghost use Rattle.program_blocks.specs.Old.{HasSequence, IsOld, IsOldBits, IsOldSequence};
 
 use crate::kind::Kind;
-use bitm_abi::{HEADER_WORDS, Span, Stored, header_at};
+use bitm_abi::{Span, Stored, header_of};
 use bits_block::IndexView;
 use block_tables::as_entries;
 use lent_tables::Lent;
@@ -32,25 +32,6 @@ fn part(file: &[u64], span: Span) -> &[u64]
 {
     let begin = (span.at / 8) as usize;
     &file[begin..begin + span.len as usize]
-}
-
-/// The header of a file that has all the parts of which it speaks.
-#[tactic(auto, using(bitm_abi::proofs::StoredLemmas::lies_within, bitm_abi::proofs::StoredLemmas::whole))]
-fn header_of(file: &[u64]) -> Option<Stored>
-    ensures header { SomeIff result (IsHeaded file.now) (header_in file.now) }
-    ensures inside { IfSome result (λ h. LiesWithin h (8 * length file.now)) }
-{
-    if file.len() < HEADER_WORDS {
-        return None;
-    }
-    let header = header_at(file);
-    if !header.has_shape() || header.size / 8 > file.len() as u64 {
-        return None;
-    }
-    if !header.is_laid_out() {
-        return None;
-    }
-    Some(header)
 }
 
 /// The words of a file with their tables, which may hold anything.
