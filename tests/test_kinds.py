@@ -1,13 +1,13 @@
 """The program bitm beside docs/FORMAT.md: `check` finds blocks of each kind good that are written by that page alone,
-and wrong once a bit is flipped; `info` says what their headers have. The same of files of version 2, which earlier releases
-wrote."""
+with a section of a caller's own too, and wrong once a bit is flipped (of each word, with LARGE=1 each bit); `info` says what
+their headers have. The same of files of version 2, which earlier releases wrote."""
 import subprocess
 
 import pytest
 from blocks import as_bytes, of_bits, of_bytes, of_dictionary, of_hash, of_matrix, of_old_bits, of_old_sequence, of_seeded_hash, of_sequence
-from blocks import of_sparse, of_strings, of_text, of_tree, of_trie, old_checksum, packed
+from blocks import noted, of_sparse, of_strings, of_text, of_tree, of_trie, old_checksum, packed
 from checks import TOP
-from programs import built, room
+from programs import LARGE, built, room
 
 PROGRAM = built("program_bitm")
 SPELLED = int.from_bytes(b"adabob", "little")
@@ -55,14 +55,16 @@ def test_block(name):
 WRONG = (2, "", "bitm: not a block of a kind that bitm queries, or not as it was written\n")
 
 
+@pytest.mark.parametrize("of", [list, noted], ids=["", "with a section of a caller's own"])
 @pytest.mark.parametrize("name", BLOCKS)
-def test_flipped(name):
-    """A bit of the header, of the directory, and of the last word."""
-    for byte in (25, 140, -1):
-        data = bytearray(as_bytes(BLOCKS[name][3]))
-        data[byte] ^= 4
-        assert bitm("check", data) == (1, "wrong\n", "")
-        assert bitm("info", data) == WRONG
+def test_flipped(name, of):
+    words = of(BLOCKS[name][3])
+    assert bitm("check", as_bytes(words)) == (0, "good\n", "")
+    for at in range(len(words)):
+        for bit in range(64) if LARGE else [(at * 29 + 5) % 64]:
+            data = as_bytes([word ^ (n == at) << bit for n, word in enumerate(words)])
+            assert bitm("check", data) == (1, "wrong\n", ""), (at, bit)
+    assert bitm("info", data) == WRONG
 
 
 @pytest.mark.parametrize("data", [as_bytes(BLOCKS["a tree"][3][:-8]), as_bytes(BLOCKS["a tree"][3])[:-1], b"bitmtab\x03", b"bitmtab\x02"])
