@@ -1,7 +1,10 @@
 """A checkout serves without the toolchain: what README.md has a reader paste in each language, where neither this
-repository nor Rattle can be seen, ends in its answers, and takes less than a minute of a processor."""
+repository nor Rattle can be seen, ends in its answers, and takes less than a minute of a processor; and so does the
+program `bitm` over a text of 10 MB."""
+import itertools
 import os
 import pathlib
+import random
 import re
 import resource
 import shutil
@@ -50,13 +53,47 @@ def alone(home):
     return run
 
 
+@pytest.fixture
+def within_a_minute():
+    """A test takes less than that of processors."""
+    def used():
+        it = resource.getrusage(resource.RUSAGE_CHILDREN)
+        return it.ru_utime + it.ru_stime
+    before = used()
+    yield
+    assert used() - before < 60
+
+
 @pytest.mark.parametrize("language", NEEDS)
-def test_pasted(language, home, alone):
+def test_pasted(language, home, alone, within_a_minute):
     needs(*NEEDS[language])
-    before = resource.getrusage(resource.RUSAGE_CHILDREN)
     getattr(Pasted(home, alone), language)()
-    after = resource.getrusage(resource.RUSAGE_CHILDREN)
-    assert after.ru_utime + after.ru_stime - before.ru_utime - before.ru_stime < 60
+
+
+def drawn_text(length):
+    """Lines of words of two to eight letters, of which some are drawn often."""
+    drawn = random.Random(41)
+    words = ["".join(drawn.choices("abcdefghijklmnopqrstuvwxyz", k=drawn.randrange(2, 9))) for _ in range(20000)]
+    weights = list(itertools.accumulate(1 / at for at in range(1, len(words) + 1)))
+    lines = (" ".join(drawn.choices(words, cum_weights=weights, k=12)) + "\n" for _ in itertools.count())
+    found, size = [], 0
+    while size < length:
+        found.append(next(lines))
+        size += len(found[-1])
+    return "".join(found)[:length].encode()
+
+
+def test_program_over_10_mb(home, alone, within_a_minute):
+    """`bitm`, as the README lays it, counts each place of a pattern, those that overlap too."""
+    needs("make", "cc")
+    readme, text = Pasted(home, alone), drawn_text(10_000_000)
+    alone(readme.line("make install"), home / "vokhuliza")
+    (readme.work / "book.txt").write_bytes(text)
+    bitm = home / ".local/bin/bitm"
+    alone(f"{bitm} text build < book.txt > book.block", readme.work)
+    for pattern in ("abc", "ss", text[5_000_000:5_000_030].decode().partition("\n")[0]):
+        places = len(re.findall(f"(?={re.escape(pattern)})".encode(), text))
+        assert alone(f"{bitm} text count '{pattern}' book.block", readme.work) == f"{places}\n"
 
 
 def test_cargo_by_git(home, alone):
