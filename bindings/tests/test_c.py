@@ -15,10 +15,18 @@ STRICT = f"{WARNINGS} -Wsign-conversion -Wshadow -Wcast-align -Wcast-qual -Iincl
 
 @pytest.mark.parametrize("program, way", [(it, way) for it in PROGRAMS for way in WAYS if way == "gcc" or it not in BY_GCC_ALONE])
 def test_program(program, way, tmp_path):
+    """It says at its end what it found, so one that ends before fails."""
     needs(WAYS[way].split()[0])
     it = compiled(f"{WAYS[way]} -std=c11", f"bindings/c/{program}.c", tmp_path)
     for seed in [*range(1, SEEDS + 1), ""] if way == "gcc" else [""]:
-        bash(f"{it} {seed}", tmp_path)
+        assert bash(f"{it} {seed}", tmp_path)
+
+
+def test_every_program_is_listed():
+    """Those that other tests run are named there; that of two_parts.c is for the hand (crates/bitm_c/README.md)."""
+    others = "".join(it.read_text(encoding="utf-8") for it in (TOP / "bindings/tests").glob("*.py"))
+    for it in (TOP / "bindings/c").glob("*.c"):
+        assert it.stem in (*PROGRAMS, "two_parts") or f"bindings/c/{it.name}" in others, it
 
 
 @large

@@ -12,9 +12,10 @@ MODES = ["c++17 -fno-exceptions -fno-rtti", "c++20", "c++20 -fno-exceptions -fno
 @pytest.mark.parametrize("way", WAYS)
 @pytest.mark.parametrize("program", ["check", "stored", "shards", "trees", "tries", "matrices", "sparse", "sections", "cursors", "dictionaries", "hashes", "strings", "texts", "files"])
 def test_program(program, way, tmp_path):
+    """It says at its end what it found, so one that ends before fails."""
     needs(WAYS[way].split()[0])
     it = compiled(WAYS[way], f"bindings/cpp/{program}.cpp", tmp_path)
-    bash(f"{it} {DATA.get(program, '')}", tmp_path)
+    assert bash(f"{it} {DATA.get(program, '')}", tmp_path)
 
 
 @large
@@ -29,3 +30,9 @@ def test_check_in_each_mode(compiler, mode, tmp_path):
 def test_programs_that_must_not_compile(compiler):
     needs(compiler)
     bash(f"bindings/cpp/refused.sh '{compiler} -std=c++17'")
+
+
+@pytest.mark.parametrize("compiler", ["true", "false"])
+def test_a_compiler_that_takes_all_or_nothing_fails(compiler):
+    """So the programs that must not compile are counted, and so is the one that has to."""
+    bash(f"! bindings/cpp/refused.sh {compiler}")

@@ -11,7 +11,7 @@ from shell import bash, needs
 RUST = TOP / "bindings/rust"
 CARGO = "cargo {} --quiet --release --offline --locked"
 # What the tests of each language print: how many ran; which one was left out, and why.
-RAN = {"Rust": r"^test result: ok\. (\d+) passed", "Python": r"(\d+) passed", "JavaScript": r"(\d+) tests and"}
+RAN = {"Rust": r"^test result: ok\. (\d+) passed", "Python": r": (\d+) passed", "JavaScript": r"(\d+) tests and"}
 LEFT_OUT = r"^SKIPPED (?:\[\d+\] \S*?([\w.]+:\d+): )?(.*)"
 
 
