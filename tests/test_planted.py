@@ -1,8 +1,11 @@
 """Faults that are planted in a copy of the repository, each of which the quick stage named with it has to see, in the
-words of what it prints. All plants of a stage are made at once, and it runs once. And each script that checks has to
-count a check that failed."""
+words of what it prints. All plants of a stage are made at once, and it runs once. Each function of a stage that claims
+something has to see one of them, and each script that checks has to count a check that failed."""
+import ast
 import importlib.machinery
 import importlib.util
+import json
+import os
 import re
 import shutil
 import subprocess
@@ -87,6 +90,10 @@ PLANTS = {
         "is not the text of the Apache License"),
     "a version of Python": (
         "documents", "docs/PLATFORMS.md", "CPython 3.11 in each", "CPython 3.10 in each", "docs/PLATFORMS.md: Python"),
+    "what a user needs": (
+        "documents", "README.md", "| Node 20 on any", "| Node 18 on any", "README.md: Node {'18'}, and "),
+    "what the gate needs": (
+        "documents", "CONTRIBUTING.md", "Python 3.9 or later", "Python 3.8 or later", "CONTRIBUTING.md: C?Python {'3.8'}"),
     "a link to no heading": (
         "documents", "docs/guides/rank-and-select.md", "#beside-what-memory-allows", "#beside-what-memory-has",
         "and there is no such heading"),
@@ -109,8 +116,103 @@ PLANTS = {
         "version", "CHANGELOG.md", "## Unreleased", "## Soon", "CHANGELOG.md: its newest part is 'Soon'"),
     "a version in one place": (
         "version", "include/bitm.h", '#define BITM_VERSION "', '#define BITM_VERSION "9', "include/bitm.h: after"),
+    "a file that is not there": (
+        "documents", "docs/SCALE.md", "`crates/sharded_index`", "`crates/sharded_indexes`",
+        "docs/SCALE.md names crates/sharded_indexes, which is no file here"),
+    "a lemma under another": (
+        "documents", "docs/PROOFS.md", "TableLemmas <- EntryLemmas", "TableLemmas <- FieldLemmas",
+        "TableLemmas does not use FieldLemmas"),
+    "a lemma file of the map": (
+        "documents", "docs/PROOFS.md", "MadeLemmas; Sampled", "MaidLemmas; Sampled", "its map names MaidLemmas"),
+    "a definition": (
+        "documents", "docs/PROOFS.md", "(`digit`, `bit_of`,", "(`digits_of`, `bit_of`,", "does not define digits_of"),
+    "a quote": ("documents", "docs/PROOFS.md", "(r p : ℕ) : Type 0", "(r q : ℕ) : Type 0", "docs/PROOFS.md: not in"),
+    "the place of a mutant": (
+        "documents", "docs/PROOFS.md", "note: src/ranking.rt:", "note: src/ranking.rt:9", "the notes on its mutant begin"),
+    "a crate that names one above it": (
+        "documents", "crates/broadword/src/lib.rt", "//!", "use bitm::Rank;\n//!",
+        "broadword names the crate bitm, which is above it"),
+    "a name from a crate that hands it on": (
+        "documents", "crates/louds/src/labels.rt", "use bit_words::{", "use bitm::{", "louds imports what another crate"),
+    "a module that names one to its right": (
+        "documents", "crates/bitm_tables/src/levels.rt", "pub const", "use crate::ranking::rank_on;\npub const",
+        "names the module ranking, which is to its right"),
+    "a law that is not passed on": (
+        "documents", "crates/bit_lists/src/laws/writes.rt", "pub fn ", "pub fn no_such_law() {}\n\npub fn ",
+        "no_such_law does not stand in laws.rt"),
+    "a long line": (
+        "documents", "crates/bit_lists/src/lib.rt", "//!", f"//! {'long ' * 30}\n//!",
+        "crates/bit_lists/src/lib.rt: longer than 120 columns"),
+    "a size in a picture": ("documents", "docs/layout.svg", "8 words each", "9 words each", "docs/layout.svg: "),
+    "a line of a program": (
+        "documents", "docs/guides/rank-and-select.md", "words::set_bit(content.as_mut_slice(), place)",
+        "words::set_bit(content.as_mut_slice(), place + 1)", "its program is not crates/example_callers"),
+    "an answer of the first run": (
+        "documents", "docs/PROGRAM.md", "ok 65", "ok 66", "docs/PROGRAM.md: its first run does not show"),
+    "the reads of a row": (
+        "documents", "docs/PERFORMANCE.md", "1 upper entry, 1 lower entry, 8 words", "1 upper entry, 1 lower entry, 7 words",
+        "the row `rank`, `rank0` does not say"),
+    "the size of a table": (
+        "documents", "docs/DIFFERENCES.md", "tables of 2.5 KiB", "tables of 3.5 KiB", "does not say: tables of 2.5 KiB"),
+    "a caller": (
+        "documents", "crates/bitm/CALLING.md", "rank_on(&mut probe, place)", "rank_on(&mut probe, place + 1)",
+        "crates/bitm/CALLING.md: its first caller is not of"),
+    "the crates below one": (
+        "documents", "docs/ARCHITECTURE.md", "over the index | `bitm`, ", "over the index | ",
+        "docs/ARCHITECTURE.md: elias_fano lists"),
+    "how many exports there are": (
+        "documents", "crates/bitm_c/README.md", "202 exports", "201 exports", "crates/bitm_c/README.md does not say:"),
+    "a link to no file": (
+        "documents", "docs/FAQ.md", "](PLATFORMS.md)", "](PLATFORM.md)", "docs/FAQ.md links to PLATFORM.md"),
+    "mutants out of their order": (
+        "mutants", "crates/bitm_bits/mutants.txt", "gate: ", "gate: zz.",
+        "crates/bitm_bits/mutants.txt: its mutants are not in their order"),
+    "the mark": ("numbers", "docs/FORMAT.md", "74 61 62 03`", "74 61 62 04`", "the mark is not that of the code"),
+    "a byte of the header": (
+        "numbers", "docs/FORMAT.md", "| 32 | 4 | width", "| 40 | 4 | width", "its HEADER_WORDS begin at the bytes"),
+    "how many sections there are at most": (
+        "numbers", "docs/FORMAT.md", "up to 16 in all", "up to 15 in all", "a block has other than"),
+    "the bytes of an item": (
+        "numbers", "docs/FORMAT.md", "| 15 | 1 | seeds", "| 15 | 8 | seeds", "the bytes of an item are not those"),
+    "the bytes of an item in the header of C": (
+        "numbers", "include/bitm.h", "those from 65536 on", "those from 32768 on", "the bytes of an item are not those"),
+    "a role of a caller's own": (
+        "numbers", "docs/FORMAT.md", "0x687361686d746962", "0x687361686d746963", "no code has the number 0x687361686d746963"),
+    "a status that is excluded": (
+        "promises", "include/bitm.promises", "never NONE: IsCountWithin", "never WRONG: IsCountWithin",
+        "IsCountWithin does not exclude WRONG"),
+    "a lemma that nothing cites": (
+        "thin", "crates/bit_lists/proofs/lemmas/BesideLemmas.antt", "pub number_at-word :", "uncited_lemma : ℕ\n\npub number_at-word :", "nothing cites the lemma uncited_lemma"),
+    "a length compared before a call": (
+        "thin", "include/bitm/index.hpp", "        return try_near(bitm_index_select, true, rank);",
+        "        if (rank >= size()) return maybe_position();\n        return try_near(bitm_index_select, true, rank);",
+        "include/bitm/index.hpp: if (rank >= size())"),
 }
 STAGES = sorted({it[0] for it in PLANTS.values()})
+# Runs a script as its own line would, and writes the functions in which a claim failed into the file SEEN.
+NOTING = """
+import json, os, runpy, sys
+sys.path.insert(0, 'scripts')
+import checks
+claim, seen = checks.claim, set()
+def noted(is_so, text):
+    frame = sys._getframe(1)
+    while frame and not is_so:
+        seen.add((os.path.basename(frame.f_code.co_filename), frame.f_code.co_name))
+        frame = frame.f_back
+    claim(is_so, text)
+checks.claim = noted
+sys.argv = sys.argv[1:]
+try:
+    runpy.run_path(sys.argv[0], run_name='__main__')
+finally:
+    with open(os.environ['SEEN'], 'w', encoding='utf-8') as file:
+        json.dump(sorted(seen), file)
+"""
+# The scripts with the checks of a stage, where it has more than its own; a check of what a gate printed, which
+# test_gate_fails_where_nothing_ran tries.
+PARTS = {"thin": ["thin", "plain.py"]}
+OF_LOGS = ("ran", "look_at_run")
 
 
 def copied(folder):
@@ -144,17 +246,19 @@ def repository(tmp_path_factory):
 
 
 @pytest.fixture(scope="module")
-def said(repository):
-    """What each stage prints over its plants, and its status."""
-    found = {}
+def said(repository, tmp_path_factory):
+    """What each stage prints over its plants, its status, and the functions in which a claim failed."""
+    found, seen = {}, tmp_path_factory.mktemp("seen") / "functions"
     for stage in STAGES:
         plants = [it for it in PLANTS.values() if it[0] == stage]
         kept = {file: (repository / file).read_bytes() for _, file, *_ in plants}
         for _, file, old, new, _ in plants:
             plant(repository / file, old, new)
-        command = [sys.executable, *script("test").COMMANDS.get(stage, f"scripts/{stage}").split()]
-        made = subprocess.run(command, cwd=repository, capture_output=True, text=True, check=False)
-        found[stage] = made.returncode, made.stdout
+        words = script("test").COMMANDS.get(stage, f"scripts/{stage}").split()
+        command = [sys.executable, "-c", NOTING, *words]
+        how = {"cwd": repository, "env": {**os.environ, "SEEN": str(seen)}, "capture_output": True, "text": True}
+        made = subprocess.run(command, **how, check=False)
+        found[stage] = made.returncode, made.stdout, json.loads(seen.read_text())
         for file, text in kept.items():
             (repository / file).write_bytes(text)
     return found
@@ -169,9 +273,26 @@ def test_fault_is_seen(name, said):
 @pytest.mark.parametrize("stage", STAGES)
 def test_failures_are_counted(stage, said):
     """As many at least as there are plants of the stage, in its last line and its status."""
-    status, printed = said[stage]
+    status, printed, _ = said[stage]
     last = LAST.fullmatch(printed.strip().split("\n")[-1])
     assert status == 1 and last and int(last[2]) >= sum(it[0] == stage for it in PLANTS.values())
+
+
+def claiming(name):
+    """The functions of a script that claim something themselves."""
+    of_script = ast.parse((TOP / "scripts" / name).read_text(encoding="utf-8"))
+    for function in (it for it in ast.walk(of_script) if isinstance(it, ast.FunctionDef) and it.name != "main"):
+        called = {it.func.id for it in ast.walk(function) if isinstance(it, ast.Call) and isinstance(it.func, ast.Name)}
+        if called & {"claim", "says"}:
+            yield function.name
+
+
+@pytest.mark.parametrize("stage", STAGES)
+def test_each_check_sees_a_plant(stage, said):
+    """So one that is left out, or that passes whatever there is, fails here."""
+    _, _, seen = said[stage]
+    own = [(name, it) for name in PARTS.get(stage, [stage]) for it in claiming(name)]
+    assert [it for it in own if [*it] not in seen and it != OF_LOGS] == []
 
 
 def script(name):
