@@ -4,7 +4,6 @@ ghost use Rattle.bit_lists.specs.Count.{ones_before, zeros_before, ones_of, zero
 ghost use Rattle.bitm.specs.Counted.{one_more_rank, one_more_selection, no_queries};
 
 use crate::queries::{HasBits, Rank, Select, Select0};
-use bitm_tables::source::Probe;
 use bitm_tables::source::counts::ReadCounts;
 use std::marker::Model;
 
@@ -29,14 +28,6 @@ impl<'a, I> Model for Counted<'a, I> {
     } };
 }
 
-/// A counter with no reads yet.
-#[inline(always)]
-fn no_reads() -> ReadCounts
-    ensures { result.words ≡ 0 }
-{
-    Probe::new([].as_slice(), [].as_slice(), [].as_slice()).into_reads()
-}
-
 impl<'a, I> Counted<'a, I> {
     /// A value in which no rank and no selection was made yet.
     #[inline(always)]
@@ -45,8 +36,8 @@ impl<'a, I> Counted<'a, I> {
     {
         Counted {
             value,
-            ranks: no_reads(),
-            selections: no_reads(),
+            ranks: ReadCounts::new(),
+            selections: ReadCounts::new(),
         }
     }
 }

@@ -7,7 +7,8 @@ ghost use Rattle.bitm_abi.specs.Hash.{hash_lists, parts_of, seeded_parts, CanBeH
 use crate::index::Index;
 use bitm_select::search::selected::WRONG_TABLES;
 use bitm_tables::answer::Answer;
-use hash_levels::{Plain, no_reads};
+use bitm_tables::source::counts::ReadCounts;
+use hash_levels::Plain;
 use lent_tables::Lent;
 use perfect_hash::{SeedsView, total_number_by_on, total_numbers_on};
 use std::marker::Model;
@@ -121,7 +122,7 @@ impl<'a> LentHash<'a> {
     pub fn number(&self, hash: u64) -> Answer<usize>
         ensures { IsHashNumber self.now hash result }
     {
-        let (source, reads) = (&mut self.tables.probe(), &mut no_reads());
+        let (source, reads) = (&mut self.tables.probe(), &mut ReadCounts::new());
         if self.seeds.len() == 0 {
             total_number_by_on(source, &Plain, self.sizes, self.keys, hash, reads)
         } else {

@@ -2,8 +2,8 @@
 ghost use Rattle.std.specs.Prelude.{◌≡◌};
 ghost use Rattle.bitm_tables.specs.Reads.{none_read};
 
+use bitm_tables::source::TableSource;
 use bitm_tables::source::counts::ReadCounts;
-use bitm_tables::source::{Probe, TableSource};
 use std::marker::Model;
 
 /// A source over three sections of a block, all of them slices of 64-bit words.
@@ -43,7 +43,7 @@ impl<'a> BlockProbe<'a> {
             words,
             upper,
             lower,
-            reads: Probe::new([].as_slice(), [].as_slice(), [].as_slice()).into_reads(),
+            reads: ReadCounts::new(),
         }
     }
 }

@@ -4,7 +4,6 @@ ghost use Rattle.bit_lists.specs.Number.{IsFragmentInRange};
 ghost use Rattle.elias_fano.specs.Low.{fragment, unread};
 
 use bit_words::words;
-use bitm_tables::source::Probe;
 use bitm_tables::source::counts::ReadCounts;
 use std::marker::Model;
 
@@ -36,7 +35,7 @@ impl<'a> LowDigits<'a> {
         LowDigits {
             words,
             width,
-            reads: Probe::new(words, [].as_slice(), [].as_slice()).into_reads(),
+            reads: ReadCounts::new(),
         }
     }
 

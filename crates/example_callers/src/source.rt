@@ -6,7 +6,7 @@ ghost use Rattle.bitm.specs.Count.{IsRank, IsSelect};
 ghost use Rattle.bitm.specs.Reads.{ReadsAtMost};
 ghost use Rattle.bitm.specs.Tables.{IsIndexed, bits_in};
 
-use bitm::{Probe, ReadCounts, TableSource, binary_select_on, rank_on};
+use bitm::{ReadCounts, TableSource, binary_select_on, rank_on};
 use std::marker::Model;
 
 /// Words and two tables in vectors, and what was read of them.
@@ -42,7 +42,7 @@ impl Kept {
             words,
             upper,
             lower,
-            reads: Probe::new([].as_slice(), [].as_slice(), [].as_slice()).into_reads(),
+            reads: ReadCounts::new(),
         }
     }
 }

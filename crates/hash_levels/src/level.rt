@@ -4,8 +4,9 @@ ghost use Rattle.bit_lists.specs.Bits.{bits_of, item, IsShort};
 ghost use Rattle.hash_levels.specs.Levels.{hits, IsLevel, left_of};
 ghost use Rattle.hash_levels.specs.Places.{place_in};
 
-use crate::placing::{Placing, Plain, no_reads};
+use crate::placing::{Placing, Plain};
 use bit_words::words;
+use bitm_tables::source::counts::ReadCounts;
 use std::alloc::AllocError;
 
 /// Words in which a level is made, used again from level to level.
@@ -48,7 +49,7 @@ fn mark<P: Placing>(
 {
     let words = hit.len();
     for hash in hashes {
-        let place = placing.place(begin, *hash, level, words, &mut no_reads());
+        let place = placing.place(begin, *hash, level, words, &mut ReadCounts::new());
         if words::get_bit(hit, place) {
             words::set_bit(again, place);
         } else {
@@ -140,7 +141,7 @@ pub(crate) fn keep_left<P: Placing>(
     let mut kept = 0;
     for i in 0..hashes.len() {
         let hash = hashes[i];
-        let place = placing.place(begin, hash, level, ones.len(), &mut no_reads());
+        let place = placing.place(begin, hash, level, ones.len(), &mut ReadCounts::new());
         if !words::get_bit(ones, place) {
             hashes[kept] = hash;
             kept += 1;

@@ -30,4 +30,4 @@ pub use hashing::{KeyHash, Seeded, SeededBytes};
 pub use in_place::{Made, build_in_place, level_len};
 pub use level::{split_level, split_level_by};
 pub use places::spread_at;
-pub use placing::{Placing, Plain, no_reads};
+pub use placing::{Placing, Plain};

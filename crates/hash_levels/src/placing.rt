@@ -1,12 +1,11 @@
 //! What places hashes in levels: their bits alone, or with a seed for each word.
 ghost use Rattle.std.specs.Prelude.{◌≡◌, ◌+◌, ◌*◌, ◌^◌, ◌<◌, ◌≤◌, ℕ, List, IfOk, OnOk};
-ghost use Rattle.bitm_tables.specs.Reads.{none_read, ReadsAtMost};
+ghost use Rattle.bitm_tables.specs.Reads.{ReadsAtMost};
 ghost use Rattle.hash_levels.specs.Places.{place_in};
 ghost use Rattle.hash_levels.specs.Inside.{falls_inside};
 
 use crate::places::place_of;
 use bitm_bits::GetSize;
-use bitm_tables::source::Probe;
 use bitm_tables::source::counts::ReadCounts;
 use std::alloc::{AllocError, Global};
 
@@ -78,14 +77,6 @@ pub trait Placing: Drop {
     /// A hash falls inside each level that has a word.
     ghost inside: { (placing : Self) (begin hash level words : ℕ) → 0 < words
         → fall placing begin hash level words < 64 * words };
-}
-
-/// A counter with no reads yet: that of a source over nothing.
-#[inline(always)]
-pub fn no_reads() -> ReadCounts
-    ensures { result ≡ none_read }
-{
-    Probe::new([].as_slice(), [].as_slice(), [].as_slice()).into_reads()
 }
 
 /// Places a hash by its bits alone, for which nothing is kept.

@@ -17,7 +17,7 @@ use bitm_tables::answer::Answer;
 use bitm_tables::ranking::total_rank_on;
 use bitm_tables::source::TableSource;
 use bitm_tables::source::counts::ReadCounts;
-use hash_levels::{Placing, Plain, no_reads};
+use hash_levels::{Placing, Plain};
 
 /// Whether the bit at `place` of the source's words is 1.
 ///
@@ -107,7 +107,7 @@ pub fn total_number_on<T: TableSource>(
         (number_by sizes.now (bits_in (T.lists source.old)) hash ≡ None) }
     ensures reads { OnlyReads T.lists T.reads source.old source.new 1 1 (length sizes.now + 8) }
 {
-    total_number_by_on(source, &Plain, sizes, count, hash, &mut no_reads())
+    total_number_by_on(source, &Plain, sizes, count, hash, &mut ReadCounts::new())
 }
 
 /// As `total_number_on`, where `placing` says where hashes fall; the seeds that it reads are counted too, at most one a
@@ -165,7 +165,7 @@ pub fn number_on<T: TableSource>(source: &mut T, sizes: &[usize], hash: u64) -> 
         IsWithin 8 ((T.reads source.old).words + looked (place_in hash) b 0 0 sizes.now)
         (T.reads source.new).words }
 {
-    number_by_on(source, &Plain, sizes, hash, &mut no_reads())
+    number_by_on(source, &Plain, sizes, hash, &mut ReadCounts::new())
 }
 
 /// As `number_on`, where `placing` says where hashes fall; the seeds that it reads are counted too, at most one a

@@ -12,7 +12,8 @@ use crate::table::PerfectHash;
 use bitm::Access;
 use bitm_select::search::selected::NO_ANSWER;
 use bitm_tables::source::TableSource;
-use hash_levels::{KeyHash, Placing, no_reads};
+use bitm_tables::source::counts::ReadCounts;
+use hash_levels::{KeyHash, Placing};
 use tuning::LOOK_UPS_SIDE_BY_SIDE;
 
 /// The position of the 1 bit that a hash falls on at this level; `NO_ANSWER` where it falls on none.
@@ -35,7 +36,7 @@ fn look<Q: Query, T: TableSource, P: Placing>(
         (level + 1) (begin + slice_index sizes.now level) result }
     ensures reads { OnlyReads T.lists T.reads source.old source.new 0 0 1 }
 {
-    let reads = &mut no_reads();
+    let reads = &mut ReadCounts::new();
     let place = 64 * begin + placing.place(begin, hash, level as u32, sizes[level], reads);
     if query.is_one(source, place) {
         place

@@ -15,7 +15,7 @@ use bitm::{Access, ArrayWithRank101111, RankSelect101111};
 use bitm_bits::{CloneWords, GetSize};
 use bitm_strategies::{Select0ForRank101111, SelectForRank101111};
 use bitm_tables::source::counts::ReadCounts;
-use hash_levels::{KeyHash, Placing, Plain, no_reads};
+use hash_levels::{KeyHash, Placing, Plain};
 use std::alloc::{AllocError, Global};
 use std::boxed::BoxedSlice;
 use std::convert::AsSlice;
@@ -168,7 +168,7 @@ impl<H, I: Access, P: Placing> PerfectHash<H, I, P> {
         ensures below { IfSome result (λ number. number < ones_of self.now.bits) }
     {
         let (query, sizes) = (ByIndex { index: &self.index }, self.sizes.as_slice());
-        let (source, reads) = (&mut no_source(), &mut no_reads());
+        let (source, reads) = (&mut no_source(), &mut ReadCounts::new());
         number_by(&query, source, &self.placing, sizes, hash, reads)
     }
 }
@@ -190,7 +190,7 @@ impl<H, S: SelectForRank101111, S0: Select0ForRank101111, BV: AsSlice<u64>> Perf
     {
         let mut probe = self.index.probe();
         let hash = self.hash(key);
-        let (sizes, seeds) = (self.sizes.as_slice(), &mut no_reads());
+        let (sizes, seeds) = (self.sizes.as_slice(), &mut ReadCounts::new());
         let number = number_by_on(&mut probe, &self.placing, sizes, hash, seeds);
         (number, probe.into_reads())
     }
@@ -215,7 +215,7 @@ impl<H, S: SelectForRank101111, S0: Select0ForRank101111, BV: AsSlice<u64>, P: P
         ensures counted { result.2.words ≡ P.seeds_each * levels_looked P.fall H.hash self.now key.now }
     {
         let mut probe = self.index.probe();
-        let mut seeds = no_reads();
+        let mut seeds = ReadCounts::new();
         let hash = self.hash(key);
         let sizes = self.sizes.as_slice();
         let number = number_by_on(&mut probe, &self.placing, sizes, hash, &mut seeds);

@@ -4,8 +4,6 @@ ghost use Rattle.postings.specs.Moves.{IfFound, IsAnswered, UnlessWrong};
 ghost use Rattle.postings.specs.Next.{IsNextAtLeast};
 
 use bitm_tables::answer::Answer;
-use bitm_tables::source::Probe;
-use bitm_tables::source::counts::ReadCounts;
 
 /// A position in a list of numbers that never decrease, which moves forward only.
 pub trait Cursor {
@@ -76,12 +74,4 @@ impl<C: Cursor> TotalCursor for C {
             None => Answer::Absent,
         }
     }
-}
-
-/// A counter of calls, none of which was made. It takes no bytes at run time.
-#[inline(always)]
-pub(crate) fn no_calls() -> ReadCounts
-    ensures { result.words ≡ 0 }
-{
-    Probe::new([].as_slice(), [].as_slice(), [].as_slice()).into_reads()
 }

@@ -2,7 +2,7 @@
 ghost use Rattle.std.specs.Prelude.{◌≡◌, ◌<◌, ◌≤◌, ℕ, length, slice_index, SomeIff};
 ghost use Rattle.std.specs.List.Sorted.{IsNonDecreasing};
 
-use crate::cursor::{Cursor, no_calls};
+use crate::cursor::Cursor;
 use bitm_tables::source::counts::ReadCounts;
 use elias_fano::building::is_rising;
 use std::marker::Model;
@@ -77,7 +77,7 @@ impl<'a> SliceCursor<'a> {
             Some(SliceCursor {
                 numbers,
                 at: 0,
-                calls: no_calls(),
+                calls: ReadCounts::new(),
             })
         } else {
             None

@@ -8,7 +8,7 @@ ghost use Rattle.elias_fano.specs.Low.{sharing};
 ghost use Rattle.elias_fano.specs.Parts.{width_of, IsUpper};
 ghost use Rattle.postings.specs.Next.{IsNextAtLeast, IsReached};
 
-use crate::cursor::{Cursor, no_calls};
+use crate::cursor::Cursor;
 use crate::spot::{Spot, total_next_on, total_start_on};
 use bitm::index_laws;
 use bitm_strategies::{Select0ForRank101111, SelectForRank101111};
@@ -83,7 +83,7 @@ impl<'a> Seeker<'a> {
             low,
             len,
             spot,
-            calls: no_calls(),
+            calls: ReadCounts::new(),
         }
     }
 

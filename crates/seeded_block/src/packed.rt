@@ -9,7 +9,7 @@ ghost use Rattle.seeded_block.specs.Seeds.{seed_of, seeds_of};
 
 use bit_words::words;
 use bitm_tables::source::counts::ReadCounts;
-use hash_levels::{Placing, no_reads, place_seeded, spread_at};
+use hash_levels::{Placing, place_seeded, spread_at};
 use lent_tables::clear;
 use std::alloc::{AllocError, Global};
 use std::marker::Model;
@@ -127,7 +127,7 @@ impl<'a> Placing for PackedSeeds<'a> {
         let word = word_of(spread_at(hash, level), words);
         let seed = [self.read(begin + word, reads)];
         // Its bit of the word is that of a level of one word, whose seed is counted already.
-        64 * word + place_seeded(seed.as_slice(), 0, hash, level, 1, &mut no_reads())
+        64 * word + place_seeded(seed.as_slice(), 0, hash, level, 1, &mut ReadCounts::new())
     }
 
     fn add_level(

@@ -10,7 +10,6 @@ use crate::packed::PackedSeeds;
 use bitm_tables::answer::Answer;
 use bitm_tables::source::counts::ReadCounts;
 use hash_block::HashView;
-use hash_levels::no_reads;
 use perfect_hash::total_number_by_on;
 use std::marker::Model;
 
@@ -124,7 +123,7 @@ impl<'a> SeededView<'a> {
         ensures reads { ReadsAtMost none_read result.1 1 1 (length self.now.hash.sizes + 8) }
         ensures seeds { ReadsAtMost none_read result.2 0 0 (length self.now.hash.sizes) }
     {
-        let (parts, mut seeds) = (&self.hash, no_reads());
+        let (parts, mut seeds) = (&self.hash, ReadCounts::new());
         let (sizes, keys) = (parts.sizes(), parts.keys());
         let mut probe = parts.tables().probe();
         let number = total_number_by_on(&mut probe, &self.seeds, sizes, keys, hash, &mut seeds);

@@ -8,7 +8,6 @@ ghost use Rattle.sparse_bits.specs.Looks.{LooksAtMost, no_looks, one_more_get, o
 ghost use Rattle.sparse_bits.specs.Positions.{bits_at, ArePlaces, PartsZeros};
 
 use bitm_strategies::{Select0ForRank101111, SelectForRank101111};
-use bitm_tables::source::Probe;
 use bitm_tables::source::counts::ReadCounts;
 use elias_fano::Sequence;
 use std::marker::Model;
@@ -35,14 +34,6 @@ impl<'a, S: SelectForRank101111, S0: Select0ForRank101111> Model for Ones<'a, S,
     } };
 }
 
-/// A counter with no reads yet.
-#[inline(always)]
-fn no_reads() -> ReadCounts
-    ensures { result.words ≡ 0 }
-{
-    Probe::new([].as_slice(), [].as_slice(), [].as_slice()).into_reads()
-}
-
 impl<'a, S: SelectForRank101111, S0: Select0ForRank101111> Ones<'a, S, S0> {
     /// These positions, with nothing counted yet.
     #[inline(always)]
@@ -51,8 +42,8 @@ impl<'a, S: SelectForRank101111, S0: Select0ForRank101111> Ones<'a, S, S0> {
     {
         Ones {
             list,
-            searches: no_reads(),
-            gets: no_reads(),
+            searches: ReadCounts::new(),
+            gets: ReadCounts::new(),
         }
     }
 

@@ -8,7 +8,7 @@ ghost use Rattle.bitm.specs.Tables.{IsIndexed, bits_in};
 ghost use Rattle.bitm.specs.Count.{ones_of, zeros_of};
 ghost use Rattle.test_bitm.specs.Computed.{lists_of};
 
-use bitm::{Probe, ReadCounts, TableSource};
+use bitm::{ReadCounts, TableSource};
 use std::marker::Model;
 
 /// Words that are computed where they are read: their number, and what was read of them.
@@ -43,7 +43,7 @@ impl Computed {
     {
         Computed {
             len,
-            reads: Probe::new([].as_slice(), [].as_slice(), [].as_slice()).into_reads(),
+            reads: ReadCounts::new(),
         }
     }
 

@@ -3,7 +3,6 @@ ghost use Rattle.std.specs.Prelude.{◌≡◌, ◌+◌, ◌^◌, ◌<◌, slice_
 ghost use Rattle.trie_block.specs.Labels.{labels_of, none_read_of, HasLabels};
 
 use bit_words::words;
-use bitm_tables::source::Probe;
 use bitm_tables::source::counts::ReadCounts;
 use std::marker::Model;
 
@@ -43,7 +42,7 @@ impl<'a> LabelProbe<'a> {
         LabelProbe {
             words,
             width,
-            reads: Probe::new(words, [].as_slice(), [].as_slice()).into_reads(),
+            reads: ReadCounts::new(),
         }
     }
 

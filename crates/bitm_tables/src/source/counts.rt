@@ -27,9 +27,16 @@ impl Model for ReadCounts {
 impl ReadCounts {
     ghost use Rattle.bitm_tables.specs.Reads.{none_read, word_read, upper_read, lower_read};
 
-    /// No reads yet. A caller gets such a counter from a `Probe` alone.
+    /// No reads yet: what a source of one's own begins with.
+    ///
+    /// That the counter of a source is of its own reads is what the calls of `TableSource` promise, and the module that
+    /// holds it.
+    ///
+    /// ```
+    /// ReadCounts::new(); // no word, no upper entry and no lower entry
+    /// ```
     #[inline(always)]
-    pub(crate) fn new() -> ReadCounts
+    pub fn new() -> ReadCounts
         ensures { result ≡ none_read }
     {
         ReadCounts {}
