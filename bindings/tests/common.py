@@ -1,12 +1,17 @@
-"""What the tests of the bindings know of the archive, of compilers and of the examples."""
+"""What the tests of the bindings know of the archive, of the program, of compilers and of the examples."""
+import functools
 import os
+import platform
 import re
 
 import pytest
 from checks import TOP, read
+from programs import built
 from shell import bash
 
-ARCHIVE = TOP / "crates/bitm_c/out/libbitm_c.a"
+PROCESSOR = {"x86_64": "x86-64-v2"}.get(platform.machine(), platform.machine())
+BUILT, PREBUILT = TOP / "crates/bitm_c/out/libbitm_c.a", TOP / f"prebuilt/{PROCESSOR}/libbitm_c.a"
+ARCHIVE = BUILT if BUILT.is_file() else PREBUILT
 LARGE = os.environ.get("LARGE", "0") != "0"
 large = pytest.mark.skipif(not LARGE, reason="with LARGE=1")
 PYTHON = "/usr/bin/python3"
@@ -20,6 +25,16 @@ def compiled(compiler, source, folder, library=f"-Iinclude {ARCHIVE}"):
     """Compiles a program without a warning, and returns its path."""
     bash(f"{compiler} {WARNINGS} {source} {library} -o {folder}/program")
     return folder / "program"
+
+
+@functools.lru_cache(None)
+def bitm_program():
+    """The program bitm: that of prebuilt/ where it is proved, of the sources of this tree, else one that is built."""
+    try:
+        bash("python3 scripts/prebuilt check prebuilt")
+    except AssertionError:
+        return built("program_bitm")
+    return TOP / "prebuilt/bin/bitm-x86-64" if platform.machine() == "x86_64" else built("program_bitm")
 
 
 def exports():

@@ -1,6 +1,7 @@
-"""Tests of the language bindings against the archive of crates/bitm_c, which scripts/bindings builds before it runs them
-all; `pytest bindings/tests -k NAME` runs some. With LARGE=1 they take longer, with SEEDS=N the programs in C run on N
-other draws of random contents. A test whose tools are not here is skipped."""
+"""Tests of the language bindings against the archive, that of crates/bitm_c/out where one was built, else that of
+prebuilt/; scripts/bindings looks that it is proved, of the sources of this tree, and runs them all; `pytest
+bindings/tests -k NAME` runs some. With LARGE=1 they take longer, with SEEDS=N the programs in C run on N other draws of
+random contents. A test whose tools are not here is skipped."""
 import os
 import pathlib
 import sys
@@ -9,7 +10,8 @@ import pytest
 
 TOP = pathlib.Path(__file__).resolve().parents[2]
 sys.path[:0] = [str(TOP / "scripts"), str(TOP / "tests")]
-os.environ |= {"BITM_LIB": str(TOP / "crates/bitm_c/out"), "BITM_INCLUDE": str(TOP / "include")}
+from common import ARCHIVE
+os.environ |= {"BITM_LIB": str(ARCHIVE.parent), "BITM_INCLUDE": str(TOP / "include")}
 
 
 @pytest.fixture(scope="session")

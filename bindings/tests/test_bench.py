@@ -4,8 +4,7 @@ import csv
 import subprocess
 
 import pytest
-from common import ARCHIVE
-from programs import built
+from common import ARCHIVE, bitm_program
 from shell import bash, needs
 
 CC = "cc -std=c11 -O2 -march=x86-64-v2"
@@ -37,5 +36,5 @@ def test_beside_sdsl(name, tmp_path):
     if header.returncode:
         pytest.skip("no sdsl-lite")
     (tmp_path / "text").write_bytes(b"she sells sea shells on the sea shore " * 50)
-    words = [f"text {tmp_path}/text {built('program_bitm')} 1"] if name == "texts" else BESIDE_SDSL[name]
+    words = [f"text {tmp_path}/text {bitm_program()} 1"] if name == "texts" else BESIDE_SDSL[name]
     run(CXX, f"bench/{name}.cpp", f"{ARCHIVE} {OF_SDSL}", tmp_path / name, words)

@@ -5,8 +5,7 @@ import shutil
 
 import pytest
 from checks import TOP
-from common import LARGE, compiled
-from programs import built
+from common import LARGE, bitm_program, compiled
 from shell import bash, needs
 
 WORDS = pathlib.Path("/usr/share/dict/words")  # Debian: wamerican
@@ -33,7 +32,7 @@ def test_file(name, program, tmp_path):
     if not FILES[name]:
         pytest.skip(f"no {WORDS}")
     (tmp_path / "text").write_bytes(FILES[name]())
-    bash(f"{built('program_bitm')} text build < text > block", tmp_path)
+    bash(f"{bitm_program()} text build < text > block", tmp_path)
     bash(f"{program} {PATTERNS} file text block", tmp_path)
 
 
