@@ -1,10 +1,12 @@
-"""scripts/prebuilt takes an archive only where it was proved, of the sources of this tree."""
+"""scripts/prebuilt takes an archive only where it was proved, of the sources of this tree, and scripts/dist one of prebuilt/
+only where that is so."""
 import os
 import pathlib
 import shutil
 
 import pytest
 from checks import TOP, exporting
+from shell import bash
 from test_planted import script
 
 PROVED = "logic=proved functions=1 sum=0\n"
@@ -68,3 +70,12 @@ def test_archive_by_its_time(prebuilt, built, hours, is_taken):
         newest = max(newest, it.stat().st_mtime)
     os.utime(archive, (newest + 3600 * hours,) * 2)
     assert prebuilt.is_of_tree(archive, proofs(1), roots) == is_taken
+
+
+def test_artefacts_of_other_sources(tmp_path):
+    """None is made where the last commit has other sources than the archives of prebuilt/."""
+    edit = "echo '// another' >> crates/bitm_c/src/lib.rt && git -c user.name=x -c user.email=x@x commit -qam x"
+    bash(f"git clone -q {TOP} it && cd it && {edit}", tmp_path)
+    said = bash("! scripts/dist out 2>&1", tmp_path / "it", ARCHIVE="", ARCHIVES="", UNPROVED="0")
+    assert "prebuilt/aarch64/libbitm_c.a is not of the sources of this tree" in said
+    assert not (tmp_path / "it/out").exists()
