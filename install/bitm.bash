@@ -2,10 +2,11 @@
 _bitm() {
     local word=${COMP_WORDS[COMP_CWORD]} before="${COMP_WORDS[*]:1:COMP_CWORD-1}" offered=
     case $before in
-        "") offered="build query check info text strings" ;;
+        "") offered="build query check info text strings help --help --version" ;;
+        help) offered="build query check info text strings" ;;
         build) offered="bits sparse sequence matrix tree" ;;
-        text) offered="build count locate lines" ;;
-        strings) offered="build find" ;;
+        text) offered="build count locate lines --help" ;;
+        strings) offered="build find --help" ;;
         query | check | info | "strings find" | "text count "* | "text locate "* | "text lines "*)
             mapfile -t COMPREPLY < <(compgen -f -- "$word")
             compopt -o filenames 2> /dev/null || :

@@ -2,6 +2,7 @@
 //! answers questions to them (`docs/PROGRAM.md`).
 #![tactic(auto)]
 
+use program_help::topic_in;
 use program_runs::CANNOT_READ;
 use std::env::Env;
 use std::io::{BufWriter, Write};
@@ -21,9 +22,13 @@ fn main(rt: HostRuntime) -> ExitCode {
     ExitCode::from(status)
 }
 
-/// Does what the arguments say: those after `text` to a text, those after `strings` to strings, `check` and `info` to a
-/// block of any kind, and all others to the numbers of a text. Answers the status.
+/// Writes the help that the arguments want, or does what they say: those after `text` to a text, those after
+/// `strings` to strings, `check` and `info` to a block of any kind, and all others to the numbers of a text. Answers
+/// the status.
 fn run<W: Write>(rt: &HostRuntime, args: &[String], out: &mut W) -> u8 {
+    if let Some(topic) = topic_in(args) {
+        return program_help::start(topic, out, &mut rt.stderr());
+    }
     match args.split_first() {
         Some((word, rest)) if word.as_str() == "text" => {
             program_texts::start(rt, rest, out, &mut rt.stderr())
