@@ -1,7 +1,7 @@
 //! Words and tables in the caller's memory, and the index over them: what the calls of an index take.
 ghost use Rattle.std.specs.Prelude.{◌≡◌, ◌≢◌, ◌^◌, ◌<◌, ◌≤◌, SomeIff, length};
 ghost use Rattle.bitm_view.specs.Cut.{IsSizedCut};
-ghost use Rattle.bitm_abi.specs.Index.{cut_of};
+ghost use Rattle.bitm_abi.specs.Index.{cut_of, sampled_cut_of};
 ghost use Rattle.bitm_abi.specs.Samples.{lent_samples};
 
 use crate::samples::Samples;
@@ -30,10 +30,10 @@ pub struct Index<'a> {
 }
 
 impl<'a> Index<'a> {
-    /// The view of the index that the library queries; `None` exactly where a length is not right.
+    /// The view of the index that the library queries, with its samples; `None` exactly where a length is not right.
     #[inline(always)]
     pub fn view(&self) -> Option<IndexView<'a>>
-        ensures { SomeIff result (IsSizedCut (cut_of self.now)) (cut_of self.now) }
+        ensures { SomeIff result (IsSizedCut (cut_of self.now)) (sampled_cut_of self.now) }
     {
         let tables = Lent::over(self.words, self.upper, self.lower)?;
         let whole = IndexView::over(tables, self.bits_len as usize)?;

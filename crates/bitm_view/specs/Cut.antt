@@ -1,17 +1,38 @@
 -- The bits of words up to a length that is no multiple of 64.
-use Rattle.std.specs.Prelude.{◌≡◌, ℕ, ◌<◌, ◌≤◌, ◌⊎◌, Bool, List, length, take}
+use Rattle.std.specs.Prelude.{◌≡◌, ℕ, ◌<◌, ◌≤◌, ◌==◌, ◌⊎◌, Bool, if◌then◌else◌, List, [], length, take}
 use Rattle.bit_lists.specs.Bits.{item}
 use Rattle.bitm_tables.specs.Tables.{HasSizes, Lists, bits_in}
 use Rattle.bitm_select.specs.Told.{TellsNone}
+use Rattle.lent_tables.specs.declared.samples.LentSamples.{LentSamples}
 
--- words and their tables, and how many of the bits belong to the bit vector
+-- samples of one kind, how many there are before each upper block, and their logarithm, which is 0 where there are none
+pub record Sampled : Type 0 where
+  pub samples : List ℕ
+  pub starts : List ℕ
+  pub log2 : ℕ
+
+-- the borrowed samples
+abbrev pub sampled : LentSamples → Sampled
+sampled lent = record {
+  samples = lent.samples.now;
+  starts = lent.starts.now;
+  log2 = (if length lent.samples.now == 0 then 0 else lent.log2);
+}
+
+-- no samples
+abbrev pub not_sampled : Sampled
+not_sampled = record { samples = []; starts = []; log2 = 0 }
+
+-- words and their tables, how many of the bits belong to the bit vector, and the samples of 1 bits and of 0 bits
 pub record Cut : Type 0 where
   pub lists : Lists
   pub len : ℕ
+  pub ones : Sampled
+  pub zeros : Sampled
 
--- words with tables, and the length of the bit vector
+-- words with tables, and the length of the bit vector, without samples
 abbrev pub cut_at : Lists → ℕ → Cut
-cut_at lists len = record { lists = lists; len = len }
+cut_at lists len = record { lists = lists; len = len; ones = not_sampled; zeros = not_sampled }
 
 -- the bits of the bit vector
 abbrev pub bits_of_cut : Cut → List Bool
@@ -21,17 +42,25 @@ bits_of_cut c = take c.len (bits_in c.lists)
 abbrev pub IsWithin : Cut → Type 0
 IsWithin c = c.len ≤ length (bits_in c.lists)
 
--- the lengths are right, and the words have at least that length in bits
-pub record IsSizedCut (c : Cut) : Type 0 where
-  pub sizes : HasSizes c.lists
-  pub within : IsWithin c
+-- the lengths of lists are right, and the words have at least n bits
+pub record AreSized (lists : Lists) (n : ℕ) : Type 0 where
+  pub sizes : HasSizes lists
+  pub within : n ≤ length (bits_in lists)
+
+-- those of a view, whatever samples it has
+abbrev pub IsSizedCut : Cut → Type 0
+IsSizedCut c = AreSized c.lists c.len
+
+-- a list has an item v from index n on
+pub record HasItemFrom (v : Bool) (b : List Bool) (n : ℕ) : Type 0 where
+  pub place : ℕ
+  pub behind : n ≤ place
+  pub inside : place < length b
+  pub bit : item b place ≡ v
 
 -- the words have a bit v after the bit vector
-pub record HasBitBehind (v : Bool) (c : Cut) : Type 0 where
-  pub place : ℕ
-  pub behind : c.len ≤ place
-  pub inside : place < length (bits_in c.lists)
-  pub bit : item (bits_in c.lists) place ≡ v
+abbrev pub HasBitBehind : Bool → Cut → Type 0
+HasBitBehind v c = HasItemFrom v (bits_in c.lists) c.len
 
 -- tables and words claim at most r bits v in all, or the words have one after the bit vector
 abbrev pub TellsNoneOf : Bool → Cut → ℕ → Type 0

@@ -1,10 +1,10 @@
 //! The view of an index in borrowed memory, and its queries.
-ghost use Rattle.std.specs.Prelude.{◌≡◌, ◌+◌, ◌-◌, ◌<◌, ◌≤◌, ℕ, Bool, MatchOption, length, min, slice_index, true};
+ghost use Rattle.std.specs.Prelude.{◌≡◌, ◌≢◌, ◌+◌, ◌-◌, ◌<◌, ◌≤◌, ℕ, Bool, MatchOption, length, min, slice_index, true};
 ghost use Rattle.bit_lists.specs.Bits.{digit_count};
 ghost use Rattle.bit_lists.specs.Count.{count_before, count_of, as_bit, Picks};
 ghost use Rattle.bitm_tables.specs.Tables.{HasTables, bits_in};
 ghost use Rattle.bitm_select.specs.Told.{IfAbsent};
-ghost use Rattle.bitm_view.specs.Cut.{bits_of_cut, cut_at, Cut, IsWithin, TellsNoneOf};
+ghost use Rattle.bitm_view.specs.Cut.{bits_of_cut, cut_at, sampled, Cut, IsWithin, TellsNoneOf};
 ghost use Rattle.bitm_view.specs.Queries.{RanksIn, SelectsIn};
 ghost use Rattle.lent_tables.specs.Counting.{Selects};
 ghost use Rattle.lent_tables.specs.Ranks.{IsCountWithin, IsRanked};
@@ -44,8 +44,8 @@ fn cut(selected: Answer<usize>, len: usize) -> Answer<usize>
 /// A borrowed index: words with their two tables, whose first `len` bits are the bit vector, and samples of either
 /// kind.
 ///
-/// Contracts see the three lists and the length. The bits after the bit vector may be anything: answers are those of
-/// the first `len` bits alone. Samples never change an answer, whatever they hold, so contracts do not see them.
+/// Contracts see the three lists, the length, and the samples of either kind. The bits after the bit vector may be
+/// anything: answers are those of the first `len` bits alone. Samples never change an answer, whatever they hold.
 #[derive(Drop)]
 pub struct IndexView<'a> {
     tables: Lent<'a>,
@@ -55,11 +55,16 @@ pub struct IndexView<'a> {
 }
 
 impl<'a> Model for IndexView<'a> {
-    ghost use Rattle.bitm_view.specs.Cut.{cut_at, Cut, IsSizedCut};
+    ghost use Rattle.bitm_view.specs.Cut.{cut_at, sampled, Cut, IsSizedCut};
 
     ghost Value = { Cut };
 
-    ghost view = { λ i. cut_at i.tables i.len };
+    ghost view = { λ i. record {
+      lists = i.tables;
+      len = i.len;
+      ones = sampled i.ones;
+      zeros = sampled i.zeros;
+    } };
 
     ghost invariant = { λ i. IsSizedCut (cut_at i.tables i.len) };
 }
@@ -83,10 +88,12 @@ impl<'a> IndexView<'a> {
         })
     }
 
-    /// The same view with these samples of 1 bits; of 0 bits where `BIT` is 0.
+    /// The same view with these samples of 1 bits, in place of those that it had; of 0 bits where `BIT` is 0. The
+    /// samples of the other kind are kept.
     #[inline(always)]
     pub fn with_samples<const BIT: u8>(self, samples: LentSamples<'a>) -> IndexView<'a>
-        ensures { result ≡ self.entry }
+        ensures zeros { BIT ≡ 0 → result ≡ record self.entry { zeros = sampled samples.entry } }
+        ensures ones { BIT ≢ 0 → result ≡ record self.entry { ones = sampled samples.entry } }
     {
         let IndexView {
             tables,
@@ -94,11 +101,19 @@ impl<'a> IndexView<'a> {
             ones,
             zeros,
         } = self;
+        if BIT == 0 {
+            return IndexView {
+                tables,
+                len,
+                ones,
+                zeros: samples,
+            };
+        }
         IndexView {
             tables,
             len,
-            ones: if BIT == 0 { ones } else { samples },
-            zeros: if BIT == 0 { samples } else { zeros },
+            ones: samples,
+            zeros,
         }
     }
 
