@@ -6,6 +6,15 @@ cd "$(dirname "$0")/../.." || exit 1
 room=$(mktemp -d) || exit 1
 trap 'rm -rf "$room"' EXIT
 
+# precompiled COMPILER FOLDER: the header that each program begins with, read once; prints the words that take it.
+precompiled() {
+    local file=$2/bitm/bitm.hpp.gch
+    mkdir -p "$2/bitm"
+    # shellcheck disable=SC2086
+    $1 -Iinclude -x c++-header include/bitm/bitm.hpp -o "$file" 2> "$room/said" || return 0
+    if [[ $1 == clang* ]]; then echo "-include-pch $file"; else echo "-I$2 -Winvalid-pch"; fi
+}
+
 # One program by one compiler: a line in refused, failed or neither.
 compile() {
     local compiler=$1 case=$2 flags=-Werror=unused-result got
@@ -14,7 +23,7 @@ compile() {
         flags="-Werror=dangling -Werror=dangling-gsl -Werror=return-stack-address"
     fi
     # shellcheck disable=SC2086
-    $compiler $flags -Iinclude -DCASE="$case" -fsyntax-only bindings/cpp/refused.cpp 2> "$room/said.$BASHPID" && got=0 || got=1
+    $compiler $flags $read -Iinclude -DCASE="$case" -fsyntax-only bindings/cpp/refused.cpp 2> "$room/said.$BASHPID" && got=0 || got=1
     if ((case == 0 ? got == 1 : got == 0)); then
         echo "refused.cpp, case $case: not as it should be by $compiler" >> "$room/failed"
         head -n 5 "$room/said.$BASHPID" >> "$room/failed"
@@ -25,6 +34,7 @@ compile() {
 
 touch "$room/refused" "$room/failed"
 for compiler in "${@:-g++ -std=c++17}"; do
+    read=$(precompiled "$compiler" "$(mktemp -d -p "$room")")
     for case in $(sed -nE 's/^#(if|elif) CASE == ([0-9]+).*/\2/p' bindings/cpp/refused.cpp | sort -nu); do
         while (($(jobs -rp | wc -l) >= $(nproc))); do wait -n; done
         compile "$compiler" "$case" &

@@ -17,7 +17,8 @@ large = pytest.mark.skipif(not LARGE, reason="with LARGE=1")
 PYTHON = "/usr/bin/python3"
 SEEDS = int(os.environ.get("SEEDS", "0"))
 WARNINGS = "-Wall -Wextra -Wconversion -pedantic -Werror"
-SANITIZED = "-g -O1 -fsanitize=address,undefined -fno-sanitize-recover=all"
+# -g1: a report names the line; where each variable lies would take a fifth of the time of the compiler
+SANITIZED = "-g1 -O1 -fsanitize=address,undefined -fno-sanitize-recover=all"
 EXAMPLES = "primes stored postings perfect_hash".split()
 
 
