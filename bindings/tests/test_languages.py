@@ -10,6 +10,8 @@ from shell import bash, needs
 
 RUST = TOP / "bindings/rust"
 CARGO = "cargo {} --quiet --release --offline --locked"
+# With the checks of a debug build, which compiles in a third of the time, for tests that test_rust runs optimized.
+UNOPTIMIZED = CARGO.replace(" --release", "")
 # What the tests of each language print: how many ran; which one was left out, and why.
 RAN = {"Rust": r"^test result: ok\. (\d+) passed", "Python": r": (\d+) passed", "JavaScript": r"(\d+) tests and"}
 LEFT_OUT = r"^SKIPPED (?:\[\d+\] \S*?([\w.]+:\d+): )?(.*)"
@@ -50,9 +52,26 @@ def test_files_of_cpp(of, tmp_path):
     bash(f"{it} {of('cpp')}")
 
 
-def test_rust(of, noted):
-    needs("cargo")
-    noted("Rust", bash(f"{CARGO.format('test')} --features mmap", RUST))
+def documented(room):
+    """What Cargo prints of the examples in the documentation of the crate. They are compiled as one program, in a tenth of
+    the time, where rustdoc can: it then looks for files that they include below its folder for temporary ones."""
+    line, at = f"{CARGO.format('test')} --features mmap --doc", room / "documented"
+    if "--merge-doctests" in bash("rustdoc --help -v"):
+        (at / "tmp").mkdir(parents=True)
+        (at / "tests").symlink_to(RUST / "tests")
+        as_one = {"RUSTC_BOOTSTRAP": "1", "RUSTDOCFLAGS": "-Zunstable-options --merge-doctests=yes", "TMPDIR": str(at / "tmp")}
+        try:
+            return bash(line, RUST, **as_one)
+        except AssertionError as why:
+            if "failed to merge doctests" not in str(why):
+                raise
+    return bash(line, RUST)
+
+
+def test_rust(of, noted, room):
+    needs("cargo", "rustdoc")
+    tests = bash(f"{CARGO.format('test')} --features mmap --lib --tests && {CARGO.format('build')} --features mmap --examples", RUST)
+    noted("Rust", tests + documented(room))
     bash(f"{CARGO.format('run')} --example stored {of('rust')}", RUST)
     assert bash(CARGO.format("run"), TOP / "examples/rust") == read("examples/primes.txt")
 
@@ -64,8 +83,9 @@ def test_declarations_of_rust():
 
 def test_rust_without_std_and_as_the_original_at_the_end(room):
     needs("cargo")
-    bash(f"{CARGO.format('test')} --no-default-features --tests", RUST)
-    bash(f"{CARGO.format('test')} --features original-end --test original_index --test queries", RUST)
+    without = {"CARGO_PROFILE_DEV_DEBUG": "0"}
+    bash(f"{UNOPTIMIZED.format('test')} --no-default-features --tests", RUST, **without)
+    bash(f"{UNOPTIMIZED.format('test')} --features original-end --test original_index --test queries", RUST, **without)
 
 
 def test_clippy(room):
