@@ -114,6 +114,17 @@ PLANTS = {
         "documents", "README.md", "`rank` 10.5, 59.6 ns", "`rank` 10.5, 49.6 ns", "README.md: the row of `Index` does not say"),
     "a part of a version that is not released": (
         "version", "CHANGELOG.md", "## Unreleased", "## Soon", "CHANGELOG.md: its newest part is 'Soon'"),
+    "the name of the shared object": (
+        "version", "docs/FAQ.md", "libbitm_c.so.0.3", "libbitm_c.so.0.4", "docs/FAQ.md: the shared object is"),
+    "a toolchain": (
+        "prebuilt", "bindings/javascript/wasm/PROVED", "toolchain   rattle-kit-13", "toolchain   rattle-kit-12",
+        "bindings/javascript/wasm/PROVED is not of the toolchain"),
+    "a skip for any reason": (
+        "ran", "tests/skips.txt", "prose | misspellings | no codespell", "prose | * | *", "tests/skips.txt has a reason that any"),
+    "a mutant that is gone, and its number": (
+        "ran", "crates/elias_fano/mutants.txt", "thorough: ", "", "crates/elias_fano/mutants.txt: 67 where"),
+    "a program that must not compile": (
+        "ran", "bindings/cpp/refused.cpp", "#elif CASE == 84", "#elif 84", "bindings/cpp/refused.cpp: 106 where"),
     "a version in one place": (
         "version", "include/bitm.h", '#define BITM_VERSION "', '#define BITM_VERSION "9', "include/bitm.h: after"),
     "a file that is not there": (

@@ -317,6 +317,31 @@ static void wrong_lengths(void)
     }
 }
 
+/* A section of the role of quarters, after the sections of a matrix that has none: the block opens as that matrix or not
+ * at all, and where its check passes it is that matrix. */
+static void of_the_role_of_quarters(void)
+{
+    enum { COUNT = 3, MOST = 40, ROOM = 256 };
+    const uint64_t numbers[COUNT] = {1, 2, 3};
+    uint64_t scratch[2 * COUNT], words, more, items[MOST], block[ROOM], to[ROOM], out;
+    MUST(bitm_matrix_size(COUNT, 8, false, &words) == BITM_OK && words <= ROOM);
+    MUST(bitm_matrix_build(numbers, COUNT, 8, false, scratch, 2 * COUNT, block, words) == BITM_OK);
+    for (size_t count = 0; count < MOST; count++) {
+        for (size_t i = 0; i < count; i++) items[i] = draw() % 3 ? draw() : draw() % 3;
+        MUST(bitm_block_extended_size(block, words, 6, count, &more) == BITM_OK && more <= ROOM);
+        MUST(bitm_block_extend(block, words, 6, count, items, count, to, more) == BITM_OK);
+        MUST(bitm_block_check(to, more) == BITM_OK);
+        struct bitm_matrix matrix;
+        const uint32_t opened = bitm_matrix_open(to, more, &matrix), checked = bitm_matrix_check(to, more);
+        MUST(opened == BITM_OK || (opened == BITM_WRONG && checked == BITM_WRONG));
+        for (size_t i = 0; opened == BITM_OK && i < COUNT; i++) {
+            const uint32_t status = bitm_matrix_get(&matrix, i, &out);
+            MUST(status == BITM_OK ? out < 256 : status == BITM_WRONG);
+            MUST(checked != BITM_OK || (status == BITM_OK && out == numbers[i]));
+        }
+    }
+}
+
 static void tests(void)
 {
     drawn_matrices();
@@ -325,6 +350,7 @@ static void tests(void)
     other_quarters();
     random_blocks();
     wrong_lengths();
+    of_the_role_of_quarters();
 }
 
 int main(int argc, char **argv)

@@ -137,7 +137,8 @@ int main()
     auto &&set = some().set(3); // a value, which lives as long as its name
     for (bool b : some().flip().fill(3, 5, true)) (void)b;
     const bool third = some()[3]; // a bit of a temporary is a value
-    (void)set, (void)third, (void)joined().rank(5), (void)(made() == made());
+    const bitm::bits none(0), one(1); // sizes, and no text that a null pointer is
+    (void)none, (void)one, (void)set, (void)third, (void)joined().rank(5), (void)(made() == made());
     // Spans are kept, also temporary ones: what they point at is not theirs.
     const words in_memory = file_of_tree();
     const bitm::tree_view t = bitm::tree_view::in(bitm::words_in(in_memory));

@@ -1,6 +1,7 @@
 #!/usr/bin/env bash
 # Compiles each program of refused.cpp: those that must not compile are refused by an error, those from 100 on by
-# clang's warnings of dangling addresses. refused.sh COMPILER..: each argument is a compiler with its flags.
+# clang's warnings of dangling addresses, which the program that is right has not. refused.sh COMPILER..: each argument is a
+# compiler with its flags.
 set -u
 cd "$(dirname "$0")/../.." || exit 1
 room=$(mktemp -d) || exit 1
@@ -18,9 +19,10 @@ precompiled() {
 # One program by one compiler: a line in refused, failed or neither.
 compile() {
     local compiler=$1 case=$2 flags=-Werror=unused-result got
-    if ((case >= 100 && case != 110)); then
-        if [[ $compiler != clang* ]]; then return; fi
+    if ((case == 0 || (case >= 100 && case != 110))) && [[ $compiler == clang* ]]; then
         flags="-Werror=dangling -Werror=dangling-gsl -Werror=return-stack-address"
+    elif ((case >= 100 && case != 110)); then
+        return
     fi
     # shellcheck disable=SC2086
     $compiler $flags $read -Iinclude -DCASE="$case" -fsyntax-only bindings/cpp/refused.cpp 2> "$room/said.$BASHPID" && got=0 || got=1

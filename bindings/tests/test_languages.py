@@ -76,6 +76,12 @@ def test_rust(of, noted, room):
     assert bash(CARGO.format("run"), TOP / "examples/rust") == read("examples/primes.txt")
 
 
+def test_slices_of_empty_values_in_rust(room):
+    """With the assertions of std, which looks at the pointers of slices."""
+    needs("cargo")
+    bash(f"CARGO_PROFILE_RELEASE_DEBUG_ASSERTIONS=true {CARGO.format('test')} --test empties", RUST)
+
+
 def test_declarations_of_rust():
     needs("bindgen")
     bash("./declarations --check", RUST)
