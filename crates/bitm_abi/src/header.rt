@@ -1,6 +1,6 @@
 //! The header of a file with an index or a sequence: which lengths it can have, and how it is read.
 ghost use Rattle.std.specs.Prelude.{◌≡◌, ◌+◌, ◌*◌, ◌<◌, ◌≤◌, ◌↔◌, ◌⊎◌, IfSome, IsTrue, SomeIff, length};
-ghost use Rattle.bitm_abi.specs.Stored.{header_in, span_in, HasSampleLens, IsBounded, IsHeaded, IsStored};
+ghost use Rattle.bitm_abi.specs.Stored.{header_in, span_in, HasSampleLens, IsBounded, IsHeaded};
 ghost use Rattle.bitm_abi.specs.Stored.{IsIndex, IsIndexOf, IsLaidOut, IsSequence, IsSequenceOf, LiesWithin};
 
 use crate::layout::{Span, Stored};
@@ -116,7 +116,6 @@ pub fn header_at(file: &[u64]) -> Stored
 #[inline(always)]
 pub fn header_of(file: &[u64]) -> Option<Stored>
     ensures header { SomeIff result (IsHeaded file.now) (header_in file.now) }
-    ensures stored { IfSome result IsStored }
     ensures inside { IfSome result (λ h. LiesWithin h (8 * length file.now)) }
 {
     if file.len() < HEADER_WORDS {
