@@ -7,6 +7,7 @@ _bitm() {
         build) offered="bits sparse sequence matrix tree" ;;
         text) offered="build count locate lines --help" ;;
         strings) offered="build find --help" ;;
+        "text count" | "text locate" | "text lines") offered="-f --no-check" ;;
         query | check | info | "strings find" | "text count "* | "text locate "* | "text lines "*)
             mapfile -t COMPREPLY < <(compgen -f -- "$word")
             compopt -o filenames 2> /dev/null || :

@@ -21,9 +21,9 @@ def plain(command):
 
 COMMANDS = [plain(it) for it in SHOWN]
 TOPICS = ["build", "query", "check", "info", "text", "strings"]
-# The words of an example, and what it writes: of every seventh number below 1000, of the book and of the names below.
+# The words of an example, and what it writes: of every seventh number below 1000, of the book, words and names below.
 BOOK = "A whale is no fish.\nThe sea is wide.\nOne whale, two whales.\n"
-NAMES = "ada\nbob\neve\n"
+WORDS, NAMES = "sea\nwhale\n", "ada\nbob\neve\n"
 SAYS = {
     "seq 0 7 1000 | bitm build bits > sevens.block": "",
     "echo 'rank 100' | bitm query sevens.block": "15\n",
@@ -31,8 +31,11 @@ SAYS = {
     "bitm info sevens.block": r"kind bits\nlen 995\nwidth 0\nbytes \d+\nbits_per_item \d+\.\d\d\n",
     "bitm text build < book.txt > book.block": "",
     "bitm text count whale book.block": "3\n",
+    "bitm text count -f words.txt book.block": "1\n3\n",
     "bitm text locate whale book.block": "2\n41\n52\n",
+    "bitm text locate -f words.txt book.block": "2\n24\n41\n52\n",
     "bitm text lines whale book.block": "1\n3\n",
+    "bitm text lines -f words.txt book.block": "1\n2\n3\n",
     "bitm strings build < names.txt > names.block": "",
     "echo ada | bitm strings find names.block": "1\n",
     "bitm query --help": r"bitm query BLOCK(?s:.*)",
@@ -59,6 +62,7 @@ def folder():
     made = room() / "helped"
     made.mkdir(exist_ok=True)
     (made / "book.txt").write_text(BOOK)
+    (made / "words.txt").write_text(WORDS)
     (made / "names.txt").write_text(NAMES)
     (made / "bitm").symlink_to(PROGRAM)
     return made

@@ -19,10 +19,16 @@ const ALL: &str = "bitm builds files of numbers, texts and strings, and answers 
     bitm text build < book.txt > book.block
   bitm text count PATTERN BLOCK              at how many positions the pattern stands in the text
     bitm text count whale book.block
+  bitm text count -f FILE BLOCK              the same of each pattern of a file, one a line
+    bitm text count -f words.txt book.block
   bitm text locate PATTERN BLOCK             these positions, counted from 0
     bitm text locate whale book.block
+  bitm text locate -f FILE BLOCK             the positions of any pattern of a file
+    bitm text locate -f words.txt book.block
   bitm text lines PATTERN BLOCK              the lines that have the pattern, counted from 1
     bitm text lines whale book.block
+  bitm text lines -f FILE BLOCK              the lines that have any pattern of a file
+    bitm text lines -f words.txt book.block
   bitm strings build < LINES > BLOCK         a number for each line
     bitm strings build < names.txt > names.block
   bitm strings find BLOCK < LINES            the numbers of lines
@@ -34,8 +40,8 @@ const ALL: &str = "bitm builds files of numbers, texts and strings, and answers 
   bitm --version                             the version
     bitm --version
 
-The status is 0 where all went well, 1 where a line is a bad question or a block is wrong, and 2 where there is no
-answer; then standard error says why.";
+The status is 0 where all went well, 1 where a line is a bad question, a block is wrong, or no pattern is found, and 2
+where there is no answer; then standard error says why.";
 
 /// What is said of `build`.
 const BUILD: &str = "bitm build KIND < NUMBERS > BLOCK
@@ -85,16 +91,21 @@ many bits that is for an item. The whole block is checked first.
 /// What is said of the commands after `text`.
 const TEXT: &str = "bitm text build < TEXT > BLOCK
 bitm text count PATTERN BLOCK
+bitm text count -f FILE BLOCK
 bitm text locate PATTERN BLOCK
+bitm text locate -f FILE BLOCK
 bitm text lines PATTERN BLOCK
+bitm text lines -f FILE BLOCK
 
 build writes the index of a text, by which the others answer without the text: at how many positions the bytes of
-PATTERN stand, at which, counted from 0, and in which lines, counted from 1. Matches may overlap.
+PATTERN stand, at which, counted from 0, and in which lines, counted from 1. Matches may overlap. Of the patterns of
+FILE, one a line, count answers one after another, and locate and lines together; FILE may be - for the standard input.
+The status is 1 where no pattern is found. --no-check before the pattern or -f leaves out the checksums of the block.
 
   bitm text build < book.txt > book.block
   bitm text count whale book.block
   bitm text locate whale book.block
-  bitm text lines whale book.block";
+  bitm text lines -f words.txt book.block";
 
 /// What is said of the commands after `strings`.
 const STRINGS: &str = "bitm strings build < LINES > BLOCK

@@ -1,4 +1,5 @@
 pub mod FileLemmas
 pub mod LineLemmas
 pub mod NumberingLemmas
+pub mod PatternLemmas
 pub mod ProgramLemmas

@@ -1,54 +1,61 @@
-//! What the text of a file answers of a pattern: how often it stands there, where, and in which lines.
-ghost use Rattle.std.specs.Prelude.{◌≡◌, IsErrOf, List, OnOk, ℕ};
+//! What the text of a file answers of patterns: how often they stand there, where, and in which lines.
+ghost use Rattle.bitm_block.specs.Header.{IsBlock, IsVerified};
+ghost use Rattle.std.specs.Prelude.{◌≡◌, ◌↔◌, IfOk, IsErrOf, IsTrue, List, OnOk, SomeIff, ℕ};
 ghost use Rattle.std.specs.Io.KnownBytes.{Appends};
 ghost use Rattle.std.specs.List.{flat_map};
-ghost use Rattle.program_texts.specs.Answers.{line_of, Wrote, WroteCount, WroteLines, WroteOfFile, WrotePositions};
-ghost use Rattle.program_texts.specs.File.{IsTextFile};
-ghost use Rattle.text_block.specs.Block.{HoldsIndex};
+ghost use Rattle.program_texts.specs.Answers.{is_found, line_of, AreAnswers, AreWithin};
+ghost use Rattle.program_texts.specs.Answers.{WroteCounts, WroteLines, WroteOfFile, WrotePositions};
+ghost use Rattle.program_texts.specs.File.{IsOpened, IsTextFile};
+ghost use Rattle.program_texts.specs.Lines.{bytes_in};
+ghost use Rattle.text_block.specs.Block.{parts_in, HoldsIndex};
 ghost use Rattle.text_block.specs.Bytes.{bytes_of_parts};
-ghost use Rattle.text_index.specs.Text.{occurrences};
 
 use crate::command::Asked;
 use crate::failure::Failure;
 use crate::numbering::lines_with;
-use crate::places::{count_in, positions};
+use crate::places::{counts, places};
+use bitm_block::Block;
 use program_blocks::words_of_bytes;
 use program_runs::CannotWrite;
 use std::alloc::Global;
 use std::io::Write;
 use text_block::TextView;
 
-/// Writes at how many positions of the text in a file the pattern stands, as a line. An empty pattern stands at each
-/// position, the end too.
+/// Writes at how many positions of the text in a file each of the patterns stands, each number as a line, and answers
+/// whether one of them stands somewhere. An empty pattern stands at each position, the end too.
 ///
-/// `file` are the bytes that `build` wrote. The whole file is checked first, so that the answer is that of the text.
+/// `file` are the bytes that `build` wrote; `sums` says whether its checksums are looked at. Over the index of a text
+/// the answer is that of the text. Any other file that is as long as such a block, as one that was changed, is answered
+/// within what there is: a count is at most one more than the letters, and a position at most their number.
 ///
 /// # Errors
-/// `WrongBlock` only where the bytes are not those of a text's index, or not as they were written, and nothing is
-/// written then; `NoMemory` where memory was refused; `CannotWrite` where a write failed.
+/// `WrongBlock` only where the bytes are not those of a text's index, or not as they were written, and exactly then
+/// where the checksums are looked at and are wrong; nothing is written then. `NoMemory` where memory was refused;
+/// `CannotWrite` where a write failed.
 /// # Cost
-/// That of `TextView::open_checked`, a few passes over the file and a walk through the text; then two ranks for each
-/// byte of the pattern (evident from the code).
+/// A copy of the file, with `sums` a pass over it, and two ranks for each byte of a pattern and each bit of a letter
+/// (evident from the code).
 ///
 /// ```
-/// count(alloc, file, b"ana", &mut out);   // Ok(()): out has "2\n", where the text is banana
+/// count(alloc, file, &[b"ana"], true, &mut out);   // Ok(true): out has "2\n", where the text is banana
 /// ```
 pub fn count<W: Write>(
     alloc: Global,
     file: &[u8],
-    pattern: &[u8],
+    patterns: &[&[u8]],
+    sums: bool,
     out: &mut W,
-) -> Result<(), Failure>
-    ensures written { OnOk result (WroteCount file.now pattern.now
+) -> Result<bool, Failure>
+    ensures written { IfOk result (WroteCounts sums file.now (bytes_in patterns.now)
         (W.contents out.old) (W.contents out.new)) }
     ensures wrong { IsErrOf result Failure.WrongBlock → (text : List ℕ) → ¬ (IsTextFile file.now text) }
     ensures nothing { IsErrOf result Failure.WrongBlock → out.new ≡ out.old }
 {
-    answer(alloc, Asked::Count, file, pattern, out)
+    answer(alloc, Asked::Count, file, patterns, sums, out)
 }
 
-/// Writes the positions of the text in a file at which the pattern stands, in their order, each as a line. An empty
-/// pattern stands at each position, the end too.
+/// Writes the positions of the text in a file at which one of the patterns stands, each once and in their order, each
+/// as a line, and answers whether there are some. An empty pattern stands at each position, the end too.
 ///
 /// # Errors
 /// Those of `count`.
@@ -57,58 +64,61 @@ pub fn count<W: Write>(
 /// (evident from the code).
 ///
 /// ```
-/// locate(alloc, file, b"ana", &mut out);   // Ok(()): out has "1\n3\n", where the text is banana
+/// locate(alloc, file, &[b"ana"], true, &mut out);   // Ok(true): out has "1\n3\n", where the text is banana
 /// ```
 pub fn locate<W: Write>(
     alloc: Global,
     file: &[u8],
-    pattern: &[u8],
+    patterns: &[&[u8]],
+    sums: bool,
     out: &mut W,
-) -> Result<(), Failure>
-    ensures written { OnOk result (WrotePositions file.now pattern.now
+) -> Result<bool, Failure>
+    ensures written { IfOk result (WrotePositions sums file.now (bytes_in patterns.now)
         (W.contents out.old) (W.contents out.new)) }
     ensures wrong { IsErrOf result Failure.WrongBlock → (text : List ℕ) → ¬ (IsTextFile file.now text) }
     ensures nothing { IsErrOf result Failure.WrongBlock → out.new ≡ out.old }
 {
-    answer(alloc, Asked::Locate, file, pattern, out)
+    answer(alloc, Asked::Locate, file, patterns, sums, out)
 }
 
-/// Writes the numbers of the lines of the text in a file that have the pattern, the first line being 1, each once and
-/// in their order, each as a line. A line has the pattern where it begins in the line, or at the line feed that ends
-/// it; it may go on after that. An empty pattern stands in each line.
+/// Writes the numbers of the lines of the text in a file that have one of the patterns, the first line being 1, each
+/// once and in their order, each as a line, and answers whether there are some. A line has the pattern where it begins
+/// in the line, or at the line feed that ends it; it may go on after that. An empty pattern stands in each line.
 ///
 /// # Errors
 /// Those of `count`.
 /// # Cost
-/// That of `locate` of the pattern, and that of `locate` of a line feed; for each position of the pattern a search
+/// That of `locate` of the patterns, and that of `locate` of a line feed; for each position of the patterns a search
 /// among the line feeds (evident from the code).
 ///
 /// ```
-/// lines(alloc, file, b"ana", &mut out);   // Ok(()): out has "1\n3\n", where the lines are banana, fig, ananas
+/// lines(alloc, file, &[b"ana"], true, &mut out);   // Ok(true): "1\n3\n", where the lines are banana, fig, ananas
 /// ```
 pub fn lines<W: Write>(
     alloc: Global,
     file: &[u8],
-    pattern: &[u8],
+    patterns: &[&[u8]],
+    sums: bool,
     out: &mut W,
-) -> Result<(), Failure>
-    ensures written { OnOk result (WroteLines file.now pattern.now
+) -> Result<bool, Failure>
+    ensures written { IfOk result (WroteLines sums file.now (bytes_in patterns.now)
         (W.contents out.old) (W.contents out.new)) }
     ensures wrong { IsErrOf result Failure.WrongBlock → (text : List ℕ) → ¬ (IsTextFile file.now text) }
     ensures nothing { IsErrOf result Failure.WrongBlock → out.new ≡ out.old }
 {
-    answer(alloc, Asked::Lines, file, pattern, out)
+    answer(alloc, Asked::Lines, file, patterns, sums, out)
 }
 
-/// Writes what is to be said of a pattern in the text of a file.
+/// Writes what is to be said of patterns in the text of a file, and answers whether one of them was found.
 pub(crate) fn answer<W: Write>(
     alloc: Global,
     asked: Asked,
     file: &[u8],
-    pattern: &[u8],
+    patterns: &[&[u8]],
+    sums: bool,
     out: &mut W,
-) -> Result<(), Failure>
-    ensures written { OnOk result (WroteOfFile asked file.now pattern.now
+) -> Result<bool, Failure>
+    ensures written { IfOk result (WroteOfFile asked sums file.now (bytes_in patterns.now)
         (W.contents out.old) (W.contents out.new)) }
     ensures wrong { IsErrOf result Failure.WrongBlock → (text : List ℕ) → ¬ (IsTextFile file.now text) }
     ensures nothing { IsErrOf result Failure.WrongBlock → out.new ≡ out.old }
@@ -116,51 +126,66 @@ pub(crate) fn answer<W: Write>(
     let Some(words) = words_of_bytes(alloc, file)? else {
         return Err(Failure::WrongBlock);
     };
-    let Some(text) = TextView::open_checked(words.as_slice()) else {
+    let Some(text) = opened(words.as_slice(), sums) else {
         return Err(Failure::WrongBlock);
     };
-    answer_by(alloc, asked, &text, pattern, out)
+    let numbers = match answers(alloc, asked, &text, patterns) {
+        Ok(numbers) => numbers,
+        Err(failure) => return Err(failure),
+    };
+    write_lines(numbers.as_slice(), out)?;
+    Ok(is_found(asked, numbers.as_slice()))
 }
 
-/// Writes what is to be said of a pattern in a text.
-fn answer_by<W: Write>(
-    alloc: Global,
-    asked: Asked,
-    text: &TextView<'_>,
-    pattern: &[u8],
-    out: &mut W,
-) -> Result<(), Failure>
-    requires { HoldsIndex text.now }
-    ensures written { OnOk result (Wrote asked (bytes_of_parts text.now) pattern.now
-        (W.contents out.old) (W.contents out.new)) }
-    ensures wrong { ¬ (IsErrOf result Failure.WrongBlock) }
+/// The index in a block, of which header and directory are looked at, and its sums where these are wanted.
+fn opened(words: &[u64], sums: bool) -> Option<TextView<'_>>
+    ensures { SomeIff result (IsOpened sums words.now) (parts_in words.now) }
 {
-    match asked {
-        Asked::Count => Ok(write_count(text, pattern, out)?),
-        Asked::Locate => {
-            let found = positions(alloc, text, pattern)?;
-            Ok(write_lines(found.as_slice(), out)?)
-        }
-        Asked::Lines => {
-            let found = lines_with(alloc, text, pattern)?;
-            Ok(write_lines(found.as_slice(), out)?)
-        }
+    let view = TextView::open(words)?;
+    if sums && !is_verified(words) {
+        return None;
+    }
+    Some(view)
+}
+
+/// Whether the sections of a block are as they were written.
+fn is_verified(words: &[u64]) -> bool
+    ensures { IsTrue result ↔ (IsBlock words.now × IsVerified words.now) }
+{
+    match Block::open(words) {
+        Ok(block) => block.verify(),
+        Err(_) => false,
     }
 }
 
-/// Writes at how many positions of the text the pattern stands, as a line.
-fn write_count<W: Write>(
+/// What is to be said of patterns in a text.
+fn answers(
+    alloc: Global,
+    asked: Asked,
     text: &TextView<'_>,
-    pattern: &[u8],
-    out: &mut W,
-) -> Result<(), CannotWrite>
-    requires { HoldsIndex text.now }
-    ensures { OnOk result (Appends (W.contents out.old) (W.contents out.new)
-        (line_of (occurrences (bytes_of_parts text.now) pattern.now))) }
+    patterns: &[&[u8]],
+) -> Result<Vec<usize>, Failure>
+    ensures answer { HoldsIndex text.now → IfOk result (λ numbers.
+        AreAnswers asked (bytes_of_parts text.now) (bytes_in patterns.now) numbers.items) }
+    ensures within { IfOk result (λ numbers.
+        AreWithin asked text.now.tables.letters.len (bytes_in patterns.now) numbers.items) }
+    ensures wrong { HoldsIndex text.now → ¬ (IsErrOf result Failure.WrongBlock) }
 {
-    let count = count_in(text, pattern);
-    writeln!(out, "{count}")?;
-    Ok(())
+    match asked {
+        Asked::Count => counts(alloc, text, patterns),
+        Asked::Locate => places(alloc, text, patterns),
+        Asked::Lines => lines_with(alloc, text, patterns),
+    }
+}
+
+/// Whether these numbers say that a pattern was found.
+fn is_found(asked: Asked, numbers: &[usize]) -> bool
+    ensures { result ≡ is_found asked numbers.now }
+{
+    match asked {
+        Asked::Count => numbers.iter().any(|count| *count > 0),
+        _ => !numbers.is_empty(),
+    }
 }
 
 /// Writes numbers, each on a line.

@@ -2,18 +2,20 @@
 #![tactic(auto)]
 
 // What is in each file:
-// - `answering`: what the text of a file answers of a pattern
+// - `answering`: what the text of a file answers of patterns
 // - `building`: the file of a text
 // - `command`: the command that the arguments are
 // - `failure`: why there is no answer
-// - `numbering`: the lines of a text that have a pattern
-// - `places`: at how many positions a pattern stands in a text, and at which
+// - `numbering`: the lines of a text that have one of some patterns
+// - `patterns`: the patterns of a list, one a line
+// - `places`: at how many positions of a text patterns stand, and at which
 // - `program`: the program without its process
 mod answering;
 mod building;
 mod command;
 mod failure;
 mod numbering;
+mod patterns;
 mod places;
 mod program;
 

@@ -1,26 +1,30 @@
-//! The lines of a text that have a pattern.
-ghost use Rattle.std.specs.Prelude.{◌≡◌, ◌<◌, ◌^◌, IfOk, length};
-ghost use Rattle.std.specs.List.Sorted.{IsNonDecreasing};
-ghost use Rattle.program_texts.specs.Lines.{line_among, AreLinesOf, LinesWith};
+//! The lines of a text that have one of some patterns.
+ghost use Rattle.std.specs.Prelude.{◌≡◌, ◌<◌, ◌^◌, All, IfOk, IsErrOf, length};
+ghost use Rattle.std.specs.List.Sorted.{IsNonDecreasing, IsStrictlyIncreasing};
+ghost use Rattle.program_texts.specs.Lines.{bytes_in, line_among, AreLinesOf, LinesWith};
 ghost use Rattle.text_block.specs.Block.{HoldsIndex};
 ghost use Rattle.text_block.specs.Bytes.{bytes_of_parts};
 
-use crate::places::positions;
+use crate::failure::Failure;
+use crate::places::{places, positions};
 use std::alloc::{AllocError, Global};
 use text_block::TextView;
 
-/// The numbers of the lines of the text that have the pattern, each once and in their order.
+/// The numbers of the lines of the text that have one of the patterns, each once and in their order.
 pub(crate) fn lines_with(
     alloc: Global,
     text: &TextView<'_>,
-    pattern: &[u8],
-) -> Result<Vec<usize>, AllocError>
-    requires { HoldsIndex text.now }
-    ensures { IfOk result (λ lines. LinesWith pattern.now (bytes_of_parts text.now) lines.items) }
+    patterns: &[&[u8]],
+) -> Result<Vec<usize>, Failure>
+    ensures answer { HoldsIndex text.now → IfOk result (λ lines.
+        LinesWith (bytes_in patterns.now) (bytes_of_parts text.now) lines.items) }
+    ensures within { IfOk result (λ lines. All (λ line. 0 < line) lines.items) }
+    ensures rising { IfOk result (λ lines. IsStrictlyIncreasing lines.items) }
+    ensures wrong { HoldsIndex text.now → ¬ (IsErrOf result Failure.WrongBlock) }
 {
+    let places = places(alloc, text, patterns)?;
     let ends = positions(alloc, text, b"\n".as_slice())?;
-    let places = positions(alloc, text, pattern)?;
-    lines_of(alloc, places.as_slice(), ends.as_slice(), text.len())
+    Ok(lines_of(alloc, places.as_slice(), ends.as_slice(), text.len())?)
 }
 
 /// The numbers of the lines in which these positions are, less those from `len` on, where the lines end at `ends`;

@@ -1,24 +1,31 @@
-//! The program without its process: its arguments, the file and the input that it reads, and the statuses and texts.
-ghost use Rattle.std.specs.Prelude.{◌≡◌, ◌⊎◌, IfOk, IsErr, None, OnOk, map, string_bytes, true};
+//! The program without its process: its arguments, the files and the input that it reads, and the statuses and texts.
+ghost use Rattle.std.specs.Prelude.{◌≡◌, ◌≤◌, IfOk, IsErr, None, map, nat_eq, string_bytes};
+ghost use Rattle.program_texts.specs.Answers.{WroteOfFile};
 ghost use Rattle.program_texts.specs.Command.{command_in};
-ghost use Rattle.program_texts.specs.Program.{Did, DidAsAsked};
+ghost use Rattle.program_texts.specs.Program.{Did, DidAsAsked, WroteOfList};
+ghost use Rattle.program_runs.specs.Known.{IsKnownAs};
+ghost use Rattle.program_texts.specs.Program.{known_list};
 
 use crate::answering::answer;
 use crate::building::build;
-use crate::command::{Asked, Command, command_in};
+use crate::command::{Asked, Command, Given, Options, command_in};
 use crate::failure::Failure;
-use program_runs::{Sources, Stop, end};
+use crate::patterns::listed;
+use program_runs::{CannotRead, Sources, Stop, end};
 use std::io::Write;
 
 /// What is written where the arguments are not those of a command.
 const USAGE: &str = "usage: bitm text build | bitm text count PATTERN BLOCK | \
-    bitm text locate PATTERN BLOCK | bitm text lines PATTERN BLOCK";
+    bitm text locate PATTERN BLOCK | bitm text lines PATTERN BLOCK
+before PATTERN may stand --no-check; -f FILE instead of PATTERN takes the lines of a file as patterns";
 
 /// Does what the arguments after `text` say, and answers the status that the program ends with: 0 where that was done,
-/// on the file that is named, and then nothing was written to `err`.
+/// on the file that is named, and 1 where it was done and no pattern was found; then nothing was written to `err`.
 ///
 /// `build` reads the text from the standard input; `count PATTERN BLOCK`, `locate PATTERN BLOCK` and
-/// `lines PATTERN BLOCK` read the file alone. The pattern's bytes are those of the argument.
+/// `lines PATTERN BLOCK` read the file alone. The pattern's bytes are those of the argument. With `-f FILE` in place of
+/// the pattern the lines of that file are patterns, and those of the standard input with `-f -`. With `--no-check`
+/// before them the checksums of the file are not looked at.
 ///
 /// # Errors
 /// The status is 2, and a text goes to `err`, where the arguments are no command, where something can't be read, where
@@ -29,76 +36,117 @@ pub fn start<R: Sources + AllocGlobal, W: Write, E: Write>(
     out: &mut W,
     err: &mut E,
 ) -> u8
-    ensures status { (result ≡ 0) ⊎ (result ≡ 2) }
+    ensures status { result ≤ 2 }
     ensures unknown { command_in (map string_bytes args.now) ≡ None
         → (result ≡ 2) × (W.contents out.new ≡ W.contents out.old) }
-    ensures did { result ≡ 0 → DidAsAsked (R.known rt.now) (map string_bytes args.now)
-        (W.contents out.old) (W.contents out.new) }
-    ensures quiet { result ≡ 0 → E.contents err.new ≡ E.contents err.old }
+    ensures did { result ≤ 1 → DidAsAsked (R.known rt.now) (map string_bytes args.now)
+        (W.contents out.old) (W.contents out.new) (nat_eq result 0) }
+    ensures quiet { result ≤ 1 → E.contents err.new ≡ E.contents err.old }
 {
     end(run(rt, args, out), out, err)
 }
 
-/// Does what the arguments say, and answers that all went well.
+/// Does what the arguments say, and answers whether something was found.
 fn run<R: Sources + AllocGlobal, W: Write>(
     rt: &R,
     args: &[String],
     out: &mut W,
 ) -> Result<bool, Stop<Failure>>
     ensures unknown { command_in (map string_bytes args.now) ≡ None → IsErr result × (out.new ≡ out.old) }
-    ensures good { IfOk result (λ good. good ≡ true) }
-    ensures did { IfOk result (λ _. DidAsAsked (R.known rt.now) (map string_bytes args.now)
+    ensures did { IfOk result (DidAsAsked (R.known rt.now) (map string_bytes args.now)
         (W.contents out.old) (W.contents out.new)) }
 {
-    let Some((command, pattern, path)) = command_in(args) else {
+    let Some((command, operand, path)) = command_in(args) else {
         return Err(Stop::Usage(USAGE));
     };
-    perform(rt, command, pattern, path, out)?;
-    Ok(true)
+    perform(rt, command, operand, path, out)
 }
 
-/// Does a command with its pattern and its file.
+/// Does a command with its operand and its file.
 fn perform<R: Sources + AllocGlobal, W: Write>(
     rt: &R,
     command: Command,
-    pattern: &str,
+    operand: &str,
     path: &str,
     out: &mut W,
-) -> Result<(), Stop<Failure>>
-    ensures { OnOk result (Did (R.known rt.now) command pattern.now path.now
+) -> Result<bool, Stop<Failure>>
+    ensures { IfOk result (Did (R.known rt.now) command operand.now path.now
         (W.contents out.old) (W.contents out.new)) }
 {
     match command {
-        Command::Build => build_input(rt, pattern, path, out),
-        Command::Ask(asked) => answer_file(rt, asked, pattern, path, out),
+        Command::Build => build_input(rt, operand, path, out),
+        Command::Ask(asked, options) => answer_file(rt, asked, options, operand, path, out),
     }
 }
 
 /// Writes the file of the text in the standard input.
 fn build_input<R: Sources + AllocGlobal, W: Write>(
     rt: &R,
-    _pattern: &str,
+    _operand: &str,
     _path: &str,
     out: &mut W,
-) -> Result<(), Stop<Failure>>
-    ensures { OnOk result (Did (R.known rt.now) Command.Build _pattern.now _path.now
+) -> Result<bool, Stop<Failure>>
+    ensures { IfOk result (Did (R.known rt.now) Command.Build _operand.now _path.now
         (W.contents out.old) (W.contents out.new)) }
 {
     let text = rt.input()?;
-    Ok(build(rt.alloc(), text.as_slice(), out)?)
+    build(rt.alloc(), text.as_slice(), out)?;
+    Ok(true)
 }
 
-/// Writes what is to be said of the pattern in a file's text.
+/// Writes what is to be said of patterns in a file's text.
 fn answer_file<R: Sources + AllocGlobal, W: Write>(
     rt: &R,
     asked: Asked,
-    pattern: &str,
+    options: Options,
+    operand: &str,
     path: &str,
     out: &mut W,
-) -> Result<(), Stop<Failure>>
-    ensures { OnOk result (Did (R.known rt.now) (Command.Ask asked) pattern.now path.now
+) -> Result<bool, Stop<Failure>>
+    ensures { IfOk result (Did (R.known rt.now) (Command.Ask asked options) operand.now path.now
         (W.contents out.old) (W.contents out.new)) }
 {
     let file = rt.file(path)?;
-    Ok(answer(rt.alloc(), asked, file.as_slice(), pattern.as_bytes(), out)?)
+    match options.given {
+        Given::Word => Ok(answer(
+            rt.alloc(),
+            asked,
+            file.as_slice(),
+            &[operand.as_bytes()],
+            options.sums,
+            out,
+        )?),
+        Given::Listed => answer_list(rt, asked, options.sums, file.as_slice(), operand, out),
+    }
+}
+
+/// The bytes of a list of patterns.
+fn list_at<R: Sources>(rt: &R, path: &str) -> Result<Vec<u8>, CannotRead>
+    ensures { IfOk result (λ list. IsKnownAs (known_list (R.known rt.now) path.now) list.items) }
+{
+    if path == "-" {
+        rt.input()
+    } else {
+        rt.file(path)
+    }
+}
+
+/// Writes what is to be said of the patterns of a list in a file's text.
+fn answer_list<R: Sources + AllocGlobal, W: Write>(
+    rt: &R,
+    asked: Asked,
+    sums: bool,
+    file: &[u8],
+    path: &str,
+    out: &mut W,
+) -> Result<bool, Stop<Failure>>
+    ensures { IfOk result (WroteOfList (R.known rt.now) asked sums file.now path.now
+        (W.contents out.old) (W.contents out.new)) }
+{
+    let list = list_at(rt, path)?;
+    let patterns = match listed(rt.alloc(), list.as_slice()) {
+        Ok(patterns) => patterns,
+        Err(_) => return Err(Stop::Failed(Failure::NoMemory)),
+    };
+    Ok(answer(rt.alloc(), asked, file, patterns.as_slice(), sums, out)?)
 }

@@ -13,8 +13,15 @@ fn expect_lines(
     let file = built(rt, text)?;
     for (pattern, numbers) in rows {
         let mut out = Vec::new(rt.alloc());
-        lines(rt.alloc(), file.as_slice(), pattern.as_bytes(), &mut out)?;
+        let found = lines(
+            rt.alloc(),
+            file.as_slice(),
+            &[pattern.as_bytes()],
+            true,
+            &mut out,
+        )?;
         assert!(rt; out.as_slice() == numbers.as_bytes(), "at {pattern:?}");
+        assert!(rt; found == !numbers.is_empty());
     }
     Ok(())
 }

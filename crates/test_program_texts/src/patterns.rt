@@ -10,18 +10,20 @@ pub(crate) fn built(rt: &(impl Abort + AllocGlobal), text: &[u8]) -> Result<Vec<
     Ok(out)
 }
 
-/// Compares at how many positions of a file's text a pattern stands, and at which.
+/// Compares at how many positions of a file's text a pattern stands, and at which, with and without a look at its sums.
 fn expect_found(
     rt: &(impl Abort + AllocGlobal),
     file: &[u8],
     (pattern, times, positions): (&[u8], &str, &str),
 ) -> Result<(), Fail> {
-    let mut out = Vec::new(rt.alloc());
-    count(rt.alloc(), file, pattern, &mut out)?;
-    assert!(rt; out.as_slice() == times.as_bytes());
-    let mut out = Vec::new(rt.alloc());
-    locate(rt.alloc(), file, pattern, &mut out)?;
-    assert!(rt; out.as_slice() == positions.as_bytes());
+    for sums in [true, false] {
+        let mut out = Vec::new(rt.alloc());
+        let found = count(rt.alloc(), file, &[pattern], sums, &mut out)?;
+        assert!(rt; out.as_slice() == times.as_bytes() && found == (times != "0\n"));
+        let mut out = Vec::new(rt.alloc());
+        let found = locate(rt.alloc(), file, &[pattern], sums, &mut out)?;
+        assert!(rt; out.as_slice() == positions.as_bytes() && found == !positions.is_empty());
+    }
     Ok(())
 }
 
@@ -113,9 +115,10 @@ fn positions_rise_in_a_text_of_one_letter(rt: HostRuntime) -> Result<(), Fail> {
 /// Whether all calls say that these bytes are no file of a text, and write nothing.
 fn is_refused(rt: &impl AllocGlobal, file: &[u8]) -> bool {
     let mut out = Vec::new(rt.alloc());
-    count(rt.alloc(), file, b"a".as_slice(), &mut out) == Err(Failure::WrongBlock)
-        && locate(rt.alloc(), file, b"a".as_slice(), &mut out) == Err(Failure::WrongBlock)
-        && lines(rt.alloc(), file, b"a".as_slice(), &mut out) == Err(Failure::WrongBlock)
+    let pattern = [b"a".as_slice()];
+    count(rt.alloc(), file, &pattern, true, &mut out) == Err(Failure::WrongBlock)
+        && locate(rt.alloc(), file, &pattern, true, &mut out) == Err(Failure::WrongBlock)
+        && lines(rt.alloc(), file, &pattern, true, &mut out) == Err(Failure::WrongBlock)
         && out.is_empty()
 }
 
@@ -137,5 +140,53 @@ fn other_bytes_are_a_wrong_block(rt: HostRuntime) -> Result<(), Fail> {
     for len in [0, 1, 8, 512, 1000] {
         assert!(rt; is_refused(&rt, file.as_slice().get(..len).unwrap_or(&[])));
     }
+    Ok(())
+}
+
+#[test]
+fn a_changed_block_is_answered_where_its_sums_are_not_looked_at(
+    rt: HostRuntime,
+) -> Result<(), Fail> {
+    let mut file = built(&rt, b"mississippi".as_slice())?;
+    let last = file.len() - 1;
+    flip(file.as_mut_slice(), last);
+    let mut out = Vec::new(rt.alloc());
+    let pattern = [b"ss".as_slice()];
+    assert!(rt;
+        count(rt.alloc(), file.as_slice(), &pattern, true, &mut out) == Err(Failure::WrongBlock)
+    );
+    assert!(rt; count(rt.alloc(), file.as_slice(), &pattern, false, &mut out) == Ok(true));
+    assert!(rt; out.as_slice() == b"2\n".as_slice());
+    Ok(())
+}
+
+/// What is written of these patterns in banana.
+fn of_list(
+    rt: &impl AllocGlobal,
+    file: &[u8],
+    patterns: &[&[u8]],
+) -> Result<(Vec<u8>, Vec<u8>), Failure> {
+    let (mut counts, mut positions) = (Vec::new(rt.alloc()), Vec::new(rt.alloc()));
+    count(rt.alloc(), file, patterns, true, &mut counts)?;
+    locate(rt.alloc(), file, patterns, true, &mut positions)?;
+    Ok((counts, positions))
+}
+
+#[test]
+fn each_pattern_of_a_list_is_counted_and_a_position_is_named_once(
+    rt: HostRuntime,
+) -> Result<(), Fail> {
+    let file = built(&rt, b"banana".as_slice())?;
+    let list = [
+        b"na".as_slice(),
+        b"x".as_slice(),
+        b"n".as_slice(),
+        b"an".as_slice(),
+    ];
+    let (counts, positions) = of_list(&rt, file.as_slice(), &list)?;
+    assert!(rt; counts.as_slice() == b"2\n0\n2\n2\n".as_slice());
+    assert!(rt; positions.as_slice() == b"1\n2\n3\n4\n".as_slice());
+    let (counts, positions) = of_list(&rt, file.as_slice(), &[])?;
+    assert!(rt; counts.is_empty() && positions.is_empty());
     Ok(())
 }

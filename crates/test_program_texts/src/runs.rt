@@ -9,7 +9,8 @@ use test_writers::Failing;
 
 /// What is written where the arguments are no command.
 const USAGE: &str = "usage: bitm text build | bitm text count PATTERN BLOCK | \
-    bitm text locate PATTERN BLOCK | bitm text lines PATTERN BLOCK\n";
+    bitm text locate PATTERN BLOCK | bitm text lines PATTERN BLOCK
+before PATTERN may stand --no-check; -f FILE instead of PATTERN takes the lines of a file as patterns\n";
 
 /// Runs `start` with these arguments after `text`, and compares its status and what it writes.
 fn expect_start(
@@ -38,7 +39,8 @@ fn arguments_that_are_no_command_get_the_usage(rt: HostRuntime) -> Result<(), Fa
     expect_start(&rt, &["count", "a"], 2, "", USAGE)?;
     expect_start(&rt, &["find", "a", "b"], 2, "", USAGE)?;
     expect_start(&rt, &["build", "a"], 2, "", USAGE)?;
-    expect_start(&rt, &["locate", "a", "b", "c"], 2, "", USAGE)
+    expect_start(&rt, &["locate", "a", "b", "c"], 2, "", USAGE)?;
+    expect_start(&rt, &["locate", "-f", "--no-check", "b", "c"], 2, "", USAGE)
 }
 
 #[test]
@@ -49,13 +51,48 @@ fn a_run_answers_by_its_file(rt: HostRuntime) -> Result<(), Fail> {
     fs::write(&rt, path, file.as_slice())?;
     expect_start(&rt, &["count", "an", path], 0, "2\n", "")?;
     expect_start(&rt, &["locate", "an", path], 0, "1\n3\n", "")?;
-    expect_start(&rt, &["locate", "x", path], 0, "", "")?;
+    expect_start(&rt, &["locate", "x", path], 1, "", "")?;
+    expect_start(&rt, &["count", "x", path], 1, "0\n", "")?;
+    expect_start(&rt, &["lines", "x", path], 1, "", "")?;
     expect_start(&rt, &["lines", "an", path], 0, "1\n", "")?;
+    expect_start(&rt, &["count", "--no-check", "an", path], 0, "2\n", "")?;
+    expect_start(&rt, &["count", "-f", path], 1, "0\n", "")?;
     fs::write(&rt, path, b"banana".as_slice())?;
     let wrong = "bitm: not the index of a text, or not as it was written\n";
     expect_start(&rt, &["count", "an", path], 2, "", wrong)?;
     fs::remove_file(&rt, path)?;
     expect_start(&rt, &["count", "an", path], 2, "", "bitm: cannot read\n")
+}
+
+#[test]
+fn the_lines_of_a_list_are_patterns(rt: HostRuntime) -> Result<(), Fail> {
+    let (path, list) = ("bitm_listed.block", "bitm_listed.txt");
+    let mut file = Vec::new(rt.alloc());
+    build(rt.alloc(), b"banana\nfig\n".as_slice(), &mut file)?;
+    fs::write(&rt, path, file.as_slice())?;
+    fs::write(&rt, list, b"an\r\nx\n\nfig".as_slice())?;
+    expect_start(&rt, &["count", "-f", list, path], 0, "2\n0\n12\n1\n", "")?;
+    expect_start(&rt, &["lines", "-f", list, path], 0, "1\n2\n", "")?;
+    fs::write(&rt, list, b"fig\nan\n".as_slice())?;
+    let rows = "1\n3\n7\n";
+    expect_start(
+        &rt,
+        &["locate", "--no-check", "-f", list, path],
+        0,
+        rows,
+        "",
+    )?;
+    fs::write(&rt, list, b"x\ny\n".as_slice())?;
+    expect_start(&rt, &["count", "-f", list, path], 1, "0\n0\n", "")?;
+    fs::remove_file(&rt, list)?;
+    expect_start(
+        &rt,
+        &["lines", "-f", list, path],
+        2,
+        "",
+        "bitm: cannot read\n",
+    )?;
+    Ok(fs::remove_file(&rt, path)?)
 }
 
 #[test]
@@ -70,7 +107,7 @@ fn a_write_that_fails_is_told(rt: HostRuntime) -> Result<(), Fail> {
     );
     let pattern = b"an".as_slice();
     assert_eq!(rt;
-        count(rt.alloc(), file.as_slice(), pattern, &mut out),
+        count(rt.alloc(), file.as_slice(), &[pattern], true, &mut out),
         Err(Failure::CannotWrite)
     );
     Ok(())

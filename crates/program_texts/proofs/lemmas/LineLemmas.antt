@@ -1,22 +1,25 @@
--- The lines of a text by the places of its line feeds.
-use Rattle.std.proofs.Common.{◌≡◌, ℕ, zero, suc, ◌+◌, ◌<◌, ◌≤◌, ◌==◌, ◌&&◌, Bool, true, false, cond, List, [], ◌∷◌, All, length, take, drop, get_or, filter, count_by, refl, sym, ap, ◌∙◌, subst, arith, add-one, zero-add, eq-eqb, ⊎_elim, Result, Ok, Err, IfOk}
+-- The places of patterns, and the lines of a text by the places of its line feeds.
+use Rattle.std.proofs.Common.{◌≡◌, ℕ, zero, suc, ◌+◌, ◌<◌, ◌≤◌, ◌==◌, ◌&&◌, Bool, true, false, cond, List, [], ◌∷◌, ◌++◌, eqb, All, length, take, drop, get_or, filter, count_by, refl, sym, ap, ◌∙◌, subst, arith, add-one, zero-add, eq-eqb, ⊎_elim}
 use Rattle.std.proofs.lemmas.Bool.{cases_Bool, cases_lt, eqb-true, true≢false}
 use Rattle.std.proofs.lemmas.Bool.Decides.{nat_tests}
-use Rattle.std.proofs.lemmas.List.{ext_get_or, take_all}
-use Rattle.std.proofs.lemmas.List.Elements.{filter_passes}
+use Rattle.std.proofs.lemmas.List.{ext_get_or, map-append, take_all, take_more}
+use Rattle.std.proofs.lemmas.List.Elements.{filter_passes, All-append, All-nil, Contains-append_left, Contains-append_right, Contains-push, Contains-push_cases}
+use Rattle.std.proofs.lemmas.List.Filters.{All-dedup}
+use Rattle.std.proofs.lemmas.List.Kept.{Contains-dedup_nat}
 use Rattle.std.proofs.lemmas.List.FromFn.{get_or-range_with_len, length-range_with_len}
 use Rattle.std.proofs.lemmas.List.Sorted.{All-permutation, Contains-permutation, sum_by-IsPermutation}
 use Rattle.std.proofs.lemmas.List.Sums.{count_by_more_no, count_by_more_yes, length-filter, sum_by-cons}
-use Rattle.std.specs.List.{range_with_len, Contains}
-use Rattle.std.specs.List.Sorted.{IsPartitionPoint}
+use Rattle.std.specs.List.{dedup, range_with_len, Contains}
+use Rattle.std.specs.List.Sorted.{IsPartitionPoint, IsPermutation, IsStrictlyIncreasing}
 use Rattle.std.specs.Prelude.{nat_lt}
 use Rattle.matrix_levels.proofs.lemmas.FilterLemmas.{contains-filter}
 use Rattle.text_index.proofs.lemmas.CountLemmas.{count_range, count_same}
 use Rattle.text_index.proofs.lemmas.SearchLemmas.{begins_from, begins_to}
 use Rattle.text_index.proofs.lemmas.TotalLemmas.{range_more, suffixes-count}
 use Rattle.text_index.specs.Text.{begins_with, stands_at}
-use Rattle.program_texts.specs.Answers.{ArePositions}
-use Rattle.program_texts.specs.Lines.{line_among, line_at, AreLinesOf, LinesWith}
+use Rattle.program_texts.specs.Answers.{AreFound, ArePositions}
+use Rattle.program_texts.specs.Lines.{bytes_in, line_among, line_at, AreFoundOf, AreLinesOf, ArePlacesOf, LinesWith, StandsAt}
+use denote.Ref.{Bor}
 
 -- as many pass as there are before the point from which on none does
 pub count-point : (p : ℕ → Bool) (xs : List ℕ) (i : ℕ) → i ≤ length xs
@@ -110,73 +113,116 @@ feeds text (suc p) h =
 
 -- ---- all positions of a pattern
 
-module _ (text pattern places : List ℕ) (are : ArePositions text pattern places) where
-  -- the found ones are the positions in the order of the suffixes at which the pattern stands
-  found-are : are.found ≡ filter (stands_at text pattern) are.located.0
+module _ (text pattern found : List ℕ) (are : AreFound text pattern found) where
+  -- they are those in the order of the suffixes at which the pattern stands
+  pub found-are : found ≡ filter (stands_at text pattern) are.located.0
   found-are =
       let (order, suffixes, at) = are.located in
       let p = stands_at text pattern in
-      let long : length are.found ≡ length (filter p order) =
+      let long : length found ≡ length (filter p order) =
       are.all ∙ sym (suffixes-count text order suffixes p) ∙ sym (length-filter p order) in
-      ext_get_or 0 are.found (filter p order) long (λ i h. at i h ∙ ap (λ k. get_or (filter p order) k 0) (zero-add i))
+      ext_get_or 0 found (filter p order) long (λ i h. at i h ∙ ap (λ k. get_or (filter p order) k 0) (zero-add i))
 
   -- the pattern stands at each
-  stands-there : All (λ p. stands_at text pattern p ≡ true) places
-  stands-there =
+  found-stand : All (λ p. stands_at text pattern p ≡ true) found
+  found-stand =
       let P : ℕ → Type 0 = λ p. stands_at text pattern p ≡ true in
-      All-permutation P are.found places are.same
-      (subst (All P) (sym found-are) (filter_passes (stands_at text pattern) are.located.0))
+      subst (All P) (sym found-are) (filter_passes (stands_at text pattern) are.located.0)
 
   -- each at which it stands is one
-  place-there : (p : ℕ) → p ≤ length text → stands_at text pattern p ≡ true → Contains places p
-  place-there p inside stands =
+  found-there : (p : ℕ) → p ≤ length text → stands_at text pattern p ≡ true → Contains found p
+  found-there p inside stands =
       let (order, suffixes, at) = are.located in
       let (k, k_in, k_is) = suffixes.each p inside in
-      Contains-permutation are.found places p are.same
-      (subst (λ xs. Contains xs p) (sym found-are) (contains-filter (stands_at text pattern) order k p k_in k_is stands))
+      subst (λ xs. Contains xs p) (sym found-are) (contains-filter (stands_at text pattern) order k p k_in k_is stands)
 
-  -- those below a place are counted as all that are below it and at which the pattern stands
-  count-there : (p : ℕ) → p ≤ length text
-      → count_by (λ x. nat_lt x p) places ≡ count_by (stands_at text pattern) (range_with_len 0 p)
-  count-there p inside =
-      let (order, suffixes, at) = are.located in
-      let g = stands_at text pattern in
-      let q : ℕ → Bool = λ x. nat_lt x p in
-      sum_by-IsPermutation (λ x. cond (q x) 1 0) are.found places are.same
-      ∙ ap (count_by q) found-are
-      ∙ count-filtered g q order
-      ∙ suffixes-count text order suffixes (λ x. g x && q x)
-      ∙ cut g p (length text + 1) (omega arith)
+-- those below a place are counted as all that are below it and at which the pattern stands
+count-there : (text pattern places : List ℕ) (are : ArePositions text pattern places) (p : ℕ) → p ≤ length text
+    → count_by (λ x. nat_lt x p) places ≡ count_by (stands_at text pattern) (range_with_len 0 p)
+count-there text pattern places are p inside =
+    let (order, suffixes, at) = are.are.located in
+    let g = stands_at text pattern in
+    let q : ℕ → Bool = λ x. nat_lt x p in
+    sum_by-IsPermutation (λ x. cond (q x) 1 0) are.found places are.same
+    ∙ ap (count_by q) (found-are text pattern are.found are.are)
+    ∙ count-filtered g q order
+    ∙ suffixes-count text order suffixes (λ x. g x && q x)
+    ∙ cut g p (length text + 1) (omega arith)
+
+-- ---- all places of some patterns
+
+pub places-of-none : (text : List ℕ) → AreFoundOf [] text []
+places-of-none text = record {
+  each = All-nil (StandsAt [] text);
+  all = λ place has. let (k, inside, is) = has.one in absurd (omega (arith, inside));
+}
+
+pub places-of-more : (patterns : List (List ℕ)) (text found pattern more : List ℕ) (n : ℕ) → n ≡ length text → AreFoundOf patterns text found
+    → AreFound text pattern more → All (λ p. p ≤ n) more → AreFoundOf (patterns ++ pattern ∷ []) text (found ++ more)
+places-of-more patterns text found pattern more n long so_far are within = record {
+  each = All-append (StandsAt (patterns ++ pattern ∷ []) text) found more
+      (λ k d h. let old = so_far.each k d h in record {
+        pattern = old.pattern;
+        one = Contains-append_left patterns (pattern ∷ []) old.pattern old.one;
+        inside = old.inside;
+        stands = old.stands;
+      })
+      (λ k d h. record {
+        pattern = pattern;
+        one = Contains-push patterns pattern;
+        inside = omega (arith, within k d h, long);
+        stands = found-stand text pattern more are k d h;
+      });
+  all = λ place has. ⊎_elim
+      (λ old. Contains-append_left found more place
+      (so_far.all place (record { pattern = has.pattern; one = old; inside = has.inside; stands = has.stands })))
+      (λ here. Contains-append_right found more place (found-there text pattern more are place has.inside
+      (subst (λ q. stands_at text q place ≡ true) (sym here) has.stands)))
+      (Contains-push_cases patterns pattern has.pattern has.one);
+}
+
+-- of some patterns one more
+pub bytes-more : (xs : List (Bor (List ℕ))) (i : ℕ) (d : Bor (List ℕ)) → i < length xs
+    → bytes_in (take (i + 1) xs) ≡ bytes_in (take i xs) ++ (get_or xs i d).now ∷ []
+bytes-more xs i d h = ap bytes_in (take_more xs i d h) ∙ map-append (λ pattern. pattern.now) (take i xs) (get_or xs i d ∷ [])
+
+-- sorted, each once
+pub places-sorted : (patterns : List (List ℕ)) (text found sorted made : List ℕ) → AreFoundOf patterns text found → IsPermutation found sorted
+    → made ≡ dedup eqb sorted → IsStrictlyIncreasing made → ArePlacesOf patterns text made
+places-sorted patterns text found sorted made are same is rises = record {
+  each = subst (All (StandsAt patterns text)) (sym is)
+      (All-dedup eqb (StandsAt patterns text) sorted (All-permutation (StandsAt patterns text) found sorted same are.each));
+  all = λ place has. subst (λ xs. Contains xs place) (sym is)
+      (Contains-dedup_nat sorted place (Contains-permutation found sorted place same (are.all place has)));
+  rising = rises;
+}
 
 -- ---- the lines of the text are those among its line feeds
 
 line-is : (text ends : List ℕ) (p : ℕ) → ArePositions text (10 ∷ []) ends → p ≤ length text → line_among ends p ≡ line_at text p
 line-is text ends p are inside = ap (λ n. n + 1) (count-there text (10 ∷ []) ends are p inside ∙ feeds text p inside)
 
-lines-found : (text pattern places ends lines : List ℕ) (n : ℕ) → n ≡ length text → ArePositions text (10 ∷ []) ends
-    → ArePositions text pattern places → AreLinesOf places ends n lines → LinesWith pattern text lines
-lines-found text pattern places ends lines n long feeds_are are of = record {
+pub lines-found : (patterns : List (List ℕ)) (text places ends lines : List ℕ) (n : ℕ) → n ≡ length text → ArePositions text (10 ∷ []) ends
+    → ArePlacesOf patterns text places → AreLinesOf places ends n lines → LinesWith patterns text lines
+lines-found patterns text places ends lines n long feeds_are are of = record {
   each = λ k d h.
       let has = of.each k d h in
       let (j, j_in, j_is) = has.one in
       record {
         place = has.place;
         inside = omega (arith, has.inside, long);
-        stands = subst (λ x. stands_at text pattern x ≡ true) j_is (stands-there text pattern places are j has.place j_in);
+        stands = subst (StandsAt patterns text) j_is (are.each j has.place j_in);
         line_is = has.line_is ∙ line-is text ends has.place feeds_are (omega (arith, has.inside, long));
       };
   all = λ line has. of.all line (record {
     place = has.place;
     inside = omega (arith, has.inside, long);
-    one = place-there text pattern places are has.place (omega (arith, has.inside)) has.stands;
+    one = are.all has.place has.stands;
     line_is = has.line_is ∙ sym (line-is text ends has.place feeds_are (omega (arith, has.inside)));
   });
   rising = of.rising;
 }
 
--- of a call that gives them
-pub lines-known : {X E : Type 0} (items : X → List ℕ) (r : Result X E) (text pattern places ends : List ℕ) (n : ℕ) → n ≡ length text
-    → ArePositions text (10 ∷ []) ends → ArePositions text pattern places → IfOk r (λ v. AreLinesOf places ends n (items v))
-    → IfOk r (λ v. LinesWith pattern text (items v))
-lines-known items (Ok v) text pattern places ends n long feeds_are are of = lines-found text pattern places ends (items v) n long feeds_are are of
-lines-known items (Err e) text pattern places ends n long feeds_are are of = tt
+-- the first line is 1
+pub lines-positive : (places ends : List ℕ) (n : ℕ) (lines : List ℕ) → AreLinesOf places ends n lines → All (λ line. 0 < line) lines
+lines-positive places ends n lines of = λ k d h. let has = of.each k d h in omega (arith, has.line_is)

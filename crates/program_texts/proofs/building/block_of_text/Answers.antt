@@ -1,5 +1,5 @@
 -- The block has the length that was asked for, and so has the scratch.
-use Rattle.std.proofs.Common.{◌≡◌, ◌+◌, ◌^◌, ◌<◌, ◌∙◌, refl, sym, drop, length, arith, rules}
+use Rattle.std.proofs.Common.{◌∙◌, refl, sym, drop, length, arith, rules}
 use Rattle.std.proofs.lemmas.Bool.{true≢false}
 use Rattle.std.proofs.lemmas.List.{take_at}
 use Rattle.program_texts.proofs.building.block_of_text.Goals as goal
