@@ -1,4 +1,5 @@
 """Arrays of NumPy: whole numbers of every kind in, arrays of uint64 out, and what stands for a missing answer."""
+import itertools
 import sys
 import threading
 import time
@@ -147,13 +148,16 @@ def test_keys_in_arrays():
         PerfectHash(numpy.array([1.5]))
 
 
-def gives_way(call, tries):
-    """Whether another thread runs while a call does, in one of some tries. Threads are not exchanged by time meanwhile: the
-    other one can go on only where the call gives the interpreter's lock back."""
-    interval, woken = sys.getswitchinterval(), []
+def gives_way(call, tries, seconds=0):
+    """Whether another thread runs while a call does, in one of some tries, or of more in so many seconds: on a machine with
+    much else to do it may wake late. Threads are not exchanged by time meanwhile: the other one can go on only where the
+    call gives the interpreter's lock back."""
+    interval, woken, end = sys.getswitchinterval(), [], time.monotonic() + seconds
     sys.setswitchinterval(1000)
     try:
-        for _ in range(tries):
+        for at in itertools.count():
+            if at >= tries and time.monotonic() >= end:
+                return False
             lock = threading.Lock()
             lock.acquire()
             thread = threading.Thread(target=lambda: lock.acquire() and woken.append(1))
@@ -166,7 +170,6 @@ def gives_way(call, tries):
             if is_woken:
                 return True
             woken.clear()
-        return False
     finally:
         sys.setswitchinterval(interval)
 
@@ -187,7 +190,7 @@ def test_the_interpreter_goes_on_in_each_list_and_build(tmp_path):
             lambda: sequence.intersection(sequence), lambda: sequence.union(sequence), sequence.check, large.check,
             hash_of_many.check,
             lambda: shards.rank_list(asked), lambda: shards.select_list(asked, missing=0)]
-    assert [at for at, call in enumerate(many) if not gives_way(call, 200)] == []
+    assert [at for at, call in enumerate(many) if not gives_way(call, 200, 60)] == []
 
 
 def test_the_interpreter_waits_while_the_words_of_a_vector_are_written():
