@@ -40,8 +40,8 @@ const ALL: &str = "bitm builds files of numbers, texts and strings, and answers 
   bitm --version                             the version
     bitm --version
 
-The status is 0 where all went well, 1 where a line is a bad question, a block is wrong, or no pattern is found, and 2
-where there is no answer; then standard error says why.";
+The status is 0 where all went well, 1 where a line is a bad question, a block is wrong, or no pattern or line is found,
+and 2 where there is no answer; then standard error says why.";
 
 /// What is said of `build`.
 const BUILD: &str = "bitm build KIND < NUMBERS > BLOCK
@@ -112,7 +112,8 @@ const STRINGS: &str = "bitm strings build < LINES > BLOCK
 bitm strings find BLOCK < LINES
 
 build writes a block in which each line has a number of its own, below how many there are; no two lines may be equal.
-find writes the number of each line that it reads, or none where the block has no such line.
+find writes the number of each line that it reads, or none where the block has no such line. The status is 1 where it
+has none of them.
 
   bitm strings build < names.txt > names.block
   echo ada | bitm strings find names.block";

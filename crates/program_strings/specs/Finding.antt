@@ -1,8 +1,8 @@
 -- The numbers of lines among strings.
-use Rattle.std.specs.Prelude.{◌≡◌, ⊤, ℕ, List, [], ◌∷◌, ◌++◌, codes, length, slice_index, Option, Some, IsSomeAnd}
+use Rattle.std.specs.Prelude.{◌≡◌, ⊤, ℕ, Bool, true, false, List, [], ◌∷◌, ◌++◌, codes, length, slice_index, Option, Some, IsSomeAnd}
 use Rattle.std.specs.Fmt.{decimal}
 use Rattle.std.specs.Io.KnownBytes.{Appends}
-use Rattle.std.specs.List.{flat_map}
+use Rattle.std.specs.List.{flat_map, list_any}
 use Rattle.bitm_tables.specs.declared.answer.Answer.{Answer}
 use Rattle.bitm_tables.specs.declared.answer.Answer.TheVariants.{Found, Absent, Wrong}
 use Rattle.program_blocks.specs.Bytes.{words_of_bytes}
@@ -16,6 +16,12 @@ answer_line (Found number) = decimal number ++ codes "\n"
 answer_line Absent = codes "none\n"
 answer_line Wrong = codes "none\n"
 
+-- whether it is a number
+abbrev pub is_number : Answer ℕ → Bool
+is_number (Found number) = true
+is_number Absent = false
+is_number Wrong = false
+
 -- the answer to a line: the number of the string that it is, or that it is none of the strings
 abbrev pub IsAnswer : StringParts → List ℕ → Answer ℕ → Type 0
 IsAnswer parts line answer = IsFound parts (slice_index line) (length line) answer
@@ -27,15 +33,18 @@ AreAnswers parts (line ∷ lines) (answer ∷ answers) = IsAnswer parts line ans
 AreAnswers parts [] (answer ∷ answers) = ⊥
 AreAnswers parts (line ∷ lines) [] = ⊥
 
--- the answer to a line was written: the writer's bytes, where the writer shows them, went from before to after by just it
-pub record WroteNumber (parts : StringParts) (line : List ℕ) (before after : Option (List ℕ)) : Type 0 where
+-- the answer to a line was written: the writer's bytes, where the writer shows them, went from before to after by just it;
+-- and found says that it is a number
+pub record WroteNumber (parts : StringParts) (line : List ℕ) (before after : Option (List ℕ)) (found : Bool) : Type 0 where
   pub answer : Answer ℕ
+  pub told : found ≡ is_number answer
   pub is : IsAnswer parts line answer
   pub written : Appends before after (answer_line answer)
 
--- the answers to these lines were
-pub record WroteNumbers (parts : StringParts) (lines : List (List ℕ)) (before after : Option (List ℕ)) : Type 0 where
+-- the answers to these lines were, and found says that one of them is a number
+pub record WroteNumbers (parts : StringParts) (lines : List (List ℕ)) (before after : Option (List ℕ)) (found : Bool) : Type 0 where
   pub answers : List (Answer ℕ)
+  pub told : found ≡ list_any is_number answers
   pub are : AreAnswers parts lines answers
   pub written : Appends before after (flat_map answer_line answers)
 
@@ -44,8 +53,8 @@ abbrev pub IsStringFile : List ℕ → Type 0
 IsStringFile bytes = IsSomeAnd (words_of_bytes bytes) IsSoundBlock
 
 -- they are, and the answers of these strings to the lines of a text were written
-pub record WroteFound (bytes text : List ℕ) (before after : Option (List ℕ)) : Type 0 where
+pub record WroteFound (bytes text : List ℕ) (before after : Option (List ℕ)) (found : Bool) : Type 0 where
   pub block : List ℕ
   pub words : words_of_bytes bytes ≡ Some block
   pub sound : IsSoundBlock block
-  pub wrote : WroteNumbers (strings_in block) (lines_of text) before after
+  pub wrote : WroteNumbers (strings_in block) (lines_of text) before after found

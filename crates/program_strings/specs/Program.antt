@@ -1,5 +1,5 @@
 -- What a run of the program did with strings.
-use Rattle.std.specs.Prelude.{◌≡◌, ℕ, List, Option, Some}
+use Rattle.std.specs.Prelude.{◌≡◌, ℕ, Bool, true, List, Option, Some}
 use Rattle.program_runs.specs.Known.{IsKnownAs, Known}
 use Rattle.program_strings.specs.Building.{WroteStrings}
 use Rattle.program_strings.specs.Command.{command_in}
@@ -7,20 +7,21 @@ use Rattle.program_strings.specs.Finding.{WroteFound}
 use Rattle.program_strings.specs.declared.command.Command.{Command}
 use Rattle.program_strings.specs.declared.command.Command.TheVariants.{Build, Find}
 
--- the command was done: the block of the lines of the standard input was written, or their numbers among the strings of
--- the file at the path
-abbrev pub IsDone : Known → Command → List ℕ → Option (List ℕ) → Option (List ℕ) → Type 0
-IsDone known Build path before after = (text : List ℕ) × IsKnownAs known.input text × WroteStrings text before after
-IsDone known Find path before after =
-    (file text : List ℕ) × IsKnownAs (known.files path) file × IsKnownAs known.input text × WroteFound file text before after
+-- the command was done, and good says that it found something: the block of the lines of the standard input was written,
+-- or their numbers among the strings of the file at the path
+abbrev pub IsDone : Known → Command → List ℕ → Option (List ℕ) → Option (List ℕ) → Bool → Type 0
+IsDone known Build path before after good =
+    (text : List ℕ) × IsKnownAs known.input text × WroteStrings text before after × (good ≡ true)
+IsDone known Find path before after good =
+    (file text : List ℕ) × IsKnownAs (known.files path) file × IsKnownAs known.input text × WroteFound file text before after good
 
 -- the same as one fact
-pub record Did (known : Known) (command : Command) (path : List ℕ) (before after : Option (List ℕ)) : Type 0 where
-  pub done : IsDone known command path before after
+pub record Did (known : Known) (command : Command) (path : List ℕ) (before after : Option (List ℕ)) (good : Bool) : Type 0 where
+  pub done : IsDone known command path before after good
 
 -- the arguments, which follow `strings`, are a command, and it was done
-pub record DidAsAsked (known : Known) (args : List (List ℕ)) (before after : Option (List ℕ)) : Type 0 where
+pub record DidAsAsked (known : Known) (args : List (List ℕ)) (before after : Option (List ℕ)) (good : Bool) : Type 0 where
   pub command : Command
   pub path : List ℕ
   pub asked : command_in args ≡ Some (command, path)
-  pub did : Did known command path before after
+  pub did : Did known command path before after good

@@ -1,5 +1,5 @@
 //! The numbers of the lines of a text.
-ghost use Rattle.std.specs.Prelude.{◌≡◌, IfSome, IsErrOf, OnOk, SomeIff};
+ghost use Rattle.std.specs.Prelude.{◌≡◌, IfOk, IfSome, IsErrOf, SomeIff};
 ghost use Rattle.program_text.specs.Text.{lines_of};
 ghost use Rattle.program_strings.specs.Finding.{IsStringFile, WroteFound, WroteNumber, WroteNumbers};
 ghost use Rattle.string_block.specs.Block.{strings_in, IsSoundBlock};
@@ -14,7 +14,7 @@ use std::io::Write;
 use string_block::{Answer, StringsView, check, open};
 
 /// Writes for each line of a text that is not empty the number that it has among the strings of a file, or `none` where
-/// it is none of them, each as a line and in their order.
+/// it is none of them, each as a line and in their order, and answers whether one of them has a number.
 ///
 /// `file` are the bytes that `build` wrote. The whole file is checked first, so that the numbers are those of its
 /// strings.
@@ -26,10 +26,10 @@ use string_block::{Answer, StringsView, check, open};
 /// That of `string_block::check`; then that of `StringsView::find` for each line (evident from the code).
 ///
 /// ```
-/// find(alloc, file, b"bob\neve\n".as_slice(), &mut out);   // Ok(()): out has "0\nnone\n", say
+/// find(alloc, file, b"bob\neve\n".as_slice(), &mut out);   // Ok(true): out has "0\nnone\n", say
 /// ```
-pub fn find<W: Write>(alloc: Global, file: &[u8], text: &[u8], out: &mut W) -> Result<(), Failure>
-    ensures written { OnOk result (WroteFound file.now text.now (W.contents out.old) (W.contents out.new)) }
+pub fn find<W: Write>(alloc: Global, file: &[u8], text: &[u8], out: &mut W) -> Result<bool, Failure>
+    ensures written { IfOk result (WroteFound file.now text.now (W.contents out.old) (W.contents out.new)) }
     ensures wrong { IsErrOf result Failure.WrongBlock → ¬ (IsStringFile file.now) }
     ensures nothing { IsErrOf result Failure.WrongBlock → out.new ≡ out.old }
 {
@@ -53,34 +53,40 @@ fn open_checked(block: &[u64]) -> Option<StringsView<'_>>
     open(block)
 }
 
-/// Writes the number of each line among strings.
+/// Writes the number of each line among strings, and answers whether one of them has a number.
 fn write_numbers<W: Write>(
     strings: &StringsView<'_>,
     text: &[u8],
     out: &mut W,
-) -> Result<(), CannotWrite>
+) -> Result<bool, CannotWrite>
     requires { AreStrings strings.now }
-    ensures { OnOk result (WroteNumbers strings.now (lines_of text.now)
+    ensures { IfOk result (WroteNumbers strings.now (lines_of text.now)
         (W.contents out.old) (W.contents out.new)) }
 {
+    let mut found = false;
     for line in Lines::new(text) {
-        write_number(strings, line, out)?;
+        found |= write_number(strings, line, out)?;
     }
-    Ok(())
+    Ok(found)
 }
 
-/// Writes the number of a line among strings.
+/// Writes the number of a line among strings, and answers whether it has one.
 fn write_number<W: Write>(
     strings: &StringsView<'_>,
     line: &[u8],
     out: &mut W,
-) -> Result<(), CannotWrite>
+) -> Result<bool, CannotWrite>
     requires { AreStrings strings.now }
-    ensures { OnOk result (WroteNumber strings.now line.now (W.contents out.old) (W.contents out.new)) }
+    ensures { IfOk result (WroteNumber strings.now line.now (W.contents out.old) (W.contents out.new)) }
 {
     match strings.find(line) {
-        Answer::Found(number) => writeln!(out, "{number}")?,
-        _ => writeln!(out, "none")?,
+        Answer::Found(number) => {
+            writeln!(out, "{number}")?;
+            Ok(true)
+        }
+        _ => {
+            writeln!(out, "none")?;
+            Ok(false)
+        }
     }
-    Ok(())
 }

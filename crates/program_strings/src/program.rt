@@ -1,5 +1,5 @@
 //! The program without its process: its arguments, the file and the input that it reads, and the statuses and texts.
-ghost use Rattle.std.specs.Prelude.{◌≡◌, ◌⊎◌, IfOk, IsErr, None, OnOk, map, string_bytes, true};
+ghost use Rattle.std.specs.Prelude.{◌≡◌, ◌≤◌, IfOk, IsErr, None, map, nat_eq, string_bytes};
 ghost use Rattle.program_strings.specs.Command.{command_in};
 ghost use Rattle.program_strings.specs.Program.{Did, DidAsAsked};
 
@@ -14,7 +14,8 @@ use std::io::Write;
 const USAGE: &str = "usage: bitm strings build | bitm strings find BLOCK";
 
 /// Does what the arguments after `strings` say, and answers the status that the program ends with: 0 where that was
-/// done, on the file that is named, and then nothing was written to `err`.
+/// done, on the file that is named, and 1 where it was done and no line has a number; then nothing was written to
+/// `err`.
 ///
 /// `build` reads lines from the standard input, and so does `find BLOCK`, which reads the file too.
 ///
@@ -27,32 +28,30 @@ pub fn start<R: Sources + AllocGlobal, W: Write, E: Write>(
     out: &mut W,
     err: &mut E,
 ) -> u8
-    ensures status { (result ≡ 0) ⊎ (result ≡ 2) }
+    ensures status { result ≤ 2 }
     ensures unknown { command_in (map string_bytes args.now) ≡ None
         → (result ≡ 2) × (W.contents out.new ≡ W.contents out.old) }
-    ensures did { result ≡ 0 → DidAsAsked (R.known rt.now) (map string_bytes args.now)
-        (W.contents out.old) (W.contents out.new) }
-    ensures quiet { result ≡ 0 → E.contents err.new ≡ E.contents err.old }
+    ensures did { result ≤ 1 → DidAsAsked (R.known rt.now) (map string_bytes args.now)
+        (W.contents out.old) (W.contents out.new) (nat_eq result 0) }
+    ensures quiet { result ≤ 1 → E.contents err.new ≡ E.contents err.old }
 {
     end(run(rt, args, out), out, err)
 }
 
-/// Does what the arguments say, and answers that all went well.
+/// Does what the arguments say, and answers whether something was found.
 fn run<R: Sources + AllocGlobal, W: Write>(
     rt: &R,
     args: &[String],
     out: &mut W,
 ) -> Result<bool, Stop<Failure>>
     ensures unknown { command_in (map string_bytes args.now) ≡ None → IsErr result × (out.new ≡ out.old) }
-    ensures good { IfOk result (λ good. good ≡ true) }
-    ensures did { IfOk result (λ _. DidAsAsked (R.known rt.now) (map string_bytes args.now)
+    ensures did { IfOk result (DidAsAsked (R.known rt.now) (map string_bytes args.now)
         (W.contents out.old) (W.contents out.new)) }
 {
     let Some((command, path)) = command_in(args) else {
         return Err(Stop::Usage(USAGE));
     };
-    perform(rt, command, path, out)?;
-    Ok(true)
+    perform(rt, command, path, out)
 }
 
 /// Does a command with its file.
@@ -61,8 +60,8 @@ fn perform<R: Sources + AllocGlobal, W: Write>(
     command: Command,
     path: &str,
     out: &mut W,
-) -> Result<(), Stop<Failure>>
-    ensures { OnOk result (Did (R.known rt.now) command path.now (W.contents out.old) (W.contents out.new)) }
+) -> Result<bool, Stop<Failure>>
+    ensures { IfOk result (Did (R.known rt.now) command path.now (W.contents out.old) (W.contents out.new)) }
 {
     match command {
         Command::Build => build_input(rt, path, out),
@@ -75,12 +74,13 @@ fn build_input<R: Sources + AllocGlobal, W: Write>(
     rt: &R,
     _path: &str,
     out: &mut W,
-) -> Result<(), Stop<Failure>>
-    ensures { OnOk result (Did (R.known rt.now) Command.Build _path.now
+) -> Result<bool, Stop<Failure>>
+    ensures { IfOk result (Did (R.known rt.now) Command.Build _path.now
         (W.contents out.old) (W.contents out.new)) }
 {
     let text = rt.input()?;
-    Ok(build(rt.alloc(), text.as_slice(), out)?)
+    build(rt.alloc(), text.as_slice(), out)?;
+    Ok(true)
 }
 
 /// Writes the numbers of the lines of the standard input among the strings of a file.
@@ -88,8 +88,8 @@ fn find_input<R: Sources + AllocGlobal, W: Write>(
     rt: &R,
     path: &str,
     out: &mut W,
-) -> Result<(), Stop<Failure>>
-    ensures { OnOk result (Did (R.known rt.now) Command.Find path.now (W.contents out.old) (W.contents out.new)) }
+) -> Result<bool, Stop<Failure>>
+    ensures { IfOk result (Did (R.known rt.now) Command.Find path.now (W.contents out.old) (W.contents out.new)) }
 {
     let file = rt.file(path)?;
     let text = rt.input()?;

@@ -85,6 +85,9 @@ fn the_file_that_is_named_answers_the_input(rt: HostRuntime) -> Result<(), Fail>
     let (none, input) = (b"".as_slice(), b"eve\nmallory\n".as_slice());
     let (status, out) = started(&rt, (file.as_slice(), input), &["find", "held.block"])?;
     assert!(rt; status == 0 && out.as_slice() == b"0\nnone\n".as_slice());
+    let strange = b"mallory\nAda\n".as_slice();
+    let (status, out) = started(&rt, (file.as_slice(), strange), &["find", "held.block"])?;
+    assert!(rt; status == 1 && out.as_slice() == b"none\nnone\n".as_slice());
     let (status, out) = started(&rt, (file.as_slice(), input), &["find", "other.block"])?;
     assert!(rt; status == 2 && out.is_empty());
     let names = b"ada\nbob\neve\n".as_slice();

@@ -1,15 +1,23 @@
 -- How lines are answered one by one.
-use Rattle.std.proofs.Common.{◌≡◌, ℕ, List, [], ◌∷◌, ◌++◌, ◌∙◌, Option, Some, ap, append-nil, subst, sym}
+use Rattle.std.proofs.Common.{◌≡◌, ◌||◌, ℕ, Bool, true, false, refl, List, [], ◌∷◌, ◌++◌, ◌∙◌, Option, Some, ap, append-nil, subst, sym}
 use Rattle.std.proofs.KnownBytes.{Appends-trans}
 use Rattle.std.proofs.lemmas.Grind.{flat_map-append}
 use Rattle.std.specs.Io.KnownBytes.{Appends}
-use Rattle.std.specs.List.{flat_map}
+use Rattle.std.specs.List.{flat_map, list_any}
 use Rattle.bitm_tables.specs.declared.answer.Answer.{Answer}
 use Rattle.program_blocks.specs.Bytes.{words_of_bytes}
 use Rattle.program_text.specs.Text.{lines_of}
-use Rattle.program_strings.specs.Finding.{answer_line, AreAnswers, IsAnswer, WroteFound, WroteNumber, WroteNumbers}
+use Rattle.program_strings.specs.Finding.{answer_line, is_number, AreAnswers, IsAnswer, WroteFound, WroteNumber, WroteNumbers}
 use Rattle.string_block.specs.Block.{strings_in, IsSoundBlock}
 use Rattle.string_block.specs.Parts.{StringParts}
+
+or-false : (b : Bool) → b ≡ (b || false)
+or-false true = refl
+or-false false = refl
+
+or-more : (a b c d : Bool) → (b || c) ≡ d → ((a || b) || c) ≡ (a || d)
+or-more true b c d h = refl
+or-more false b c d h = h
 
 answers-more : (parts : StringParts) (lines : List (List ℕ)) (answers : List (Answer ℕ)) (line : List ℕ) (answer : Answer ℕ)
     → AreAnswers parts lines answers → IsAnswer parts line answer → AreAnswers parts (lines ++ line ∷ []) (answers ++ answer ∷ [])
@@ -18,25 +26,32 @@ answers-more parts [] (a ∷ answers) line answer h one = absurd h
 answers-more parts (l ∷ lines) [] line answer h one = absurd h
 answers-more parts (l ∷ lines) (a ∷ answers) line answer h one = (h.0, answers-more parts lines answers line answer h.1 one)
 
+-- one of them or the next is a number
+any-more : (answers : List (Answer ℕ)) (answer : Answer ℕ)
+    → (list_any is_number answers || is_number answer) ≡ list_any is_number (answers ++ answer ∷ [])
+any-more [] answer = or-false (is_number answer)
+any-more (a ∷ answers) answer = or-more (is_number a) (list_any is_number answers) (is_number answer) _ (any-more answers answer)
+
 text-more : (answers : List (Answer ℕ)) (answer : Answer ℕ)
     → flat_map answer_line (answers ++ answer ∷ []) ≡ flat_map answer_line answers ++ answer_line answer
 text-more answers answer =
     flat_map-append answer_line answers (answer ∷ []) ∙ ap (λ l. flat_map answer_line answers ++ l) (append-nil (answer_line answer))
 
-pub wrote-more : (parts : StringParts) (lines : List (List ℕ)) (line : List ℕ) (a b c : Option (List ℕ)) → WroteNumbers parts lines a b
-    → WroteNumber parts line b c → WroteNumbers parts (lines ++ line ∷ []) a c
-wrote-more parts lines line a b c h one = record {
+pub wrote-more : (parts : StringParts) (lines : List (List ℕ)) (line : List ℕ) (a b c : Option (List ℕ)) (found one_is : Bool)
+    → WroteNumbers parts lines a b found → WroteNumber parts line b c one_is → WroteNumbers parts (lines ++ line ∷ []) a c (found || one_is)
+wrote-more parts lines line a b c found one_is h one = record {
   answers = h.answers ++ one.answer ∷ [];
+  told = ap (λ f. f || one_is) h.told ∙ ap (λ o. list_any is_number h.answers || o) one.told ∙ any-more h.answers one.answer;
   are = answers-more parts lines h.answers line one.answer h.are one.is;
   written = subst (λ l. Appends a c l) (sym (text-more h.answers one.answer)) (Appends-trans a b c _ _ h.written one.written);
 }
 
 -- what was written of a view's strings was written of those of its file
-pub wrote-found : (bytes block text : List ℕ) (parts : StringParts) (a b : Option (List ℕ)) → words_of_bytes bytes ≡ Some block
-    → IsSoundBlock block → parts ≡ strings_in block → WroteNumbers parts (lines_of text) a b → WroteFound bytes text a b
-wrote-found bytes block text parts a b words sound same wrote = record {
+pub wrote-found : (bytes block text : List ℕ) (parts : StringParts) (a b : Option (List ℕ)) (found : Bool) → words_of_bytes bytes ≡ Some block
+    → IsSoundBlock block → parts ≡ strings_in block → WroteNumbers parts (lines_of text) a b found → WroteFound bytes text a b found
+wrote-found bytes block text parts a b found words sound same wrote = record {
   block = block;
   words = words;
   sound = sound;
-  wrote = subst (λ p. WroteNumbers p (lines_of text) a b) same wrote;
+  wrote = subst (λ p. WroteNumbers p (lines_of text) a b found) same wrote;
 }

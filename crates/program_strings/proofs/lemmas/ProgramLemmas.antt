@@ -1,9 +1,10 @@
 -- Each command is one that the program does.
-use Rattle.std.proofs.Common.{ℕ, List, Option}
+use Rattle.std.proofs.Common.{◌≡◌, ℕ, List, Bool, true, Option, Some, Result, Ok, Err, IfOk, refl}
 use Rattle.std.proofs.KnownBytes.{Appends-kept}
 use Rattle.std.specs.Io.KnownBytes.{Keeps}
 use Rattle.program_runs.specs.Known.{IsKnownAs, Known}
 use Rattle.program_strings.specs.Building.{WroteStrings}
+use Rattle.program_strings.specs.Command.{command_in}
 use Rattle.program_strings.specs.Finding.{WroteFound, WroteNumbers}
 use Rattle.program_strings.specs.Program.{Did, DidAsAsked, IsDone}
 use Rattle.program_strings.specs.declared.command.Command.{Command}
@@ -11,23 +12,29 @@ use Rattle.program_strings.specs.declared.command.Command.TheVariants.{Build, Fi
 use Rattle.string_block.specs.Parts.{StringParts}
 
 pub did_build : (known : Known) (text path : List ℕ) (before after : Option (List ℕ)) → IsKnownAs known.input text
-    → WroteStrings text before after → Did known Build path before after
-did_build known text path before after is h = record { done = (text, is, h) }
+    → WroteStrings text before after → Did known Build path before after true
+did_build known text path before after is h = record { done = (text, is, h, refl) }
 
-pub did_find : (known : Known) (file text path : List ℕ) (before after : Option (List ℕ)) → IsKnownAs (known.files path) file
-    → IsKnownAs known.input text → WroteFound file text before after → Did known Find path before after
-did_find known file text path before after is known_text h = record { done = (file, text, is, known_text, h) }
+pub did_find : (known : Known) (file text path : List ℕ) (before after : Option (List ℕ)) (found : Bool) → IsKnownAs (known.files path) file
+    → IsKnownAs known.input text → WroteFound file text before after found → Did known Find path before after found
+did_find known file text path before after found is known_text h = record { done = (file, text, is, known_text, h) }
+
+-- the command of the arguments
+pub as_asked : {E : Type 0} (r : Result Bool E) (known : Known) (args : List (List ℕ)) (command : Command) (path : List ℕ)
+    (a b : Option (List ℕ)) → command_in args ≡ Some (command, path) → IfOk r (Did known command path a b) → IfOk r (DidAsAsked known args a b)
+as_asked (Ok x) known args command path a b asked did = record { command = command; path = path; asked = asked; did = did }
+as_asked (Err e) known args command path a b asked did = tt
 
 -- what was done stays so by a flush
-numbers_kept : (parts : StringParts) (lines : List (List ℕ)) (a b c : Option (List ℕ)) → Keeps b c → WroteNumbers parts lines a b
-    → WroteNumbers parts lines a c
-numbers_kept parts lines a b c k h = record { answers = h.answers; are = h.are; written = Appends-kept a b c _ h.written k }
+numbers_kept : (parts : StringParts) (lines : List (List ℕ)) (a b c : Option (List ℕ)) (found : Bool) → Keeps b c → WroteNumbers parts lines a b found
+    → WroteNumbers parts lines a c found
+numbers_kept parts lines a b c found k h = record { answers = h.answers; told = h.told; are = h.are; written = Appends-kept a b c _ h.written k }
 
-done_kept : (known : Known) (command : Command) (path : List ℕ) (a b c : Option (List ℕ)) → Keeps b c → IsDone known command path a b
-    → IsDone known command path a c
-done_kept known Build path a b c k h =
-    (h.0, h.1, record { block = h.2.block; block_of = h.2.block_of; written = Appends-kept a b c _ h.2.written k })
-done_kept known Find path a b c k h =
+done_kept : (known : Known) (command : Command) (path : List ℕ) (a b c : Option (List ℕ)) (good : Bool) → Keeps b c
+    → IsDone known command path a b good → IsDone known command path a c good
+done_kept known Build path a b c good k h =
+    (h.0, h.1, record { block = h.2.block; block_of = h.2.block_of; written = Appends-kept a b c _ h.2.written k }, h.3)
+done_kept known Find path a b c good k h =
     let found = h.4 in (
       h.0,
       h.1,
@@ -37,15 +44,15 @@ done_kept known Find path a b c k h =
         block = found.block;
         words = found.words;
         sound = found.sound;
-        wrote = numbers_kept _ _ a b c k found.wrote;
+        wrote = numbers_kept _ _ a b c good k found.wrote;
       },
     )
 
-pub asked_kept : (known : Known) (args : List (List ℕ)) (a b c : Option (List ℕ)) → DidAsAsked known args a b → Keeps b c
-    → DidAsAsked known args a c
-asked_kept known args a b c h k = record {
+pub asked_kept : (known : Known) (args : List (List ℕ)) (a b c : Option (List ℕ)) (good : Bool) → DidAsAsked known args a b good → Keeps b c
+    → DidAsAsked known args a c good
+asked_kept known args a b c good h k = record {
   command = h.command;
   path = h.path;
   asked = h.asked;
-  did = record { done = done_kept known h.command h.path a b c k h.did.done };
+  did = record { done = done_kept known h.command h.path a b c good k h.did.done };
 }
