@@ -1,5 +1,6 @@
 -- An index as C passes it.
-use Rattle.bitm_view.specs.Cut.{Cut, cut_at, sampled}
+use Rattle.bitm_view.specs.Cut.{Cut, cut_at}
+use Rattle.lent_tables.specs.Samples.{sampled}
 use Rattle.lent_tables.specs.Sizes.{lists_of}
 use Rattle.bitm_abi.specs.Samples.{lent_samples}
 use Rattle.bitm_abi.specs.declared.index.Index.{Index}

@@ -1,27 +1,9 @@
 -- The bits of words up to a length that is no multiple of 64.
-use Rattle.std.specs.Prelude.{◌≡◌, ℕ, ◌<◌, ◌≤◌, ◌==◌, ◌⊎◌, Bool, if◌then◌else◌, List, [], length, take}
+use Rattle.std.specs.Prelude.{◌≡◌, ℕ, ◌<◌, ◌≤◌, ◌⊎◌, Bool, List, length, take}
 use Rattle.bit_lists.specs.Bits.{item}
 use Rattle.bitm_tables.specs.Tables.{HasSizes, Lists, bits_in}
 use Rattle.bitm_select.specs.Told.{TellsNone}
-use Rattle.lent_tables.specs.declared.samples.LentSamples.{LentSamples}
-
--- samples of one kind, how many there are before each upper block, and their logarithm, which is 0 where there are none
-pub record Sampled : Type 0 where
-  pub samples : List ℕ
-  pub starts : List ℕ
-  pub log2 : ℕ
-
--- the borrowed samples
-abbrev pub sampled : LentSamples → Sampled
-sampled lent = record {
-  samples = lent.samples.now;
-  starts = lent.starts.now;
-  log2 = (if length lent.samples.now == 0 then 0 else lent.log2);
-}
-
--- no samples
-abbrev pub not_sampled : Sampled
-not_sampled = record { samples = []; starts = []; log2 = 0 }
+use Rattle.lent_tables.specs.Samples.{not_sampled, Sampled}
 
 -- words and their tables, how many of the bits belong to the bit vector, and the samples of 1 bits and of 0 bits
 pub record Cut : Type 0 where

@@ -4,10 +4,11 @@ ghost use Rattle.bit_lists.specs.Bits.{digit_count};
 ghost use Rattle.bit_lists.specs.Count.{count_before, count_of, as_bit, Picks};
 ghost use Rattle.bitm_tables.specs.Tables.{HasTables, bits_in};
 ghost use Rattle.bitm_select.specs.Told.{IfAbsent};
-ghost use Rattle.bitm_view.specs.Cut.{bits_of_cut, cut_at, sampled, Cut, IsWithin, TellsNoneOf};
+ghost use Rattle.bitm_view.specs.Cut.{bits_of_cut, cut_at, Cut, IsWithin, TellsNoneOf};
 ghost use Rattle.bitm_view.specs.Queries.{RanksIn, SelectsIn};
 ghost use Rattle.lent_tables.specs.Counting.{Selects};
 ghost use Rattle.lent_tables.specs.Ranks.{IsCountWithin, IsRanked};
+ghost use Rattle.lent_tables.specs.Samples.{sampled};
 ghost use Rattle.bitm_select.specs.Answers.{HasBit, IsSelected};
 ghost use Rattle.bitm_tables.specs.Reads.{OnlyReads, ReadsAtMost};
 
@@ -55,7 +56,8 @@ pub struct IndexView<'a> {
 }
 
 impl<'a> Model for IndexView<'a> {
-    ghost use Rattle.bitm_view.specs.Cut.{cut_at, sampled, Cut, IsSizedCut};
+    ghost use Rattle.bitm_view.specs.Cut.{cut_at, Cut, IsSizedCut};
+    ghost use Rattle.lent_tables.specs.Samples.{sampled};
 
     ghost Value = { Cut };
 

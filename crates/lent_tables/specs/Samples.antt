@@ -1,11 +1,29 @@
 -- Borrowed samples.
-use Rattle.std.specs.Prelude.{◌≡◌, ℕ, ◌-◌, ◌*◌, ◌^◌, ◌<◌, ◌≤◌, Bool, List, length, slice_index}
+use Rattle.std.specs.Prelude.{◌≡◌, ℕ, ◌-◌, ◌*◌, ◌^◌, ◌<◌, ◌≤◌, ◌==◌, Bool, if◌then◌else◌, List, [], length, slice_index}
 use Rattle.std.specs.Int.{div_ceil}
 use Rattle.bit_lists.specs.Count.{count_before}
 use Rattle.bitm_strategies.specs.Density.{clamped_log}
 use Rattle.bitm_strategies.specs.Samples.{samples_of, sample_starts_of}
 use Rattle.bitm_tables.specs.Tables.{Lists}
 use Rattle.lent_tables.specs.declared.samples.LentSamples.{LentSamples}
+
+-- samples of one kind, how many there are before each upper block, and their logarithm, which is 0 where there are none
+pub record Sampled : Type 0 where
+  pub samples : List ℕ
+  pub starts : List ℕ
+  pub log2 : ℕ
+
+-- the borrowed samples
+abbrev pub sampled : LentSamples → Sampled
+sampled lent = record {
+  samples = lent.samples.now;
+  starts = lent.starts.now;
+  log2 = (if length lent.samples.now == 0 then 0 else lent.log2);
+}
+
+-- no samples
+abbrev pub not_sampled : Sampled
+not_sampled = record { samples = []; starts = []; log2 = 0 }
 
 -- the two lists are the samples of the bits v of b at logarithm d, and how many there are before each upper block
 pub record AreSamples (b : List Bool) (v : Bool) (d : ℕ) (samples starts : List ℕ) : Type 0 where
