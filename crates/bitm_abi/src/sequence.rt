@@ -1,6 +1,8 @@
 //! A sequence as C passes it, and as the library takes it.
-ghost use Rattle.std.specs.Prelude.{SomeIff};
-ghost use Rattle.bitm_abi.specs.Sequence.{lent_parts, IsListTold, IsSized};
+ghost use Rattle.std.specs.Prelude.{◌≡◌, SomeIff};
+ghost use Rattle.std.specs.List.{slice_get};
+ghost use Rattle.lent_tables.specs.Samples.{sampled};
+ghost use Rattle.bitm_abi.specs.Sequence.{sampled_if, sampled_parts, IsListTold, IsSized};
 
 use crate::answer::{BAD_SIZE, NONE, OK, WRONG};
 use crate::samples::Samples;
@@ -44,10 +46,10 @@ pub struct SequenceLens {
 }
 
 impl<'a> Sequence<'a> {
-    /// The parts as the library queries them; `None` exactly where a length is not right.
+    /// The parts as the library queries them, with their samples; `None` exactly where a length is not right.
     #[inline(always)]
     pub fn lent(&self) -> Option<LentSequence<'a>>
-        ensures { SomeIff result (IsSized self.now) (lent_parts self.now) }
+        ensures { SomeIff result (IsSized self.now) (sampled_parts self.now) }
     {
         let upper = Lent::over(self.words, self.upper, self.lower)?;
         if self.width > 63 {
@@ -60,7 +62,9 @@ impl<'a> Sequence<'a> {
 
 /// Item `at` of a list of samples as the library takes it; no samples where the list ends before.
 #[inline(always)]
-fn samples_at<'a>(list: &[Samples<'a>], at: usize) -> LentSamples<'a> {
+fn samples_at<'a>(list: &[Samples<'a>], at: usize) -> LentSamples<'a>
+    ensures { sampled result ≡ sampled_if (slice_get list.now at) }
+{
     match list.get(at) {
         Some(some) => some.lent(),
         None => LentSamples::none(),

@@ -1,14 +1,15 @@
 -- Sparse bits in a block as C passes them, and what the exported calls answer.
 use Rattle.std.specs.Prelude.{ℕ, ◌+◌, Bool, List, min}
 use Rattle.bitm_tables.specs.declared.answer.Answer.{Answer}
-use Rattle.bitm_abi.specs.Sequence.{lent_parts, IsSized}
+use Rattle.bitm_abi.specs.Sequence.{lent_parts, sampled_parts, IsSized}
 use Rattle.bitm_abi.specs.Status.{truth_of, Exported, IsFoundBelow}
 use Rattle.bitm_select.specs.Answers.{IsFoundFrom, IsSelected}
 use Rattle.elias_fano.specs.Answers.{IsPlaceOf}
 use Rattle.lent_tables.specs.Nearest.{IsNext, IsPrevious}
 use Rattle.lent_tables.specs.Ranks.{IsCountWithin, IsRanked}
 use Rattle.sparse_block.specs.Answers.{IsBitOf, IsBitWithin}
-use Rattle.sparse_block.specs.Block.{bits_of, parts_of, HoldsOnes, SparseParts}
+use Rattle.sparse_bits.specs.Positions.{bits_at}
+use Rattle.sparse_block.specs.Block.{parts_of, HoldsOnes, SparseParts}
 use Rattle.bitm_block_c.specs.declared.sparse.Sparse.{Sparse}
 use Rattle.bitm_block_c.specs.declared.sparse_lists.Query.{Query}
 use Rattle.bitm_block_c.specs.declared.sparse_lists.Query.TheVariants.{Bit, Rank, Select}
@@ -20,37 +21,60 @@ use Rattle.bitm_block_c.specs.declared.sparse_lists.Query.TheVariants.{Bit, Rank
 abbrev pub sparse_parts : Sparse → SparseParts
 sparse_parts sparse = parts_of (lent_parts sparse.positions) sparse.bits_len
 
--- the bit at a position, as 0 or 1: there is none exactly past the end, whatever the sequence holds, and it is that of the
--- bits where it holds the positions of their 1 bits
-pub record IsBit (position : ℕ) (parts : SparseParts) (answer : Answer ℕ) : Type 0 where
+-- and the samples of the sequence
+abbrev pub sampled_sparse : Sparse → SparseParts
+sampled_sparse sparse = parts_of (sampled_parts sparse.positions) sparse.bits_len
+
+-- the bit at a position of n bits, as 0 or 1: there is none exactly past the end, whatever is held, and it is that of the
+-- bits where the positions of their 1 bits are held
+pub record FindsBit (position n : ℕ) (holds : List ℕ → Type 0) (answer : Answer ℕ) : Type 0 where
   pub truth : IsFoundBelow 2 answer
-  pub inside : IsBitWithin parts.len position (truth_of answer)
-  pub right : (xs : List ℕ) → HoldsOnes xs parts → IsBitOf (bits_of xs parts) position (truth_of answer)
+  pub inside : IsBitWithin n position (truth_of answer)
+  pub right : (xs : List ℕ) → holds xs → IsBitOf (bits_at n 0 xs) position (truth_of answer)
+
+-- the bit of sparse bits, whatever samples their sequence has, and so with the other queries
+abbrev pub IsBit : ℕ → SparseParts → Answer ℕ → Type 0
+IsBit position parts = FindsBit position parts.len (λ xs. HoldsOnes xs parts)
 
 -- how many bits of a kind there are before a position, likewise: at most the position
-pub record IsRankIn (one : Bool) (position : ℕ) (parts : SparseParts) (answer : Answer ℕ) : Type 0 where
-  pub inside : IsCountWithin parts.len position answer
-  pub right : (xs : List ℕ) → HoldsOnes xs parts → IsRanked (bits_of xs parts) one position answer
+pub record FindsRank (one : Bool) (position n : ℕ) (holds : List ℕ → Type 0) (answer : Answer ℕ) : Type 0 where
+  pub inside : IsCountWithin n position answer
+  pub right : (xs : List ℕ) → holds xs → IsRanked (bits_at n 0 xs) one position answer
+
+abbrev pub IsRankIn : Bool → ℕ → SparseParts → Answer ℕ → Type 0
+IsRankIn one position parts = FindsRank one position parts.len (λ xs. HoldsOnes xs parts)
 
 -- the position of the bit of a kind with a rank, likewise: that of a bit
-pub record IsSelectIn (one : Bool) (rank : ℕ) (parts : SparseParts) (answer : Answer ℕ) : Type 0 where
-  pub inside : IsPlaceOf parts.len answer
-  pub right : (xs : List ℕ) → HoldsOnes xs parts → IsSelected (bits_of xs parts) one rank answer
+pub record FindsSelect (one : Bool) (rank n : ℕ) (holds : List ℕ → Type 0) (answer : Answer ℕ) : Type 0 where
+  pub inside : IsPlaceOf n answer
+  pub right : (xs : List ℕ) → holds xs → IsSelected (bits_at n 0 xs) one rank answer
+
+abbrev pub IsSelectIn : Bool → ℕ → SparseParts → Answer ℕ → Type 0
+IsSelectIn one rank parts = FindsSelect one rank parts.len (λ xs. HoldsOnes xs parts)
 
 -- the nearest bits of a kind, likewise: on that side of the position
-pub record IsNextIn (one : Bool) (from : ℕ) (parts : SparseParts) (answer : Answer ℕ) : Type 0 where
-  pub inside : IsFoundFrom from parts.len answer
-  pub right : (xs : List ℕ) → HoldsOnes xs parts → IsNext (bits_of xs parts) one from answer
+pub record FindsNext (one : Bool) (from n : ℕ) (holds : List ℕ → Type 0) (answer : Answer ℕ) : Type 0 where
+  pub inside : IsFoundFrom from n answer
+  pub right : (xs : List ℕ) → holds xs → IsNext (bits_at n 0 xs) one from answer
 
-pub record IsPreviousIn (one : Bool) (from : ℕ) (parts : SparseParts) (answer : Answer ℕ) : Type 0 where
-  pub inside : IsFoundFrom 0 (min (from + 1) parts.len) answer
-  pub right : (xs : List ℕ) → HoldsOnes xs parts → IsPrevious (bits_of xs parts) one from answer
+abbrev pub IsNextIn : Bool → ℕ → SparseParts → Answer ℕ → Type 0
+IsNextIn one from parts = FindsNext one from parts.len (λ xs. HoldsOnes xs parts)
+
+pub record FindsPrevious (one : Bool) (from n : ℕ) (holds : List ℕ → Type 0) (answer : Answer ℕ) : Type 0 where
+  pub inside : IsFoundFrom 0 (min (from + 1) n) answer
+  pub right : (xs : List ℕ) → holds xs → IsPrevious (bits_at n 0 xs) one from answer
+
+abbrev pub IsPreviousIn : Bool → ℕ → SparseParts → Answer ℕ → Type 0
+IsPreviousIn one from parts = FindsPrevious one from parts.len (λ xs. HoldsOnes xs parts)
 
 -- the answer to a query of a list
+abbrev pub Finds : Query → ℕ → ℕ → (List ℕ → Type 0) → Answer ℕ → Type 0
+Finds Bit = FindsBit
+Finds (Rank one) = FindsRank one
+Finds (Select one) = FindsSelect one
+
 abbrev pub Responds : Query → ℕ → SparseParts → Answer ℕ → Type 0
-Responds Bit = IsBit
-Responds (Rank one) = IsRankIn one
-Responds (Select one) = IsSelectIn one
+Responds query number parts = Finds query number parts.len (λ xs. HoldsOnes xs parts)
 
 -- the status, and the number before and after the call
 abbrev pub BitAnswered : Sparse → ℕ → ℕ → ℕ → ℕ → Type 0

@@ -1,5 +1,5 @@
 -- What parts claim of how many numbers are less than a value, whatever they hold.
-use Rattle.std.specs.Prelude.{◌≡◌, ⊤, ℕ, ◌+◌, ◌-◌, ◌/◌, ◌%◌, ◌^◌, ◌<◌, ◌≤◌, ◌⊎◌, false, length}
+use Rattle.std.specs.Prelude.{◌≡◌, ⊤, ℕ, ◌+◌, ◌-◌, ◌/◌, ◌%◌, ◌^◌, ◌<◌, ◌≤◌, ◌⊎◌, false, List, length}
 use Rattle.bit_lists.specs.Bits.{item}
 use Rattle.bitm_tables.specs.Tables.{Lists, bits_in}
 use Rattle.bitm_tables.specs.Entry.{less}
@@ -35,20 +35,28 @@ pub record PartsAt (lows : ℕ → ℕ) (width first end rest p : ℕ) : Type 0 
   pub less : first < p → lows (p - 1) < rest
   pub at_least : p < end → rest ≤ lows p
 
--- the parts claim that p of their numbers are less than v: the words, where the numbers with the high bits of v start
+-- four parts claim that p of their numbers are less than v: the words, where the numbers with the high bits of v start
 -- and end, and the low bits, where these part
-pub record TellsLess (parts : LentParts) (v p : ℕ) : Type 0 where
+pub record ClaimLess (len width : ℕ) (low : List ℕ) (upper : Lists) (v p : ℕ) : Type 0 where
   pub first : ℕ
   pub end : ℕ
-  pub begins : TellsBelow parts.upper parts.len (v / 2 ^ parts.width) first
-  pub ends : 0 < parts.width → TellsTo parts.upper parts.len (v / 2 ^ parts.width) end
-  pub within : end ≤ parts.len
-  pub parting : PartsAt (fragment (unread parts.low parts.width)) parts.width first end (v % 2 ^ parts.width) p
+  pub begins : TellsBelow upper len (v / 2 ^ width) first
+  pub ends : 0 < width → TellsTo upper len (v / 2 ^ width) end
+  pub within : end ≤ len
+  pub parting : PartsAt (fragment (unread low width)) width first end (v % 2 ^ width) p
 
--- the parts claim that p of their numbers are at most v: all, where v is the greatest number of 64 bits
-pub record TellsAtMost (parts : LentParts) (v p : ℕ) : Type 0 where
-  pub next : v + 1 < 2 ^ 64 → TellsLess parts (v + 1) p
-  pub greatest : 2 ^ 64 ≤ v + 1 → p ≡ parts.len
+-- the parts claim it, whatever samples they have
+abbrev pub TellsLess : LentParts → ℕ → ℕ → Type 0
+TellsLess parts = ClaimLess parts.len parts.width parts.low parts.upper
+
+-- four parts claim that p of their numbers are at most v: all, where v is the greatest number of 64 bits
+pub record ClaimAtMost (len width : ℕ) (low : List ℕ) (upper : Lists) (v p : ℕ) : Type 0 where
+  pub next : v + 1 < 2 ^ 64 → ClaimLess len width low upper (v + 1) p
+  pub greatest : 2 ^ 64 ≤ v + 1 → p ≡ len
+
+-- the parts claim it, whatever samples they have
+abbrev pub TellsAtMost : LentParts → ℕ → ℕ → Type 0
+TellsAtMost parts = ClaimAtMost parts.len parts.width parts.low parts.upper
 
 -- P of the index that is found, and of n where the answer is Absent
 abbrev pub IfPlace : ℕ → Answer ℕ → (ℕ → Type 0) → Type 0

@@ -3,8 +3,8 @@ use Rattle.std.specs.Prelude.{◌≡◌, ◌≢◌, ⊤, ℕ, ◌+◌, ◌-◌, 
 use Rattle.bitm_select.specs.Answers.{SelectTold}
 use Rattle.bitm_tables.specs.Tables.{Lists}
 use Rattle.elias_fano.specs.Sequence.{Reaches}
-use Rattle.elias_fano.specs.Told.{TellsLess}
-use Rattle.elias_fano.specs.LentParts.{LentParts, Holds}
+use Rattle.elias_fano.specs.Told.{ClaimLess}
+use Rattle.elias_fano.specs.LentParts.{ArePartsWithTables, LentParts}
 use Rattle.elias_fano_view.specs.declared.lists.ListAnswer.{ListAnswer}
 use Rattle.elias_fano_view.specs.declared.lists.ListAnswer.TheVariants.{All, AbsentAt, WrongAt, WrongLength}
 
@@ -30,13 +30,19 @@ AreAhead upper places k end ones =
     (j : ℕ) → k ≤ j → j < end → j < length places → SelectTold true upper (slice_index places j) (slice_index ones (j % 16))
 
 -- the bucket of v is the items with its high bits: n codes the 0 bit after it, or the 0 bit before it where less is 1
+abbrev pub CodesZero : Lists → ℕ → ℕ → ℕ → ℕ → Type 0
+CodesZero upper width less v = SelectTold false upper (v / 2 ^ width - less)
+
 abbrev pub ZeroTold : LentParts → ℕ → ℕ → ℕ → Type 0
-ZeroTold parts less v n = SelectTold false parts.upper (v / 2 ^ parts.width - less) n
+ZeroTold parts = CodesZero parts.upper parts.width
 
 -- begin and end code the 0 bits at the ends of the bucket of v, the latter only where there are low bits
-pub record EndsTold (parts : LentParts) (v begin end : ℕ) : Type 0 where
-  pub begins : ZeroTold parts 1 v begin
-  pub ends : 0 < parts.width → ZeroTold parts 0 v end
+pub record CodeEnds (upper : Lists) (width v begin end : ℕ) : Type 0 where
+  pub begins : CodesZero upper width 1 v begin
+  pub ends : 0 < width → CodesZero upper width 0 v end
+
+abbrev pub EndsTold : LentParts → ℕ → ℕ → ℕ → Type 0
+EndsTold parts = CodeEnds parts.upper parts.width
 
 -- for the values of the list from value k on and before value end, sixteen numbers code those 0 bits
 abbrev pub AreZerosAhead : LentParts → ℕ → List ℕ → ℕ → ℕ → List ℕ → Type 0
@@ -66,13 +72,17 @@ IsKeptFrom n old new = (length new ≡ length old) × ((j : ℕ) → n ≤ j →
 abbrev pub IsAllLess : List ℕ → ℕ → Type 0
 IsAllLess xs v = (j : ℕ) → j < length xs → slice_index xs j < v
 
--- n codes the successor of v, the least index whose number is at least v: whatever the parts hold, below 2^64 - 2 it is
+-- n codes the successor of v, the least index whose number is at least v: whatever four parts hold, below 2^64 - 2 it is
 -- an index; where they are those of a sequence, it is the right index, or 2^64 - 1 exactly where each number is less.
 -- Whatever they hold, they claim that all numbers before that index are less, or all numbers where it is 2^64 - 1
-pub record PlaceTold (parts : LentParts) (v n : ℕ) : Type 0 where
-  pub place : n < 2 ^ 64 - 2 → n < parts.len
-  pub before : n < 2 ^ 64 - 2 → TellsLess parts v n
-  pub absent : n ≡ 2 ^ 64 - 1 → TellsLess parts v parts.len
-  pub told : (xs : List ℕ) → Holds xs parts → (n < 2 ^ 64 - 2) ⊎ (n ≡ 2 ^ 64 - 1)
-  pub right : (xs : List ℕ) → Holds xs parts → n < 2 ^ 64 - 2 → Reaches xs v n
-  pub none : (xs : List ℕ) → Holds xs parts → n ≡ 2 ^ 64 - 1 → IsAllLess xs v
+pub record CodesPlace (len width : ℕ) (low : List ℕ) (upper : Lists) (v n : ℕ) : Type 0 where
+  pub place : n < 2 ^ 64 - 2 → n < len
+  pub before : n < 2 ^ 64 - 2 → ClaimLess len width low upper v n
+  pub absent : n ≡ 2 ^ 64 - 1 → ClaimLess len width low upper v len
+  pub told : (xs : List ℕ) → ArePartsWithTables xs len width low upper → (n < 2 ^ 64 - 2) ⊎ (n ≡ 2 ^ 64 - 1)
+  pub right : (xs : List ℕ) → ArePartsWithTables xs len width low upper → n < 2 ^ 64 - 2 → Reaches xs v n
+  pub none : (xs : List ℕ) → ArePartsWithTables xs len width low upper → n ≡ 2 ^ 64 - 1 → IsAllLess xs v
+
+-- the successor in the parts, whatever samples they have
+abbrev pub PlaceTold : LentParts → ℕ → ℕ → Type 0
+PlaceTold parts = CodesPlace parts.len parts.width parts.low parts.upper

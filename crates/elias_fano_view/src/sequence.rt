@@ -11,6 +11,7 @@ ghost use Rattle.elias_fano.specs.LentParts.{parts_of, parts_with, AreParts, Has
 ghost use Rattle.elias_fano_view.specs.Lists.{AreAhead, AreZerosAhead, EndsTold, ZeroTold};
 ghost use Rattle.elias_fano.specs.Low.{unread, ReadsFragments};
 ghost use Rattle.elias_fano.specs.Told.{IfPlace, TellsLess};
+ghost use Rattle.lent_tables.specs.Samples.{sampled};
 
 mod finding;
 mod items;
@@ -47,12 +48,12 @@ fn item_of(low: &mut LowDigits<'_>, n: usize, place: usize, one: usize) -> Answe
 
 /// The borrowed parts of a sequence, whose lengths are right.
 ///
-/// Contracts see the number of numbers, the number of low bits of each, and the lists. The lists may hold anything:
-/// each call says what it answers where they are the parts of a sequence, and what it answers otherwise. A view keeps
-/// the number of low bits and not the largest number, from which each call would have to compute it by a division.
+/// Contracts see the number of numbers, the number of low bits of each, the lists, and the samples. The lists may hold
+/// anything: each call says what it answers where they are the parts of a sequence, and what it answers otherwise. A
+/// view keeps the number of low bits and not the largest number, from which each call would have to compute it by a
+/// division.
 ///
-/// A view may have samples of the high bits, by which it selects. Contracts do not see them, since they never change an
-/// answer, whatever they hold.
+/// A view may have samples of the high bits, by which it selects. They never change an answer, whatever they hold.
 #[derive(Drop)]
 pub struct LentSequence<'a> {
     len: usize,
@@ -65,10 +66,18 @@ pub struct LentSequence<'a> {
 
 impl<'a> Model for LentSequence<'a> {
     ghost use Rattle.elias_fano.specs.LentParts.{parts_of, HasLengths, LentParts};
+    ghost use Rattle.lent_tables.specs.Samples.{sampled};
 
     ghost Value = { LentParts };
 
-    ghost view = { λ s. parts_of s.len s.width s.low.now s.upper };
+    ghost view = { λ s. record {
+      len = s.len;
+      width = s.width;
+      low = s.low.now;
+      upper = s.upper;
+      ones = sampled s.ones;
+      zeros = sampled s.zeros;
+    } };
 
     ghost invariant = { λ s. HasLengths (parts_of s.len s.width s.low.now s.upper) };
 }
@@ -76,7 +85,7 @@ impl<'a> Model for LentSequence<'a> {
 impl<'a> LentSequence<'a> {
     /// Borrows the parts of `len` numbers: `width` low bits of each in `low`, and the words of the high bits with their
     /// tables in `upper`. `None` exactly where there are 2^56 numbers or more, more than 63 low bits of each, or where
-    /// `low` is not as long as the low bits need.
+    /// `low` is not as long as the low bits need. The sequence has no samples.
     #[inline(always)]
     pub fn over(len: usize, width: u8, low: &'a [u64], upper: Lent<'a>) -> Option<LentSequence<'a>>
         ensures { SomeIff result (HasLengths (parts_of len width low.now upper.entry))
@@ -111,7 +120,9 @@ impl<'a> LentSequence<'a> {
     /// ```
     #[inline(always)]
     pub fn with_samples(self, ones: LentSamples<'a>, zeros: LentSamples<'a>) -> LentSequence<'a>
-        ensures { result ≡ self.entry }
+        ensures parts { result ≡ record self.entry { ones = result.ones; zeros = result.zeros } }
+        ensures ones { result.ones ≡ sampled ones.entry }
+        ensures zeros { result.zeros ≡ sampled zeros.entry }
     {
         let LentSequence {
             len,

@@ -4,8 +4,7 @@ use Rattle.std.proofs.Math.Nat.{div-le_self}
 use Rattle.std.specs.Int.{div_ceil}
 use Rattle.std.specs.List.{All}
 use Rattle.bit_lists.proofs.BitLaws.{digits_bound_powers}
-use Rattle.bitm_tables.specs.Tables.{Lists}
-use Rattle.elias_fano.specs.LentParts.{parts_of, HasLengths}
+use Rattle.elias_fano.specs.LentParts.{HaveLengths}
 use Rattle.elias_fano.specs.Parts.{width_of, ArePartsOf}
 use Rattle.elias_fano.specs.Sequence.{largest}
 
@@ -18,8 +17,8 @@ width_small xs small =
     let quotient : largest xs / length xs < 2 ^ 64 = omega (arith, largest_small xs small, div-le_self (largest xs) (length xs)) in
     omega (arith, (digits_bound_powers (largest xs / length xs) 64).1 quotient)
 
-pub has_lengths : (xs : List ℕ) (n w : ℕ) (low : List ℕ) (lists : Lists) → ArePartsOf xs n w low lists.words → HasLengths (parts_of n w low lists)
-has_lengths xs n w low lists h = record {
+pub has_lengths : (xs : List ℕ) (n w : ℕ) (low words : List ℕ) → ArePartsOf xs n w low words → HaveLengths n w low
+has_lengths xs n w low words h = record {
   short = omega (arith, h.count, h.sequence.short);
   width = omega (arith, h.width, width_small xs h.sequence.small);
   low = h.low_is.words ∙ ap (λ (k : ℕ). div_ceil (k * w) 64) (sym h.count);

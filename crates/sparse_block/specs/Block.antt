@@ -14,10 +14,14 @@ pub record SparseParts : Type 0 where
 abbrev pub parts_of : LentParts → ℕ → SparseParts
 parts_of positions n = record { positions = positions; len = n }
 
--- the parts are those of n bits whose 1 bits are at the positions xs, with n as they say
-pub record HoldsOnes (xs : List ℕ) (v : SparseParts) : Type 0 where
-  pub holds : Holds xs v.positions
-  pub places : ArePlaces v.len 0 xs
+-- the positions xs are held, and are those of the 1 bits of n bits
+pub record ArePlacesHeld (xs : List ℕ) (held : Type 0) (n : ℕ) : Type 0 where
+  pub holds : held
+  pub places : ArePlaces n 0 xs
+
+-- the parts are those of n bits whose 1 bits are at the positions xs, with n as they say, whatever samples they have
+abbrev pub HoldsOnes : List ℕ → SparseParts → Type 0
+HoldsOnes xs v = ArePlacesHeld xs (Holds xs v.positions) v.len
 
 -- the bits whose 1 bits are at these positions
 abbrev pub bits_of : List ℕ → SparseParts → List Bool

@@ -1,5 +1,5 @@
 -- The items that the two vectors hold are those of the sequence.
-use Rattle.std.proofs.Common.{◌≡◌, ℕ, ◌+◌, ◌-◌, ◌*◌, ◌/◌, ◌^◌, ◌<◌, ◌≤◌, true, List, [], length, get_or, sym, refl, ap, ◌∙◌, arith, subst}
+use Rattle.std.proofs.Common.{◌≡◌, ℕ, ◌+◌, ◌-◌, ◌*◌, ◌/◌, ◌^◌, ◌<◌, ◌≤◌, true, List, length, get_or, sym, refl, ap, ◌∙◌, arith, subst}
 use Rattle.std.proofs.lemmas.Grind.{same_number_lists}
 use Rattle.std.proofs.lemmas.List.FromFn.{length-map-range_with_len, get_or-map-range_with_len}
 use Rattle.std.proofs.lemmas.Nat.{div-add-mod'}
@@ -8,8 +8,7 @@ use Rattle.bit_lists.proofs.BitLaws.{no_items_are_zero}
 use Rattle.bit_lists.specs.Bits.{bits_of, IsShort}
 use Rattle.bit_lists.specs.Count.{places, Picks}
 use Rattle.bit_lists.specs.Number.{number_at}
-use Rattle.bitm_tables.specs.Tables.{Lists}
-use Rattle.elias_fano.specs.LentParts.{parts_of, HasLengths}
+use Rattle.elias_fano.specs.LentParts.{HaveLengths}
 use Rattle.elias_fano.specs.Low.{unread, HasFragments, Lows}
 use Rattle.elias_fano.specs.Parts.{upper_place, IsLow, ArePartsOf, HasFragment, HasOneAt, items_of}
 use Rattle.elias_fano.specs.Sequence.{largest}
@@ -67,8 +66,8 @@ module _ (xs : List ℕ) (n l : ℕ) (low upper : List ℕ) (h : ArePartsOf xs n
   upper-short = omega (arith, h.upper_is.words, upper_few_at xs l (largest xs) h.width refl, h.sequence.short)
 
   -- and their lengths are those of parts
-  pub parts-lengths : (lists : Lists) → HasLengths (parts_of n l low lists)
-  parts-lengths lists = record {
+  pub parts-lengths : HaveLengths n l low
+  parts-lengths = record {
     short = omega (arith, h.count, h.sequence.short);
     width = parts-width;
     low = h.low_is.words ∙ ap (λ k. div_ceil (k * l) 64) (sym h.count);
@@ -78,7 +77,7 @@ module _ (xs : List ℕ) (n l : ℕ) (low upper : List ℕ) (h : ArePartsOf xs n
 pub parts-fragments : (xs : List ℕ) (n : ℕ) (low : Lows) (upper : List ℕ) → ArePartsOf xs n low.width low.words upper
     → HasFragments low n
 parts-fragments xs n low upper h =
-    let h' = parts-lengths xs n low.width low.words upper h record { words = upper; upper = []; lower = [] } in
+    let h' = parts-lengths xs n low.width low.words upper h in
     record { width = h'.width; short = h'.short; inside = omega (arith, h'.low) }
 
 -- the one of an item stands in the parts as they are lent

@@ -44,7 +44,7 @@ returns-else-only_reaches-clause-shared g c = λ xs h.
 -- ---- more
 
 pub first_on-requires-clause-lengths : goal.first_on-requires-clause-lengths
-first_on-requires-clause-lengths g c = parts-lengths _ _ _ _ _ c.requires.parts.1.are _
+first_on-requires-clause-lengths g c = parts-lengths _ _ _ _ _ c.requires.parts.1.are
 
 pub first_on-requires-clause-sized : goal.first_on-requires-clause-sized
 first_on-requires-clause-sized g c =

@@ -4,7 +4,7 @@ use Rattle.elias_fano.proofs.counted.item_on.Goals as goal
 
 pub total_item_on-requires-clause-lengths : goal.total_item_on-requires-clause-lengths
 total_item_on-requires-clause-lengths g c =
-    parts-lengths _ _ _ _ _ c.requires.parts.1.are _
+    parts-lengths _ _ _ _ _ c.requires.parts.1.are
 
 pub total_item_on-requires-clause-sized : goal.total_item_on-requires-clause-sized
 total_item_on-requires-clause-sized g c =

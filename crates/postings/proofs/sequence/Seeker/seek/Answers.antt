@@ -12,7 +12,7 @@ use Rattle.postings.proofs.sequence.Seeker.seek.Goals as goal
 pub total_next_on-requires-clause-lengths : goal.total_next_on-requires-clause-lengths
 total_next_on-requires-clause-lengths c =
     let s = c.self.inside in
-    has_lengths (items_of s.len s.low.width s.low.words s.source.lists.words) s.len s.low.width s.low.words s.source.lists c.self.invariant.parts.are
+    has_lengths (items_of s.len s.low.width s.low.words s.source.lists.words) s.len s.low.width s.low.words s.source.lists.words c.self.invariant.parts.are
 
 pub unreachable-requires : goal.unreachable-requires
 unreachable-requires c =
