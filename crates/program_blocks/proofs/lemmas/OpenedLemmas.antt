@@ -1,5 +1,5 @@
 -- What is known of a block that was opened, or was not.
-use Rattle.std.proofs.Common.{◌≡◌, List, ℕ, Bool, Option, None, Some, Result, Ok, Err, subst, SomeIff, IsSomeAnd, IfOk}
+use Rattle.std.proofs.Common.{◌≡◌, List, ℕ, Bool, Option, None, Some, Result, Ok, Err, sym, subst, SomeIff, IfSome, IsSomeAnd, IfOk}
 use Rattle.program_blocks.specs.Bytes.{words_of_bytes}
 use Rattle.program_blocks.specs.Kind.{kind_in}
 use Rattle.program_blocks.specs.Query.{Told, WroteAnswers, WroteReplies}
@@ -11,6 +11,11 @@ use Rattle.program_blocks.specs.declared.reply.Reply.{Reply}
 pub opened_has : {T : Type 0} (o : Option T) (S : Type 0) (v : T) (P : T → Type 0) → SomeIff o S v → IsSomeAnd o P → S × P v
 opened_has None S v P iff some = absurd some
 opened_has (Some x) S v P iff some = (iff.0, subst P iff.1 some)
+
+-- what the block holds is held by what was opened
+pub opened_holds : {T : Type 0} (o : Option T) (S : Type 0) (v : T) (P : T → Type 0) → SomeIff o S v → P v → IfSome o P
+opened_holds None S v P iff has = tt
+opened_holds (Some x) S v P iff has = subst P (sym iff.1) has
 
 -- what was written by an opened structure was written by what the block holds
 pub answers_kept : {E V : Type 0} (r : Result Bool E) (o : Option V) (S : Type 0) (v : V) (R : V → Question → Reply → Type 0) (lines : List (List ℕ))
