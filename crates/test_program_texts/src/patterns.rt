@@ -148,7 +148,7 @@ fn a_changed_block_is_answered_where_its_sums_are_not_looked_at(
     rt: HostRuntime,
 ) -> Result<(), Fail> {
     let mut file = built(&rt, b"mississippi".as_slice())?;
-    let last = file.len() - 1;
+    let last = file.len().saturating_sub(1);
     flip(file.as_mut_slice(), last);
     let mut out = Vec::new(rt.alloc());
     let pattern = [b"ss".as_slice()];
