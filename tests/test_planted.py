@@ -122,7 +122,7 @@ PLANTS = {
     "a skip for any reason": (
         "ran", "tests/skips.txt", "prose | misspellings | no codespell", "prose | * | *", "tests/skips.txt has a reason that any"),
     "a mutant that is gone, and its number": (
-        "ran", "crates/elias_fano/mutants.txt", "thorough: ", "", "crates/elias_fano/mutants.txt: 67 where"),
+        "ran", "crates/elias_fano/mutants.txt", "thorough: ", "", "crates/elias_fano/mutants.txt: "),
     "a program that must not compile": (
         "ran", "bindings/cpp/refused.cpp", "#elif CASE == 84", "#elif 84", "bindings/cpp/refused.cpp: 106 where"),
     "a version in one place": (
@@ -169,7 +169,7 @@ PLANTS = {
         "documents", "crates/bitm/CALLING.md", "rank_on(&mut probe, place)", "rank_on(&mut probe, place + 1)",
         "crates/bitm/CALLING.md: its first caller is not of"),
     "the crates below one": (
-        "documents", "docs/ARCHITECTURE.md", "over the index | `bitm`, ", "over the index | ",
+        "documents", "docs/ARCHITECTURE.md", "(Elias-Fano), over the index | `lent_tables`, ", "(Elias-Fano), over the index | ",
         "docs/ARCHITECTURE.md: elias_fano lists"),
     "how many exports there are": (
         "documents", "crates/bitm_c/README.md", "202 exports", "201 exports", "crates/bitm_c/README.md does not say:"),
