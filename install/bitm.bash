@@ -7,11 +7,16 @@ _bitm() {
         build) offered="bits sparse sequence matrix tree" ;;
         text) offered="build count locate lines --help" ;;
         strings) offered="build find --help" ;;
-        "text count" | "text locate" | "text lines") offered="-f --no-check" ;;
-        query | check | info | "strings find" | "text count "* | "text locate "* | "text lines "*)
-            mapfile -t COMPREPLY < <(compgen -f -- "$word")
-            compopt -o filenames 2> /dev/null || :
-            return
+        "text count" | "text locate" | "text lines") offered="-f --json --no-check" ;;
+        query | check | info | "strings find" | "query "* | "check "* | "info "* | "strings find "* | \
+            "text count "* | "text locate "* | "text lines "*)
+            if [[ $word == -* ]]; then
+                offered="--json"
+            else
+                mapfile -t COMPREPLY < <(compgen -f -- "$word")
+                compopt -o filenames 2> /dev/null || :
+                return
+            fi
             ;;
     esac
     mapfile -t COMPREPLY < <(compgen -W "$offered" -- "$word")

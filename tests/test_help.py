@@ -8,7 +8,7 @@ from checks import TOP, read
 from programs import built, room
 
 PROGRAM = built("program_bitm")
-USAGE = "usage: bitm build KIND | bitm query BLOCK"
+USAGE = "usage: bitm build KIND | bitm query [--json] BLOCK"
 # The commands, as that page lists them.
 PART = read("docs/PROGRAM.md").split("\n## The program `bitm`\n")[1]
 SHOWN = re.findall(r"^    (bitm [a-z].*)$", PART.partition("`build` and `query`")[0], re.M)
@@ -38,6 +38,7 @@ SAYS = {
     "bitm text lines -f words.txt book.block": "1\n2\n3\n",
     "bitm strings build < names.txt > names.block": "",
     "echo ada | bitm strings find names.block": "1\n",
+    "bitm info --json sevens.block": r'\{"kind":"bits","len":995,"width":0,"bytes":\d+,"bits_per_item":\d+\.\d\d\}\n',
     "bitm query --help": r"bitm query BLOCK(?s:.*)",
     "bitm --help": r"bitm builds(?s:.*)",
     "bitm --version": r"bitm \d+\.\d+\.\d+\n",

@@ -2,6 +2,9 @@
 //! answers questions to them (`docs/PROGRAM.md`).
 #![tactic(auto)]
 
+mod process;
+
+use crate::process::Process;
 use program_help::topic_in;
 use program_runs::CANNOT_READ;
 use std::env::Env;
@@ -29,17 +32,21 @@ fn run<W: Write>(rt: &HostRuntime, args: &[String], out: &mut W) -> u8 {
     if let Some(topic) = topic_in(args) {
         return program_help::start(topic, out, &mut rt.stderr());
     }
-    match args.split_first() {
-        Some((word, rest)) if word.as_str() == "text" => {
-            program_texts::start(rt, rest, out, &mut rt.stderr())
-        }
-        Some((word, rest)) if word.as_str() == "strings" => {
-            program_strings::start(rt, rest, out, &mut rt.stderr())
-        }
-        Some((word, _)) if word.as_str() == "check" || word.as_str() == "info" => {
-            program_kinds::start(rt, args, out, &mut rt.stderr())
-        }
-        _ => program_blocks::start(rt, args, out, &mut rt.stderr()),
+    let (word, rest) = match args.split_first() {
+        Some((word, rest)) => (word.as_str(), rest),
+        None => ("", args),
+    };
+    let walks = word == "check" || word == "info";
+    let process = Process { rt, walks };
+    let err = &mut rt.stderr();
+    if walks {
+        program_kinds::start(&process, args, out, err)
+    } else if word == "text" {
+        program_texts::start(&process, rest, out, err)
+    } else if word == "strings" {
+        program_strings::start(&process, rest, out, err)
+    } else {
+        program_blocks::start(&process, args, out, err)
     }
 }
 

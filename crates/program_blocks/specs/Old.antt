@@ -8,6 +8,7 @@ use Rattle.bitm_view.specs.Cut.{bits_of_cut, cut_at, Cut, IsWithin}
 use Rattle.elias_fano.specs.LentParts.{parts_of, AreParts, HasLengths, Holds, LentParts}
 use Rattle.lent_tables.specs.Sizes.{lists_of}
 use Rattle.program_text.specs.Text.{lines_of}
+use Rattle.program_runs.specs.declared.form.Form.{Form}
 use Rattle.program_blocks.specs.Bits.{IsBitsReply}
 use Rattle.program_blocks.specs.Bytes.{words_of_bytes}
 use Rattle.program_blocks.specs.Query.{Told, WroteReplies}
@@ -75,25 +76,25 @@ old_head_in file =
     let h = header_in file in record { kind = old_kind_of h.kind; len = h.len; width = h.width }
 
 -- the replies of the bits in a file were written to the lines of a text
-pub record WroteOldBits (file text : List ℕ) (before after : Option (List ℕ)) (good : Bool) : Type 0 where
+pub record WroteOldBits (form : Form) (file text : List ℕ) (before after : Option (List ℕ)) (good : Bool) : Type 0 where
   pub fits : IsOldBits file
-  pub wrote : WroteReplies (IsBitsReply (bits_of_cut (old_bits_in file))) (lines_of text) before after good
+  pub wrote : WroteReplies form (IsBitsReply (bits_of_cut (old_bits_in file))) (lines_of text) before after good
 
 -- what a sequence in a file answers to a question
 abbrev pub IsOldReply : List ℕ → Question → Reply → Type 0
 IsOldReply file question reply = (xs : List ℕ) → Holds xs (old_sequence_in file) → IsSequenceReply xs question reply
 
 -- the replies of the sequence in a file were written to the lines of a text
-pub record WroteOldSequence (file text : List ℕ) (before after : Option (List ℕ)) (good : Bool) : Type 0 where
+pub record WroteOldSequence (form : Form) (file text : List ℕ) (before after : Option (List ℕ)) (good : Bool) : Type 0 where
   pub fits : IsOldSequence file
-  pub wrote : WroteReplies (IsOldReply file) (lines_of text) before after good
+  pub wrote : WroteReplies form (IsOldReply file) (lines_of text) before after good
 
 -- the bytes are those of a file of version 2, and the replies of what it holds were written
-pub record ToldOld (bytes text : List ℕ) (before after : Option (List ℕ)) (good : Bool) : Type 0 where
+pub record ToldOld (form : Form) (bytes text : List ℕ) (before after : Option (List ℕ)) (good : Bool) : Type 0 where
   pub file : List ℕ
   pub words : words_of_bytes bytes ≡ Some file
-  pub wrote : WroteOldBits file text before after good ⊎ WroteOldSequence file text before after good
+  pub wrote : WroteOldBits form file text before after good ⊎ WroteOldSequence form file text before after good
 
 -- the replies of what a file of either version holds were written
-abbrev pub ToldOfFile : List ℕ → List ℕ → Option (List ℕ) → Option (List ℕ) → Bool → Type 0
-ToldOfFile bytes text before after good = Told bytes text before after good ⊎ ToldOld bytes text before after good
+abbrev pub ToldOfFile : Form → List ℕ → List ℕ → Option (List ℕ) → Option (List ℕ) → Bool → Type 0
+ToldOfFile form bytes text before after good = Told form bytes text before after good ⊎ ToldOld form bytes text before after good

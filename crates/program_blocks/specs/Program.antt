@@ -12,8 +12,8 @@ use Rattle.program_blocks.specs.declared.command.Command.TheVariants.{Build, Que
 abbrev pub IsDone : Known → Command → List ℕ → Option (List ℕ) → Option (List ℕ) → Bool → Type 0
 IsDone known (Build kind) operand before after good =
     (text : List ℕ) × IsKnownAs known.input text × WroteBlock kind text before after × (good ≡ true)
-IsDone known Query path before after good =
-    (bytes : List ℕ) × (text : List ℕ) × IsKnownAs (known.files path) bytes × IsKnownAs known.input text × ToldOfFile bytes text before after good
+IsDone known (Query form) path before after good =
+    (bytes : List ℕ) × (text : List ℕ) × IsKnownAs (known.files path) bytes × IsKnownAs known.input text × ToldOfFile form bytes text before after good
 
 -- the same as one fact
 pub record Did (known : Known) (command : Command) (operand : List ℕ) (before after : Option (List ℕ)) (good : Bool) : Type 0 where

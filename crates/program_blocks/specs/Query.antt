@@ -11,11 +11,12 @@ use Rattle.matrix_block.specs.Block.{items_in, matrix_in}
 use Rattle.sequence_block.specs.Block.{sequence_in}
 use Rattle.sparse_block.specs.Block as sparse
 use Rattle.program_text.specs.Text.{lines_of}
+use Rattle.program_runs.specs.declared.form.Form.{Form}
 use Rattle.program_blocks.specs.Bits.{IsBitsReply}
 use Rattle.program_blocks.specs.Bytes.{words_of_bytes}
 use Rattle.program_blocks.specs.Matrix.{IsNumbersReply}
 use Rattle.program_blocks.specs.Question.{question_of}
-use Rattle.program_blocks.specs.Reply.{is_good, reply_text, text_of}
+use Rattle.program_blocks.specs.Reply.{is_good, reply_in, text_of}
 use Rattle.program_blocks.specs.Sequence.{IsSequenceReply}
 use Rattle.program_blocks.specs.Sound.{IsSound}
 use Rattle.program_blocks.specs.Tree.{IsTreeReply}
@@ -48,26 +49,26 @@ AreReplies R (line ∷ lines) [] = ⊥
 
 -- a reply to a line was written: the writer's bytes, where the writer shows them, went from before to after by just it
 -- and a line feed, and good says that the line was a question
-pub record WroteReply (R : Question → Reply → Type 0) (line : List ℕ) (before after : Option (List ℕ)) (good : Bool) : Type 0 where
+pub record WroteReply (form : Form) (R : Question → Reply → Type 0) (line : List ℕ) (before after : Option (List ℕ)) (good : Bool) : Type 0 where
   pub reply : Reply
   pub answers : IsReplyTo R (question_of line) reply
-  pub written : Appends before after (reply_text reply ++ 10 ∷ [])
+  pub written : Appends before after (reply_in form reply ++ 10 ∷ [])
   pub told : good ≡ is_good reply
 
 -- the replies to these lines were written, and good says that each line was a question
-pub record WroteReplies (R : Question → Reply → Type 0) (lines : List (List ℕ)) (before after : Option (List ℕ)) (good : Bool) : Type 0 where
+pub record WroteReplies (form : Form) (R : Question → Reply → Type 0) (lines : List (List ℕ)) (before after : Option (List ℕ)) (good : Bool) : Type 0 where
   pub replies : List Reply
   pub answers : AreReplies R lines replies
-  pub written : Appends before after (text_of replies)
+  pub written : Appends before after (text_of form replies)
   pub told : good ≡ list_all is_good replies
 
 -- the replies of what a block of the kind holds were written to the lines of a text
-abbrev pub WroteAnswers : Kind → List ℕ → List ℕ → Option (List ℕ) → Option (List ℕ) → Bool → Type 0
-WroteAnswers kind block text before after good = WroteReplies (IsReplyIn kind block) (lines_of text) before after good
+abbrev pub WroteAnswers : Form → Kind → List ℕ → List ℕ → Option (List ℕ) → Option (List ℕ) → Bool → Type 0
+WroteAnswers form kind block text before after good = WroteReplies form (IsReplyIn kind block) (lines_of text) before after good
 
 -- the bytes are those of a block that is as it was written, and that was written of it
-pub record Told (bytes text : List ℕ) (before after : Option (List ℕ)) (good : Bool) : Type 0 where
+pub record Told (form : Form) (bytes text : List ℕ) (before after : Option (List ℕ)) (good : Bool) : Type 0 where
   pub block : List ℕ
   pub words : words_of_bytes bytes ≡ Some block
   pub sound : IsSound block
-  pub wrote : WroteAnswers sound.kind block text before after good
+  pub wrote : WroteAnswers form sound.kind block text before after good

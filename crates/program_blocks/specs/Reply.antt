@@ -1,9 +1,11 @@
--- The text of each reply, and what it answers.
+-- The text of each reply, its JSON, and what it answers.
 use Rattle.std.specs.Prelude.{ℕ, List, [], ◌∷◌, ◌++◌, codes, Bool, true, false, if◌then◌else◌}
 use Rattle.std.specs.Fmt.{decimal}
 use Rattle.std.specs.List.{flat_map}
 use Rattle.bitm.specs.Answer as answer
 use Rattle.bitm.specs.Answer.TheVariants as answers
+use Rattle.program_runs.specs.declared.form.Form.{Form}
+use Rattle.program_runs.specs.declared.form.Form.TheVariants.{Text, Json}
 use Rattle.program_blocks.specs.declared.reply.Reply.{Reply}
 use Rattle.program_blocks.specs.declared.reply.Reply.TheVariants.{Number, Absent, Wrong, BadQuestion}
 
@@ -13,9 +15,21 @@ reply_text Absent = codes "none"
 reply_text Wrong = codes "wrong block"
 reply_text BadQuestion = codes "bad question"
 
+-- the JSON value of a reply
+abbrev pub reply_json : Reply → List ℕ
+reply_json (Number number) = decimal number
+reply_json Absent = codes "null"
+reply_json Wrong = codes "{\"error\":\"wrong block\"}"
+reply_json BadQuestion = codes "{\"error\":\"bad question\"}"
+
+-- a reply in one of the forms
+abbrev pub reply_in : Form → Reply → List ℕ
+reply_in Text reply = reply_text reply
+reply_in Json reply = reply_json reply
+
 -- the replies, each with a line feed after it
-abbrev pub text_of : List Reply → List ℕ
-text_of replies = flat_map (λ reply. reply_text reply ++ 10 ∷ []) replies
+abbrev pub text_of : Form → List Reply → List ℕ
+text_of form replies = flat_map (λ reply. reply_in form reply ++ 10 ∷ []) replies
 
 abbrev pub is_good : Reply → Bool
 is_good (Number number) = true

@@ -16,17 +16,18 @@ use crate::matrix::open_matrix;
 use crate::old::{open_old_bits, open_old_sequence};
 use crate::queryable::Queryable;
 use crate::question::asked;
-use crate::reply::Reply;
+use crate::reply::{Reply, Written};
 use crate::sequence::open_sequence;
 use crate::sparse::open_sparse;
 use crate::tree::open_tree;
-use program_runs::CannotWrite;
-use program_text::Lines;
+use program_runs::{CannotWrite, Form};
+use program_text::FilledLines;
 use std::alloc::Global;
 use std::io::Write;
 
 /// Writes the answers of a block, or a file of version 2, to the lines of a text, in their order and each with a line
-/// feed, and answers whether each line was a question. Empty lines have no answer.
+/// feed, and answers whether each line was a question. Empty lines have no answer. As JSON an answer is a number,
+/// `null` where there is none, and else an object whose `error` says why.
 ///
 /// # Errors
 /// `Unmarked` and `OtherVersion` exactly where `format_in` refuses the bytes. `WrongBlock` only where they are no block
@@ -34,15 +35,16 @@ use std::io::Write;
 /// (`is_old`). Nothing is written then. `NoMemory` where memory was refused. `CannotWrite` where a write failed.
 ///
 /// ```
-/// query(alloc, bytes, b"get 4\nrank 1 4\n".as_slice(), &mut out);   // Ok(true): out has "5\n2\n"
+/// query(alloc, bytes, b"get 4\nrank 1 4\n".as_slice(), Form::Text, &mut out);   // Ok(true): out has "5\n2\n"
 /// ```
 pub fn query<W: Write>(
     alloc: Global,
     block: &[u8],
     text: &[u8],
+    form: Form,
     out: &mut W,
 ) -> Result<bool, Failure>
-    ensures answers { IfOk result (λ good. ToldOfFile block.now text.now
+    ensures answers { IfOk result (λ good. ToldOfFile form block.now text.now
         (W.contents out.old) (W.contents out.new) good) }
     ensures refused { IfErr (format_in block.now) (λ e. result ≡ Err e) }
     ensures failure { IfOk (format_in block.now) (λ _. IfErr result IsAnswerFailure) }
@@ -51,8 +53,8 @@ pub fn query<W: Write>(
     ensures nothing { IfErr result (λ e. IsRefusal e → out.new ≡ out.old) }
 {
     match format_in(block) {
-        Ok(Format::Block) => query_block(alloc, block, text, out),
-        Ok(Format::Old) => query_old(alloc, block, text, out),
+        Ok(Format::Block) => query_block(alloc, block, text, form, out),
+        Ok(Format::Old) => query_old(alloc, block, text, form, out),
         Err(failure) => Err(failure),
     }
 }
@@ -62,9 +64,10 @@ fn query_block<W: Write>(
     alloc: Global,
     block: &[u8],
     text: &[u8],
+    form: Form,
     out: &mut W,
 ) -> Result<bool, Failure>
-    ensures answers { IfOk result (λ good. Told block.now text.now
+    ensures answers { IfOk result (λ good. Told form block.now text.now
         (W.contents out.old) (W.contents out.new) good) }
     ensures failure { IfErr result IsAnswerFailure }
     ensures wrong { IsErrOf result Failure.WrongBlock → ¬ (IsSoundFile block.now) }
@@ -74,7 +77,7 @@ fn query_block<W: Write>(
         return Err(Failure::WrongBlock);
     };
     match kind_in(words.as_slice()) {
-        Some(kind) => answer_kind(kind, words.as_slice(), text, out),
+        Some(kind) => answer_kind(kind, words.as_slice(), text, form, out),
         None => Err(Failure::WrongBlock),
     }
 }
@@ -84,9 +87,10 @@ fn query_old<W: Write>(
     alloc: Global,
     file: &[u8],
     text: &[u8],
+    form: Form,
     out: &mut W,
 ) -> Result<bool, Failure>
-    ensures answers { IfOk result (λ good. ToldOld file.now text.now
+    ensures answers { IfOk result (λ good. ToldOld form file.now text.now
         (W.contents out.old) (W.contents out.new) good) }
     ensures failure { IfErr result IsAnswerFailure }
     ensures wrong { IsErrOf result Failure.WrongBlock → ¬ (IsOldFile file.now) }
@@ -95,21 +99,21 @@ fn query_old<W: Write>(
     let Some(words) = words_of_bytes(alloc, file)? else {
         return Err(Failure::WrongBlock);
     };
-    answer_old(words.as_slice(), text, out)
+    answer_old(words.as_slice(), text, form, out)
 }
 
 /// Writes what the words of a file of version 2 answer to the lines of a text, and answers whether each was a question.
-fn answer_old<W: Write>(file: &[u64], text: &[u8], out: &mut W) -> Result<bool, Failure>
+fn answer_old<W: Write>(file: &[u64], text: &[u8], form: Form, out: &mut W) -> Result<bool, Failure>
     ensures answers { IfOk result (λ good.
-        WroteOldBits file.now text.now (W.contents out.old) (W.contents out.new) good
-        ⊎ WroteOldSequence file.now text.now (W.contents out.old) (W.contents out.new) good) }
+        WroteOldBits form file.now text.now (W.contents out.old) (W.contents out.new) good
+        ⊎ WroteOldSequence form file.now text.now (W.contents out.old) (W.contents out.new) good) }
     ensures failure { IfErr result IsAnswerFailure }
     ensures wrong { IsErrOf result Failure.WrongBlock → ¬ (IsOld file.now) }
     ensures nothing { IsErrOf result Failure.WrongBlock → out.new ≡ out.old }
 {
     match open_old_bits(file) {
-        Some(bits) => Ok(answer_lines(&bits, text, out)?),
-        None => answer_opened(open_old_sequence(file), text, out),
+        Some(bits) => Ok(answer_lines(&bits, text, form, out)?),
+        None => answer_opened(open_old_sequence(file), text, form, out),
     }
 }
 
@@ -118,21 +122,22 @@ fn answer_kind<W: Write>(
     kind: Kind,
     block: &[u64],
     text: &[u8],
+    form: Form,
     out: &mut W,
 ) -> Result<bool, Failure>
     ensures sound { IfOk result (λ _. IsSoundOf kind block.now) }
-    ensures answers { IfOk result (λ good. WroteAnswers kind block.now text.now
+    ensures answers { IfOk result (λ good. WroteAnswers form kind block.now text.now
         (W.contents out.old) (W.contents out.new) good) }
     ensures failure { IfErr result IsAnswerFailure }
     ensures wrong { IsErrOf result Failure.WrongBlock → ¬ (IsSoundOf kind block.now) }
     ensures nothing { IsErrOf result Failure.WrongBlock → out.new ≡ out.old }
 {
     match kind {
-        Kind::Bits => answer_opened(open_bits(block), text, out),
-        Kind::Sequence => answer_opened(open_sequence(block), text, out),
-        Kind::Sparse => answer_opened(open_sparse(block), text, out),
-        Kind::Matrix => answer_opened(open_matrix(block), text, out),
-        Kind::Tree => answer_opened(open_tree(block), text, out),
+        Kind::Bits => answer_opened(open_bits(block), text, form, out),
+        Kind::Sequence => answer_opened(open_sequence(block), text, form, out),
+        Kind::Sparse => answer_opened(open_sparse(block), text, form, out),
+        Kind::Matrix => answer_opened(open_matrix(block), text, form, out),
+        Kind::Tree => answer_opened(open_tree(block), text, form, out),
     }
 }
 
@@ -140,17 +145,18 @@ fn answer_kind<W: Write>(
 fn answer_opened<Q: Queryable, W: Write>(
     opened: Option<Q>,
     text: &[u8],
+    form: Form,
     out: &mut W,
 ) -> Result<bool, Failure>
     requires { IfSome opened Q.holds }
-    ensures answers { IfOk result (λ good. IsSomeAnd opened (λ view. WroteReplies (Q.replies view)
+    ensures answers { IfOk result (λ good. IsSomeAnd opened (λ view. WroteReplies form (Q.replies view)
         (lines_of text.now) (W.contents out.old) (W.contents out.new) good)) }
     ensures failure { IfErr result IsAnswerFailure }
     ensures wrong { IsErrOf result Failure.WrongBlock → IsNone opened }
     ensures nothing { IsErrOf result Failure.WrongBlock → out.new ≡ out.old }
 {
     match opened {
-        Some(view) => Ok(answer_lines(&view, text, out)?),
+        Some(view) => Ok(answer_lines(&view, text, form, out)?),
         None => Err(Failure::WrongBlock),
     }
 }
@@ -159,15 +165,16 @@ fn answer_opened<Q: Queryable, W: Write>(
 fn answer_lines<Q: Queryable, W: Write>(
     view: &Q,
     text: &[u8],
+    form: Form,
     out: &mut W,
 ) -> Result<bool, CannotWrite>
     requires { Q.holds view.now }
-    ensures { IfOk result (λ good. WroteReplies (Q.replies view.now) (lines_of text.now)
+    ensures { IfOk result (λ good. WroteReplies form (Q.replies view.now) (lines_of text.now)
         (W.contents out.old) (W.contents out.new) good) }
 {
     let mut good = true;
-    for line in Lines::new(text) {
-        good &= answer_line(view, line, out)?;
+    for line in FilledLines::new(text) {
+        good &= answer_line(view, line, form, out)?;
     }
     Ok(good)
 }
@@ -176,16 +183,18 @@ fn answer_lines<Q: Queryable, W: Write>(
 fn answer_line<Q: Queryable, W: Write>(
     view: &Q,
     line: &[u8],
+    form: Form,
     out: &mut W,
 ) -> Result<bool, CannotWrite>
     requires { Q.holds view.now }
-    ensures { IfOk result (WroteReply (Q.replies view.now) line.now
+    ensures { IfOk result (WroteReply form (Q.replies view.now) line.now
         (W.contents out.old) (W.contents out.new)) }
 {
     let reply = match asked(line) {
         Some(question) => view.reply(&question),
         None => Reply::BadQuestion,
     };
-    writeln!(out, "{reply}")?;
+    let written = Written { reply, form };
+    writeln!(out, "{written}")?;
     Ok(reply.is_good())
 }

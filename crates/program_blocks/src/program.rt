@@ -1,5 +1,5 @@
 //! The program without its process: its arguments, the files and the input that it reads, and the statuses and texts.
-ghost use Rattle.std.specs.Prelude.{◌≡◌, ◌≢◌, ◌≤◌, IfOk, IsErr, None, length, map, nat_eq, string_bytes};
+ghost use Rattle.std.specs.Prelude.{◌≡◌, ◌<◌, ◌≤◌, IfOk, IsErr, None, length, map, nat_eq, string_bytes};
 ghost use Rattle.program_blocks.specs.Command as command;
 ghost use Rattle.program_blocks.specs.Program.{Did, DidAsAsked};
 
@@ -8,18 +8,19 @@ use crate::building::build;
 use crate::command::{Command, command_in};
 use crate::failure::Failure;
 use crate::kind::Kind;
-use program_runs::{Sources, Stop, end};
+use program_runs::{Form, Sources, Stop, end};
 use std::io::Write;
 
 /// What is written where the arguments are not those of a command.
-const USAGE: &str = "usage: bitm build KIND | bitm query BLOCK | bitm check BLOCK | bitm info BLOCK
+const USAGE: &str = "usage: bitm build KIND | bitm query [--json] BLOCK | bitm check BLOCK | \
+    bitm info BLOCK
 KIND is bits, sequence, sparse, matrix or tree; bitm text and bitm strings say what they do with a text";
 
-/// Does what the two arguments say, and answers the status that the program ends with.
+/// Does what the arguments say, and answers the status that the program ends with.
 ///
 /// `args` are the arguments without the program's name: `build KIND` reads numbers, and `query BLOCK` questions, from
-/// the standard input. The status is 0 where all went well, and 1 where a line is no question; then the command was
-/// done on the file that is named, and nothing was written to `err`.
+/// the standard input; `query --json BLOCK` writes the answers as JSON. The status is 0 where all went well, and 1 where
+/// a line is no question; then the command was done on the file that is named, and nothing was written to `err`.
 ///
 /// # Errors
 /// The status is 2, and a text goes to `err`, where the arguments are no command, where something can't be read, where
@@ -31,8 +32,8 @@ pub fn start<R: Sources + AllocGlobal, W: Write, E: Write>(
     err: &mut E,
 ) -> u8
     ensures status { result ≤ 2 }
-    ensures usage { length args.now ≢ 2
-        → (result ≡ 2) × (W.contents out.new ≡ W.contents out.old) }
+    ensures few { length args.now < 2 → (result ≡ 2) × (W.contents out.new ≡ W.contents out.old) }
+    ensures many { 3 < length args.now → (result ≡ 2) × (W.contents out.new ≡ W.contents out.old) }
     ensures unknown { command.command_in (map string_bytes args.now) ≡ None
         → (result ≡ 2) × (W.contents out.new ≡ W.contents out.old) }
     ensures did { result ≤ 1 → DidAsAsked (R.known rt.now) (map string_bytes args.now)
@@ -48,7 +49,8 @@ fn run<R: Sources + AllocGlobal, W: Write>(
     args: &[String],
     out: &mut W,
 ) -> Result<bool, Stop<Failure>>
-    ensures usage { length args.now ≢ 2 → IsErr result × (out.new ≡ out.old) }
+    ensures few { length args.now < 2 → IsErr result × (out.new ≡ out.old) }
+    ensures many { 3 < length args.now → IsErr result × (out.new ≡ out.old) }
     ensures unknown { command.command_in (map string_bytes args.now) ≡ None → IsErr result × (out.new ≡ out.old) }
     ensures did { IfOk result (DidAsAsked (R.known rt.now) (map string_bytes args.now)
         (W.contents out.old) (W.contents out.new)) }
@@ -70,7 +72,7 @@ fn perform<R: Sources + AllocGlobal, W: Write>(
 {
     match command {
         Command::Build(kind) => build_input(rt, kind, operand, out),
-        Command::Query => query_file(rt, operand, out),
+        Command::Query(form) => query_file(rt, form, operand, out),
     }
 }
 
@@ -91,12 +93,20 @@ fn build_input<R: Sources + AllocGlobal, W: Write>(
 /// Writes what the block in a file answers to the lines of the standard input.
 fn query_file<R: Sources + AllocGlobal, W: Write>(
     rt: &R,
+    form: Form,
     path: &str,
     out: &mut W,
 ) -> Result<bool, Stop<Failure>>
-    ensures { IfOk result (Did (R.known rt.now) Command.Query path.now (W.contents out.old) (W.contents out.new)) }
+    ensures { IfOk result (Did (R.known rt.now) (Command.Query form) path.now
+        (W.contents out.old) (W.contents out.new)) }
 {
     let block = rt.file(path)?;
     let questions = rt.input()?;
-    Ok(query(rt.alloc(), block.as_slice(), questions.as_slice(), out)?)
+    Ok(query(
+        rt.alloc(),
+        block.as_slice(),
+        questions.as_slice(),
+        form,
+        out,
+    )?)
 }

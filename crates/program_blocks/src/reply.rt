@@ -3,6 +3,7 @@ ghost use Rattle.std.specs.Prelude.{◌≡◌};
 ghost use Rattle.program_blocks.specs.Reply.{answer_of, as_number, reply_text, is_good};
 
 use matrix_block::Answer;
+use program_runs::Form;
 use std::fmt;
 
 /// The answer to a line.
@@ -74,3 +75,34 @@ impl Reply {
         !matches!(self, Reply::BadQuestion)
     }
 }
+
+/// A reply in the form in which it is written.
+#[derive(Clone, Copy)]
+pub(crate) struct Written {
+    /// The reply.
+    pub(crate) reply: Reply,
+    /// Its form.
+    pub(crate) form: Form,
+}
+
+impl fmt::Display for Written {
+    ghost use Rattle.std.specs.Prelude.{Some};
+    ghost use Rattle.program_blocks.specs.Reply.{reply_in};
+
+    ghost output = { λ w. Some (reply_in w.form w.reply) };
+
+    fn fmt<W: fmt::Write>(&self, f: &mut fmt::Formatter<W>) -> fmt::Result {
+        match (self.form, self.reply) {
+            (Form::Json, Reply::Absent) => write!(f, "null"),
+            (Form::Json, Reply::Wrong) => write!(f, "{}", WRONG_JSON),
+            (Form::Json, Reply::BadQuestion) => write!(f, "{}", BAD_QUESTION_JSON),
+            (_, reply) => write!(f, "{reply}"),
+        }
+    }
+}
+
+/// The JSON of a wrong block.
+const WRONG_JSON: &str = "{\"error\":\"wrong block\"}";
+
+/// The JSON of a bad question.
+const BAD_QUESTION_JSON: &str = "{\"error\":\"bad question\"}";

@@ -33,6 +33,8 @@ const ALL: &str = "bitm builds files of numbers, texts and strings, and answers 
     bitm strings build < names.txt > names.block
   bitm strings find BLOCK < LINES            the numbers of lines
     echo ada | bitm strings find names.block
+  bitm info --json BLOCK                     the same as JSON; so query, check, strings find and the questions to a text
+    bitm info --json sevens.block
   bitm COMMAND --help, bitm help COMMAND     more of one of build, query, check, info, text and strings
     bitm query --help
   bitm --help, bitm -h, bitm help            this text
@@ -58,6 +60,7 @@ Reads numbers, one a line, and writes the block that holds them. KIND is one of 
 
 /// What is said of `query`.
 const QUERY: &str = "bitm query BLOCK < QUESTIONS
+bitm query --json BLOCK < QUESTIONS
 
 Reads questions, one a line, and writes the answers of a block of numbers, one a line: none where there is none, and
 bad question where the kind of the block has no such question.
@@ -68,25 +71,29 @@ bad question where the kind of the block has no such question.
   matrix         get INDEX, rank NUMBER COUNT, select NUMBER RANK
   tree           parent NODE, child NODE K, degree NODE, child_rank NODE, next_sibling NODE, previous_sibling NODE
 
-Positions, indices, ranks and nodes are counted from 0. The status is 1 where a line was a bad question.
+Positions, indices, ranks and nodes are counted from 0. The status is 1 where a line was a bad question. With --json
+each line is a JSON value: a number, null where there is none, and {\"error\":\"bad question\"}.
 
   echo 'rank 100' | bitm query sevens.block";
 
 /// What is said of `check`.
 const CHECK: &str = "bitm check BLOCK
+bitm check --json BLOCK
 
 Reads the whole file and writes good where it is a block of the kind that it says, as it was written, and else wrong;
-then the status is 1.
+then the status is 1. With --json it writes true or false.
 
   bitm check sevens.block";
 
 /// What is said of `info`.
 const INFO: &str = "bitm info BLOCK
+bitm info --json BLOCK
 
 Writes the kind of a block, how many items it has, how many bits each of them has, how many bytes the block has, and how
-many bits that is for an item. The whole block is checked first.
+many bits that is for an item, with --json as one JSON object. The whole block is checked first.
 
-  bitm info sevens.block";
+  bitm info sevens.block
+  bitm info --json sevens.block";
 
 /// What is said of the commands after `text`.
 const TEXT: &str = "bitm text build < TEXT > BLOCK
@@ -101,6 +108,7 @@ build writes the index of a text, by which the others answer without the text: a
 PATTERN stand, at which, counted from 0, and in which lines, counted from 1. Matches may overlap. Of the patterns of
 FILE, one a line, count answers one after another, and locate and lines together; FILE may be - for the standard input.
 The status is 1 where no pattern is found. --no-check before the pattern or -f leaves out the checksums of the block.
+Each line that they write is a number, and so a JSON value; --json, before the pattern or -f, changes nothing.
 
   bitm text build < book.txt > book.block
   bitm text count whale book.block
@@ -110,10 +118,11 @@ The status is 1 where no pattern is found. --no-check before the pattern or -f l
 /// What is said of the commands after `strings`.
 const STRINGS: &str = "bitm strings build < LINES > BLOCK
 bitm strings find BLOCK < LINES
+bitm strings find --json BLOCK < LINES
 
 build writes a block in which each line has a number of its own, below how many there are; no two lines may be equal.
-find writes the number of each line that it reads, or none where the block has no such line. The status is 1 where it
-has none of them.
+find writes the number of each line that it reads, or none where the block has no such line, with --json null. The
+status is 1 where it has none of them.
 
   bitm strings build < names.txt > names.block
   echo ada | bitm strings find names.block";

@@ -9,6 +9,8 @@ use Rattle.program_blocks.specs.Kind as kinds
 use Rattle.program_blocks.specs.Old.{old_head_in, IsOld}
 use Rattle.program_blocks.specs.declared.kind.Kind.{Kind as NumberKind}
 use Rattle.program_blocks.specs.declared.old.OldHead.{OldHead}
+use Rattle.program_runs.specs.declared.form.Form.{Form}
+use Rattle.program_runs.specs.declared.form.Form.TheVariants.{Text, Json}
 use Rattle.program_kinds.specs.Kind.{kind_in, kind_text}
 use Rattle.program_kinds.specs.Sound.{IsSound}
 use Rattle.program_kinds.specs.declared.describing.Description.{Description}
@@ -18,33 +20,43 @@ use Rattle.program_kinds.specs.declared.kind.Kind.{Kind}
 abbrev pub hundredths_text : ℕ → List ℕ
 hundredths_text n = decimal (n / 100) ++ codes "." ++ decimal (n % 100 / 10) ++ decimal (n % 100 % 10)
 
+-- what is said where there is none
+abbrev pub none_text : Form → List ℕ
+none_text Text = codes "none"
+none_text Json = codes "null"
+
 -- how many bits of so many bytes there are for one of n items, cut to hundredths
-abbrev pub rate_text : ℕ → ℕ → List ℕ
-rate_text bytes n = if n == 0 then codes "none" else hundredths_text (800 * bytes / n)
+abbrev pub rate_text : Form → ℕ → ℕ → List ℕ
+rate_text form bytes n = if n == 0 then none_text form else hundredths_text (800 * bytes / n)
 
--- the line of the kind
-abbrev pub kind_line : Kind → List ℕ
-kind_line kind = codes "kind " ++ kind_text kind ++ codes "\n"
+-- the kind, as a line or as the first pair of an object
+abbrev pub kind_line : Form → Kind → List ℕ
+kind_line Text kind = codes "kind " ++ kind_text kind ++ codes "\n"
+kind_line Json kind = codes "{\"kind\":\"" ++ kind_text kind ++ codes "\""
 
--- the lines that say how many items there are, how many bits each has, and how many bytes the file has
-abbrev pub size_lines : ℕ → ℕ → ℕ → List ℕ
-size_lines len width bytes = codes "len " ++ decimal len ++ codes "\nwidth " ++ decimal width ++ codes "\nbytes " ++ decimal bytes ++ codes "\n"
+-- how many items there are, how many bits each has, and how many bytes the file has
+abbrev pub size_lines : Form → ℕ → ℕ → ℕ → List ℕ
+size_lines Text len width bytes = codes "len " ++ decimal len ++ codes "\nwidth " ++ decimal width ++ codes "\nbytes " ++ decimal bytes ++ codes "\n"
+size_lines Json len width bytes =
+    codes ",\"len\":" ++ decimal len ++ codes ",\"width\":" ++ decimal width ++ codes ",\"bytes\":" ++ decimal bytes
 
--- the line that says how many bits an item takes
-abbrev pub rate_line : ℕ → ℕ → List ℕ
-rate_line bytes len = codes "bits_per_item " ++ rate_text bytes len ++ codes "\n"
+-- how many bits an item takes, as a line or as the last pair of an object
+abbrev pub rate_line : Form → ℕ → ℕ → List ℕ
+rate_line Text bytes len = codes "bits_per_item " ++ rate_text Text bytes len ++ codes "\n"
+rate_line Json bytes len = codes ",\"bits_per_item\":" ++ rate_text Json bytes len ++ codes "}\n"
 
--- all of these lines
-abbrev pub info_text : Kind → Head → ℕ → List ℕ
-info_text kind head bytes = kind_line kind ++ (size_lines head.len head.width bytes ++ rate_line bytes head.len)
+-- all of this
+abbrev pub info_text : Form → Kind → Head → ℕ → List ℕ
+info_text form kind head bytes = kind_line form kind ++ (size_lines form head.len head.width bytes ++ rate_line form bytes head.len)
 
--- the line of the kind of a file of version 2
-abbrev pub old_line : NumberKind → List ℕ
-old_line kind = codes "kind " ++ kinds.kind_text kind ++ codes " (version 2)\n"
+-- the kind of a file of version 2
+abbrev pub old_line : Form → NumberKind → List ℕ
+old_line Text kind = codes "kind " ++ kinds.kind_text kind ++ codes " (version 2)\n"
+old_line Json kind = codes "{\"kind\":\"" ++ kinds.kind_text kind ++ codes " (version 2)\""
 
 -- all that is said of such a file
-abbrev pub old_text : OldHead → ℕ → List ℕ
-old_text head bytes = old_line head.kind ++ (size_lines head.len head.width bytes ++ rate_line bytes head.len)
+abbrev pub old_text : Form → OldHead → ℕ → List ℕ
+old_text form head bytes = old_line form head.kind ++ (size_lines form head.len head.width bytes ++ rate_line form bytes head.len)
 
 -- that is to be said of a block that is as it was written and has so many bytes
 pub record IsDescribed (block : List ℕ) (bytes : ℕ) (d : Description) : Type 0 where
@@ -55,19 +67,19 @@ pub record IsDescribed (block : List ℕ) (bytes : ℕ) (d : Description) : Type
 
 -- the bytes are those of a block that is as it was written, and its kind, what its header says and how many bytes it has
 -- were written
-pub record WroteInfo (bytes : List ℕ) (before after : Option (List ℕ)) : Type 0 where
+pub record WroteInfo (form : Form) (bytes : List ℕ) (before after : Option (List ℕ)) : Type 0 where
   pub block : List ℕ
   pub words : words_of_bytes bytes ≡ Some block
   pub sound : IsSound block
-  pub written : Appends before after (info_text sound.kind (head_in block) (length bytes))
+  pub written : Appends before after (info_text form sound.kind (head_in block) (length bytes))
 
 -- the bytes are those of a file of version 2 whose parts fit each other, and what its header says was written
-pub record WroteOldInfo (bytes : List ℕ) (before after : Option (List ℕ)) : Type 0 where
+pub record WroteOldInfo (form : Form) (bytes : List ℕ) (before after : Option (List ℕ)) : Type 0 where
   pub file : List ℕ
   pub words : words_of_bytes bytes ≡ Some file
   pub fits : IsOld file
-  pub written : Appends before after (old_text (old_head_in file) (length bytes))
+  pub written : Appends before after (old_text form (old_head_in file) (length bytes))
 
 -- the one or the other
-abbrev pub WroteInfoOfFile : List ℕ → Option (List ℕ) → Option (List ℕ) → Type 0
-WroteInfoOfFile bytes before after = WroteInfo bytes before after ⊎ WroteOldInfo bytes before after
+abbrev pub WroteInfoOfFile : Form → List ℕ → Option (List ℕ) → Option (List ℕ) → Type 0
+WroteInfoOfFile form bytes before after = WroteInfo form bytes before after ⊎ WroteOldInfo form bytes before after

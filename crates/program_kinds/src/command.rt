@@ -1,23 +1,50 @@
 //! The command that the arguments are.
 ghost use Rattle.std.specs.Prelude.{◌≡◌, map, option_map, string_bytes};
-ghost use Rattle.program_kinds.specs.Command.{command_in};
+ghost use Rattle.program_kinds.specs.Command.{command_in, command_of, form_of};
+
+use program_runs::Form;
 
 /// A command, less the file that it names.
 #[derive(Clone, Copy)]
 pub(crate) enum Command {
-    /// Writes whether a file is a block that is as it was written.
-    Check,
-    /// Writes what a block's header says.
-    Info,
+    /// Writes whether a file is a block that is as it was written, in a form.
+    Check(Form),
+    /// Writes what a block's header says, in a form.
+    Info(Form),
 }
 
 /// The command that the arguments are, with the path of its file; `None` where they are no command.
 pub(crate) fn command_in(args: &[String]) -> Option<(Command, &str)>
     ensures { option_map (λ found. (found.0, found.1.now)) result ≡ command_in (map string_bytes args.now) }
 {
-    match args.len() {
-        2 if args[0].as_str() == "check" => Some((Command::Check, args[1].as_str())),
-        2 if args[0].as_str() == "info" => Some((Command::Info, args[1].as_str())),
-        _ => None,
+    let (command, path) = match args {
+        [word, path] => (command_of(word.as_str(), Form::Text), path),
+        [word, option, path] => (command_of(word.as_str(), form_of(option.as_str())?), path),
+        _ => return None,
+    };
+    Some((command?, path.as_str()))
+}
+
+/// The command of a word, with its form, if there is one.
+fn command_of(word: &str, form: Form) -> Option<Command>
+    ensures { result ≡ command_of word.now form }
+{
+    if word == "check" {
+        Some(Command::Check(form))
+    } else if word == "info" {
+        Some(Command::Info(form))
+    } else {
+        None
+    }
+}
+
+/// The form that an option names.
+fn form_of(option: &str) -> Option<Form>
+    ensures { result ≡ form_of option.now }
+{
+    if option == "--json" {
+        Some(Form::Json)
+    } else {
+        None
     }
 }

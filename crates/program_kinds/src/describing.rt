@@ -12,14 +12,14 @@ use crate::checking::is_sound;
 use crate::kind::{Kind, kind_in};
 use bitm_block::{Block, Head};
 use program_blocks::{Failure, Format, OldHead, format_in, old_head, words_of_bytes};
-use program_runs::CannotWrite;
+use program_runs::{CannotWrite, Form};
 use std::alloc::Global;
 use std::fmt;
 use std::io::Write;
 
 /// Writes what the header of a block, or of a file of version 2, says, a line each: its kind, how many items it has,
 /// how many bits an item has (0 where the kind has no such width), how many bytes the file has, and how many bits that
-/// is for an item, cut to hundredths. The whole file is checked first.
+/// is for an item, cut to hundredths; as JSON an object of these. The whole file is checked first.
 ///
 /// # Errors
 /// `Unmarked` and `OtherVersion` exactly where `program_blocks::format_in` refuses the bytes. `WrongBlock` only where
@@ -30,10 +30,11 @@ use std::io::Write;
 /// That of `check` (evident from the code).
 ///
 /// ```
-/// info(alloc, bytes, &mut out);   // Ok(()): out has "kind matrix\nlen 6\nwidth 3\nbytes 640\nbits_per_item 853.33\n"
+/// // out has "kind matrix\nlen 6\nwidth 3\nbytes 640\nbits_per_item 853.33\n"
+/// info(alloc, bytes, Form::Text, &mut out);   // Ok(())
 /// ```
-pub fn info<W: Write>(alloc: Global, block: &[u8], out: &mut W) -> Result<(), Failure>
-    ensures written { OnOk result (WroteInfoOfFile block.now (W.contents out.old) (W.contents out.new)) }
+pub fn info<W: Write>(alloc: Global, block: &[u8], form: Form, out: &mut W) -> Result<(), Failure>
+    ensures written { OnOk result (WroteInfoOfFile form block.now (W.contents out.old) (W.contents out.new)) }
     ensures refused { IfErr (format_in block.now) (λ e. result ≡ Err e) }
     ensures failure { IfOk (format_in block.now) (λ _. IfErr result IsAnswerFailure) }
     ensures wrong { IfErr result (λ e. IsRefusal e
@@ -41,15 +42,20 @@ pub fn info<W: Write>(alloc: Global, block: &[u8], out: &mut W) -> Result<(), Fa
     ensures nothing { IfErr result (λ e. IsRefusal e → out.new ≡ out.old) }
 {
     match format_in(block) {
-        Ok(Format::Block) => info_of_block(alloc, block, out),
-        Ok(Format::Old) => info_of_old(alloc, block, out),
+        Ok(Format::Block) => info_of_block(alloc, block, form, out),
+        Ok(Format::Old) => info_of_old(alloc, block, form, out),
         Err(failure) => Err(failure),
     }
 }
 
 /// Writes what the header of a block says.
-fn info_of_block<W: Write>(alloc: Global, block: &[u8], out: &mut W) -> Result<(), Failure>
-    ensures written { OnOk result (WroteInfo block.now (W.contents out.old) (W.contents out.new)) }
+fn info_of_block<W: Write>(
+    alloc: Global,
+    block: &[u8],
+    form: Form,
+    out: &mut W,
+) -> Result<(), Failure>
+    ensures written { OnOk result (WroteInfo form block.now (W.contents out.old) (W.contents out.new)) }
     ensures failure { IfErr result IsAnswerFailure }
     ensures wrong { IsErrOf result Failure.WrongBlock → ¬ (IsSoundFile block.now) }
     ensures nothing { IsErrOf result Failure.WrongBlock → out.new ≡ out.old }
@@ -58,14 +64,14 @@ fn info_of_block<W: Write>(alloc: Global, block: &[u8], out: &mut W) -> Result<(
         return Err(Failure::WrongBlock);
     };
     match described(words.as_slice(), block.len()) {
-        Some(description) => Ok(write_description(&description, out)?),
+        Some(description) => Ok(write_description(form, &description, out)?),
         None => Err(Failure::WrongBlock),
     }
 }
 
 /// Writes what the header of a file of version 2 says.
-fn info_of_old<W: Write>(alloc: Global, file: &[u8], out: &mut W) -> Result<(), Failure>
-    ensures written { OnOk result (WroteOldInfo file.now (W.contents out.old) (W.contents out.new)) }
+fn info_of_old<W: Write>(alloc: Global, file: &[u8], form: Form, out: &mut W) -> Result<(), Failure>
+    ensures written { OnOk result (WroteOldInfo form file.now (W.contents out.old) (W.contents out.new)) }
     ensures failure { IfErr result IsAnswerFailure }
     ensures wrong { IsErrOf result Failure.WrongBlock → ¬ (IsOldFile file.now) }
     ensures nothing { IsErrOf result Failure.WrongBlock → out.new ≡ out.old }
@@ -74,26 +80,38 @@ fn info_of_old<W: Write>(alloc: Global, file: &[u8], out: &mut W) -> Result<(), 
         return Err(Failure::WrongBlock);
     };
     match old_head(words.as_slice()) {
-        Some(head) => Ok(write_old(&head, file.len(), out)?),
+        Some(head) => Ok(write_old(form, &head, file.len(), out)?),
         None => Err(Failure::WrongBlock),
     }
 }
 
 /// Writes what is said of a file of version 2.
-fn write_old<W: Write>(head: &OldHead, bytes: usize, out: &mut W) -> Result<(), CannotWrite>
-    ensures { OnOk result (Appends (W.contents out.old) (W.contents out.new) (old_text head.now bytes)) }
+fn write_old<W: Write>(
+    form: Form,
+    head: &OldHead,
+    bytes: usize,
+    out: &mut W,
+) -> Result<(), CannotWrite>
+    ensures { OnOk result (Appends (W.contents out.old) (W.contents out.new) (old_text form head.now bytes)) }
 {
     let OldHead { kind, len, width } = *head;
-    write_old_kind(kind, &mut *out)?;
-    write_sizes(len, width, bytes, &mut *out)?;
-    write_rate(len, bytes, out)
+    write_old_kind(form, kind, &mut *out)?;
+    write_sizes(form, len, width, bytes, &mut *out)?;
+    write_rate(form, len, bytes, out)
 }
 
 /// Writes the line of the kind of a file of version 2.
-fn write_old_kind<W: Write>(kind: program_blocks::Kind, out: &mut W) -> Result<(), CannotWrite>
-    ensures { OnOk result (Appends (W.contents out.old) (W.contents out.new) (old_line kind)) }
+fn write_old_kind<W: Write>(
+    form: Form,
+    kind: program_blocks::Kind,
+    out: &mut W,
+) -> Result<(), CannotWrite>
+    ensures { OnOk result (Appends (W.contents out.old) (W.contents out.new) (old_line form kind)) }
 {
-    writeln!(out, "kind {kind} (version 2)")?;
+    match form {
+        Form::Text => writeln!(out, "kind {kind} (version 2)")?,
+        Form::Json => write!(out, "{{\"kind\":\"{kind} (version 2)\"")?,
+    }
     Ok(())
 }
 
@@ -118,38 +136,57 @@ fn described(block: &[u64], bytes: usize) -> Option<Description>
 }
 
 /// Writes what is said of a block.
-fn write_description<W: Write>(description: &Description, out: &mut W) -> Result<(), CannotWrite>
+fn write_description<W: Write>(
+    form: Form,
+    description: &Description,
+    out: &mut W,
+) -> Result<(), CannotWrite>
     ensures { OnOk result (Appends (W.contents out.old) (W.contents out.new)
-        (info_text description.now.kind description.now.head description.now.bytes)) }
+        (info_text form description.now.kind description.now.head description.now.bytes)) }
 {
     let Description { kind, head, bytes } = *description;
-    write_kind(kind, &mut *out)?;
-    write_sizes(head.len, head.width, bytes, &mut *out)?;
-    write_rate(head.len, bytes, out)
+    write_kind(form, kind, &mut *out)?;
+    write_sizes(form, head.len, head.width, bytes, &mut *out)?;
+    write_rate(form, head.len, bytes, out)
 }
 
 /// Writes the line of the kind.
-fn write_kind<W: Write>(kind: Kind, out: &mut W) -> Result<(), CannotWrite>
-    ensures { OnOk result (Appends (W.contents out.old) (W.contents out.new) (kind_line kind)) }
+fn write_kind<W: Write>(form: Form, kind: Kind, out: &mut W) -> Result<(), CannotWrite>
+    ensures { OnOk result (Appends (W.contents out.old) (W.contents out.new) (kind_line form kind)) }
 {
-    writeln!(out, "kind {kind}")?;
+    match form {
+        Form::Text => writeln!(out, "kind {kind}")?,
+        Form::Json => write!(out, "{{\"kind\":\"{kind}\"")?,
+    }
     Ok(())
 }
 
 /// Writes the lines of the sizes.
-fn write_sizes<W: Write>(len: u64, width: u64, bytes: usize, out: &mut W) -> Result<(), CannotWrite>
-    ensures { OnOk result (Appends (W.contents out.old) (W.contents out.new) (size_lines len width bytes)) }
+fn write_sizes<W: Write>(
+    form: Form,
+    len: u64,
+    width: u64,
+    bytes: usize,
+    out: &mut W,
+) -> Result<(), CannotWrite>
+    ensures { OnOk result (Appends (W.contents out.old) (W.contents out.new) (size_lines form len width bytes)) }
 {
-    write!(out, "len {len}\nwidth {width}\nbytes {bytes}\n")?;
+    match form {
+        Form::Text => write!(out, "len {len}\nwidth {width}\nbytes {bytes}\n")?,
+        Form::Json => write!(out, ",\"len\":{len},\"width\":{width},\"bytes\":{bytes}")?,
+    }
     Ok(())
 }
 
 /// Writes the line of the bits for an item.
-fn write_rate<W: Write>(len: u64, bytes: usize, out: &mut W) -> Result<(), CannotWrite>
-    ensures { OnOk result (Appends (W.contents out.old) (W.contents out.new) (rate_line bytes len)) }
+fn write_rate<W: Write>(form: Form, len: u64, bytes: usize, out: &mut W) -> Result<(), CannotWrite>
+    ensures { OnOk result (Appends (W.contents out.old) (W.contents out.new) (rate_line form bytes len)) }
 {
-    let rate = Rate { bytes, len };
-    writeln!(out, "bits_per_item {rate}")?;
+    let rate = Rate { form, bytes, len };
+    match form {
+        Form::Text => writeln!(out, "bits_per_item {rate}")?,
+        Form::Json => writeln!(out, ",\"bits_per_item\":{rate}}}")?,
+    }
     Ok(())
 }
 
@@ -161,9 +198,10 @@ struct Description {
     bytes: usize,
 }
 
-/// How many bits of a block there are for an item.
+/// How many bits of a block there are for an item, in the form in which that is written.
 #[derive(Clone, Copy)]
 struct Rate {
+    form: Form,
     bytes: usize,
     len: u64,
 }
@@ -172,11 +210,14 @@ impl fmt::Display for Rate {
     ghost use Rattle.std.specs.Prelude.{Some};
     ghost use Rattle.program_kinds.specs.Info.{rate_text};
 
-    ghost output = { λ r. Some (rate_text r.bytes r.len) };
+    ghost output = { λ r. Some (rate_text r.form r.bytes r.len) };
 
     fn fmt<W: fmt::Write>(&self, f: &mut fmt::Formatter<W>) -> fmt::Result {
         if self.len == 0 {
-            return write!(f, "none");
+            return match self.form {
+                Form::Text => write!(f, "none"),
+                Form::Json => write!(f, "null"),
+            };
         }
         let hundredths = 800 * self.bytes as u128 / self.len as u128;
         let (whole, part) = (hundredths / 100, hundredths % 100);

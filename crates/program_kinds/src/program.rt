@@ -1,5 +1,5 @@
 //! The program without its process: its arguments, the file that it reads, and the statuses and texts.
-ghost use Rattle.std.specs.Prelude.{◌≡◌, ◌≤◌, IfOk, IsErr, None, OnOk, map, nat_eq, string_bytes};
+ghost use Rattle.std.specs.Prelude.{◌≡◌, ◌≤◌, ◌++◌, ◌∷◌, [], IfOk, IsErr, None, OnOk, map, nat_eq, string_bytes};
 ghost use Rattle.std.specs.Io.KnownBytes.{Appends};
 ghost use Rattle.program_blocks.specs.Format.{format_in};
 ghost use Rattle.program_kinds.specs.Command.{command_in};
@@ -9,22 +9,22 @@ use crate::checking::{check, check_old};
 use crate::command::{Command, command_in};
 use crate::describing::info;
 use program_blocks::{Failure, Format, format_in};
-use program_runs::{CannotWrite, Sources, Stop, end};
+use program_runs::{CannotWrite, Form, Sources, Stop, end};
 use std::alloc::Global;
 use std::io::Write;
 
 /// What is written where the arguments are not those of a command.
-const USAGE: &str = "usage: bitm check BLOCK | bitm info BLOCK";
+const USAGE: &str = "usage: bitm check [--json] BLOCK | bitm info [--json] BLOCK";
 
 /// What is written of a file of version 2 that is right.
 const OLD_IS_GOOD: &str =
     "good: the parts fit each other (version 2, which has no checksum of them)";
 
-/// Does what the two arguments say, and answers the status that the program ends with.
+/// Does what the arguments say, and answers the status that the program ends with.
 ///
-/// `args` are the arguments without the program's name: `check BLOCK` and `info BLOCK` read the file alone. The status
-/// is 0 where all went well, and 1 where `check` wrote `wrong`; then the command was done on the file that is named,
-/// and nothing was written to `err`.
+/// `args` are the arguments without the program's name: `check BLOCK` and `info BLOCK` read the file alone; with
+/// `--json` before it they write JSON. The status is 0 where all went well, and 1 where `check` wrote `wrong` or
+/// `false`; then the command was done on the file that is named, and nothing was written to `err`.
 ///
 /// # Errors
 /// The status is 2, and a text goes to `err`, where the arguments are no command, where the file can't be read, where
@@ -75,62 +75,82 @@ fn perform<R: Sources + AllocGlobal, W: Write>(
     ensures { IfOk result (Did (R.known rt.now) command path.now (W.contents out.old) (W.contents out.new)) }
 {
     match command {
-        Command::Check => check_file(rt, path, out),
-        Command::Info => info_file(rt, path, out),
+        Command::Check(form) => check_file(rt, form, path, out),
+        Command::Info(form) => info_file(rt, form, path, out),
     }
 }
 
 /// Writes whether a file is a block that is as it was written, or one of version 2 whose parts fit each other.
 fn check_file<R: Sources + AllocGlobal, W: Write>(
     rt: &R,
+    form: Form,
     path: &str,
     out: &mut W,
 ) -> Result<bool, Stop<Failure>>
-    ensures { IfOk result (Did (R.known rt.now) Command.Check path.now (W.contents out.old) (W.contents out.new)) }
+    ensures { IfOk result (Did (R.known rt.now) (Command.Check form) path.now
+        (W.contents out.old) (W.contents out.new)) }
 {
-    Ok(write_check(rt.alloc(), rt.file(path)?.as_slice(), out)?)
+    Ok(write_check(rt.alloc(), rt.file(path)?.as_slice(), form, out)?)
 }
 
 /// Writes what the header of the block in a file says.
 fn info_file<R: Sources + AllocGlobal, W: Write>(
     rt: &R,
+    form: Form,
     path: &str,
     out: &mut W,
 ) -> Result<bool, Stop<Failure>>
-    ensures { IfOk result (Did (R.known rt.now) Command.Info path.now (W.contents out.old) (W.contents out.new)) }
+    ensures { IfOk result (Did (R.known rt.now) (Command.Info form) path.now
+        (W.contents out.old) (W.contents out.new)) }
 {
-    info(rt.alloc(), rt.file(path)?.as_slice(), out)?;
+    info(rt.alloc(), rt.file(path)?.as_slice(), form, out)?;
     Ok(true)
 }
 
 /// Writes whether the bytes are a block that is as it was written, or a file of version 2 whose parts fit each other,
 /// and answers that.
 #[tactic(auto, using(crate::proofs::lemmas::FormatLemmas::right_of_old, crate::proofs::lemmas::FormatLemmas::right_of_others))]
-fn write_check<W: Write>(alloc: Global, block: &[u8], out: &mut W) -> Result<bool, Failure>
-    ensures { IfOk result (λ good. WroteCheck block.now (W.contents out.old) (W.contents out.new) good) }
+fn write_check<W: Write>(
+    alloc: Global,
+    block: &[u8],
+    form: Form,
+    out: &mut W,
+) -> Result<bool, Failure>
+    ensures { IfOk result (λ good. WroteCheck form block.now (W.contents out.old) (W.contents out.new) good) }
 {
     let format = format_in(block);
     let good = match format {
         Ok(Format::Old) => check_old(alloc, block)?,
         _ => check(alloc, block)?,
     };
-    write_verdict(format, good, out)?;
+    write_verdict(form, format, good, out)?;
     Ok(good)
 }
 
 /// Writes whether a file of a format is right.
 fn write_verdict<W: Write>(
+    form: Form,
     format: Result<Format, Failure>,
     good: bool,
     out: &mut W,
 ) -> Result<(), CannotWrite>
-    ensures { OnOk result (Appends (W.contents out.old) (W.contents out.new) (verdict_text format good)) }
+    ensures { OnOk result (Appends (W.contents out.old) (W.contents out.new) (verdict_text form format good)) }
 {
-    let text = match (format, good) {
-        (Ok(Format::Old), true) => OLD_IS_GOOD,
-        (_, true) => "good",
-        (_, false) => "wrong",
+    let text = match form {
+        Form::Text => verdict(format, good),
+        Form::Json => if good { "true" } else { "false" },
     };
     writeln!(out, "{text}")?;
     Ok(())
+}
+
+/// Whether a file of a format is right, in words.
+fn verdict(format: Result<Format, Failure>, good: bool) -> &'static str
+    ensures { result.now ++ 10 ∷ [] ≡ verdict_text Form.Text format good }
+{
+    match (format, good) {
+        (Ok(Format::Old), true) => OLD_IS_GOOD,
+        (_, true) => "good",
+        (_, false) => "wrong",
+    }
 }

@@ -1,5 +1,6 @@
 pub mod Answer
 pub mod Failure
 pub mod Index
+pub mod Lines
 pub mod Request
 pub mod Session

@@ -1,11 +1,11 @@
 //! The program without its process: the answers to an input, and the file, the statuses and the texts around them.
 ghost use Rattle.std.specs.Prelude.{◌≡◌, ◌≢◌, ◌≤◌, ◌↔◌, ℕ, List, length, nat_eq, IfOk, IsErr, IsErrOf, IsOkAnd};
 ghost use Rattle.program_session.specs.Failure.{failure_text};
+ghost use Rattle.program_session.specs.Lines.{command_lines};
 ghost use Rattle.program_session.specs.Session.{State, Wrote, WroteAnswer};
-ghost use Rattle.program_text.specs.Text.{lines_of};
 
+use crate::lines::CommandLines;
 use crate::session::Session;
-use program_text::Lines;
 use std::alloc::Global;
 use std::io::Write;
 use std::rt::Files;
@@ -61,11 +61,11 @@ impl From<io::Error> for WriteFailed {
 /// `WriteFailed` where a write to `out` failed; what was written before stays.
 pub fn run<W: Write>(alloc: Global, input: &[u8], out: &mut W) -> Result<bool, WriteFailed>
     ensures { IfOk result (λ good. (end : State)
-        × Wrote (lines_of input.now) end (W.contents out.old) (W.contents out.new) good) }
+        × Wrote (command_lines input.now) end (W.contents out.old) (W.contents out.new) good) }
 {
     let mut session = Session::new(alloc);
     let mut good = true;
-    for line in Lines::new(input) {
+    for line in CommandLines::new(input) {
         good &= answer_line(&mut session, alloc, line, out)?;
     }
     Ok(good)
@@ -106,7 +106,7 @@ pub fn start<R: Files + AllocGlobal, W: Write, E: Write>(
     ensures usage { length args.now ≢ 1
         → (result ≡ 2) × (W.contents out.new ≡ W.contents out.old) }
     ensures answered { result ≤ 1 → (input : List ℕ) × (end : State)
-        × Wrote (lines_of input) end (W.contents out.old) (W.contents out.new) (nat_eq result 0) }
+        × Wrote (command_lines input) end (W.contents out.old) (W.contents out.new) (nat_eq result 0) }
     ensures quiet { result ≤ 1 → E.contents err.new ≡ E.contents err.old }
 {
     let [path] = args else {
@@ -130,7 +130,7 @@ fn answer_read<W: Write>(
     out: &mut W,
 ) -> Result<bool, Failure>
     ensures answered { IfOk result (λ good. IsOkAnd read (λ input. (end : State)
-        × Wrote (lines_of input.items) end (W.contents out.old) (W.contents out.new) good)) }
+        × Wrote (command_lines input.items) end (W.contents out.old) (W.contents out.new) good)) }
     ensures cannot_read { IsErrOf result Failure.CannotRead ↔ IsErr read }
     ensures nothing { IsErrOf result Failure.CannotRead → out.new ≡ out.old }
 {

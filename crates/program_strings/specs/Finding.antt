@@ -6,15 +6,22 @@ use Rattle.std.specs.List.{flat_map, list_any}
 use Rattle.bitm_tables.specs.declared.answer.Answer.{Answer}
 use Rattle.bitm_tables.specs.declared.answer.Answer.TheVariants.{Found, Absent, Wrong}
 use Rattle.program_blocks.specs.Bytes.{words_of_bytes}
+use Rattle.program_runs.specs.declared.form.Form.{Form}
+use Rattle.program_runs.specs.declared.form.Form.TheVariants.{Text, Json}
 use Rattle.program_text.specs.Text.{lines_of}
 use Rattle.string_block.specs.Block.{strings_in, IsSoundBlock}
 use Rattle.string_block.specs.Parts.{IsFound, StringParts}
 
+-- the line that says that there is none
+abbrev pub none_line : Form → List ℕ
+none_line Text = codes "none\n"
+none_line Json = codes "null\n"
+
 -- the line that says a number, or that there is none
-abbrev pub answer_line : Answer ℕ → List ℕ
-answer_line (Found number) = decimal number ++ codes "\n"
-answer_line Absent = codes "none\n"
-answer_line Wrong = codes "none\n"
+abbrev pub answer_line : Form → Answer ℕ → List ℕ
+answer_line form (Found number) = decimal number ++ codes "\n"
+answer_line form Absent = none_line form
+answer_line form Wrong = none_line form
 
 -- whether it is a number
 abbrev pub is_number : Answer ℕ → Bool
@@ -35,26 +42,26 @@ AreAnswers parts (line ∷ lines) [] = ⊥
 
 -- the answer to a line was written: the writer's bytes, where the writer shows them, went from before to after by just it;
 -- and found says that it is a number
-pub record WroteNumber (parts : StringParts) (line : List ℕ) (before after : Option (List ℕ)) (found : Bool) : Type 0 where
+pub record WroteNumber (form : Form) (parts : StringParts) (line : List ℕ) (before after : Option (List ℕ)) (found : Bool) : Type 0 where
   pub answer : Answer ℕ
   pub told : found ≡ is_number answer
   pub is : IsAnswer parts line answer
-  pub written : Appends before after (answer_line answer)
+  pub written : Appends before after (answer_line form answer)
 
 -- the answers to these lines were, and found says that one of them is a number
-pub record WroteNumbers (parts : StringParts) (lines : List (List ℕ)) (before after : Option (List ℕ)) (found : Bool) : Type 0 where
+pub record WroteNumbers (form : Form) (parts : StringParts) (lines : List (List ℕ)) (before after : Option (List ℕ)) (found : Bool) : Type 0 where
   pub answers : List (Answer ℕ)
   pub told : found ≡ list_any is_number answers
   pub are : AreAnswers parts lines answers
-  pub written : Appends before after (flat_map answer_line answers)
+  pub written : Appends before after (flat_map (answer_line form) answers)
 
 -- the bytes are those of a block of strings, as it was written
 abbrev pub IsStringFile : List ℕ → Type 0
 IsStringFile bytes = IsSomeAnd (words_of_bytes bytes) IsSoundBlock
 
 -- they are, and the answers of these strings to the lines of a text were written
-pub record WroteFound (bytes text : List ℕ) (before after : Option (List ℕ)) (found : Bool) : Type 0 where
+pub record WroteFound (form : Form) (bytes text : List ℕ) (before after : Option (List ℕ)) (found : Bool) : Type 0 where
   pub block : List ℕ
   pub words : words_of_bytes bytes ≡ Some block
   pub sound : IsSoundBlock block
-  pub wrote : WroteNumbers (strings_in block) (lines_of text) before after found
+  pub wrote : WroteNumbers form (strings_in block) (lines_of text) before after found

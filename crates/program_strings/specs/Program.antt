@@ -12,8 +12,8 @@ use Rattle.program_strings.specs.declared.command.Command.TheVariants.{Build, Fi
 abbrev pub IsDone : Known → Command → List ℕ → Option (List ℕ) → Option (List ℕ) → Bool → Type 0
 IsDone known Build path before after good =
     (text : List ℕ) × IsKnownAs known.input text × WroteStrings text before after × (good ≡ true)
-IsDone known Find path before after good =
-    (file text : List ℕ) × IsKnownAs (known.files path) file × IsKnownAs known.input text × WroteFound file text before after good
+IsDone known (Find form) path before after good =
+    (file text : List ℕ) × IsKnownAs (known.files path) file × IsKnownAs known.input text × WroteFound form file text before after good
 
 -- the same as one fact
 pub record Did (known : Known) (command : Command) (path : List ℕ) (before after : Option (List ℕ)) (good : Bool) : Type 0 where

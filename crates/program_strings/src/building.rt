@@ -10,7 +10,7 @@ use std::alloc::Global;
 use std::io::Write;
 
 /// Writes the block of the lines of a text that are not empty, as bytes, in which `find` finds them: each is a string
-/// that has a number of its own, below how many there are. Lines end with a line feed; the last one may lack it.
+/// that has a number of its own, below how many there are (`program_text::FilledLines`).
 ///
 /// # Errors
 /// `EqualLines` where two lines are equal, or have one hash by the seed 0 and two have one by the seed 1; `TooLarge`

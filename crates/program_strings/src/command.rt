@@ -2,13 +2,15 @@
 ghost use Rattle.std.specs.Prelude.{◌≡◌, map, option_map, string_bytes};
 ghost use Rattle.program_strings.specs.Command.{command_in};
 
+use program_runs::Form;
+
 /// A command, less the file that it names.
 #[derive(Clone, Copy)]
 pub(crate) enum Command {
     /// Writes the block of the lines of the standard input.
     Build,
-    /// Writes the numbers of these lines in the block of a file.
-    Find,
+    /// Writes the numbers of these lines in the block of a file, in a form.
+    Find(Form),
 }
 
 /// The command that the arguments after `strings` are, with the path of its file, which is empty where it has none;
@@ -16,9 +18,12 @@ pub(crate) enum Command {
 pub(crate) fn command_in(args: &[String]) -> Option<(Command, &str)>
     ensures { option_map (λ found. (found.0, found.1.now)) result ≡ command_in (map string_bytes args.now) }
 {
-    match args.len() {
-        1 if args[0].as_str() == "build" => Some((Command::Build, "")),
-        2 if args[0].as_str() == "find" => Some((Command::Find, args[1].as_str())),
+    match args {
+        [word] if word.as_str() == "build" => Some((Command::Build, "")),
+        [word, path] if word.as_str() == "find" => Some((Command::Find(Form::Text), path.as_str())),
+        [word, option, path] if word.as_str() == "find" && option.as_str() == "--json" => {
+            Some((Command::Find(Form::Json), path.as_str()))
+        }
         _ => None,
     }
 }

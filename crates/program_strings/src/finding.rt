@@ -1,20 +1,21 @@
 //! The numbers of the lines of a text.
-ghost use Rattle.std.specs.Prelude.{◌≡◌, IfOk, IfSome, IsErrOf, SomeIff};
+ghost use Rattle.std.specs.Prelude.{◌≡◌, ◌++◌, ◌∷◌, [], IfOk, IfSome, IsErrOf, SomeIff};
 ghost use Rattle.program_text.specs.Text.{lines_of};
-ghost use Rattle.program_strings.specs.Finding.{IsStringFile, WroteFound, WroteNumber, WroteNumbers};
+ghost use Rattle.program_strings.specs.Finding.{none_line, IsStringFile, WroteFound, WroteNumber, WroteNumbers};
 ghost use Rattle.string_block.specs.Block.{strings_in, IsSoundBlock};
 ghost use Rattle.string_block.specs.Parts.{AreStrings};
 
 use crate::failure::Failure;
 use program_blocks::words_of_bytes;
-use program_runs::CannotWrite;
-use program_text::Lines;
+use program_runs::{CannotWrite, Form};
+use program_text::FilledLines;
 use std::alloc::Global;
 use std::io::Write;
 use string_block::{Answer, StringsView, check, open};
 
 /// Writes for each line of a text that is not empty the number that it has among the strings of a file, or `none` where
-/// it is none of them, each as a line and in their order, and answers whether one of them has a number.
+/// it is none of them (as JSON `null`), each as a line and in their order, and answers whether one of them has a
+/// number.
 ///
 /// `file` are the bytes that `build` wrote. The whole file is checked first, so that the numbers are those of its
 /// strings.
@@ -26,10 +27,16 @@ use string_block::{Answer, StringsView, check, open};
 /// That of `string_block::check`; then that of `StringsView::find` for each line (evident from the code).
 ///
 /// ```
-/// find(alloc, file, b"bob\neve\n".as_slice(), &mut out);   // Ok(true): out has "0\nnone\n", say
+/// find(alloc, file, b"bob\neve\n".as_slice(), Form::Text, &mut out);   // Ok(true): out has "0\nnone\n", say
 /// ```
-pub fn find<W: Write>(alloc: Global, file: &[u8], text: &[u8], out: &mut W) -> Result<bool, Failure>
-    ensures written { IfOk result (WroteFound file.now text.now (W.contents out.old) (W.contents out.new)) }
+pub fn find<W: Write>(
+    alloc: Global,
+    file: &[u8],
+    text: &[u8],
+    form: Form,
+    out: &mut W,
+) -> Result<bool, Failure>
+    ensures written { IfOk result (WroteFound form file.now text.now (W.contents out.old) (W.contents out.new)) }
     ensures wrong { IsErrOf result Failure.WrongBlock → ¬ (IsStringFile file.now) }
     ensures nothing { IsErrOf result Failure.WrongBlock → out.new ≡ out.old }
 {
@@ -37,7 +44,7 @@ pub fn find<W: Write>(alloc: Global, file: &[u8], text: &[u8], out: &mut W) -> R
         return Err(Failure::WrongBlock);
     };
     match open_checked(words.as_slice()) {
-        Some(strings) => Ok(write_numbers(&strings, text, out)?),
+        Some(strings) => Ok(write_numbers(&strings, text, form, out)?),
         None => Err(Failure::WrongBlock),
     }
 }
@@ -57,15 +64,16 @@ fn open_checked(block: &[u64]) -> Option<StringsView<'_>>
 fn write_numbers<W: Write>(
     strings: &StringsView<'_>,
     text: &[u8],
+    form: Form,
     out: &mut W,
 ) -> Result<bool, CannotWrite>
     requires { AreStrings strings.now }
-    ensures { IfOk result (WroteNumbers strings.now (lines_of text.now)
+    ensures { IfOk result (WroteNumbers form strings.now (lines_of text.now)
         (W.contents out.old) (W.contents out.new)) }
 {
     let mut found = false;
-    for line in Lines::new(text) {
-        found |= write_number(strings, line, out)?;
+    for line in FilledLines::new(text) {
+        found |= write_number(strings, line, form, out)?;
     }
     Ok(found)
 }
@@ -74,10 +82,11 @@ fn write_numbers<W: Write>(
 fn write_number<W: Write>(
     strings: &StringsView<'_>,
     line: &[u8],
+    form: Form,
     out: &mut W,
 ) -> Result<bool, CannotWrite>
     requires { AreStrings strings.now }
-    ensures { IfOk result (WroteNumber strings.now line.now (W.contents out.old) (W.contents out.new)) }
+    ensures { IfOk result (WroteNumber form strings.now line.now (W.contents out.old) (W.contents out.new)) }
 {
     match strings.find(line) {
         Answer::Found(number) => {
@@ -85,8 +94,18 @@ fn write_number<W: Write>(
             Ok(true)
         }
         _ => {
-            writeln!(out, "none")?;
+            writeln!(out, "{}", none_text(form))?;
             Ok(false)
         }
+    }
+}
+
+/// What is written of a line that is none of the strings.
+fn none_text(form: Form) -> &'static str
+    ensures { result.now ++ 10 ∷ [] ≡ none_line form }
+{
+    match form {
+        Form::Text => "none",
+        Form::Json => "null",
     }
 }

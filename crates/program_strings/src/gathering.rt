@@ -3,7 +3,7 @@ ghost use Rattle.std.specs.Prelude.{◌≡◌, IfOk};
 ghost use Rattle.program_text.specs.Text.{lines_of};
 ghost use Rattle.program_strings.specs.Lines.{ends_of, joined};
 
-use program_text::Lines;
+use program_text::FilledLines;
 use std::alloc::{AllocError, Global};
 
 /// Strings that stand one after another, and where each ends.
@@ -22,7 +22,7 @@ pub(crate) fn gathered(alloc: Global, text: &[u8]) -> Result<StringList, AllocEr
 {
     let mut bytes = Vec::new(alloc);
     let mut ends = Vec::new(alloc);
-    for line in Lines::new(text) {
+    for line in FilledLines::new(text) {
         bytes.extend_from_slice(line)?;
         ends.push(bytes.len())?;
     }

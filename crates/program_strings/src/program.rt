@@ -7,17 +7,18 @@ use crate::building::build;
 use crate::command::{Command, command_in};
 use crate::failure::Failure;
 use crate::finding::find;
-use program_runs::{Sources, Stop, end};
+use program_runs::{Form, Sources, Stop, end};
 use std::io::Write;
 
 /// What is written where the arguments are not those of a command.
-const USAGE: &str = "usage: bitm strings build | bitm strings find BLOCK";
+const USAGE: &str = "usage: bitm strings build | bitm strings find [--json] BLOCK";
 
 /// Does what the arguments after `strings` say, and answers the status that the program ends with: 0 where that was
 /// done, on the file that is named, and 1 where it was done and no line has a number; then nothing was written to
 /// `err`.
 ///
-/// `build` reads lines from the standard input, and so does `find BLOCK`, which reads the file too.
+/// `build` reads lines from the standard input, and so does `find BLOCK`, which reads the file too; `find --json BLOCK`
+/// writes JSON.
 ///
 /// # Errors
 /// The status is 2, and a text goes to `err`, where the arguments are no command, where something can't be read, where
@@ -65,7 +66,7 @@ fn perform<R: Sources + AllocGlobal, W: Write>(
 {
     match command {
         Command::Build => build_input(rt, path, out),
-        Command::Find => find_input(rt, path, out),
+        Command::Find(form) => find_input(rt, form, path, out),
     }
 }
 
@@ -86,12 +87,14 @@ fn build_input<R: Sources + AllocGlobal, W: Write>(
 /// Writes the numbers of the lines of the standard input among the strings of a file.
 fn find_input<R: Sources + AllocGlobal, W: Write>(
     rt: &R,
+    form: Form,
     path: &str,
     out: &mut W,
 ) -> Result<bool, Stop<Failure>>
-    ensures { IfOk result (Did (R.known rt.now) Command.Find path.now (W.contents out.old) (W.contents out.new)) }
+    ensures { IfOk result (Did (R.known rt.now) (Command.Find form) path.now
+        (W.contents out.old) (W.contents out.new)) }
 {
     let file = rt.file(path)?;
     let text = rt.input()?;
-    Ok(find(rt.alloc(), file.as_slice(), text.as_slice(), out)?)
+    Ok(find(rt.alloc(), file.as_slice(), text.as_slice(), form, out)?)
 }

@@ -2,7 +2,8 @@
 use Rattle.std.specs.Prelude.{◌≡◌, ℕ, ◌+◌, Bool, List, ◌++◌, codes, length, Option, None, Some, is_some, ◌||◌, ◌==◌, not}
 use Rattle.std.specs.Fmt.{decimal}
 use Rattle.std.specs.List.{filter_map, position}
-use Rattle.program_text.specs.Text.{decimal_of, split_at}
+use Rattle.std.specs.Str.Lines.{lines}
+use Rattle.program_text.specs.Text.{decimal_of}
 use Rattle.program_text.specs.declared.list.ListError.{ListError}
 use Rattle.program_text.specs.declared.list.ListError.TheVariants.{WrongLine, NoMemory}
 
@@ -12,11 +13,11 @@ is_number_line line = (length line == 0) || is_some (decimal_of line)
 
 -- the first line that neither is empty nor has just a number
 abbrev pub wrong_line : List ℕ → Option ℕ
-wrong_line text = position (λ line. not (is_number_line line)) (split_at 10 text)
+wrong_line text = position (λ line. not (is_number_line line)) (lines text)
 
 -- the numbers of the lines that have just one
 abbrev pub numbers_of : List ℕ → List ℕ
-numbers_of text = filter_map decimal_of (split_at 10 text)
+numbers_of text = filter_map decimal_of (lines text)
 
 -- this is why the text is no list of numbers
 abbrev pub IsListError : List ℕ → ListError → Type 0

@@ -1,6 +1,7 @@
 -- The order of the numbers of a text.
 use Rattle.std.specs.Prelude.{ℕ, ◌+◌, Bool, true, List, [], ◌∷◌, Option, None, Some, nat_le, nat_lt, if◌then◌else◌}
-use Rattle.program_text.specs.Text.{decimal_of, split_at}
+use Rattle.std.specs.Str.Lines.{lines}
+use Rattle.program_text.specs.Text.{decimal_of}
 
 -- the number is not less than the one before it, if there is one, and with strict not the same either
 abbrev pub may_follow : Bool → Option ℕ → ℕ → Bool
@@ -20,4 +21,4 @@ fall_from strict before at (line ∷ lines) = fall_at strict before at (λ b. fa
 
 -- the first line whose number may not follow that of the line with a number before it
 abbrev pub fall_line : Bool → List ℕ → Option ℕ
-fall_line strict text = fall_from strict None 0 (split_at 10 text)
+fall_line strict text = fall_from strict None 0 (lines text)

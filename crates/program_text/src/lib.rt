@@ -11,6 +11,6 @@ mod lines;
 mod list;
 mod order;
 
-pub use lines::{Lines, first_part, only_part};
+pub use lines::{FilledLines, Lines, first_part, only_part};
 pub use list::{ListError, numbers};
 pub use order::first_fall;

@@ -3,6 +3,7 @@ ghost use Rattle.std.specs.Prelude.{◌≡◌, IfErr, IfOk, None};
 ghost use Rattle.program_text.specs.List.{is_number_line, numbers_of, wrong_line, IsListError};
 
 use crate::digits::decimal;
+use crate::lines::Lines;
 use std::alloc::{AllocError, Global};
 use std::error::Error;
 use std::fmt;
@@ -54,12 +55,11 @@ fn is_number_line(line: &[u8]) -> bool
 fn wrong_line(text: &[u8]) -> Option<usize>
     ensures { result ≡ wrong_line text.now }
 {
-    let mut lines = text.split(|byte| *byte == b'\n');
-    lines.position(|line| !is_number_line(line))
+    Lines::new(text).position(|line| !is_number_line(line))
 }
 
-/// The numbers of a text in which each line is empty or has just one, of 1 to 20 decimal digits and below 2^64. Lines
-/// end with a line feed; the last one may lack it.
+/// The numbers of a text in which each line (`Lines`) is empty or has just one, of 1 to 20 decimal digits and below
+/// 2^64.
 ///
 /// # Errors
 /// `WrongLine` exactly where a line has something else, with the first such line; else `NoMemory` where the numbers
@@ -87,7 +87,6 @@ fn collect_numbers(alloc: Global, text: &[u8]) -> Result<Vec<u64>, AllocError>
     ensures { IfOk result (λ numbers. numbers.items ≡ numbers_of text.now) }
 {
     let mut numbers = Vec::new(alloc);
-    let lines = text.split(|byte| *byte == b'\n');
-    numbers.extend(lines.filter_map(decimal))?;
+    numbers.extend(Lines::new(text).filter_map(decimal))?;
     Ok(numbers)
 }

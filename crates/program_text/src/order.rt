@@ -3,7 +3,7 @@ ghost use Rattle.std.specs.Prelude.{◌≡◌};
 ghost use Rattle.program_text.specs.Order.{fall_line, may_follow};
 
 use crate::digits::decimal;
-use crate::lines::first_part;
+use crate::lines::first_line;
 
 /// Whether a number may follow the one before it, if there is one: where it is not less, and with `strict` not the same
 /// either.
@@ -36,11 +36,10 @@ fn may_follow(strict: bool, before: Option<u64>, number: u64) -> bool
 pub fn first_fall(text: &[u8], strict: bool) -> Option<usize>
     ensures { result ≡ fall_line strict text.now }
 {
-    let mut rest = Some(text);
+    let mut rest = text;
     let mut before = None;
     let mut at = 0;
-    while let Some(left) = rest {
-        let (line, after) = first_part(left, b'\n');
+    while let Some((line, after)) = first_line(rest) {
         if let Some(number) = decimal(line) {
             if !may_follow(strict, before, number) {
                 return Some(at);

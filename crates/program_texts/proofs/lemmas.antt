@@ -1,5 +1,4 @@
 pub mod FileLemmas
 pub mod LineLemmas
 pub mod NumberingLemmas
-pub mod PatternLemmas
 pub mod ProgramLemmas

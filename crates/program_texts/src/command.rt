@@ -1,6 +1,6 @@
 //! The command that the arguments are.
 ghost use Rattle.std.specs.Prelude.{◌≡◌, map, option_map, string_bytes};
-ghost use Rattle.program_texts.specs.Command.{ask_of, asked_by, command_in, option_of, options_of};
+ghost use Rattle.program_texts.specs.Command.{ask_with, asked_by, command_in, option_with};
 
 /// What is to be said of patterns in the text of a file.
 #[derive(Clone, Copy)]
@@ -40,6 +40,12 @@ pub(crate) enum Command {
     Ask(Asked, Options),
 }
 
+/// How a question is answered without an option: the one pattern is a word, and checksums are looked at.
+const PLAINLY: Options = Options {
+    given: Given::Word,
+    sums: true,
+};
+
 /// The command that the arguments after `text` are, with its operand and the path of its file, which are empty where it
 /// has none; `None` where they are no command.
 pub(crate) fn command_in(args: &[String]) -> Option<(Command, &str, &str)>
@@ -48,44 +54,21 @@ pub(crate) fn command_in(args: &[String]) -> Option<(Command, &str, &str)>
 {
     match args {
         [word] if word.as_str() == "build" => Some((Command::Build, "", "")),
-        [word, pattern, path] => ask_of(
-            word.as_str(),
-            Some(Options {
-                given: Given::Word,
-                sums: true,
-            }),
-            pattern.as_str(),
-            path.as_str(),
-        ),
-        [word, option, operand, path] => ask_of(
-            word.as_str(),
-            option_of(option.as_str()),
-            operand.as_str(),
-            path.as_str(),
-        ),
-        [word, option, other, operand, path] => ask_of(
-            word.as_str(),
-            options_of(option.as_str(), other.as_str()),
-            operand.as_str(),
-            path.as_str(),
-        ),
-        _ => None,
+        [_] | [] => None,
+        [word, rest @ ..] => ask_with(asked_by(word.as_str())?, PLAINLY, rest),
     }
 }
 
-/// The question of a word with its options, if these are some.
-fn ask_of<'a>(
-    word: &str,
-    options: Option<Options>,
-    operand: &'a str,
-    path: &'a str,
-) -> Option<(Command, &'a str, &'a str)>
+/// The question that options, an operand and a path make after other options.
+fn ask_with(asked: Asked, chosen: Options, args: &[String]) -> Option<(Command, &str, &str)>
     ensures { option_map (λ found. (found.0, found.1.now, found.2.now)) result
-        ≡ ask_of word.now options operand.now path.now }
+        ≡ ask_with asked chosen (map string_bytes args.now) }
 {
-    let asked = asked_by(word)?;
-    let options = options?;
-    Some((Command::Ask(asked, options), operand, path))
+    match args {
+        [] => None,
+        [operand, path] => Some((Command::Ask(asked, chosen), operand.as_str(), path.as_str())),
+        [option, rest @ ..] => ask_with(asked, option_with(chosen, option.as_str())?, rest),
+    }
 }
 
 /// What a word wants said of patterns in the text of a file, if it is such a word.
@@ -103,35 +86,20 @@ fn asked_by(word: &str) -> Option<Asked>
     }
 }
 
-/// What one option says.
-fn option_of(option: &str) -> Option<Options>
-    ensures { result ≡ option_of option.now }
+/// What one more option makes of the options before it, if it is one: the path of the list follows `-f`. The numbers
+/// that are written are JSON, with `--json` and without it.
+fn option_with(chosen: Options, option: &str) -> Option<Options>
+    ensures { result ≡ option_with chosen option.now }
 {
-    if option == "--no-check" {
-        Some(Options {
-            given: Given::Word,
-            sums: false,
-        })
-    } else if option == "-f" {
-        Some(Options {
+    let Options { given, sums } = chosen;
+    match given {
+        Given::Listed => None,
+        Given::Word if option == "--no-check" => Some(Options { given, sums: false }),
+        Given::Word if option == "--json" => Some(chosen),
+        Given::Word if option == "-f" => Some(Options {
             given: Given::Listed,
-            sums: true,
-        })
-    } else {
-        None
-    }
-}
-
-/// What two options say.
-fn options_of(option: &str, other: &str) -> Option<Options>
-    ensures { result ≡ options_of option.now other.now }
-{
-    if option == "--no-check" && other == "-f" {
-        Some(Options {
-            given: Given::Listed,
-            sums: false,
-        })
-    } else {
-        None
+            sums,
+        }),
+        Given::Word => None,
     }
 }

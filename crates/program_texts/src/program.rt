@@ -17,7 +17,7 @@ use std::io::Write;
 /// What is written where the arguments are not those of a command.
 const USAGE: &str = "usage: bitm text build | bitm text count PATTERN BLOCK | \
     bitm text locate PATTERN BLOCK | bitm text lines PATTERN BLOCK
-before PATTERN may stand --no-check; -f FILE instead of PATTERN takes the lines of a file as patterns";
+before PATTERN may stand --no-check and --json; -f FILE instead of PATTERN takes the lines of a file as patterns";
 
 /// Does what the arguments after `text` say, and answers the status that the program ends with: 0 where that was done,
 /// on the file that is named, and 1 where it was done and no pattern was found; then nothing was written to `err`.
@@ -25,7 +25,7 @@ before PATTERN may stand --no-check; -f FILE instead of PATTERN takes the lines 
 /// `build` reads the text from the standard input; `count PATTERN BLOCK`, `locate PATTERN BLOCK` and
 /// `lines PATTERN BLOCK` read the file alone. The pattern's bytes are those of the argument. With `-f FILE` in place of
 /// the pattern the lines of that file are patterns, and those of the standard input with `-f -`. With `--no-check`
-/// before them the checksums of the file are not looked at.
+/// before them the checksums of the file are not looked at; `--json` there changes nothing, since a number is JSON.
 ///
 /// # Errors
 /// The status is 2, and a text goes to `err`, where the arguments are no command, where something can't be read, where

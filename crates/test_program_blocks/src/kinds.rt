@@ -1,5 +1,6 @@
 //! Blocks of each kind that are built of a text and queried; texts that no block is built of.
 use program_blocks::{Failure, Kind, build, query};
+use program_runs::Form;
 use std::process::Abort;
 use std::test::Fail;
 
@@ -25,7 +26,13 @@ fn expect_answers(
     build(rt.alloc(), kind, text.as_bytes(), &mut block)?;
     let mut out = Vec::new(rt.alloc());
     assert_eq!(rt;
-        query(rt.alloc(), block.as_slice(), questions.as_bytes(), &mut out)?,
+        query(
+            rt.alloc(),
+            block.as_slice(),
+            questions.as_bytes(),
+            Form::Text,
+            &mut out
+        )?,
         good
     );
     assert!(rt; out.as_slice() == answers.as_bytes());

@@ -1,5 +1,6 @@
 //! A block that is built of a text and queried; other texts and other bytes in its place.
 use program_blocks::{Failure, Kind, build, query, start};
+use program_runs::Form;
 use std::fs;
 use std::io::Input;
 use std::process::Abort;
@@ -26,7 +27,10 @@ fn expect_answers(
     good: bool,
 ) -> Result<(), Fail> {
     let mut out = Vec::new(rt.alloc());
-    assert_eq!(rt; query(rt.alloc(), block, text.as_bytes(), &mut out)?, good);
+    assert_eq!(rt;
+        query(rt.alloc(), block, text.as_bytes(), Form::Text, &mut out)?,
+        good
+    );
     assert!(rt; out.as_slice() == answers.as_bytes());
     Ok(())
 }
@@ -97,7 +101,7 @@ fn other_bytes_are_a_wrong_block(rt: HostRuntime) -> Result<(), Fail> {
             Failure::WrongBlock
         };
         block[at] ^= 1;
-        let answer = query(rt.alloc(), block.as_slice(), text, &mut out);
+        let answer = query(rt.alloc(), block.as_slice(), text, Form::Text, &mut out);
         assert!(rt; answer == Err(flipped), "at byte {at}");
         block[at] ^= 1;
         let cut = if at < 8 {
@@ -105,7 +109,13 @@ fn other_bytes_are_a_wrong_block(rt: HostRuntime) -> Result<(), Fail> {
         } else {
             Failure::WrongBlock
         };
-        let answer = query(rt.alloc(), &block.as_slice()[..at], text, &mut out);
+        let answer = query(
+            rt.alloc(),
+            &block.as_slice()[..at],
+            text,
+            Form::Text,
+            &mut out,
+        );
         assert!(rt; answer == Err(cut), "at length {at}");
     }
     assert!(rt; out.is_empty());
@@ -124,7 +134,7 @@ fn a_write_that_fails_is_told(rt: HostRuntime) -> Result<(), Fail> {
     );
     let question = b"get 0".as_slice();
     assert_eq!(rt;
-        query(rt.alloc(), block, question, &mut out),
+        query(rt.alloc(), block, question, Form::Text, &mut out),
         Err(Failure::CannotWrite)
     );
     Ok(())
@@ -152,7 +162,8 @@ fn expect_start(
 
 #[test]
 fn start_ends_with_the_status_and_text_of_its_file(rt: HostRuntime) -> Result<(), Fail> {
-    let usage = "usage: bitm build KIND | bitm query BLOCK | bitm check BLOCK | bitm info BLOCK\n\
+    let usage =
+        "usage: bitm build KIND | bitm query [--json] BLOCK | bitm check BLOCK | bitm info BLOCK\n\
          KIND is bits, sequence, sparse, matrix or tree; bitm text and bitm strings say what they do with a text\n";
     expect_start(&rt, ("build", "forest"), 2, "", usage)?;
     expect_start(&rt, ("show", "."), 2, "", usage)?;

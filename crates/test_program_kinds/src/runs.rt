@@ -6,14 +6,14 @@ ghost use Rattle.program_runs.specs.Known.{Known};
 use crate::told::file_of;
 use program_blocks::Failure;
 use program_kinds::{info, start};
-use program_runs::{CannotRead, Sources};
+use program_runs::{CannotRead, Form, Sources};
 use std::alloc::{Alloc, Global};
 use std::process::Abort;
 use std::test::Fail;
 use test_writers::Failing;
 
 /// What is written where the arguments are no command.
-const USAGE: &str = "usage: bitm check BLOCK | bitm info BLOCK\n";
+const USAGE: &str = "usage: bitm check [--json] BLOCK | bitm info [--json] BLOCK\n";
 
 /// A file at a path, and no other.
 #[derive(Drop)]
@@ -127,7 +127,7 @@ fn the_file_that_is_named_is_told_of(rt: HostRuntime) -> Result<(), Fail> {
 fn a_write_that_fails_is_told(rt: HostRuntime) -> Result<(), Fail> {
     let file = hash(&rt)?;
     let mut out = Failing::new(rt.alloc(), 0, true);
-    let said = info(rt.alloc(), file.as_slice(), &mut out);
+    let said = info(rt.alloc(), file.as_slice(), Form::Text, &mut out);
     assert!(rt; said == Err(Failure::CannotWrite));
     Ok(())
 }

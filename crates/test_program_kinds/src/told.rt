@@ -1,6 +1,7 @@
 //! What is said of the words of a block.
 use program_blocks::write_words;
 use program_kinds::{check, info};
+use program_runs::Form;
 use std::process::Abort;
 use std::test::Fail;
 
@@ -12,7 +13,7 @@ pub(crate) fn expect_said(
 ) -> Result<(), Fail> {
     assert!(rt; check(rt.alloc(), file)?);
     let mut out = Vec::new(rt.alloc());
-    info(rt.alloc(), file, &mut out)?;
+    info(rt.alloc(), file, Form::Text, &mut out)?;
     assert!(rt; out.as_slice() == said.as_bytes());
     Ok(())
 }

@@ -1,4 +1,5 @@
 //! The numbers that lines have.
+use program_runs::Form;
 use program_strings::{Failure, build, find};
 use std::process::Abort;
 use std::test::Fail;
@@ -19,7 +20,7 @@ fn expect_numbers(
 ) -> Result<(), Fail> {
     let file = built(rt, strings)?;
     let mut out = Vec::new(rt.alloc());
-    find(rt.alloc(), file.as_slice(), text, &mut out)?;
+    find(rt.alloc(), file.as_slice(), text, Form::Text, &mut out)?;
     assert!(rt; out.as_slice() == numbers.as_bytes());
     Ok(())
 }
@@ -88,13 +89,25 @@ fn other_bytes_are_no_strings(rt: HostRuntime) -> Result<(), Fail> {
         let mut changed = file.clone()?;
         changed[at] ^= 1;
         let mut out = Vec::new(rt.alloc());
-        let found = find(rt.alloc(), changed.as_slice(), b"ada".as_slice(), &mut out);
+        let found = find(
+            rt.alloc(),
+            changed.as_slice(),
+            b"ada".as_slice(),
+            Form::Text,
+            &mut out,
+        );
         assert!(rt; found == Err(Failure::WrongBlock) && out.is_empty());
     }
     let mut longer = file.clone()?;
     longer.push(0)?;
     let mut out = Vec::new(rt.alloc());
-    let found = find(rt.alloc(), longer.as_slice(), b"ada".as_slice(), &mut out);
+    let found = find(
+        rt.alloc(),
+        longer.as_slice(),
+        b"ada".as_slice(),
+        Form::Text,
+        &mut out,
+    );
     assert!(rt; found == Err(Failure::WrongBlock) && out.is_empty());
     Ok(())
 }

@@ -1,4 +1,5 @@
 //! Runs with arguments, and what they write.
+use program_runs::Form;
 use program_strings::{Failure, build, find, start};
 use std::fs;
 use std::io::Input;
@@ -8,7 +9,7 @@ use std::test::Fail;
 use test_writers::Failing;
 
 /// What is written where the arguments are no command.
-const USAGE: &str = "usage: bitm strings build | bitm strings find BLOCK\n";
+const USAGE: &str = "usage: bitm strings build | bitm strings find [--json] BLOCK\n";
 
 /// Runs `start` with these arguments after `strings`, and compares its status and what it writes.
 fn expect_start(
@@ -60,7 +61,7 @@ fn a_write_that_fails_is_told(rt: HostRuntime) -> Result<(), Fail> {
         Err(Failure::CannotWrite)
     );
     assert_eq!(rt;
-        find(rt.alloc(), file.as_slice(), text, &mut out),
+        find(rt.alloc(), file.as_slice(), text, Form::Text, &mut out),
         Err(Failure::CannotWrite)
     );
     Ok(())

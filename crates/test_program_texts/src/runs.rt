@@ -10,7 +10,7 @@ use test_writers::Failing;
 /// What is written where the arguments are no command.
 const USAGE: &str = "usage: bitm text build | bitm text count PATTERN BLOCK | \
     bitm text locate PATTERN BLOCK | bitm text lines PATTERN BLOCK
-before PATTERN may stand --no-check; -f FILE instead of PATTERN takes the lines of a file as patterns\n";
+before PATTERN may stand --no-check and --json; -f FILE instead of PATTERN takes the lines of a file as patterns\n";
 
 /// Runs `start` with these arguments after `text`, and compares its status and what it writes.
 fn expect_start(

@@ -5,6 +5,7 @@ use Rattle.bitm_abi.specs.declared.layout.Stored.{Stored}
 use Rattle.bitm_view.specs.Cut.{bits_of_cut, Cut}
 use Rattle.elias_fano.specs.LentParts.{Holds, LentParts}
 use Rattle.program_text.specs.Text.{lines_of}
+use Rattle.program_runs.specs.declared.form.Form.{Form}
 use Rattle.program_blocks.specs.Bits.{IsBitsReply}
 use Rattle.program_blocks.specs.Old.{old_bits_in, old_sequence_in, IsOld, IsOldBits, IsOldSequence, WroteOldBits, WroteOldSequence}
 use Rattle.program_blocks.specs.Query.{WroteReplies}
@@ -33,23 +34,23 @@ is_headed file (inl bits) = bits.headed
 is_headed file (inr sequence) = sequence.headed
 
 -- what opened bits answered is what the bits of the file answer
-pub wrote_old_bits : (file text : List ℕ) (view : Cut) (a b : Option (List ℕ)) (good : Bool) → IsOldBits file → view ≡ old_bits_in file
-    → WroteReplies (IsBitsReply (bits_of_cut view)) (lines_of text) a b good → WroteOldBits file text a b good
-wrote_old_bits file text view a b good fits same wrote = record {
+pub wrote_old_bits : (form : Form) (file text : List ℕ) (view : Cut) (a b : Option (List ℕ)) (good : Bool) → IsOldBits file → view ≡ old_bits_in file
+    → WroteReplies form (IsBitsReply (bits_of_cut view)) (lines_of text) a b good → WroteOldBits form file text a b good
+wrote_old_bits form file text view a b good fits same wrote = record {
   fits = fits;
-  wrote = subst (λ (v : Cut). WroteReplies (IsBitsReply (bits_of_cut v)) (lines_of text) a b good) same wrote;
+  wrote = subst (λ (v : Cut). WroteReplies form (IsBitsReply (bits_of_cut v)) (lines_of text) a b good) same wrote;
 }
 
 -- and what an opened sequence answered, where one was opened
-pub sequence_kept : (r : Result Bool Failure) (o : Option LentParts) (file text : List ℕ) (a b : Option (List ℕ)) → SomeIff o (IsOldSequence file) (old_sequence_in file)
-    → IfOk r (λ good. IsSomeAnd o (λ (view : LentParts). WroteReplies (λ (question : Question) (reply : Reply). (xs : List ℕ) → Holds xs view
+pub sequence_kept : (form : Form) (r : Result Bool Failure) (o : Option LentParts) (file text : List ℕ) (a b : Option (List ℕ)) → SomeIff o (IsOldSequence file) (old_sequence_in file)
+    → IfOk r (λ good. IsSomeAnd o (λ (view : LentParts). WroteReplies form (λ (question : Question) (reply : Reply). (xs : List ℕ) → Holds xs view
     → IsSequenceReply xs question reply) (lines_of text) a b good))
-    → IfOk r (λ good. WroteOldBits file text a b good ⊎ WroteOldSequence file text a b good)
-sequence_kept (Ok good) o file text a b iff wrote =
-    let h = opened_has o (IsOldSequence file) (old_sequence_in file) (λ (view : LentParts). WroteReplies (λ (question : Question) (reply : Reply).
+    → IfOk r (λ good. WroteOldBits form file text a b good ⊎ WroteOldSequence form file text a b good)
+sequence_kept form (Ok good) o file text a b iff wrote =
+    let h = opened_has o (IsOldSequence file) (old_sequence_in file) (λ (view : LentParts). WroteReplies form (λ (question : Question) (reply : Reply).
     (xs : List ℕ) → Holds xs view → IsSequenceReply xs question reply) (lines_of text) a b good) iff wrote in
     inr (record { fits = h.0; wrote = h.1 })
-sequence_kept (Err e) o file text a b iff wrote = tt
+sequence_kept form (Err e) o file text a b iff wrote = tt
 
 pub neither : (file : List ℕ) → (¬ (IsOldBits file)) → (¬ (IsOldSequence file)) → ¬ (IsOld file)
 neither file no_bits no_sequence (inl bits) = no_bits bits

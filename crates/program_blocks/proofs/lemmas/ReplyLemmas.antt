@@ -5,9 +5,10 @@ use Rattle.std.proofs.lemmas.Grind.{flat_map-append}
 use Rattle.std.proofs.lemmas.List.Folds.{list_all-append}
 use Rattle.std.specs.Io.KnownBytes.{Appends}
 use Rattle.std.specs.List.{list_all}
+use Rattle.program_runs.specs.declared.form.Form.{Form}
 use Rattle.program_blocks.specs.Query.{AreReplies, IsReplyTo, WroteReplies, WroteReply}
 use Rattle.program_blocks.specs.Question.{question_of}
-use Rattle.program_blocks.specs.Reply.{is_good, reply_text, text_of}
+use Rattle.program_blocks.specs.Reply.{is_good, reply_in, text_of}
 use Rattle.program_blocks.specs.declared.question.Question.{Question}
 use Rattle.program_blocks.specs.declared.reply.Reply.{Reply}
 
@@ -22,20 +23,20 @@ replies_more R [] (r ∷ replies) line reply h one = absurd h
 replies_more R (l ∷ lines) [] line reply h one = absurd h
 replies_more R (l ∷ lines) (r ∷ replies) line reply h one = (h.0, replies_more R lines replies line reply h.1 one)
 
-text_more : (replies : List Reply) (reply : Reply) → text_of (replies ++ reply ∷ []) ≡ text_of replies ++ (reply_text reply ++ 10 ∷ [])
-text_more replies reply =
-    flat_map-append (λ r. reply_text r ++ 10 ∷ []) replies (reply ∷ []) ∙ ap (λ l. text_of replies ++ l) (append-nil (reply_text reply ++ 10 ∷ []))
+text_more : (form : Form) (replies : List Reply) (reply : Reply) → text_of form (replies ++ reply ∷ []) ≡ text_of form replies ++ (reply_in form reply ++ 10 ∷ [])
+text_more form replies reply =
+    flat_map-append (λ r. reply_in form r ++ 10 ∷ []) replies (reply ∷ []) ∙ ap (λ l. text_of form replies ++ l) (append-nil (reply_in form reply ++ 10 ∷ []))
 
 told_more : (replies : List Reply) (reply : Reply) (good told : Bool) → good ≡ list_all is_good replies → told ≡ is_good reply → (good && told) ≡ list_all is_good (replies ++ reply ∷ [])
 told_more replies reply good told h one =
     ap (λ b. b && told) h ∙ ap (λ b. list_all is_good replies && b) one
     ∙ sym (list_all-append is_good replies (reply ∷ []) ∙ ap (λ b. list_all is_good replies && b) (and_true (is_good reply)))
 
-pub wrote_more : (R : Question → Reply → Type 0) (lines : List (List ℕ)) (line : List ℕ) (a b c : Option (List ℕ)) (good told : Bool) → WroteReplies R lines a b good
-    → WroteReply R line b c told → WroteReplies R (lines ++ line ∷ []) a c (good && told)
-wrote_more R lines line a b c good told h one = record {
+pub wrote_more : (form : Form) (R : Question → Reply → Type 0) (lines : List (List ℕ)) (line : List ℕ) (a b c : Option (List ℕ)) (good told : Bool) → WroteReplies form R lines a b good
+    → WroteReply form R line b c told → WroteReplies form R (lines ++ line ∷ []) a c (good && told)
+wrote_more form R lines line a b c good told h one = record {
   replies = h.replies ++ one.reply ∷ [];
   answers = replies_more R lines h.replies line one.reply h.answers one.answers;
-  written = subst (λ l. Appends a c l) (sym (text_more h.replies one.reply)) (Appends-trans a b c _ _ h.written one.written);
+  written = subst (λ l. Appends a c l) (sym (text_more form h.replies one.reply)) (Appends-trans a b c _ _ h.written one.written);
   told = told_more h.replies one.reply good told h.told one.told;
 }

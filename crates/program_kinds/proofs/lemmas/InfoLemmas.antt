@@ -4,13 +4,14 @@ use Rattle.std.specs.Io.KnownBytes.{Appends}
 use Rattle.program_blocks.specs.Bytes.{words_of_bytes}
 use Rattle.program_blocks.specs.Old.{old_head_in, IsOld, IsOldFile}
 use Rattle.program_blocks.specs.declared.old.OldHead.{OldHead}
+use Rattle.program_runs.specs.declared.form.Form.{Form}
 use Rattle.program_kinds.specs.Info.{info_text, old_text, IsDescribed, WroteInfo, WroteOldInfo}
 use Rattle.program_kinds.specs.declared.describing.Description.{Description}
 use Rattle.program_kinds.proofs.lemmas.SoundLemmas.{same_kind}
 
-pub wrote_info : (bytes block : List ℕ) (d : Description) (a b : Option (List ℕ)) → words_of_bytes bytes ≡ Some block
-    → IsDescribed block (length bytes) d → Appends a b (info_text d.kind d.head d.bytes) → WroteInfo bytes a b
-wrote_info bytes block d a b words h wrote = record {
+pub wrote_info : (form : Form) (bytes block : List ℕ) (d : Description) (a b : Option (List ℕ)) → words_of_bytes bytes ≡ Some block
+    → IsDescribed block (length bytes) d → Appends a b (info_text form d.kind d.head d.bytes) → WroteInfo form bytes a b
+wrote_info form bytes block d a b words h wrote = record {
   block = block;
   words = words;
   sound = record { kind = d.kind; says = h.kind; sound = same_kind block d.kind h.kind h.sound };
@@ -18,13 +19,13 @@ wrote_info bytes block d a b words h wrote = record {
 }
 
 -- what was said of the head of a file of version 2 is what its header says
-pub wrote_old : (bytes file : List ℕ) (head : OldHead) (a b : Option (List ℕ)) → words_of_bytes bytes ≡ Some file → SomeIff (Some head) (IsOld file) (old_head_in file)
-    → Appends a b (old_text head (length bytes)) → WroteOldInfo bytes a b
-wrote_old bytes file head a b words iff wrote = record {
+pub wrote_old : (form : Form) (bytes file : List ℕ) (head : OldHead) (a b : Option (List ℕ)) → words_of_bytes bytes ≡ Some file → SomeIff (Some head) (IsOld file) (old_head_in file)
+    → Appends a b (old_text form head (length bytes)) → WroteOldInfo form bytes a b
+wrote_old form bytes file head a b words iff wrote = record {
   file = file;
   words = words;
   fits = iff.0;
-  written = subst (λ (h : OldHead). Appends a b (old_text h (length bytes))) iff.1 wrote;
+  written = subst (λ (h : OldHead). Appends a b (old_text form h (length bytes))) iff.1 wrote;
 }
 
 -- bytes of a file of version 2 have its words

@@ -6,6 +6,7 @@ use Rattle.std.specs.Io.KnownBytes.{Appends}
 use Rattle.std.specs.List.{flat_map, list_any}
 use Rattle.bitm_tables.specs.declared.answer.Answer.{Answer}
 use Rattle.program_blocks.specs.Bytes.{words_of_bytes}
+use Rattle.program_runs.specs.declared.form.Form.{Form}
 use Rattle.program_text.specs.Text.{lines_of}
 use Rattle.program_strings.specs.Finding.{answer_line, is_number, AreAnswers, IsAnswer, WroteFound, WroteNumber, WroteNumbers}
 use Rattle.string_block.specs.Block.{strings_in, IsSoundBlock}
@@ -32,26 +33,26 @@ any-more : (answers : List (Answer ℕ)) (answer : Answer ℕ)
 any-more [] answer = or-false (is_number answer)
 any-more (a ∷ answers) answer = or-more (is_number a) (list_any is_number answers) (is_number answer) _ (any-more answers answer)
 
-text-more : (answers : List (Answer ℕ)) (answer : Answer ℕ)
-    → flat_map answer_line (answers ++ answer ∷ []) ≡ flat_map answer_line answers ++ answer_line answer
-text-more answers answer =
-    flat_map-append answer_line answers (answer ∷ []) ∙ ap (λ l. flat_map answer_line answers ++ l) (append-nil (answer_line answer))
+text-more : (form : Form) (answers : List (Answer ℕ)) (answer : Answer ℕ)
+    → flat_map (answer_line form) (answers ++ answer ∷ []) ≡ flat_map (answer_line form) answers ++ answer_line form answer
+text-more form answers answer =
+    flat_map-append (answer_line form) answers (answer ∷ []) ∙ ap (λ l. flat_map (answer_line form) answers ++ l) (append-nil (answer_line form answer))
 
-pub wrote-more : (parts : StringParts) (lines : List (List ℕ)) (line : List ℕ) (a b c : Option (List ℕ)) (found one_is : Bool)
-    → WroteNumbers parts lines a b found → WroteNumber parts line b c one_is → WroteNumbers parts (lines ++ line ∷ []) a c (found || one_is)
-wrote-more parts lines line a b c found one_is h one = record {
+pub wrote-more : (form : Form) (parts : StringParts) (lines : List (List ℕ)) (line : List ℕ) (a b c : Option (List ℕ)) (found one_is : Bool)
+    → WroteNumbers form parts lines a b found → WroteNumber form parts line b c one_is → WroteNumbers form parts (lines ++ line ∷ []) a c (found || one_is)
+wrote-more form parts lines line a b c found one_is h one = record {
   answers = h.answers ++ one.answer ∷ [];
   told = ap (λ f. f || one_is) h.told ∙ ap (λ o. list_any is_number h.answers || o) one.told ∙ any-more h.answers one.answer;
   are = answers-more parts lines h.answers line one.answer h.are one.is;
-  written = subst (λ l. Appends a c l) (sym (text-more h.answers one.answer)) (Appends-trans a b c _ _ h.written one.written);
+  written = subst (λ l. Appends a c l) (sym (text-more form h.answers one.answer)) (Appends-trans a b c _ _ h.written one.written);
 }
 
 -- what was written of a view's strings was written of those of its file
-pub wrote-found : (bytes block text : List ℕ) (parts : StringParts) (a b : Option (List ℕ)) (found : Bool) → words_of_bytes bytes ≡ Some block
-    → IsSoundBlock block → parts ≡ strings_in block → WroteNumbers parts (lines_of text) a b found → WroteFound bytes text a b found
-wrote-found bytes block text parts a b found words sound same wrote = record {
+pub wrote-found : (form : Form) (bytes block text : List ℕ) (parts : StringParts) (a b : Option (List ℕ)) (found : Bool) → words_of_bytes bytes ≡ Some block
+    → IsSoundBlock block → parts ≡ strings_in block → WroteNumbers form parts (lines_of text) a b found → WroteFound form bytes text a b found
+wrote-found form bytes block text parts a b found words sound same wrote = record {
   block = block;
   words = words;
   sound = sound;
-  wrote = subst (λ p. WroteNumbers p (lines_of text) a b found) same wrote;
+  wrote = subst (λ p. WroteNumbers form p (lines_of text) a b found) same wrote;
 }

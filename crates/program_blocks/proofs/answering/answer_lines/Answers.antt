@@ -7,5 +7,5 @@ pub loop-line-preserved : goal.loop-line-preserved
 loop-line-preserved g c =
     let contents = g.W.Write.contents in
     rw (map-append)
-    (wrote_more (g.Q.Queryable.replies c.args.view.now) (map (λ x. x.now) c.loop-line.yielded) c.in-Some.line.now (contents c.args.out.now) (contents c.loop-line.out)
+    (wrote_more c.args.form (g.Q.Queryable.replies c.args.view.now) (map (λ x. x.now) c.loop-line.yielded) c.in-Some.line.now (contents c.args.out.now) (contents c.loop-line.out)
     (contents c.answer_line.new.out) c.loop-line.good _ c.loop-line.invariant c.in_ok-good.ensures)

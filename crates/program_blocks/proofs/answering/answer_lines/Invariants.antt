@@ -4,4 +4,4 @@ use Rattle.program_blocks.proofs.answering.answer_lines.Given as goal
 
 abbrev pub invariant-loop-line : goal.invariant-loop-line
 invariant-loop-line g l =
-    WroteReplies (g.Q.Queryable.replies l.view) (map (λ x. x.now) l.yielded) (g.W.Write.contents l.fn.out) (g.W.Write.contents l.out) l.good
+    WroteReplies l.form (g.Q.Queryable.replies l.view) (map (λ x. x.now) l.yielded) (g.W.Write.contents l.fn.out) (g.W.Write.contents l.out) l.good

@@ -11,5 +11,5 @@ returns-in-Some-kind_in-clause-answers g c =
     let says : kind_in c.in-Some.words.items ≡ Some c.in-Some-kind_in.kind = search rules in
     let sound = rw c.as_slice-in-Some-kind_in.ensures.value at c.answer_kind.ensures.sound in
     let wrote = rw c.as_slice-in-Some-kind_in.ensures.value at c.answer_kind.ensures.answers in
-    told_of_kind c.answer_kind.result c.args.block.now c.args.text.now c.in-Some.words.items c.in-Some-kind_in.kind (contents c.args.out.now)
+    told_of_kind c.args.form c.answer_kind.result c.args.block.now c.args.text.now c.in-Some.words.items c.in-Some-kind_in.kind (contents c.args.out.now)
     (contents c.answer_kind.new.out) words says sound wrote

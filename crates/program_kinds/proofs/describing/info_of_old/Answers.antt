@@ -8,7 +8,7 @@ returns-in-Some-old_head-clause-written g c =
     let contents = g.W.Write.contents in
     let words : words_of_bytes c.args.file.now ≡ Some c.in-Some.words.items = search rules in
     let is = rw c.as_slice.ensures.value at c.in-Some-old_head.ensures in
-    wrote_old c.args.file.now c.in-Some.words.items _ (contents c.args.out.now) (contents c.write_old.new.out) words is
+    wrote_old c.args.form c.args.file.now c.in-Some.words.items _ (contents c.args.out.now) (contents c.write_old.new.out) words is
     c.in_ok-write_old-in-Some-old_head.ensures
 
 pub returns-clause-wrong : goal.returns-clause-wrong

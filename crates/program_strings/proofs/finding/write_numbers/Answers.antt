@@ -7,5 +7,5 @@ pub loop-line-preserved : goal.loop-line-preserved
 loop-line-preserved g c =
     let contents = g.W.Write.contents in
     rw (map-append)
-    (wrote-more c.args.strings.now (map (λ x. x.now) c.loop-line.yielded) c.in-Some.line.now (contents c.args.out.now) (contents c.loop-line.out)
+    (wrote-more c.args.form c.args.strings.now (map (λ x. x.now) c.loop-line.yielded) c.in-Some.line.now (contents c.args.out.now) (contents c.loop-line.out)
     (contents c.write_number.new.out) c.loop-line.found _ c.loop-line.invariant c.in_ok-found.ensures)

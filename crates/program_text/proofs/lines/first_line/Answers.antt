@@ -1,8 +1,8 @@
 use Rattle.std.proofs.Common.{◌∙◌, ◌<◌, ◌∷◌, List, ℕ, Option, Bor, ap, length, sym, rules}
 use Rattle.std.specs.Str.Lines.{lines}
 use Rattle.program_text.specs.Text.{split_left}
-use Rattle.program_texts.proofs.lemmas.PatternLemmas.{line-last, line-more}
-use Rattle.program_texts.proofs.patterns.first_line.Goals as goal
+use Rattle.program_text.proofs.lemmas.LineLemmas.{line-last, line-more}
+use Rattle.program_text.proofs.lines.first_line.Goals as goal
 
 pub returns-in-Some-clause-line : goal.returns-in-Some-clause-line
 returns-in-Some-clause-line c =

@@ -1,7 +1,7 @@
 use Rattle.std.proofs.Common.{◌≡◌, ℕ, ◌+◌, List, length, Option, None, Some}
 use denote.Ref.{Bor}
 use Rattle.program_text.specs.Text.{split_left, without_empty}
-use Rattle.program_text.proofs.lines.LinesIterator.next.Given as goal
+use Rattle.program_session.proofs.lines.CommandLinesIterator.next.Given as goal
 
 -- more than the bytes of what is left of a text
 abbrev pub bytes_left : Option (Bor (List ℕ)) → ℕ
