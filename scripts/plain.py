@@ -24,7 +24,7 @@ bitm/src/ranges.rt ones_between:_in zeros_between:_in next_one:_in next_zero:_in
 bitm_strategies/src/binary.rt select:_counted select0:_counted
 bitm_strategies/src/combined.rt select:_counted select0:_counted
 bitm_view/src/view.rt rank_of:rank_on rank:rank_of
-elias_fano/src/finding.rt first_at_least:first_from_on+rise+probe_from
+elias_fano/src/finding.rt first_at_least:_by+found last_at_most:_by+found contains:_by
 louds/src/counted.rt is_leaf_on:is_leaf_by parent_on:parent_by parent_of_on:parent_of_by child_rank_on:child_rank_by
     next_sibling_on:next_sibling_by previous_sibling_on:previous_sibling_by zero_on:zero_by
 louds/src/node.rt degree_of:degree_from_on is_leaf_of:ends_after_on children_of:children_from_on parent_of:_by
@@ -53,8 +53,6 @@ OTHERS = {
     "bitm_lists_c/src/moving.rt": {"bitm_cursor_start": "writes where the cursor stands, or says why not"},
     "block_items/src/items.rt": {"next": "an iterator over items, each of which is one query"},
     "block_items/src/views.rt": {"item": "a query of the view, whose answer the iterator takes"},
-    "elias_fano/src/finding.rt": {
-        "contains": "a successor, and the number there", "last_at_most": "the successor of the next value"},
     "elias_fano_view/src/sequence/items.rt": {"items_from": "a selection, and one body for all numbers after it"},
     "perfect_hash/src/dictionary.rt": {"get": "a number, and the key's fingerprint there"},
     "seeded_block/src/packed.rt": {"get": "a byte of a word, and no table"},

@@ -1,6 +1,8 @@
 pub mod AheadLemmas
 pub mod BucketLemmas
 pub mod CursorLemmas
+pub mod EndsLemmas
+pub mod FoundLemmas
 pub mod FragmentLemmas
 pub mod ItemLemmas
 pub mod LowLemmas

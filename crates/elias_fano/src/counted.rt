@@ -1,61 +1,23 @@
 //! Calls on the parts of one sequence, over any source of its upper words: what they read is counted.
-ghost use Rattle.std.specs.Prelude.{◌≡◌, ◌+◌, ◌*◌, ◌<◌, ◌≤◌, ◌↔◌, ℕ, List, IsTrue, length, slice_index};
+ghost use Rattle.std.specs.Prelude.{◌≡◌, ◌+◌, ◌*◌, ◌↔◌, ℕ, List, IsTrue, length};
 ghost use Rattle.std.specs.List.{Contains};
 ghost use Rattle.bit_lists.specs.Bits.{digit_count};
 ghost use Rattle.bitm_tables.specs.Reads.{OnlyReads, ReadsAtMost};
 ghost use Rattle.elias_fano.specs.LentParts.{parts_of, parts_with, AreParts, Holds};
 ghost use Rattle.elias_fano.specs.Low.{sharing, ReadsFragments};
-ghost use Rattle.elias_fano.specs.Sequence.{IsFirstAtLeast, IsLastAtMost, ReachesTo};
+ghost use Rattle.elias_fano.specs.Sequence.{IsFirstAtLeast, IsLastAtMost};
 
+use crate::finds::BySearch;
 use crate::low::LowDigits;
-use crate::searching::{first_on, item_at_one, total_item_on};
+use crate::predecessor::{contains_by, last_at_most_by};
+use crate::searching::first_at_least_by;
 use bitm::index_laws;
-use bitm_select::search::selecting::{ByTables, total_select_on};
-use bitm_tables::answer::Answer;
+use bitm_select::search::selected::found;
+use bitm_select::search::selecting::ByTables;
 use bitm_tables::source::TableSource;
 
-/// Number `at` of a sequence.
-#[inline(always)]
-fn item_on<T: TableSource>(source: &mut T, low: &mut LowDigits<'_>, n: usize, at: usize) -> u64
-    requires parts { AreParts (parts_with n low.old (T.lists source.old)) }
-    requires inside { at < n }
-    ensures item { (xs : List ℕ) → Holds xs (parts_with n low.old (T.lists source.old))
-        → result ≡ slice_index xs at }
-    ensures reads { OnlyReads T.lists T.reads source.old source.new
-        (digit_count (length (T.lists source.old).upper) + 1) 23 8 }
-    ensures fragments { ReadsFragments low.old low.new 1 }
-{
-    index_laws::tables_have_sizes();
-    match total_item_on(source, low, n, at) {
-        Answer::Found(item) => item,
-        Answer::Absent | Answer::Wrong => unreachable!(),
-    }
-}
-
-/// Whether the only number of a sequence is at least `v`. Its low bits are read where it has the high bits of `v`.
-#[inline(always)]
-fn only_reaches<T: TableSource>(source: &mut T, low: &mut LowDigits<'_>, v: u64) -> bool
-    requires parts { AreParts (parts_with 1 low.old (T.lists source.old)) }
-    ensures reaches { (xs : List ℕ) → Holds xs (parts_with 1 low.old (T.lists source.old))
-        → IsTrue result ↔ (v ≤ slice_index xs 0) }
-    ensures reads { OnlyReads T.lists T.reads source.old source.new
-        (digit_count (length (T.lists source.old).upper) + 1) 23 8 }
-    ensures shared { (xs : List ℕ) → Holds xs (parts_with 1 low.old (T.lists source.old))
-        → ReadsFragments low.old low.new (digit_count (sharing xs low.old.width v)) }
-{
-    index_laws::tables_have_sizes();
-    let above = (v >> low.width()) as usize;
-    match total_select_on::<1, T>(source, 0) {
-        Answer::Found(place) => {
-            if place == above {
-                item_at_one(place, low, 0) >= v
-            } else {
-                place > above
-            }
-        }
-        Answer::Absent | Answer::Wrong => unreachable!(),
-    }
-}
+/// By searches in the tables, with no tests of what right tables have.
+const BY_TABLES: BySearch<'static, 0, ByTables> = BySearch { finder: &ByTables };
 
 /// The least index of a sequence whose number is at least `v` (the successor); `None` exactly where there is none.
 ///
@@ -89,21 +51,7 @@ pub fn first_at_least_on<T: TableSource>(
         → ReadsFragments low.old low.new (digit_count (sharing xs low.old.width v)) }
 {
     index_laws::tables_have_sizes();
-    if n == 0 {
-        return None;
-    }
-    if n == 1 {
-        return if only_reaches(source, low, v) {
-            Some(0)
-        } else {
-            None
-        };
-    }
-    match first_on::<0, T, ByTables>(source, &ByTables, low, n, v) {
-        Answer::Found(place) => Some(place),
-        Answer::Absent => None,
-        Answer::Wrong => None,
-    }
+    found(first_at_least_by(source, &BY_TABLES, low, n, v))
 }
 
 /// The least index of a sequence whose number is at least `v` (the successor); `None` exactly where there is none. It
@@ -136,26 +84,6 @@ pub fn first_at_least_counted<T: TableSource>(
     first_at_least_on(source, &mut LowDigits::new(low, width), n, v)
 }
 
-/// How many numbers of a sequence are at most `v`: those before the first that is at least `v + 1`.
-#[inline(always)]
-fn count_at_most<T: TableSource>(source: &mut T, low: &mut LowDigits<'_>, n: usize, v: u64) -> usize
-    requires parts { AreParts (parts_with n low.old (T.lists source.old)) }
-    ensures reaches { (xs : List ℕ) → Holds xs (parts_with n low.old (T.lists source.old))
-        → ReachesTo xs v result }
-    ensures reads { OnlyReads T.lists T.reads source.old source.new
-        (2 * (digit_count (length (T.lists source.old).upper) + 1)) (2 * 23) (2 * 8) }
-    ensures shared { (xs : List ℕ) → Holds xs (parts_with n low.old (T.lists source.old))
-        → ReadsFragments low.old low.new (digit_count (sharing xs low.old.width (v + 1))) }
-{
-    if v == u64::MAX {
-        return n;
-    }
-    match first_at_least_on(source, low, n, v + 1) {
-        Some(place) => place,
-        None => n,
-    }
-}
-
 /// The greatest index of a sequence whose number is at most `v` (the predecessor); `None` exactly where there is none.
 ///
 /// # Conditions
@@ -176,10 +104,8 @@ pub fn last_at_most_counted<T: TableSource>(
     ensures shared { (xs : List ℕ) → Holds xs (parts_with n low.old (T.lists source.old))
         → ReadsFragments low.old low.new (digit_count (sharing xs low.old.width (v + 1))) }
 {
-    match count_at_most(source, low, n, v) {
-        0 => None,
-        count => Some(count - 1),
-    }
+    index_laws::tables_have_sizes();
+    found(last_at_most_by(source, &BY_TABLES, low, n, v))
 }
 
 /// Whether `v` is one of the numbers of a sequence.
@@ -203,8 +129,9 @@ pub fn contains_counted<T: TableSource>(
     ensures shared { (xs : List ℕ) → Holds xs (parts_with n low.old (T.lists source.old))
         → ReadsFragments low.old low.new (digit_count (sharing xs low.old.width v) + 1) }
 {
-    match first_at_least_on(source, low, n, v) {
-        Some(place) => item_on(source, low, n, place) == v,
-        None => false,
+    index_laws::tables_have_sizes();
+    match contains_by(source, &BY_TABLES, &BY_TABLES, low, n, v) {
+        Some(is) => is,
+        None => unreachable!(),
     }
 }

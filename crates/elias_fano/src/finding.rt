@@ -1,10 +1,12 @@
 //! Where numbers of a sequence stand.
-ghost use Rattle.std.specs.Prelude.{◌↔◌, ◌≤◌, IsTrue, length};
+ghost use Rattle.std.specs.Prelude.{◌↔◌, IsTrue};
 ghost use Rattle.std.specs.List.{Contains};
-ghost use Rattle.elias_fano.specs.Sequence.{IsFirstAtLeast, IsLastAtMost, ReachesTo};
+ghost use Rattle.elias_fano.specs.Sequence.{IsFirstAtLeast, IsLastAtMost};
 
-use crate::bucket::first_from_on;
+use crate::predecessor::{contains_by, last_at_most_by};
+use crate::searching::first_at_least_by;
 use crate::sequence::Sequence;
+use bitm_select::search::selected::found;
 use bitm_strategies::{Select0ForRank101111, SelectForRank101111};
 
 impl<S: SelectForRank101111, S0: Select0ForRank101111> Sequence<S, S0> {
@@ -20,24 +22,8 @@ impl<S: SelectForRank101111, S0: Select0ForRank101111> Sequence<S, S0> {
     pub fn first_at_least(&self, v: u64) -> Option<usize>
         ensures { IsFirstAtLeast self.now.items v result }
     {
-        self.rise();
-        let (mut source, begin) = self.probe_from(v);
-        first_from_on(&mut source, &mut self.low_digits(), self.len(), begin, v)
-    }
-
-    /// How many numbers are at most `v`.
-    #[inline]
-    fn count_at_most(&self, v: u64) -> usize
-        ensures { ReachesTo self.now.items v result }
-    {
-        self.rise();
-        if v == u64::MAX {
-            return self.len();
-        }
-        match self.first_at_least(v + 1) {
-            Some(place) => place,
-            None => self.len(),
-        }
+        let (mut source, mut low, bits) = self.parts();
+        found(first_at_least_by(&mut source, &bits, &mut low, self.len(), v))
     }
 
     /// The greatest index whose number is at most `v` (the predecessor); `None` exactly where there is none.
@@ -48,10 +34,8 @@ impl<S: SelectForRank101111, S0: Select0ForRank101111> Sequence<S, S0> {
     pub fn last_at_most(&self, v: u64) -> Option<usize>
         ensures { IsLastAtMost self.now.items v result }
     {
-        match self.count_at_most(v) {
-            0 => None,
-            count => Some(count - 1),
-        }
+        let (mut source, mut low, bits) = self.parts();
+        found(last_at_most_by(&mut source, &bits, &mut low, self.len(), v))
     }
 
     /// Whether `v` is one of the numbers.
@@ -62,10 +46,10 @@ impl<S: SelectForRank101111, S0: Select0ForRank101111> Sequence<S, S0> {
     pub fn contains(&self, v: u64) -> bool
         ensures { IsTrue result ↔ Contains self.now.items v }
     {
-        self.rise();
-        match self.first_at_least(v) {
-            Some(place) => self.get(place) == v,
-            None => false,
+        let (mut source, mut low, bits) = self.parts();
+        match contains_by(&mut source, &bits, &bits, &mut low, self.len(), v) {
+            Some(is) => is,
+            None => unreachable!(),
         }
     }
 }

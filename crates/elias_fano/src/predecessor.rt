@@ -10,8 +10,9 @@ ghost use Rattle.elias_fano.specs.Low.{sharing, ReadsFragments};
 ghost use Rattle.elias_fano.specs.Sequence.{ReachesTo};
 ghost use Rattle.elias_fano.specs.Told.{IfLast, TellsAtMost, TellsLess};
 
+use crate::finds::{BySearch, FindsEnds, FindsOne};
 use crate::low::LowDigits;
-use crate::searching::{total_first_at_least_by, total_item_by};
+use crate::searching::{first_at_least_by, item_by};
 use bitm_select::search::selecting::{ByTables, FindsEntry};
 use bitm_tables::answer::Answer;
 use bitm_tables::source::TableSource;
@@ -19,7 +20,7 @@ use bitm_tables::source::TableSource;
 /// How many numbers are at most `v`: those before the first that is at least `v + 1`; `None` only where the parts are
 /// wrong.
 #[inline(always)]
-fn count_at_most<T: TableSource, F: FindsEntry<0, T>>(
+fn count_at_most<T: TableSource, F: FindsEnds<T>>(
     source: &mut T,
     finder: &F,
     low: &mut LowDigits<'_>,
@@ -29,23 +30,64 @@ fn count_at_most<T: TableSource, F: FindsEntry<0, T>>(
     requires lengths { HasLengths (parts_with n low.old (T.lists source.old)) }
     requires sized { HasSizes (T.lists source.old) }
     ensures within { IfSome result (λ c. c ≤ n) }
-    ensures told { IfSome result
+    ensures told { F.tells → IfSome result
         (TellsAtMost (parts_with n low.old (T.lists source.old)) v) }
     ensures reaches { (xs : List ℕ) → Holds xs (parts_with n low.old (T.lists source.old))
-        → IsSomeAnd result (ReachesTo xs v) }
-    ensures reads { OnlyReads T.lists T.reads source.old source.new
-        (2 * (digit_count (length (T.lists source.old).upper) + 1)) (2 * F.lowers) (2 * 8) }
+        → F.finds finder.now (T.lists source.old) → IsSomeAnd result (ReachesTo xs v) }
+    ensures reads { let most = F.most (T.lists source.old) in
+        let end = F.most_end (T.lists source.old) in
+        OnlyReads T.lists T.reads source.old source.new (most.upper + end.upper)
+        (most.lower + end.lower) (most.words + end.words) }
     ensures fragments { ReadsFragments low.old low.new (digit_count n) }
     ensures shared { (xs : List ℕ) → Holds xs (parts_with n low.old (T.lists source.old))
+        → F.finds finder.now (T.lists source.old)
         → ReadsFragments low.old low.new (digit_count (sharing xs low.old.width (v + 1))) }
 {
     if v == u64::MAX {
         return Some(n);
     }
-    match total_first_at_least_by(source, finder, low, n, v + 1) {
+    match first_at_least_by(source, finder, low, n, v + 1) {
         Answer::Found(place) => Some(place),
         Answer::Absent => Some(n),
         Answer::Wrong => None,
+    }
+}
+
+/// The greatest index whose number is at most `v` (the predecessor), of the `n` numbers whose parts are the low bits
+/// and the source's words, with the ends of a bucket that `finder` finds. All calls for the predecessor are this one.
+///
+/// # Conditions
+/// As of `total_item_on`.
+/// # Cost
+/// That of `first_at_least_by` of `v + 1`, and nothing where `v` is 2^64 - 1.
+#[inline(always)]
+pub(crate) fn last_at_most_by<T: TableSource, F: FindsEnds<T>>(
+    source: &mut T,
+    finder: &F,
+    low: &mut LowDigits<'_>,
+    n: usize,
+    v: u64,
+) -> Answer<usize>
+    requires lengths { HasLengths (parts_with n low.old (T.lists source.old)) }
+    requires sized { HasSizes (T.lists source.old) }
+    ensures inside { IsPlaceOf n result }
+    ensures told { F.tells
+        → IfLast result (TellsAtMost (parts_with n low.old (T.lists source.old)) v) }
+    ensures answer { (xs : List ℕ) → Holds xs (parts_with n low.old (T.lists source.old))
+        → F.finds finder.now (T.lists source.old) → IsLast xs v result }
+    ensures reads { let most = F.most (T.lists source.old) in
+        let end = F.most_end (T.lists source.old) in
+        OnlyReads T.lists T.reads source.old source.new (most.upper + end.upper)
+        (most.lower + end.lower) (most.words + end.words) }
+    ensures fragments { ReadsFragments low.old low.new (digit_count n) }
+    ensures shared { (xs : List ℕ) → Holds xs (parts_with n low.old (T.lists source.old))
+        → F.finds finder.now (T.lists source.old)
+        → ReadsFragments low.old low.new (digit_count (sharing xs low.old.width (v + 1))) }
+{
+    match count_at_most(source, finder, low, n, v) {
+        Some(0) => Answer::Absent,
+        Some(count) => Answer::Found(count - 1),
+        None => Answer::Wrong,
     }
 }
 
@@ -106,10 +148,49 @@ pub fn total_last_at_most_by<T: TableSource, F: FindsEntry<0, T>>(
     ensures shared { (xs : List ℕ) → Holds xs (parts_with n low.old (T.lists source.old))
         → ReadsFragments low.old low.new (digit_count (sharing xs low.old.width (v + 1))) }
 {
-    match count_at_most(source, finder, low, n, v) {
-        Some(0) => Answer::Absent,
-        Some(count) => Answer::Found(count - 1),
-        None => Answer::Wrong,
+    last_at_most_by(source, &BySearch::<'_, 1, F>::new(finder), low, n, v)
+}
+
+/// Whether `v` is one of the `n` numbers whose parts are the low bits and the source's words, with the ends of a bucket
+/// that `finder` finds, and 1 bits by `of_ones`. All calls for membership are this one.
+///
+/// # Conditions
+/// As of `total_item_on`.
+/// # Cost
+/// That of `first_at_least_by`, and where an index is found that of `item_by`.
+#[inline(always)]
+pub(crate) fn contains_by<T: TableSource, F: FindsEnds<T>, G: FindsOne<T>>(
+    source: &mut T,
+    finder: &F,
+    of_ones: &G,
+    low: &mut LowDigits<'_>,
+    n: usize,
+    v: u64,
+) -> Option<bool>
+    requires lengths { HasLengths (parts_with n low.old (T.lists source.old)) }
+    requires sized { HasSizes (T.lists source.old) }
+    ensures answer { (xs : List ℕ) → Holds xs (parts_with n low.old (T.lists source.old))
+        → F.finds finder.now (T.lists source.old) → G.finds of_ones.now (T.lists source.old)
+        → IsSomeAnd result (λ is. IsTrue is ↔ Contains xs v) }
+    ensures told { F.tells → IfSome result (λ is. (p : ℕ)
+        × TellsLess (parts_with n low.old (T.lists source.old)) v p × (p ≡ n → is ≡ false)) }
+    ensures reads { let most = F.most (T.lists source.old) in
+        let end = F.most_end (T.lists source.old) in let one = G.most (T.lists source.old) in
+        OnlyReads T.lists T.reads source.old source.new (most.upper + end.upper + one.upper)
+        (most.lower + end.lower + one.lower) (most.words + end.words + one.words) }
+    ensures fragments { ReadsFragments low.old low.new (digit_count n + 1) }
+    ensures shared { (xs : List ℕ) → Holds xs (parts_with n low.old (T.lists source.old))
+        → F.finds finder.now (T.lists source.old)
+        → ReadsFragments low.old low.new (digit_count (sharing xs low.old.width v) + 1) }
+{
+    match first_at_least_by(source, finder, low, n, v) {
+        Answer::Found(place) => match item_by(source, of_ones, low, n, place) {
+            Answer::Found(item) => Some(item == v),
+            Answer::Absent => None,
+            Answer::Wrong => None,
+        },
+        Answer::Absent => Some(false),
+        Answer::Wrong => None,
     }
 }
 
@@ -170,13 +251,12 @@ pub fn total_contains_by<T: TableSource, F: FindsEntry<0, T>, G: FindsEntry<1, T
     ensures shared { (xs : List ℕ) → Holds xs (parts_with n low.old (T.lists source.old))
         → ReadsFragments low.old low.new (digit_count (sharing xs low.old.width v) + 1) }
 {
-    match total_first_at_least_by(source, finder, low, n, v) {
-        Answer::Found(place) => match total_item_by(source, of_ones, low, n, place) {
-            Answer::Found(item) => Some(item == v),
-            Answer::Absent => None,
-            Answer::Wrong => None,
-        },
-        Answer::Absent => Some(false),
-        Answer::Wrong => None,
-    }
+    contains_by(
+        source,
+        &BySearch::<'_, 1, F>::new(finder),
+        &BySearch::<'_, 1, G>::new(of_ones),
+        low,
+        n,
+        v,
+    )
 }

@@ -1,22 +1,23 @@
 //! Reads of a sequence from its parts, and the search for the first number that reaches a value. The parts may hold
 //! anything: the calls on a sequence's own are those on any parts.
-ghost use Rattle.std.specs.Prelude.{◌≡◌, ◌≢◌, ◌+◌, ◌-◌, ◌*◌, ◌/◌, ◌%◌, ◌^◌, ◌<◌, ◌≤◌, ℕ, List, IsSomeAnd};
+ghost use Rattle.std.specs.Prelude.{◌≡◌, ◌+◌, ◌-◌, ◌*◌, ◌/◌, ◌%◌, ◌^◌, ◌<◌, ◌≤◌, ℕ, List, IsSomeAnd};
 ghost use Rattle.std.specs.Prelude.{length, slice_index, false, IfSome};
 ghost use Rattle.bit_lists.specs.Bits.{bits_of, digit_count};
 ghost use Rattle.bit_lists.specs.Count.{Picks};
 ghost use Rattle.bitm_tables.specs.Reads.{OnlyReads, ReadsAtMost};
-ghost use Rattle.bitm_tables.specs.Tables.{HasSizes, HasTables};
+ghost use Rattle.bitm_tables.specs.Tables.{HasSizes};
 ghost use Rattle.bitm_tables.specs.Entry.{less};
 ghost use Rattle.elias_fano.specs.Answers.{IsFirst, IsItem, IsOfPlace, IsPlaceOf};
-ghost use Rattle.elias_fano.specs.Buckets.{CountsTo, CountsBelow, HasEnds, LowsRise, Splits};
+ghost use Rattle.elias_fano.specs.Buckets.{CountsTo, HasEnds, LowsRise, Splits};
 ghost use Rattle.elias_fano.specs.LentParts.{parts_with, HasLengths, Holds};
 ghost use Rattle.elias_fano.specs.Low.{fragment, joined_item, sharing, HasFragments, ReadsFragments};
 ghost use Rattle.elias_fano.specs.Parts.{ArePartsOf, HasFragment, HasOneAt, IsUpper};
-ghost use Rattle.elias_fano.specs.Told.{IfPlace, PartsAt, TellsBelow, TellsLess, TellsTo};
+ghost use Rattle.elias_fano.specs.Told.{IfPlace, PartsAt, TellsLess};
 
+use crate::finds::{BySearch, FindsEnds, FindsOne};
 use crate::low::LowDigits;
 use bit_words::n_lowest_bits;
-use bitm_select::search::selecting::{ByTables, FindsEntry, search_on};
+use bitm_select::search::selecting::{ByTables, FindsEntry};
 use bitm_tables::answer::Answer;
 use bitm_tables::source::TableSource;
 
@@ -55,6 +56,43 @@ pub fn item_at_one(place: usize, low: &mut LowDigits<'_>, at: usize) -> u64
     ensures fragments { ReadsFragments low.old low.new 1 }
 {
     join_digits(place.wrapping_sub(at), low, at)
+}
+
+/// Number `at` of the `n` numbers whose parts are the low bits and the source's words, with the 1 bit that `finder`
+/// finds. All calls for a number are this one.
+///
+/// # Conditions
+/// As of `total_item_on`.
+/// # Cost
+/// The 1 bit of the number, and at most one fragment of the low bits.
+#[inline(always)]
+pub(crate) fn item_by<T: TableSource, F: FindsOne<T>>(
+    source: &mut T,
+    finder: &F,
+    low: &mut LowDigits<'_>,
+    n: usize,
+    at: usize,
+) -> Answer<u64>
+    requires lengths { HasLengths (parts_with n low.old (T.lists source.old)) }
+    requires sized { HasSizes (T.lists source.old) }
+    ensures inside { IsOfPlace n at result }
+    ensures answer { (xs : List ℕ) → Holds xs (parts_with n low.old (T.lists source.old))
+        → F.finds finder.now (T.lists source.old) → IsItem xs at result }
+    ensures reads { let most = F.most (T.lists source.old) in
+        OnlyReads T.lists T.reads source.old source.new most.upper most.lower most.words }
+    ensures reads_led { let most = F.most_led (T.lists source.old) in
+        F.leads finder.now (T.lists source.old)
+        → ReadsAtMost (T.reads source.old) (T.reads source.new) most.upper most.lower most.words }
+    ensures fragments { ReadsFragments low.old low.new 1 }
+{
+    if at >= n {
+        return Answer::Absent;
+    }
+    match finder.one(source, at) {
+        Answer::Found(place) => Answer::Found(item_at_one(place, low, at)),
+        Answer::Absent => Answer::Wrong,
+        Answer::Wrong => Answer::Wrong,
+    }
 }
 
 /// Number `at` of the `n` numbers whose parts are the low bits and the source's words.
@@ -113,14 +151,7 @@ pub fn total_item_by<T: TableSource, F: FindsEntry<1, T>>(
         (digit_count (length (T.lists source.old).upper) + 1) F.lowers_led 8 }
     ensures fragments { ReadsFragments low.old low.new 1 }
 {
-    if at >= n {
-        return Answer::Absent;
-    }
-    match search_on::<1, 1, T, F>(source, finder, at) {
-        Answer::Found(place) => Answer::Found(item_at_one(place, low, at)),
-        Answer::Absent => Answer::Wrong,
-        Answer::Wrong => Answer::Wrong,
-    }
+    item_by(source, &BySearch::<'_, 1, F>::new(finder), low, n, at)
 }
 
 /// How many items have a number at most `above` above their low bits, where the 0 bit of that number stands at `place`;
@@ -134,55 +165,6 @@ pub fn count_at_zero(place: usize, above: usize, n: usize) -> Option<usize>
 {
     let count = place.wrapping_sub(above);
     if count <= n { Some(count) } else { None }
-}
-
-/// How many items have a number at most `above` above their low bits: the 1 bits before the 0 bit of that number, if
-/// the parts are right; `None` only where they are not. `TESTS` as in `first_on`. It is not inlined, so that both ends
-/// of a bucket are found by one copy of the search.
-pub(crate) fn count_to<const TESTS: u8, T: TableSource, F: FindsEntry<0, T>>(
-    source: &mut T,
-    finder: &F,
-    above: usize,
-    n: usize,
-) -> Option<usize>
-    requires sized { HasSizes (T.lists source.old) }
-    ensures within { IfSome result (λ c. c ≤ n) }
-    ensures count { (xs : List ℕ) (l : ℕ) → IsUpper xs l (T.lists source.old).words
-        → HasTables (T.lists source.old) → n ≡ length xs
-        → IsSomeAnd result (CountsTo xs l above) }
-    ensures told { TESTS ≢ 0 → IfSome result (TellsTo (T.lists source.old) n above) }
-    ensures reads { OnlyReads T.lists T.reads source.old source.new
-        (digit_count (length (T.lists source.old).upper) + 1) F.lowers 8 }
-{
-    match search_on::<0, TESTS, T, F>(source, finder, above) {
-        Answer::Found(place) => count_at_zero(place, above, n),
-        Answer::Absent => Some(n),
-        Answer::Wrong => None,
-    }
-}
-
-/// How many items have a number below `above` above their low bits, if the parts are right; `None` only where they are
-/// not. `TESTS` as in `first_on`.
-#[inline(always)]
-fn count_below<const TESTS: u8, T: TableSource, F: FindsEntry<0, T>>(
-    source: &mut T,
-    finder: &F,
-    above: usize,
-    n: usize,
-) -> Option<usize>
-    requires sized { HasSizes (T.lists source.old) }
-    ensures within { IfSome result (λ c. c ≤ n) }
-    ensures count { (xs : List ℕ) (l : ℕ) → IsUpper xs l (T.lists source.old).words
-        → HasTables (T.lists source.old) → n ≡ length xs
-        → IsSomeAnd result (CountsBelow xs l above) }
-    ensures told { TESTS ≢ 0 → IfSome result (TellsBelow (T.lists source.old) n above) }
-    ensures reads { OnlyReads T.lists T.reads source.old source.new
-        (digit_count (length (T.lists source.old).upper) + 1) F.lowers 8 }
-{
-    if above == 0 {
-        return Some(0);
-    }
-    count_to::<TESTS, T, F>(source, finder, above - 1, n)
 }
 
 /// The least index from `first` up to `end` whose low bits are at least `rest`, and `end` where there is none; `first`
@@ -263,10 +245,18 @@ pub fn place_in_bucket(
     }
 }
 
-/// What `total_first_at_least_by` answers. Where `TESTS` is 0 its selections look for no wrong tables but by the words,
-/// as in `search_on` of `bitm_select`.
+/// The least index whose number is at least `v` (the successor), of the `n` numbers whose parts are the low bits and
+/// the source's words, with the ends of the bucket of `v` that `finder` finds. All calls for the successor are this
+/// one.
+///
+/// # Conditions
+/// As of `total_item_on`.
+/// # Cost
+/// The start of the bucket, and its end where numbers have low bits and one starts there or later; then at most one
+/// fragment of the low bits for each binary digit of how many numbers share the high bits of `v`; in parts that are not
+/// those of a sequence, for each binary digit of `n`.
 #[inline(always)]
-pub(crate) fn first_on<const TESTS: u8, T: TableSource, F: FindsEntry<0, T>>(
+pub(crate) fn first_at_least_by<T: TableSource, F: FindsEnds<T>>(
     source: &mut T,
     finder: &F,
     low: &mut LowDigits<'_>,
@@ -276,28 +266,37 @@ pub(crate) fn first_on<const TESTS: u8, T: TableSource, F: FindsEntry<0, T>>(
     requires lengths { HasLengths (parts_with n low.old (T.lists source.old)) }
     requires sized { HasSizes (T.lists source.old) }
     ensures inside { IsPlaceOf n result }
-    ensures told { TESTS ≢ 0
+    ensures told { F.tells
         → IfPlace n result (TellsLess (parts_with n low.old (T.lists source.old)) v) }
     ensures answer { (xs : List ℕ) → Holds xs (parts_with n low.old (T.lists source.old))
-        → IsFirst xs v result }
-    ensures reads { OnlyReads T.lists T.reads source.old source.new
-        (2 * (digit_count (length (T.lists source.old).upper) + 1)) (2 * F.lowers) (2 * 8) }
+        → F.finds finder.now (T.lists source.old) → IsFirst xs v result }
+    ensures reads { let most = F.most (T.lists source.old) in
+        let end = F.most_end (T.lists source.old) in
+        OnlyReads T.lists T.reads source.old source.new (most.upper + end.upper)
+        (most.lower + end.lower) (most.words + end.words) }
+    ensures few { let most = F.most (T.lists source.old) in F.spares → n ≤ 1
+        → ReadsAtMost (T.reads source.old) (T.reads source.new) (n * most.upper)
+        (n * most.lower) (n * most.words) }
     ensures fragments { ReadsFragments low.old low.new (digit_count n) }
     ensures shared { (xs : List ℕ) → Holds xs (parts_with n low.old (T.lists source.old))
+        → F.finds finder.now (T.lists source.old)
         → ReadsFragments low.old low.new (digit_count (sharing xs low.old.width v)) }
 {
     let width = low.width();
     let above = (v >> width) as usize;
-    let Some(first) = count_below::<TESTS, T, F>(source, finder, above, n) else {
-        return Answer::Wrong;
+    let begin = match finder.begin(source, n, above) {
+        Answer::Found(begin) => begin,
+        Answer::Absent => return Answer::Absent,
+        Answer::Wrong => return Answer::Wrong,
     };
+    let first = begin.wrapping_sub(above);
     if width == 0 {
         return place_in_bucket(low, n, first, n, v);
     }
-    let Some(end) = count_to::<TESTS, T, F>(source, finder, above, n) else {
-        return Answer::Wrong;
-    };
-    place_in_bucket(low, n, first, end, v)
+    match finder.end(source, n, above, begin) {
+        Some(end) => place_in_bucket(low, n, first, end, v),
+        None => Answer::Wrong,
+    }
 }
 
 /// The least index whose number is at least `v` (the successor), of the `n` numbers whose parts are the low bits and
@@ -360,5 +359,5 @@ pub fn total_first_at_least_by<T: TableSource, F: FindsEntry<0, T>>(
     ensures shared { (xs : List ℕ) → Holds xs (parts_with n low.old (T.lists source.old))
         → ReadsFragments low.old low.new (digit_count (sharing xs low.old.width v)) }
 {
-    first_on::<1, T, F>(source, finder, low, n, v)
+    first_at_least_by(source, &BySearch::<'_, 1, F>::new(finder), low, n, v)
 }

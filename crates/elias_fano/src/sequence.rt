@@ -1,34 +1,39 @@
 //! The type of a sequence.
-ghost use Rattle.std.specs.Prelude.{◌≡◌, ◌+◌, ◌*◌, ◌/◌, ◌^◌, ◌<◌, ◌≤◌, ◌↔◌, IsErrOf, SomeIff, MatchOption};
+ghost use Rattle.std.specs.Prelude.{◌≡◌, ◌+◌, ◌*◌, ◌^◌, ◌<◌, ◌≤◌, ◌↔◌, IsErrOf, SomeIff};
 ghost use Rattle.std.specs.Prelude.{length, slice_index, drop, IfOk};
+ghost use Rattle.std.specs.Box.{boxed_slice_items};
 ghost use Rattle.std.specs.Int.{div_ceil};
-ghost use Rattle.bit_lists.specs.Bits.{IsShort};
-ghost use Rattle.bit_lists.specs.Count.{zeros_of};
+ghost use Rattle.bit_lists.specs.Bits.{bits_of, IsShort};
 ghost use Rattle.bitm_bits.specs.Size.{saturated_size};
 ghost use Rattle.bitm_tables.specs.Reads.{none_read};
-ghost use Rattle.bitm_tables.specs.Tables.{bits_in, HasTables};
-ghost use Rattle.elias_fano.specs.Buckets.{BeginsAt};
+ghost use Rattle.bitm_tables.specs.Tables.{bits_in, HasSizes, HasTables};
+ghost use Rattle.elias_fano.specs.LentParts.{parts_with, HasLengths, Holds};
 ghost use Rattle.elias_fano.specs.Numbers.{HasBefore};
 ghost use Rattle.elias_fano.specs.Parts.{width_of, low_words_of, upper_words_of, IsLow, IsUpper};
 ghost use Rattle.elias_fano.specs.Sequence.{IsSequence, HasFall};
 
 use crate::checking::check;
 use crate::error::EfError;
+use crate::finds::ByIndex;
 use crate::iterating::Numbers;
 use crate::low::LowDigits;
 use crate::making::{make_low, make_upper, width_for};
-use crate::searching::item_at_one;
-use bitm::{RankSelect101111, Select, Select0};
+use crate::searching::item_by;
+use bitm::{RankSelect101111, Select, index_laws};
 use bitm_bits::{CloneWords, GetSize};
 use bitm_strategies::{
     AdaptiveCombinedSamplingDensity, BinaryRankSearch, CombinedSampling, Select0ForRank101111,
     SelectForRank101111,
 };
+use bitm_tables::answer::Answer;
 use bitm_tables::source::Probe;
 use std::alloc::{AllocError, Global};
 use std::boxed::BoxedSlice;
 use std::convert::AsSlice;
 use std::marker::Model;
+
+/// The index over the words of the high bits.
+pub(crate) type Upper<S, S0> = RankSelect101111<S, S0, BoxedSlice<u64, Global>>;
 
 /// A monotone integer sequence (Elias-Fano): numbers, each at least the one before it.
 ///
@@ -65,7 +70,7 @@ pub struct Sequence<S: SelectForRank101111, S0: Select0ForRank101111> {
     len: usize,
     width: u8,
     low: BoxedSlice<u64, Global>,
-    upper: RankSelect101111<S, S0, BoxedSlice<u64, Global>>,
+    upper: Upper<S, S0>,
 }
 
 impl<S: SelectForRank101111, S0: Select0ForRank101111> Model for Sequence<S, S0> {
@@ -84,22 +89,6 @@ impl<S: SelectForRank101111, S0: Select0ForRank101111> Model for Sequence<S, S0>
     ghost invariant = { λ e. let low = boxed_slice_items e.low in
         let upper = boxed_slice_items e.upper.content in
         ArePartsOf (items_of e.len e.width low upper) e.len e.width low upper };
-}
-
-/// The first position of an index with the given number of 0 bits before it; `None` exactly where it has fewer.
-#[inline(always)]
-fn first_after<I: Select0>(index: &I, zeros: usize) -> Option<usize>
-    ensures { MatchOption result (zeros_of (I.bits index.now) < zeros)
-        (BeginsAt (I.bits index.now) zeros) }
-{
-    let _len = index.len();
-    if zeros == 0 {
-        return Some(0);
-    }
-    match index.try_select0(zeros - 1) {
-        Some(place) => Some(place + 1),
-        None => None,
-    }
 }
 
 impl<S: SelectForRank101111, S0: Select0ForRank101111> Sequence<S, S0> {
@@ -161,12 +150,11 @@ impl<S: SelectForRank101111, S0: Select0ForRank101111> Sequence<S, S0> {
         requires { i < length self.now.items }
         ensures { result ≡ slice_index self.now.items i }
     {
-        let place = self.upper.select(i);
-        item_at_one(
-            place,
-            &mut LowDigits::new(self.low.as_slice(), self.width),
-            i,
-        )
+        let (mut source, mut low, bits) = self.parts();
+        match item_by(&mut source, &bits, &mut low, self.len(), i) {
+            Answer::Found(item) => item,
+            Answer::Absent | Answer::Wrong => unreachable!(),
+        }
     }
 
     /// Number `i`; `None` exactly where there is none.
@@ -276,20 +264,21 @@ impl<S: SelectForRank101111, S0: Select0ForRank101111> Sequence<S, S0> {
         }
     }
 
-    /// A source over the upper words and the tables of their index, with no reads counted yet, and the first position
-    /// in these words with as many 0 bits before it as `v` says above its low bits; `None` exactly where there is none.
-    ///
-    /// # Cost
-    /// One selection of a 0 bit, and none if these bits are 0.
+    /// A source over the upper words and the tables of their index, the low bits, and the way to find bits of the upper
+    /// words: what a query takes.
     #[inline(always)]
-    pub(crate) fn probe_from(&self, v: u64) -> (Probe<'_>, Option<usize>)
-        ensures words { IsUpper self.now.items (width_of self.now.items) result.0.lists.words }
-        ensures tables { HasTables result.0.lists }
-        ensures begin { let z = v / 2 ^ width_of self.now.items in let b = bits_in result.0.lists in
-            MatchOption result.1 (zeros_of b < z) (BeginsAt b z) }
+    pub(crate) fn parts(&self) -> (Probe<'_>, LowDigits<'_>, ByIndex<'_, Upper<S, S0>>)
+        ensures holds { Holds self.now.items
+            (parts_with (length self.now.items) result.1 result.0.lists) }
+        ensures lengths { HasLengths (parts_with (length self.now.items) result.1 result.0.lists) }
+        ensures sized { HasSizes result.0.lists }
+        ensures finds { bits_of (boxed_slice_items result.2.index.now.content)
+            ≡ bits_in result.0.lists }
     {
-        let above = (v >> self.width) as usize;
-        (self.upper.probe(), first_after(&self.upper, above))
+        self.rise();
+        index_laws::tables_have_sizes();
+        let index = &self.upper;
+        (index.probe(), self.low_digits(), ByIndex { index })
     }
 
     /// A copy of the sequence.

@@ -9,7 +9,7 @@ use Rattle.std.specs.List.{All}
 use Rattle.std.specs.List.Sorted.{IsNonDecreasing}
 use Rattle.bit_lists.proofs.BitLaws.{ones_and_zeros, counts_grow, count_after_item, none_before_the_first}
 use Rattle.bit_lists.specs.Bits.{bits_of, item}
-use Rattle.bit_lists.specs.Count.{ones_before, zeros_before, zeros_of, is_same, IsFirstFrom, Picks}
+use Rattle.bit_lists.specs.Count.{ones_before, zeros_before, is_same, IsFirstFrom, Picks}
 use Rattle.elias_fano.proofs.lemmas.SplitLemmas.{Splits-same}
 use Rattle.elias_fano.proofs.lemmas.UpperLemmas.{one_is, ones_are}
 use Rattle.elias_fano.specs.Buckets.{BeginsAt, CountsTo, CountsBelow, HasEnds, LowsRise, Splits}
@@ -325,12 +325,6 @@ pub begin-at_most : (b : List Bool) (z p : ℕ) → BeginsAt b z p → z ≤ p
 begin-at_most b z p h = omega (arith, ones_and_zeros b p h.inside, h.before)
 
 module _ (xs : List ℕ) (l v : ℕ) (upper : List ℕ) (h : IsUpper xs l upper) where
-  -- more zeros are asked for than there are: each item is less
-  pub all-less : zeros_of (bits_of upper) < v / 2 ^ l → All (λ x. x < v) xs
-  all-less few j d inside =
-      let below = (CountsTo-all xs l upper h (zeros_of (bits_of upper)) (omega arith)).below j inside in
-      omega (arith, get_or_default xs j d 0 inside, less_above (get_or xs j 0) v (2 ^ l) (pow_pos l) (omega (arith, few, below)))
-
   module _ (p : ℕ) (at : BeginsAt (bits_of upper) (v / 2 ^ l) p) where
     begins : CountsBelow xs l (v / 2 ^ l) (p - v / 2 ^ l)
     begins = CountsBelow-begin xs l upper h (v / 2 ^ l) p at

@@ -1,5 +1,5 @@
 -- How many fragments of low digits are read: a search among those of a bucket reads no more than its size has digits.
-use Rattle.std.proofs.Common.{◌≡◌, ℕ, zero, suc, ◌+◌, ◌-◌, ◌*◌, ◌/◌, ◌^◌, ◌<◌, ◌≤◌, cond, eqb, Bool, true, List, [], ◌∷◌, length, get_or, ap, sym, ◌∙◌, subst, arith}
+use Rattle.std.proofs.Common.{◌≡◌, ℕ, zero, suc, ◌-◌, ◌*◌, ◌/◌, ◌^◌, ◌<◌, ◌≤◌, cond, eqb, Bool, true, List, [], ◌∷◌, length, get_or, ap, sym, ◌∙◌, subst, arith}
 use Rattle.std.proofs.lemmas.Bool.{eq-eqb}
 use Rattle.std.proofs.lemmas.List.Sums.{sum_by-cons}
 use Rattle.std.specs.List.{count_by}
@@ -41,13 +41,6 @@ pub bucket-shared : (xs : List ℕ) (l v first end : ℕ) → CountsBelow xs l (
 bucket-shared xs l v first end before to =
     range-counted (λ x. eqb (x / 2 ^ l) (v / 2 ^ l)) xs first end to.bound
     (λ j from less. eq-eqb _ _ (omega (arith, before.above j from (omega (arith, to.bound)), to.below j less)))
-
--- and so does one item with them
-pub one-shared : (xs : List ℕ) (l v i : ℕ) → i < length xs → get_or xs i 0 / 2 ^ l ≡ v / 2 ^ l → 1 ≤ sharing xs l v
-one-shared xs l v i inside same =
-    let counted = range-counted (λ x. eqb (x / 2 ^ l) (v / 2 ^ l)) xs i (i + 1) (omega arith)
-    (λ j from less. let at : j ≡ i = omega arith in eq-eqb _ _ (ap (λ k. get_or xs k 0 / 2 ^ l) at ∙ same)) in
-    omega (arith, counted)
 
 -- a call that reads few reads no more than a greater number
 pub fragments-more : (old new : Lows) (few many : ℕ) → ReadsFragments old new few → few ≤ many → ReadsFragments old new many

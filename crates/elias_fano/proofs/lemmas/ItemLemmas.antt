@@ -6,7 +6,7 @@ use Rattle.std.proofs.lemmas.Nat.{div-add-mod'}
 use Rattle.std.specs.Int.{div_ceil}
 use Rattle.bit_lists.proofs.BitLaws.{no_items_are_zero}
 use Rattle.bit_lists.specs.Bits.{bits_of, IsShort}
-use Rattle.bit_lists.specs.Count.{places, Picks}
+use Rattle.bit_lists.specs.Count.{places}
 use Rattle.bit_lists.specs.Number.{number_at}
 use Rattle.elias_fano.specs.LentParts.{HaveLengths}
 use Rattle.elias_fano.specs.Low.{unread, HasFragments, Lows}
@@ -80,14 +80,7 @@ parts-fragments xs n low upper h =
     let h' = parts-lengths xs n low.width low.words upper h in
     record { width = h'.width; short = h'.short; inside = omega (arith, h'.low) }
 
--- the one of an item stands in the parts as they are lent
-pub lent-has : (xs : List ℕ) (n l : ℕ) (low lent upper : List ℕ) (i p : ℕ) → ArePartsOf xs n l low upper → i < n
-    → Picks (bits_of upper) true i p → lent ≡ low → HasOneAt xs n l lent upper i p
-lent-has xs n l low lent upper i p h inside one same =
-    let P : List ℕ → Type 0 = λ w. HasOneAt xs n l w upper i p in
-    subst P (sym same) record { parts = h; inside = inside; one = one }
-
--- and in low digits of which nothing was read
+-- the one of an item stands in the parts where nothing was read of the low digits
 pub unread-has : (xs : List ℕ) (n l : ℕ) (words upper : List ℕ) (i p : ℕ) (low : Lows) → low ≡ unread words l
     → HasOneAt xs n l words upper i p → HasOneAt xs n low.width low.words upper i p
 unread-has xs n l words upper i p low same h =

@@ -4,7 +4,7 @@ use Rattle.std.proofs.lemmas.Bool.{cases_lt}
 use Rattle.std.proofs.lemmas.List.{get_or_default}
 use Rattle.std.specs.List.{All, Contains}
 use Rattle.std.specs.List.Sorted.{IsNonDecreasing}
-use Rattle.elias_fano.specs.Sequence.{IsSequence, Reaches, ReachesTo, StaysWithin}
+use Rattle.elias_fano.specs.Sequence.{IsSequence, Reaches, ReachesTo}
 
 pub is_sequence : (xs : List ℕ) → length xs < 2 ^ 56 → IsNonDecreasing xs → ((k : ℕ) → get_or xs k 0 < 2 ^ 64) → IsSequence xs
 is_sequence xs short rising fits = record {
@@ -46,14 +46,6 @@ reaches-none xs v n count less = record {
   above = λ j from inside. absurd (omega arith);
 }
 
--- the last of those is the greatest place
-pub stays-before : (xs : List ℕ) (v c : ℕ) → ReachesTo xs v c → 0 < c → StaysWithin xs v (c - 1)
-stays-before xs v c h some = record {
-  inside = omega (arith, h.bound);
-  at_most = h.below (c - 1) (omega arith);
-  after = λ j from inside. h.above j (omega arith) inside;
-}
-
 -- a number is contained exactly where the first that reaches it is the number
 pub contains-first : (xs : List ℕ) (v i : ℕ) → IsNonDecreasing xs → Reaches xs v i → (get_or xs i 0 ≡ v) ↔ Contains xs v
 contains-first xs v i rising h = (
@@ -63,6 +55,3 @@ contains-first xs v i rising h = (
       let before = (reached-from xs v i held.0 rising h held.1).0 (omega (arith, there)) in
       omega (arith, there, h.at_least, rising i held.0 0 before held.1),
 )
-
-pub contains-none : (xs : List ℕ) (v : ℕ) → All (λ x. x < v) xs → Contains xs v → ⊥
-contains-none xs v less held = omega (arith, less held.0 v held.1, held.2)

@@ -1,19 +1,14 @@
--- The first number that is at least the value is the value, if one is.
-use Rattle.std.proofs.Common.{◌≡◌, false, true, sym, ◌∙◌}
-use Rattle.std.proofs.lemmas.Bool.{eqb-true, eq-eqb}
-use Rattle.elias_fano.proofs.lemmas.FragmentLemmas.{holds-kept}
-use Rattle.elias_fano.proofs.lemmas.SequenceLemmas.{contains-first, contains-none}
+-- Right parts give the answer.
+use Rattle.elias_fano.proofs.lemmas.ItemLemmas.{parts-lengths, upper-short}
 use Rattle.elias_fano.proofs.counted.contains_counted.Goals as goal
 
-pub returns-in-Some-clause-answer : goal.returns-in-Some-clause-answer
-returns-in-Some-clause-answer g c = λ xs h.
-    let first = contains-first xs c.args.v _ h.are.sequence.rising (c.in-Some.ensures.answer xs h) in
-    let kept = holds-kept xs c.args.n _ _ _ _ _ (c.in-Some.ensures.shared xs h) c.in-Some.ensures.same h in
-    let item = c.item_on.ensures.item xs kept in (
-      λ yes. first.0 (sym item ∙ eqb-true _ _ yes),
-      λ held. eq-eqb _ _ (item ∙ first.1 held),
-    )
+pub contains_by-requires-clause-lengths : goal.contains_by-requires-clause-lengths
+contains_by-requires-clause-lengths g c = parts-lengths _ _ _ _ _ c.requires.parts.1.are
 
-pub returns-in-None-clause-answer : goal.returns-in-None-clause-answer
-returns-in-None-clause-answer g c = λ xs h.
-    (λ yes. absurd (let both : false ≡ true = yes in cc), λ held. absurd (contains-none xs c.args.v (c.in-None.ensures.answer xs h) held))
+pub contains_by-requires-clause-sized : goal.contains_by-requires-clause-sized
+contains_by-requires-clause-sized g c =
+    c.tables_have_sizes.ensures _ c.requires.parts.1.tables
+    (upper-short _ _ _ _ _ c.requires.parts.1.are)
+
+pub returns-clause-answer : goal.returns-clause-answer
+returns-clause-answer g c = λ xs h. c.in-Some.ensures.answer xs h tt tt

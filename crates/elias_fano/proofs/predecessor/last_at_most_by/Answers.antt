@@ -2,17 +2,17 @@
 use Rattle.std.proofs.Common.{◌≡◌, ℕ, ◌+◌, ◌-◌, subst, arith}
 use Rattle.elias_fano.specs.LentParts.{parts_with}
 use Rattle.elias_fano.specs.Told.{TellsAtMost}
-use Rattle.elias_fano.proofs.predecessor.total_last_at_most_by.Goals as goal
+use Rattle.elias_fano.proofs.predecessor.last_at_most_by.Goals as goal
 
 pub returns-in-Some-clause-told : goal.returns-in-Some-clause-told
-returns-in-Some-clause-told g c =
+returns-in-Some-clause-told g c = λ tells.
     let some : c.in-Some.count ≡ c.in-Some.count - 1 + 1 = omega (arith, c.in-Some.count-test) in
     let P : ℕ → Type 0 = TellsAtMost (parts_with c.args.n c.args.low.now (g.T.TableSource.lists c.args.source.now)) c.args.v in
-    subst P some c.in-Some.ensures.told
+    subst P some (c.in-Some.ensures.told tells)
 
 pub returns-in-Some-clause-answer : goal.returns-in-Some-clause-answer
-returns-in-Some-clause-answer g c = λ xs h.
-    let r = c.in-Some.ensures.reaches xs h in
+returns-in-Some-clause-answer g c = λ xs h f.
+    let r = c.in-Some.ensures.reaches xs h f in
     record {
       inside = omega (arith, r.bound, c.in-Some.count-test);
       at_most = r.below (c.in-Some.count - 1) (omega (arith, c.in-Some.count-test));
