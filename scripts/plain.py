@@ -24,15 +24,13 @@ bitm/src/ranges.rt ones_between:_in zeros_between:_in next_one:_in next_zero:_in
 bitm_strategies/src/binary.rt select:_counted select0:_counted
 bitm_strategies/src/combined.rt select:_counted select0:_counted
 bitm_view/src/view.rt rank_of:rank_on rank:rank_of
-elias_fano/src/finding.rt first_at_least:_by+found last_at_most:_by+found contains:_by
-louds/src/counted.rt is_leaf_on:is_leaf_by parent_on:parent_by parent_of_on:parent_of_by child_rank_on:child_rank_by
-    next_sibling_on:next_sibling_by previous_sibling_on:previous_sibling_by zero_on:zero_by
+elias_fano/src/finding.rt first_at_least:first_from_on+rise+probe_from
+louds/src/counted.rt is_leaf_on:is_leaf_by parent_on:parent_by next_sibling_on:next_sibling_by zero_on:zero_by
 louds/src/node.rt degree_of:degree_from_on is_leaf_of:ends_after_on children_of:children_from_on parent_of:_by
 louds/src/tree.rt end degree:_from_on+zero child:_from_on+zero children:_from_on+zero zero:_by is_leaf:_by parent:_by
     child_rank:_by next_sibling:_by previous_sibling:_by
-matrix_levels/src/selecting.rt select_on:select_by try_select_on:try_select_by
-perfect_hash/src/asking.rt number_on:number_by_on number_by_on:number_by
-perfect_hash/src/table.rt get:number number:_by get_counted:number_by_on get_counted_by:number_by_on
+perfect_hash/src/asking.rt number_by_on:number_by
+perfect_hash/src/table.rt get:number number:_by get_counted:number_by_on
 sharded_index/src/shard.rt rank:rank_of
 sparse_bits/src/sparse.rt try_rank:rank_in try_get_bit:bit_in bit_and_rank:_in try_select:select_in
     try_select0:select0_in
@@ -108,7 +106,7 @@ OTHER_WAYS = {
         "number_by(&query,": "self.index.rank(0); number_by(&query,",
     },
     "wavelet_matrix/src/queries.rt": {
-        "levels.select_by(index, &mut probe, number, k)": "levels.select_on(&mut probe, number, k)",
+        "levels.select_by(index,": "levels.rank_on(&mut probe, number, k); levels.select_by(index,",
         "levels.try_select_by(index,": "levels.rank_on(&mut probe, number, k); levels.try_select_by(index,",
     },
 }

@@ -1,16 +1,10 @@
 //! The calls of a tree over any source, by binary search: what they read is counted.
-ghost use Rattle.std.specs.Prelude.{◌≡◌, ◌==◌, ◌+◌, ◌^◌, ◌<◌, ◌≤◌, ℕ, slice_index};
+ghost use Rattle.std.specs.Prelude.{◌≡◌, ◌==◌, ◌^◌, ◌<◌, ◌≤◌, slice_index};
 ghost use Rattle.louds.specs.Counted.{degrees_in, IsLouds, OnlySelects};
 ghost use Rattle.louds.specs.Held.{zero_place};
-ghost use Rattle.louds.specs.Node.{IsNode, MatchesParentNode};
-ghost use Rattle.louds.specs.Tree.{IsChild, MatchesChild, MatchesParent, MatchesChildRank};
-ghost use Rattle.louds.specs.Tree.{MatchesNextSibling, MatchesPreviousSibling};
+ghost use Rattle.louds.specs.Tree.{MatchesChild, MatchesNextSibling, MatchesParent};
 
-use crate::node::Node;
-use crate::selecting::{
-    child_rank_by, is_leaf_by, next_sibling_by, parent_by, parent_of_by, previous_sibling_by,
-    zero_by,
-};
+use crate::selecting::{is_leaf_by, next_sibling_by, parent_by, zero_by};
 use bitm_strategies::BinaryRankSearch;
 use bitm_tables::source::TableSource;
 
@@ -96,24 +90,6 @@ pub fn parent_on<T: TableSource>(source: &mut T, len: usize, node: usize) -> Opt
     parent_by(&BinaryRankSearch, source, len, node)
 }
 
-/// The parent of a node, with its position; `None` exactly where the node is the root.
-///
-/// # Conditions
-/// The source holds a tree of `len` nodes, and it is a node of this tree.
-/// # Cost
-/// What a selection by binary search reads, and two words; what two selections read, and two words, where 64 children
-/// of the parent or more stand before the node.
-pub fn parent_of_on<T: TableSource>(source: &mut T, len: usize, node: Node) -> Option<Node>
-    requires tree { IsLouds len (T.lists source.old) }
-    requires node { IsNode (degrees_in len (T.lists source.old)) node }
-    ensures parent { MatchesParentNode (degrees_in len (T.lists source.old)) node.number result }
-    ensures near { (i k : ℕ) → IsChild (degrees_in len (T.lists source.old)) i k node.number → k < 64
-        → OnlySelects T.lists T.reads source.old source.new 1 2 }
-    ensures reads { OnlySelects T.lists T.reads source.old source.new 2 2 }
-{
-    parent_of_by(&BinaryRankSearch, source, len, node.number())
-}
-
 /// The next child of a node's parent; `None` exactly where the node is the last child or the root.
 ///
 /// # Conditions
@@ -127,34 +103,4 @@ pub fn next_sibling_on<T: TableSource>(source: &mut T, len: usize, node: usize) 
     ensures reads { OnlySelects T.lists T.reads source.old source.new 1 1 }
 {
     next_sibling_by(&BinaryRankSearch, source, len, node)
-}
-
-/// The child of a node's parent before it; `None` exactly where the node is the first child or the root.
-///
-/// # Conditions
-/// The source holds a tree of `len` nodes, and there is such a node.
-/// # Cost
-/// What a selection by binary search reads, and one word.
-pub fn previous_sibling_on<T: TableSource>(source: &mut T, len: usize, node: usize) -> Option<usize>
-    requires tree { IsLouds len (T.lists source.old) }
-    requires node { node < len }
-    ensures sibling { MatchesPreviousSibling (degrees_in len (T.lists source.old)) node result }
-    ensures reads { OnlySelects T.lists T.reads source.old source.new 1 1 }
-{
-    previous_sibling_by(&BinaryRankSearch, source, len, node)
-}
-
-/// Which child of its parent a node is; `None` exactly where it is the root.
-///
-/// # Conditions
-/// The source holds a tree of `len` nodes, and there is such a node.
-/// # Cost
-/// What two selections by binary search read.
-pub fn child_rank_on<T: TableSource>(source: &mut T, len: usize, node: usize) -> Option<usize>
-    requires tree { IsLouds len (T.lists source.old) }
-    requires node { node < len }
-    ensures child { MatchesChildRank (degrees_in len (T.lists source.old)) node result }
-    ensures reads { OnlySelects T.lists T.reads source.old source.new 2 0 }
-{
-    child_rank_by(&BinaryRankSearch, source, len, node)
 }

@@ -1,16 +1,12 @@
-//! The indices of a number over any source, by any selection: what they read is counted. The counted calls and those of
-//! a matrix run one body.
-ghost use Rattle.std.specs.Prelude.{◌≡◌, ◌+◌, ◌-◌, ◌*◌, ◌<◌, ◌≤◌, false, length};
-ghost use Rattle.bit_lists.specs.Bits.{digit_count};
-ghost use Rattle.bitm_tables.specs.Reads.{OnlyReads};
-ghost use Rattle.bitm_selection.specs.Selection.{by_halves, OnlySelectsBy};
+//! The indices of a number over any source, by any selection: what they read is counted.
+ghost use Rattle.std.specs.Prelude.{◌+◌, ◌-◌, ◌*◌, ◌<◌, length};
+ghost use Rattle.bitm_selection.specs.Selection.{OnlySelectsBy};
 ghost use Rattle.matrix_levels.specs.Matrix.{IsMatrix, OnlyRanksAndSelects, level_in, numbers_in};
 ghost use Rattle.matrix_levels.specs.Numbers.{count_before, PicksItem, IsItemSelect};
 
 use crate::digits::fits;
 use crate::walk::Levels;
 use bitm_selection::Selection;
-use bitm_strategies::BinaryRankSearch;
 use bitm_tables::source::TableSource;
 
 impl Levels {
@@ -124,51 +120,5 @@ impl Levels {
             return None;
         }
         Some(self.first_place_by(selection, source, number, k, first + k))
-    }
-
-    /// The index of this number with exactly `k` such numbers before it.
-    ///
-    /// # Conditions
-    /// The levels are those of the source, and there are more than `k` such numbers.
-    /// # Cost
-    /// For each level what a selection by binary search reads, and for each that is not known what a rank reads.
-    pub fn select_on<T: TableSource>(&self, source: &mut T, number: u64, k: usize) -> usize
-        requires matrix { IsMatrix self.now (T.lists source.old) }
-        requires some { let numbers = numbers_in self.now (T.lists source.old) in
-            k < count_before numbers number (length numbers) }
-        ensures picked { PicksItem (numbers_in self.now (T.lists source.old)) number k result }
-        ensures reads { let digits = digit_count (length (T.lists source.old).upper) in
-            let ranks = self.now.width - self.now.known in
-            OnlyReads T.lists T.reads source.old source.new
-            (ranks + self.now.width * (digits + 1)) (ranks + self.now.width * 23)
-            (8 * ranks + self.now.width * 8) }
-        ensures quick { let digits = digit_count (length (T.lists source.old).upper) in
-            let ranks = self.now.width - self.now.known in
-            self.now.compact ≡ false → OnlyReads T.lists T.reads source.old source.new
-            (ranks + self.now.width * (digits + 1)) (self.now.width * 23)
-            (2 * ranks + self.now.width * 8) }
-    {
-        self.select_by(&BinaryRankSearch, source, number, k)
-    }
-
-    /// The index of this number with exactly `k` such numbers before it; `None` exactly where there is none.
-    ///
-    /// # Conditions
-    /// The levels are those of the source.
-    /// # Cost
-    /// For each level what a selection by binary search reads, and what two ranks read, or one where it is known from
-    /// the table of starts.
-    pub fn try_select_on<T: TableSource>(
-        &self,
-        source: &mut T,
-        number: u64,
-        k: usize,
-    ) -> Option<usize>
-        requires matrix { IsMatrix self.now (T.lists source.old) }
-        ensures index { IsItemSelect (numbers_in self.now (T.lists source.old)) number k result }
-        ensures reads { OnlyRanksAndSelects self.now T.lists T.reads source.old source.new
-            (2 * self.now.width - self.now.known) (by_halves (T.lists source.old)) self.now.width }
-    {
-        self.try_select_by(&BinaryRankSearch, source, number, k)
     }
 }

@@ -8,7 +8,6 @@ ghost use Rattle.bitm_tables.specs.Tables.{bits_in, HasSizes, HasTables, IsIndex
 ghost use Rattle.perfect_hash.specs.Asking.{IfAbsent, IsBelow, IsNumbered};
 ghost use Rattle.hash_levels.specs.Levels.{fall_in, looked, place_from, IsWithin};
 ghost use Rattle.hash_levels.specs.Numbers.{number_by, number_in, AreSizes};
-ghost use Rattle.hash_levels.specs.Places.{place_in};
 ghost use Rattle.perfect_hash.specs.Placed.{FitIn, IsPlaced, WhereAbsent, WhereWrong};
 
 use crate::querying::{BySource, Query};
@@ -147,29 +146,14 @@ pub fn total_number_by_on<T: TableSource, P: Placing>(
     }
 }
 
-/// The number of a hash over any source: of the first level where it falls on a 1 bit, how many 1 bits stand before
-/// that.
+/// The number of a hash over any source, where `placing` says where hashes fall: of the first level where it falls on a
+/// 1 bit, how many 1 bits stand before that. The seeds that it reads are counted too, at most one a level.
 ///
 /// # Conditions
 /// The source's tables are those of its words, which are those of levels of these sizes.
 /// # Cost
 /// One word is read of each level up to the one where the hash falls on a 1 bit, and what `rank_on` reads: at most one
 /// upper entry, one lower entry and eight words.
-#[inline]
-pub fn number_on<T: TableSource>(source: &mut T, sizes: &[usize], hash: u64) -> Option<usize>
-    requires indexed { IsIndexed (T.lists source.old) }
-    requires sizes { AreSizes sizes.now (bits_in (T.lists source.old)) }
-    ensures value { result ≡ number_by sizes.now (bits_in (T.lists source.old)) hash }
-    ensures reads { OnlyReads T.lists T.reads source.old source.new 1 1 (length sizes.now + 8) }
-    ensures looked { let b = bits_in (T.lists source.old) in
-        IsWithin 8 ((T.reads source.old).words + looked (place_in hash) b 0 0 sizes.now)
-        (T.reads source.new).words }
-{
-    number_by_on(source, &Plain, sizes, hash, &mut ReadCounts::new())
-}
-
-/// As `number_on`, where `placing` says where hashes fall; the seeds that it reads are counted too, at most one a
-/// level.
 #[inline]
 pub(crate) fn number_by_on<T: TableSource, P: Placing>(
     source: &mut T,

@@ -28,7 +28,7 @@ mod querying;
 mod seeds;
 mod table;
 
-pub use asking::{number_on, total_number_by_on, total_number_on};
+pub use asking::{total_number_by_on, total_number_on};
 pub use building::{Refused, build, build_by};
 pub use dictionary::Dictionary;
 pub use hash_levels::{

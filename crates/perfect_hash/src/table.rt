@@ -196,33 +196,6 @@ impl<H, S: SelectForRank101111, S0: Select0ForRank101111, BV: AsSlice<u64>> Perf
     }
 }
 
-impl<H, S: SelectForRank101111, S0: Select0ForRank101111, BV: AsSlice<u64>, P: Placing> PerfectHash<
-    H,
-    RankSelect101111<S, S0, BV>,
-    P,
-> {
-    /// What `get` answers, and what was read for it: of the index one word of each level up to the one where the key
-    /// falls on a 1 bit, and one rank; of what places hashes at most one seed for each of these levels, counted as
-    /// words.
-    #[inline]
-    pub fn get_counted_by<K>(&self, key: &K) -> (Option<usize>, ReadCounts, ReadCounts)
-    where
-        H: KeyHash<K>,
-        ensures value { result.0 ≡ number_at P.fall H.hash self.now key.now }
-        ensures reads { ReadsAtMost none_read result.1 1 1 (length self.now.sizes + 8) }
-        ensures looked { IsWithin 8 (levels_looked P.fall H.hash self.now key.now) result.1.words }
-        ensures seeds { ReadsAtMost none_read result.2 0 0 (length self.now.sizes) }
-        ensures counted { result.2.words ≡ P.seeds_each * levels_looked P.fall H.hash self.now key.now }
-    {
-        let mut probe = self.index.probe();
-        let mut seeds = ReadCounts::new();
-        let hash = self.hash(key);
-        let sizes = self.sizes.as_slice();
-        let number = number_by_on(&mut probe, &self.placing, sizes, hash, &mut seeds);
-        (number, probe.into_reads(), seeds)
-    }
-}
-
 impl<
     H: Copy,
     S: SelectForRank101111,
