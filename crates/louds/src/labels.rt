@@ -36,7 +36,11 @@ impl Model for Packed {
 ///
 /// # Conditions
 /// `width` is at most 63.
-pub(crate) fn all_fit(numbers: &[u64], width: u8) -> bool
+///
+/// ```
+/// all_fit(&[5, 7], 3);   // true
+/// ```
+pub fn all_fit(numbers: &[u64], width: u8) -> bool
     requires { width ≤ 63 }
     ensures { IsTrue result ↔ All (λ x. x < 2 ^ width) numbers.now }
 {
@@ -53,10 +57,17 @@ pub(crate) fn all_fit(numbers: &[u64], width: u8) -> bool
 ///
 /// # Conditions
 /// There is room, and each number fits.
-fn write(words: &mut [u64], numbers: &[u64], width: u8)
+/// # Cost
+/// One pass over the numbers (evident from the code).
+///
+/// ```
+/// write_numbers(words.as_mut_slice(), &[5, 7], 3);   // the bits 101 111
+/// ```
+pub fn write_numbers(words: &mut [u64], numbers: &[u64], width: u8)
     requires room { HasRoom words.old width (length numbers.now) }
     requires fit { All (λ x. x < 2 ^ width) numbers.now }
     ensures numbers { numbers_of words.new width (length numbers.now) ≡ numbers.now }
+    ensures len { length words.new ≡ length words.old }
 {
     for (i, number) in numbers.iter().enumerate() {
         words::set_fragment(words, i, *number, width);
@@ -81,7 +92,7 @@ impl Packed {
             return Err(AllocError);
         };
         let mut words = BoxedSlice::with_zeroed_bits(alloc, bits)?;
-        write(words.as_mut_slice(), numbers, width);
+        write_numbers(words.as_mut_slice(), numbers, width);
         Ok(Packed {
             words,
             width,

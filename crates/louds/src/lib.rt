@@ -47,6 +47,8 @@ mod tree;
 pub use checking::is_tree;
 pub use error::{LabelsError, LoudsError};
 pub use labelled::{LabelledLouds, SampledTrie, are_labels};
+pub use labels::{all_fit, write_numbers};
+pub use making::write_degrees;
 pub use near::near_last_zero_on;
 pub use node::Node;
 pub use parents::are_parents;

@@ -9,11 +9,18 @@ use bitm_bits::BitVec;
 use std::alloc::{AllocError, Global};
 use std::boxed::BoxedSlice;
 
-/// Writes 10, and then for each node its degree in 1 bits and a 0 bit, where all bits are 0.
+/// Writes 10, and then for each node its degree in 1 bits and a 0 bit, where all bits are 0: the bits of a tree, in
+/// memory of the caller's.
 ///
 /// # Conditions
-/// There are as many bits as these take.
-fn write_degrees(words: &mut [u64], degrees: &[usize])
+/// There are as many bits as these take, and fewer than 2^64.
+/// # Cost
+/// One pass over the degrees (evident from the code).
+///
+/// ```
+/// write_degrees(words.as_mut_slice(), &[2, 0, 1, 0]);   // 10 110 0 10 0, from the first bit on
+/// ```
+pub fn write_degrees(words: &mut [u64], degrees: &[usize])
     requires some { 0 < length words.old }
     requires fits { 2 + length degrees.now + sum degrees.now < 2 ^ 64 }
     requires room { 2 + length degrees.now + sum degrees.now ≤ 64 * length words.old }

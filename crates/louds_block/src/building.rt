@@ -9,11 +9,10 @@ ghost use Rattle.louds_block.specs.Block.{CanHold, IsBlockOf, IsTreeOf, StandsIn
 
 use crate::error::BuildError;
 use crate::sections::{Lens, size, tree_head, tree_sections};
-use crate::writing::write_degrees;
 use bitm_block::{aligned, seal};
 use block_tables::fill_tables;
 use lent_tables::clear;
-use louds::is_tree;
+use louds::{is_tree, write_degrees};
 
 /// Writes the bits of a tree, where all bits are 0, and their tables: the sections of its block, of which those of a
 /// block of another kind may be the first.

@@ -28,7 +28,6 @@
 // - `sections`: the sections of the block of a tree
 // - `siblings`: leaves, siblings and ranks among siblings over any source
 // - `tree`: the view of a block, and its queries
-// - `writing`: the bits of a tree
 mod building;
 mod checking;
 mod children;
@@ -38,7 +37,6 @@ mod queries;
 mod sections;
 mod siblings;
 mod tree;
-mod writing;
 
 pub use bitm_tables::answer::Answer;
 pub use building::{build, write_tree};

@@ -1,8 +1,7 @@
 //! The block of a trie, written into the caller's memory.
-ghost use Rattle.std.specs.Prelude.{◌≡◌, ◌^◌, ◌<◌, ◌↔◌, All, IfErr, IfOk, IsOk, IsTrue, MatchOption, length};
+ghost use Rattle.std.specs.Prelude.{◌≡◌, ◌^◌, ◌<◌, ◌↔◌, IfErr, IfOk, IsOk, IsTrue, MatchOption, length};
 ghost use Rattle.bitm_block.specs.Layout.{end_of};
 ghost use Rattle.bitm_block.specs.Written.{IsSealed};
-ghost use Rattle.louds.specs.Labels.{HasRoom, numbers_of};
 ghost use Rattle.trie_block.specs.Block.{trie_head, trie_sections};
 ghost use Rattle.trie_block.specs.Block.{CanHold, HasEnds, IsBlockOf, IsReason, StandsIn};
 ghost use Rattle.trie_block.specs.Labels.{IsShape};
@@ -13,20 +12,8 @@ use crate::sections::{block_len, is_shape, label_words, trie_head, trie_sections
 use bit_words::words;
 use bitm_block::{aligned, copy_items, seal};
 use lent_tables::clear;
-use louds::is_tree;
+use louds::{is_tree, write_numbers};
 use louds_block::{Lens, write_tree};
-
-/// Writes each label at its index.
-fn write_labels(words: &mut [u64], labels: &[u64], width: u8)
-    requires room { HasRoom words.old width (length labels.now) }
-    requires fit { All (λ x. x < 2 ^ width) labels.now }
-    ensures labels { numbers_of words.new width (length labels.now) ≡ labels.now }
-    ensures len { length words.new ≡ length words.old }
-{
-    for (i, label) in labels.iter().enumerate() {
-        words::set_fragment(words, i, *label, width);
-    }
-}
 
 /// Writes the sections of a trie where its block has them.
 fn write_parts(degrees: &[usize], labels: &[u64], width: u8, ends: &[u64], block: &mut [u64])
@@ -46,7 +33,7 @@ fn write_parts(degrees: &[usize], labels: &[u64], width: u8, ends: &[u64], block
     write_tree(degrees, words, upper, lower);
     let (room, rest) = rest.split_at_mut(aligned(labels_len));
     let (label_part, _gap) = room.split_at_mut(labels_len);
-    write_labels(label_part, labels, width);
+    write_numbers(label_part, labels, width);
     let (end_part, _gap) = rest.split_at_mut(ends.len());
     copy_items(end_part, ends);
 }

@@ -1,23 +1,9 @@
 //! Whether the labels that are given are those of a tree.
-ghost use Rattle.std.specs.Prelude.{◌≡◌, ◌+◌, ◌-◌, ◌^◌, ◌<◌, ◌≤◌, ◌↔◌, ◌∷◌, All, IsTrue, ℕ, length, slice_index};
+ghost use Rattle.std.specs.Prelude.{◌≡◌, ◌+◌, ◌-◌, ◌<◌, ◌≤◌, ◌↔◌, ◌∷◌, IsTrue, ℕ, length, slice_index};
 ghost use Rattle.louds.specs.Labels.{AreLabels, Rise};
 ghost use Rattle.louds.specs.Tree.{IsTree};
 
-use bit_words::n_lowest_bits;
-
-/// Whether no label has more than `width` bits.
-fn all_fit(labels: &[u64], width: u8) -> bool
-    requires { width ≤ 63 }
-    ensures { IsTrue result ↔ All (λ x. x < 2 ^ width) labels.now }
-{
-    let most = n_lowest_bits(width);
-    for label in labels {
-        if *label > most {
-            return false;
-        }
-    }
-    true
-}
+use louds::all_fit;
 
 /// Whether the labels of the nodes from `first` on and before `past` rise.
 fn rise_between(labels: &[u64], first: usize, past: usize) -> bool
@@ -35,7 +21,7 @@ fn rise_between(labels: &[u64], first: usize, past: usize) -> bool
 }
 
 /// Whether the labels of siblings rise.
-fn rise(degrees: &[usize], labels: &[u64]) -> bool
+fn siblings_rise(degrees: &[usize], labels: &[u64]) -> bool
     requires tree { IsTree degrees.now }
     requires count { length labels.now + 1 ≡ length degrees.now }
     ensures { IsTrue result ↔ Rise degrees.now (0 ∷ labels.now) }
@@ -62,5 +48,5 @@ pub(crate) fn are_labels(degrees: &[usize], labels: &[u64], width: u8) -> bool
     if !all_fit(labels, width) {
         return false;
     }
-    rise(degrees, labels)
+    siblings_rise(degrees, labels)
 }

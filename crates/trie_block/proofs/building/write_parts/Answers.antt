@@ -23,8 +23,8 @@ write_tree-requires-clause-clear c =
     ∙ take-replicate w r 0 some
     ∙ ap (λ k. replicate k 0) c.of-lens.ensures.words
 
-pub write_labels-requires-clause-room : goal.write_labels-requires-clause-room
-write_labels-requires-clause-room c =
+pub write_numbers-requires-clause-room : goal.write_numbers-requires-clause-room
+write_numbers-requires-clause-room c =
     let trie = c.requires.trie in
     let count : length c.args.labels.now ≡ length c.args.degrees.now - 1 = omega (arith, trie.are_labels.count) in
     record {
@@ -36,8 +36,8 @@ write_labels-requires-clause-room c =
           ∙ ap (λ n. div_ceil (n * c.args.width) 64) (sym count);
     }
 
-pub write_labels-requires-clause-fit : goal.write_labels-requires-clause-fit
-write_labels-requires-clause-fit c = All-tail (λ x. x < 2 ^ c.args.width) 0 c.args.labels.now c.requires.trie.are_labels.fit
+pub write_numbers-requires-clause-fit : goal.write_numbers-requires-clause-fit
+write_numbers-requires-clause-fit c = All-tail (λ x. x < 2 ^ c.args.width) 0 c.args.labels.now c.requires.trie.are_labels.fit
 
 pub returns : goal.returns
 returns c =
@@ -48,12 +48,12 @@ returns c =
     let tree = c.write_tree.ensures in
     let len = c.label_words-labels_len.ensures.words in
     let count : length d - 1 ≡ length ls = omega (arith, c.requires.trie.are_labels.count) in
-    let labels_len : length c.write_labels.new.words ≡ c.label_words-labels_len.result =
-    omega (arith, c.write_labels.ensures.len, c.split_at_mut-label_part.ensures.front_len) in
+    let labels_len : length c.write_numbers.new.words ≡ c.label_words-labels_len.result =
+    omega (arith, c.write_numbers.ensures.len, c.split_at_mut-label_part.ensures.front_len) in
     let ends_len = ap length c.copy_items.ensures in
     stands d ls width c.args.ends.now c.split_at_mut-head.result.0.now c.write_tree.new.words c.split_at_mut-words.result.1.now
     c.write_tree.new.upper c.split_at_mut-upper.result.1.now c.write_tree.new.lower c.split_at_mut-lower.result.1.now
-    c.write_labels.new.words c.split_at_mut-label_part.result.1.now c.copy_items.new.to c.split_at_mut-end_part.result.1.now
+    c.write_numbers.new.words c.split_at_mut-label_part.result.1.now c.copy_items.new.to c.split_at_mut-end_part.result.1.now
     c.split_at_mut-head.ensures.front_len (
       tree.words_len,
       omega (arith, tree.words_len, at.words, c.split_at_mut-words.ensures.back_len, c.split_at_mut-room.ensures.front_len, c.aligned.ensures),
@@ -98,7 +98,7 @@ returns c =
       tree = tree;
       labels_held = record {
         len = labels_len ∙ len;
-        held = ap (λ k. 0 ∷ numbers_of c.write_labels.new.words width k) count ∙ ap (λ xs. 0 ∷ xs) c.write_labels.ensures.labels;
+        held = ap (λ k. 0 ∷ numbers_of c.write_numbers.new.words width k) count ∙ ap (λ xs. 0 ∷ xs) c.write_numbers.ensures.numbers;
       };
       ends_kept = c.copy_items.ensures;
     })

@@ -2,7 +2,7 @@
 use Rattle.std.proofs.Common.{◌≡◌, ℕ, List, true, false, ◌+◌, ◌<◌, ◌≤◌, ◌∷◌, length, get_or, refl, rules, arith}
 use Rattle.louds.proofs.lemmas.TreeLemmas.{sum_more}
 use Rattle.trie_block.proofs.RiseLemmas.{children_inside, of_rise, under_all, under_more, under_none}
-use Rattle.trie_block.proofs.given.rise.Goals as goal
+use Rattle.trie_block.proofs.given.siblings_rise.Goals as goal
 
 -- the labels of the nodes from `first` on and before `past` rise
 abbrev Between : List ℕ → ℕ → ℕ → Type 0

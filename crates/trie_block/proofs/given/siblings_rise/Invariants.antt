@@ -1,7 +1,7 @@
 use Rattle.std.proofs.Common.{◌≡◌, ◌+◌, ◌∷◌, take}
 use Rattle.std.specs.List.{sum}
 use Rattle.trie_block.proofs.RiseLemmas.{RiseUnder}
-use Rattle.trie_block.proofs.given.rise.Given as goal
+use Rattle.trie_block.proofs.given.siblings_rise.Given as goal
 
 -- the labels of the children of the nodes so far rise
 abbrev pub invariant-loop-i : goal.invariant-loop-i

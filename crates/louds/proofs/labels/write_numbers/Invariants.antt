@@ -1,5 +1,5 @@
 use Rattle.louds.proofs.lemmas.LabelLemmas.{ArePacked}
-use Rattle.louds.proofs.labels.write.Given as goal
+use Rattle.louds.proofs.labels.write_numbers.Given as goal
 
 -- the numbers so far stand at their places
 abbrev pub invariant-loop-i : goal.invariant-loop-i
