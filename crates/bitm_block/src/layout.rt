@@ -58,6 +58,21 @@ fn item_words(role: u64, count: u64) -> usize
 }
 
 impl Section {
+    /// A section of the given role and number of items.
+    ///
+    /// ```
+    /// Section::of(1, 30);   // Section { role: 1, count: 30 }
+    /// ```
+    #[inline(always)]
+    pub fn of(role: u64, count: usize) -> Section
+        ensures { result ≡ record { role = role; count = count } }
+    {
+        Section {
+            role,
+            count: count as u64,
+        }
+    }
+
     /// How many words the items take: eight bytes each, but four each for the roles 7 and 8, and one each for role 15
     /// and those from 2^16 on.
     ///

@@ -38,4 +38,5 @@ pub use error::{OpenError, WriteError};
 pub use head::Head;
 pub use layout::{ENTRY_WORDS, HEADER_WORDS, MOST_SECTIONS, Section, aligned, head_len, size};
 pub use reading::{Block, len_in};
-pub use writing::seal;
+pub use verifying::is_verified;
+pub use writing::{seal, seal_sized};

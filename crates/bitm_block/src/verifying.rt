@@ -40,3 +40,21 @@ impl<'a> Block<'a> {
         true
     }
 }
+
+/// Whether words are a block whose sections are as they were written (`Block::open`, `Block::verify`).
+///
+/// # Cost
+/// One pass over the words (evident from the code).
+///
+/// ```
+/// is_verified(block.as_slice());          // true of what `seal` wrote
+/// is_verified(&block.as_slice()[..55]);   // false
+/// ```
+pub fn is_verified(words: &[u64]) -> bool
+    ensures { IsTrue result ↔ (IsBlock words.now × IsVerified words.now) }
+{
+    match Block::open(words) {
+        Ok(block) => block.verify(),
+        Err(_) => false,
+    }
+}

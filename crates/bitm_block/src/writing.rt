@@ -113,12 +113,22 @@ fn write_header(head: &Head, sections: usize, len: usize, sum: u64, header: &mut
     last.copy_from_slice([checksum_of(fields.as_slice())].as_slice());
 }
 
-/// Writes the block of these numbers around its sections.
-fn write_block(head: &Head, sections: &[Section], block: &mut [u64])
+/// What `seal` writes, where the sections and the words of the block are known to fit.
+///
+/// # Conditions
+/// `size` of the sections is the number of words.
+/// # Cost
+/// That of `seal`.
+///
+/// ```
+/// seal_sized(&head, sections.as_slice(), block.as_mut_slice());   // as `seal`, where that answers Ok(())
+/// ```
+pub fn seal_sized(head: &Head, sections: &[Section], block: &mut [u64])
     requires short { AreShort sections.now }
     requires room { length block.old ≡ end_of sections.now }
-    ensures { block.new
+    ensures words { block.new
         ≡ block_of head.now sections.now (drop (head_of (length sections.now)) block.old) }
+    ensures sealed { IsSealed head.now sections.now block.old block.new }
 {
     let len = block.len();
     let (front, body) = block.split_at_mut(head_len(sections.len()));
@@ -157,6 +167,6 @@ pub fn seal(head: &Head, sections: &[Section], block: &mut [u64]) -> Result<(), 
     if block.len() != len {
         return Err(WriteError::WrongLength);
     }
-    write_block(head, sections, block);
+    seal_sized(head, sections, block);
     Ok(())
 }

@@ -8,7 +8,7 @@ ghost use Rattle.block_tables.specs.Sections.{section_of};
 ghost use Rattle.bitm_block_c.specs.Section.{IsSectionAt};
 
 use bitm_abi::{BAD_SIZE, NONE, OK, WRONG};
-use bitm_block::Block;
+use bitm_block::{Block, is_verified};
 use block_sections::{ExtendError, extend, extended_size};
 
 /// A section of a block: for C two numbers, and a pointer and a length.
@@ -112,8 +112,5 @@ pub extern "C" fn bitm_block_check(block: &[u64]) -> u32
     ensures ok { (result ≡ 0) ↔ (IsBlock block.now × IsVerified block.now) }
     ensures status { (result ≡ 0) ⊎ (result ≡ 3) }
 {
-    match Block::open(block) {
-        Ok(opened) if opened.verify() => OK,
-        _ => WRONG,
-    }
+    if is_verified(block) { OK } else { WRONG }
 }

@@ -9,7 +9,7 @@ ghost use Rattle.bits_block.specs.Block.{bits_head, bits_sections, lists_at, Are
 
 use crate::error::BuildError;
 use crate::sections::{bits_head, size};
-use bitm_block::{aligned, seal};
+use bitm_block::{aligned, seal_sized};
 use bitm_view::build_block;
 use block_tables::{as_entries_mut, table_sections};
 use lent_tables::{lower_len, upper_len};
@@ -59,10 +59,7 @@ fn seal_bits(len: usize, block: &mut [u64])
     ensures { IsSealed (bits_head len) (bits_sections len) block.old block.new }
 {
     let sections = table_sections(len.div_ceil(64));
-    match seal(&bits_head(len), sections.as_slice(), block) {
-        Ok(()) => {}
-        Err(_) => unreachable!(),
-    }
+    seal_sized(&bits_head(len), sections.as_slice(), block);
 }
 
 /// Writes the block of bits.

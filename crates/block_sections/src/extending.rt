@@ -6,7 +6,7 @@ ghost use Rattle.block_sections.specs.Extended.{sections_with, CanExtend, FitsWi
 
 use crate::error::ExtendError;
 use crate::placing::{copy_parts, list_sections};
-use bitm_block::{Block, MOST_SECTIONS, Section, aligned, head_len, seal};
+use bitm_block::{Block, MOST_SECTIONS, Section, aligned, head_len, seal_sized};
 
 /// How many words an opened block takes with one section more.
 fn size_with(block: &Block<'_>, added: &Section) -> Option<usize>
@@ -53,10 +53,7 @@ fn write_extended(block: &Block<'_>, added: &Section, words: &[u64], to: &mut [u
     list_sections(block, added, list.as_mut_slice());
     copy_parts(block, added, words, &mut *to);
     let sections = &list.as_slice()[..block.sections() + 1];
-    match seal(&block.head(), sections, to) {
-        Ok(()) => {}
-        Err(_) => unreachable!(),
-    }
+    seal_sized(&block.head(), sections, to);
 }
 
 /// Writes to `to` a copy of a block with one section more, after its own: a block with the same numbers, the same

@@ -17,18 +17,9 @@ pub fn table_sections(words: usize) -> [Section; 3]
     ensures { result ≡ table_sections words }
 {
     [
-        Section {
-            role: 1,
-            count: words as u64,
-        },
-        Section {
-            role: 2,
-            count: upper_len(words) as u64,
-        },
-        Section {
-            role: 3,
-            count: lower_len(words) as u64,
-        },
+        Section::of(1, words),
+        Section::of(2, upper_len(words)),
+        Section::of(3, lower_len(words)),
     ]
 }
 

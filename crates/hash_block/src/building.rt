@@ -12,7 +12,7 @@ use crate::error::BuildError;
 use crate::levels::are_levels;
 use crate::sections::{block_len, hash_head, hash_sections};
 use bitm::RankSelect101111;
-use bitm_block::{aligned, copy_items, seal};
+use bitm_block::{aligned, copy_items, seal_sized};
 use bitm_strategies::{Select0ForRank101111, SelectForRank101111};
 use block_tables::{as_entries_mut, fill_tables};
 use lent_tables::{lower_len, upper_len};
@@ -80,10 +80,7 @@ fn seal_hash(words: usize, levels: usize, keys: usize, seed: u64, block: &mut [u
     ensures { IsSealed (hash_head keys seed) (hash_sections words levels) block.old block.new }
 {
     let sections = hash_sections(words, levels);
-    match seal(&hash_head(keys, seed), sections.as_slice(), block) {
-        Ok(()) => {}
-        Err(_) => unreachable!(),
-    }
+    seal_sized(&hash_head(keys, seed), sections.as_slice(), block);
 }
 
 /// Writes the block of a hash.

@@ -17,7 +17,7 @@ use crate::hashing::Added;
 use crate::keyed_parts::write_key_parts;
 use crate::sections::{dictionary_sections, dictionary_size, hash_head};
 use bitm::{HasBits, Rank, RankSelect101111};
-use bitm_block::seal;
+use bitm_block::seal_sized;
 use bitm_strategies::{Select0ForRank101111, SelectForRank101111};
 use perfect_hash::PerfectHash;
 use std::convert::AsSlice;
@@ -30,10 +30,7 @@ fn seal_dictionary(words: usize, levels: usize, keys: usize, seed: u64, block: &
         block.new }
 {
     let sections = dictionary_sections(words, levels, keys);
-    match seal(&hash_head(keys, seed), sections.as_slice(), block) {
-        Ok(()) => {}
-        Err(_) => unreachable!(),
-    }
+    seal_sized(&hash_head(keys, seed), sections.as_slice(), block);
 }
 
 /// Writes the block of a dictionary.

@@ -46,5 +46,5 @@ pub use hashing::Added;
 pub use keyed::{build_dictionary, build_keyed};
 pub use levels::are_levels;
 pub use opening::{check, open};
-pub use sections::{HASH, dictionary_size, size};
+pub use sections::{HASH, LEVELS, SIZES, dictionary_size, hash_head, size};
 pub use view::HashView;

@@ -11,16 +11,20 @@ use lent_tables::{lower_len, upper_len};
 pub const HASH: u64 = 5;
 
 /// The role of the sizes of levels.
-pub(crate) const SIZES: u64 = 4;
+pub const SIZES: u64 = 4;
 
 /// The role of the keys of a dictionary.
 pub(crate) const KEYS: u64 = 5;
 
 /// The greatest number of levels.
-pub(crate) const LEVELS: usize = 256;
+pub const LEVELS: usize = 256;
 
-/// The numbers of the header of a hash of the given number of keys.
-pub(crate) fn hash_head(keys: usize, seed: u64) -> Head
+/// The numbers of the header of a hash of the given number of keys, with seeds or without.
+///
+/// ```
+/// hash_head(3, 7);   // Head { kind: HASH, len: 3, a: 7, .. }
+/// ```
+pub fn hash_head(keys: usize, seed: u64) -> Head
     ensures { result ≡ hash_head keys seed }
 {
     Head {
@@ -35,26 +39,15 @@ pub(crate) fn hash_head(keys: usize, seed: u64) -> Head
     }
 }
 
-/// A section of the given role and number of items.
-#[inline(always)]
-fn section(role: u64, count: usize) -> Section
-    ensures { result ≡ record { role = role; count = count } }
-{
-    Section {
-        role,
-        count: count as u64,
-    }
-}
-
 /// The sections of levels: their words, the two tables of these, and the sizes.
 pub(crate) fn hash_sections(words: usize, levels: usize) -> [Section; 4]
     ensures { result ≡ hash_sections words levels }
 {
     [
-        section(1, words),
-        section(2, upper_len(words)),
-        section(3, lower_len(words)),
-        section(SIZES, levels),
+        Section::of(1, words),
+        Section::of(2, upper_len(words)),
+        Section::of(3, lower_len(words)),
+        Section::of(SIZES, levels),
     ]
 }
 
@@ -89,11 +82,11 @@ pub(crate) fn dictionary_sections(words: usize, levels: usize, keys: usize) -> [
     ensures { result ≡ dictionary_sections words levels keys }
 {
     [
-        section(1, words),
-        section(2, upper_len(words)),
-        section(3, lower_len(words)),
-        section(SIZES, levels),
-        section(KEYS, keys),
+        Section::of(1, words),
+        Section::of(2, upper_len(words)),
+        Section::of(3, lower_len(words)),
+        Section::of(SIZES, levels),
+        Section::of(KEYS, keys),
     ]
 }
 

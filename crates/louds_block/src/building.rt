@@ -9,7 +9,7 @@ ghost use Rattle.louds_block.specs.Block.{CanHold, IsBlockOf, IsTreeOf, StandsIn
 
 use crate::error::BuildError;
 use crate::sections::{Lens, size, tree_head, tree_sections};
-use bitm_block::{aligned, seal};
+use bitm_block::{aligned, seal_sized};
 use block_tables::fill_tables;
 use lent_tables::clear;
 use louds::{is_tree, write_degrees};
@@ -61,10 +61,7 @@ fn seal_tree(nodes: usize, block: &mut [u64])
     ensures { IsSealed (tree_head nodes) (tree_sections nodes) block.old block.new }
 {
     let sections = tree_sections(nodes);
-    match seal(&tree_head(nodes), sections.as_slice(), block) {
-        Ok(()) => {}
-        Err(_) => unreachable!(),
-    }
+    seal_sized(&tree_head(nodes), sections.as_slice(), block);
 }
 
 /// Writes the block of a tree.

@@ -74,18 +74,9 @@ pub(crate) fn tree_sections(nodes: usize) -> [Section; 3]
 {
     let lens = Lens::of(nodes);
     [
-        Section {
-            role: 1,
-            count: lens.words as u64,
-        },
-        Section {
-            role: 2,
-            count: lens.upper as u64,
-        },
-        Section {
-            role: 3,
-            count: lens.lower as u64,
-        },
+        Section::of(1, lens.words),
+        Section::of(2, lens.upper),
+        Section::of(3, lens.lower),
     ]
 }
 

@@ -10,9 +10,9 @@ ghost use Rattle.seeded_block.specs.Block.{seeded_sections, CanHold, IsBlockOf, 
 
 use crate::error::BuildError;
 use crate::packed::pack;
-use crate::sections::{block_len, hash_head, seeded_sections};
-use bitm_block::{aligned, seal};
-use hash_block::{are_levels, write_levels};
+use crate::sections::{block_len, seeded_sections};
+use bitm_block::{aligned, seal_sized};
+use hash_block::{are_levels, hash_head, write_levels};
 use lent_tables::{lower_len, upper_len};
 
 /// Writes the sections of levels where their block has them, and returns how many 1 bits there are.
@@ -39,16 +39,13 @@ fn write_parts(words: &[u64], seeds: &[u8], sizes: &[usize], block: &mut [u64]) 
 }
 
 /// Writes the header and the directory of a hash with seeds.
-fn seal_hash(words: usize, levels: usize, keys: usize, seed: u64, block: &mut [u64])
+fn seal_seeded(words: usize, levels: usize, keys: usize, seed: u64, block: &mut [u64])
     requires few { AreFew words levels }
     requires room { length block.old ≡ end_of (seeded_sections words levels) }
     ensures { IsSealed (hash_head keys seed) (seeded_sections words levels) block.old block.new }
 {
     let sections = seeded_sections(words, levels);
-    match seal(&hash_head(keys, seed), sections.as_slice(), block) {
-        Ok(()) => {}
-        Err(_) => unreachable!(),
-    }
+    seal_sized(&hash_head(keys, seed), sections.as_slice(), block);
 }
 
 /// Writes the block of a hash with seeds.
@@ -57,7 +54,7 @@ fn write_block(words: &[u64], seeds: &[u8], sizes: &[usize], seed: u64, block: &
     ensures { IsBlockOf sizes.now (bits_of words.now) seeds.now seed block.new }
 {
     let keys = write_parts(words, seeds, sizes, &mut *block);
-    seal_hash(words.len(), sizes.len(), keys, seed, block);
+    seal_seeded(words.len(), sizes.len(), keys, seed, block);
 }
 
 /// Writes the block of the hash whose levels have these words, seeds and sizes, as `build_seeded_in_place` makes them,

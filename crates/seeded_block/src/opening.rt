@@ -4,11 +4,11 @@ ghost use Rattle.hash_block.specs.Block.{IsHashBlock};
 ghost use Rattle.seeded_block.specs.Block.{seeded_in, seeds_in, HasSeededSections, IsSeededBlock, IsSoundBlock};
 
 use crate::packed::PackedSeeds;
-use crate::sections::{SEEDS, SIZES};
+use crate::sections::SEEDS;
 use crate::view::SeededView;
 use bitm_block::Block;
 use block_tables::{as_entries, has_tables, tables_of};
-use hash_block::{HASH, HashView};
+use hash_block::{HASH, HashView, SIZES};
 
 /// Whether a block is of the kind of a hash, and its first five sections are words, two tables, seeds and sizes.
 #[inline(always)]

@@ -14,7 +14,7 @@ use crate::error::BuildError;
 use crate::given::are_given;
 use crate::placing::write_placed;
 use crate::sections::{hash_len, size, string_head, string_sections};
-use bitm_block::{aligned, seal};
+use bitm_block::{aligned, seal_sized};
 use hash_block::HashView;
 
 /// Writes the block of the hash.
@@ -61,10 +61,7 @@ fn seal_strings(words: usize, levels: usize, strings: usize, bytes: usize, block
         block.new }
 {
     let sections = string_sections(hash_len(words, levels), strings, bytes);
-    match seal(&string_head(strings), sections.as_slice(), block) {
-        Ok(()) => {}
-        Err(_) => unreachable!(),
-    }
+    seal_sized(&string_head(strings), sections.as_slice(), block);
 }
 
 /// Writes the block of strings; answers false exactly where the hash does not number them.

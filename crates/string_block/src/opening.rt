@@ -1,12 +1,11 @@
 //! The view of a block of strings, and whether the block holds what it says.
 ghost use Rattle.std.specs.Prelude.{◌↔◌, IsTrue, SomeIff};
-ghost use Rattle.bitm_block.specs.Header.{IsBlock, IsVerified};
 ghost use Rattle.string_block.specs.Block.{strings_in, HasStringSections, IsSoundBlock, IsStringBlock};
 
 use crate::kinds::is_string_kind;
 use crate::sections::{BYTES, HASH_BLOCK, STARTS};
 use crate::view::StringsView;
-use bitm_block::Block;
+use bitm_block::{Block, is_verified};
 
 /// Whether a block is of a kind of strings, and its first three sections are the block of a hash, starts and bytes.
 #[inline(always)]
@@ -62,16 +61,5 @@ pub fn check(block: &[u64]) -> bool
     match open(block) {
         Some(strings) => is_verified(block) && strings.check(),
         None => false,
-    }
-}
-
-/// Whether the sections of a block are as they were written.
-fn is_verified(block: &[u64]) -> bool
-    requires { IsBlock block.now }
-    ensures { IsTrue result ↔ IsVerified block.now }
-{
-    match Block::open(block) {
-        Ok(opened) => opened.verify(),
-        Err(_) => unreachable!(),
     }
 }

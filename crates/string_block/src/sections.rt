@@ -32,26 +32,15 @@ pub(crate) fn string_head(strings: usize) -> Head
     }
 }
 
-/// A section of the given role and number of items.
-#[inline(always)]
-fn section(role: u64, count: usize) -> Section
-    ensures { result ≡ record { role = role; count = count } }
-{
-    Section {
-        role,
-        count: count as u64,
-    }
-}
-
 /// The sections of strings: the block of a hash of the given number of words, the starts, and the bytes.
 pub(crate) fn string_sections(hash: usize, strings: usize, bytes: usize) -> [Section; 3]
     requires { strings < 2 ^ 57 }
     ensures { result ≡ string_sections hash strings bytes }
 {
     [
-        section(HASH_BLOCK, hash),
-        section(STARTS, strings + 1),
-        section(BYTES, bytes.div_ceil(8)),
+        Section::of(HASH_BLOCK, hash),
+        Section::of(STARTS, strings + 1),
+        Section::of(BYTES, bytes.div_ceil(8)),
     ]
 }
 

@@ -1,5 +1,7 @@
 //! A small block: its words, its changes and its errors.
-use bitm_block::{Block, Head, OpenError, Section, WriteError, checksum_of, len_in, seal, size};
+use bitm_block::{
+    Block, Head, OpenError, Section, WriteError, checksum_of, is_verified, len_in, seal, size,
+};
 use std::process::Abort;
 use std::test::Fail;
 
@@ -87,14 +89,6 @@ fn sections() -> [Section; 3] {
     ]
 }
 
-/// Whether the words are opened, and verified.
-fn is_right(words: &[u64]) -> bool {
-    match Block::open(words) {
-        Ok(block) => block.verify(),
-        Err(_) => false,
-    }
-}
-
 /// The error of words, or none.
 fn error_of(words: &[u64]) -> Option<OpenError> {
     match Block::open(words) {
@@ -109,7 +103,7 @@ fn unseen_flips(words: &mut [u64], first: usize) -> usize {
     for i in first..words.len() {
         for bit in 0..64u32 {
             words[i] ^= 1u64 << bit;
-            unseen = unseen.wrapping_add(is_right(&*words) as usize);
+            unseen = unseen.wrapping_add(is_verified(&*words) as usize);
             words[i] ^= 1u64 << bit;
         }
     }
@@ -198,7 +192,7 @@ fn a_block_is_read(rt: HostRuntime) -> Result<(), Fail> {
 #[test]
 fn each_flipped_bit_is_seen(rt: HostRuntime) -> Result<(), Fail> {
     let mut words = WORDS;
-    assert!(rt; is_right(words.as_slice()));
+    assert!(rt; is_verified(words.as_slice()));
     assert!(rt; unseen_flips(words.as_mut_slice(), 0) == 0);
     // in header and directory by the opening alone
     let mut opened = 0usize;

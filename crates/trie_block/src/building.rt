@@ -10,7 +10,7 @@ use crate::error::BuildError;
 use crate::given::are_labels;
 use crate::sections::{block_len, is_shape, label_words, trie_head, trie_sections};
 use bit_words::words;
-use bitm_block::{aligned, copy_items, seal};
+use bitm_block::{aligned, copy_items, seal_sized};
 use lent_tables::clear;
 use louds::{is_tree, write_numbers};
 use louds_block::{Lens, write_tree};
@@ -47,10 +47,7 @@ fn seal_trie(nodes: usize, width: usize, ends: usize, block: &mut [u64])
         block.old block.new }
 {
     let sections = trie_sections(nodes, width, ends);
-    match seal(&trie_head(nodes, width), sections.as_slice(), block) {
-        Ok(()) => {}
-        Err(_) => unreachable!(),
-    }
+    seal_sized(&trie_head(nodes, width), sections.as_slice(), block);
 }
 
 /// Writes the block of a trie.

@@ -48,17 +48,6 @@ pub(crate) fn trie_head(nodes: usize, width: usize) -> Head
     }
 }
 
-/// A section of the given role and number of items.
-#[inline(always)]
-fn section(role: u64, count: usize) -> Section
-    ensures { result ≡ record { role = role; count = count } }
-{
-    Section {
-        role,
-        count: count as u64,
-    }
-}
-
 /// The sections of a trie: words, upper and lower table of its tree, labels, and ends in the given number of words.
 pub(crate) fn trie_sections(nodes: usize, width: usize, ends: usize) -> [Section; 5]
     requires { IsShape nodes width }
@@ -66,11 +55,11 @@ pub(crate) fn trie_sections(nodes: usize, width: usize, ends: usize) -> [Section
 {
     let lens = Lens::of(nodes);
     [
-        section(1, lens.words),
-        section(2, lens.upper),
-        section(3, lens.lower),
-        section(17, label_words(nodes, width)),
-        section(18, ends),
+        Section::of(1, lens.words),
+        Section::of(2, lens.upper),
+        Section::of(3, lens.lower),
+        Section::of(17, label_words(nodes, width)),
+        Section::of(18, ends),
     ]
 }
 

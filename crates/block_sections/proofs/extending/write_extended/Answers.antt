@@ -29,12 +29,12 @@ returns c =
     let b = c.args.block.now in
     let s = c.args.added.now in
     let old = c.copy_parts.new.to in
-    let new = c.seal.new.block in
+    let new = c.seal_sized.new.block in
     let list : take (c.sections.result + 1) c.as_slice.result.now ≡ sections_with b s =
     ap (λ k. take (k + 1) c.as_slice.result.now) c.sections.ensures.count
     ∙ ap (take (count_in b + 1)) c.as_slice.ensures
     ∙ c.list_sections.ensures.list in
     let sealed : IsSealed (head_in b) (sections_with b s) old new =
     subst (λ (h : Head). IsSealed h (sections_with b s) old new) c.head.ensures
-    (subst (λ (ss : List Section). IsSealed c.head.result ss old new) list c.in-Ok.ensures.sealed) in
+    (subst (λ (ss : List Section). IsSealed c.head.result ss old new) list c.seal_sized.ensures.sealed) in
     extended b s c.requires.fits.can.is_block c.args.words.now old c.copy_parts.ensures.stands c.requires.fits.long new sealed

@@ -8,7 +8,7 @@ returns-then-is_verified c =
     let opened = c.in-Some.ensures in (
       λ yes. record {
         string_block = opened.0;
-        verified = c.is_verified.ensures.0 c.if-is_verified.true;
+        verified = (c.is_verified.ensures.0 c.if-is_verified.true).1;
         strings = subst AreStrings opened.1 (c.check.ensures.0 yes);
       },
       λ sound. c.check.ensures.1 (subst AreStrings (sym opened.1) sound.strings),
