@@ -16,3 +16,15 @@ abbrev pub IsPrevious : List Bool → Bool → ℕ → Answer ℕ → Type 0
 IsPrevious b v s (Found p) = IsLastTo b v (min s (length b - 1)) p
 IsPrevious b v s Absent = (p : ℕ) → p ≤ s → p < length b → item b p ≡ not v
 IsPrevious b v s Wrong = ⊥
+
+-- a position that is found is answered where it is not before position i, and else Wrong
+abbrev pub IsOnlyFrom : ℕ → Answer ℕ → Answer ℕ → Type 0
+IsOnlyFrom i (Found p) answer = (i ≤ p → answer ≡ Found p) × (p < i → answer ≡ Wrong)
+IsOnlyFrom i Absent answer = answer ≡ Absent
+IsOnlyFrom i Wrong answer = answer ≡ Wrong
+
+-- or where it is before position j; where none is found, Wrong
+abbrev pub IsOnlyBefore : ℕ → Answer ℕ → Answer ℕ → Type 0
+IsOnlyBefore j (Found p) answer = (p < j → answer ≡ Found p) × (j ≤ p → answer ≡ Wrong)
+IsOnlyBefore j Absent answer = answer ≡ Wrong
+IsOnlyBefore j Wrong answer = answer ≡ Wrong

@@ -13,6 +13,7 @@
 // - `guessed`: the entry of a rank by interpolation between two samples
 // - `lent`: borrowed words and tables
 // - `lists`: lists of selections in all the words
+// - `nearest`: the nearest bit on either side of a position
 // - `places`: the positions of 1 bits
 // - `ranked`: rank over any tables
 // - `sample_checks`: whether samples are those of the tables
@@ -26,6 +27,7 @@ mod filling;
 mod guessed;
 mod lent;
 mod lists;
+mod nearest;
 mod places;
 mod ranked;
 mod sample_checks;
@@ -39,6 +41,7 @@ pub use filling::build;
 pub use guessed::ByGuess;
 pub use lent::{Lent, is_one, lower_len, upper_len};
 pub use lists::select_list_on;
+pub use nearest::{only_before, only_from};
 pub use places::ones_from;
 pub use ranked::ranked_on;
 pub use sampled::sampled_select_on;

@@ -1,6 +1,5 @@
 pub mod JoinedLaws
 pub mod JoinedLemmas
-pub mod NearLemmas
 pub mod PlaceLemmas
 pub mod RightCountLemmas
 pub mod ShardedLemmas

@@ -41,15 +41,3 @@ pub record IsJoinedSelection (bs : List (List Bool)) (c : Prefixes) (right : Typ
   pub bit : IfFoundHasBit v bs c answer
   pub absent : IsOfRank (claimed_in_all (kind_of v) c) rank answer
   pub counts : right → IsSelected (joined bs) v rank answer
-
--- a position that is found is answered where it is not before place i, and else Wrong
-abbrev pub IsKeptFrom : ℕ → Answer ℕ → Answer ℕ → Type 0
-IsKeptFrom i (Found p) answer = (i ≤ p → answer ≡ Found p) × (p < i → answer ≡ Wrong)
-IsKeptFrom i Absent answer = answer ≡ Absent
-IsKeptFrom i Wrong answer = answer ≡ Wrong
-
--- or where it is before place j; where none is found, Wrong
-abbrev pub IsKeptBefore : ℕ → Answer ℕ → Answer ℕ → Type 0
-IsKeptBefore j (Found p) answer = (p < j → answer ≡ Found p) × (j ≤ p → answer ≡ Wrong)
-IsKeptBefore j Absent answer = answer ≡ Wrong
-IsKeptBefore j Wrong answer = answer ≡ Wrong

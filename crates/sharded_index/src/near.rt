@@ -4,49 +4,14 @@ ghost use Rattle.bitm_select.specs.Answers.{IsFoundFrom};
 ghost use Rattle.lent_tables.specs.Nearest.{IsNext, IsPrevious};
 ghost use Rattle.sharded_index.specs.Joined.{joined};
 ghost use Rattle.sharded_index.specs.Prefixes.{claimed_in_all};
-ghost use Rattle.sharded_index.specs.Shards.{IfFoundHasBit, IsKeptBefore, IsKeptFrom};
+ghost use Rattle.sharded_index.specs.Shards.{IfFoundHasBit};
 ghost use Rattle.sharded_index.specs.declared.counts.Kind.TheVariants.{Positions};
 
 use crate::counts::Kind;
 use crate::shard::Shard;
 use crate::sharded::ShardedIndex;
 use bitm_tables::answer::Answer;
-
-/// A selected position that is not before `from`; one before it shows that prefix counts or tables are wrong.
-#[inline(always)]
-fn not_before(selected: Answer<usize>, from: usize) -> Answer<usize>
-    ensures { IsKeptFrom from selected result }
-{
-    match selected {
-        Answer::Found(position) => {
-            if position < from {
-                Answer::Wrong
-            } else {
-                Answer::Found(position)
-            }
-        }
-        Answer::Absent => Answer::Absent,
-        Answer::Wrong => Answer::Wrong,
-    }
-}
-
-/// A selected position that is before `end`; one after it, and none, show that prefix counts or tables are wrong.
-#[inline(always)]
-fn before(selected: Answer<usize>, end: usize) -> Answer<usize>
-    ensures { IsKeptBefore end selected result }
-{
-    match selected {
-        Answer::Found(position) => {
-            if position < end {
-                Answer::Found(position)
-            } else {
-                Answer::Wrong
-            }
-        }
-        Answer::Absent => Answer::Wrong,
-        Answer::Wrong => Answer::Wrong,
-    }
-}
+use lent_tables::{only_before, only_from};
 
 impl<'a, S: Shard> ShardedIndex<'a, S> {
     ghost use Rattle.sharded_index.specs.Sharded.{AreShards};
@@ -69,7 +34,7 @@ impl<'a, S: Shard> ShardedIndex<'a, S> {
             return Answer::Absent;
         }
         match self.rank(one, from) {
-            Answer::Found(rank) => not_before(self.select(one, rank), from),
+            Answer::Found(rank) => only_from(self.select(one, rank), from),
             Answer::Absent => Answer::Absent,
             Answer::Wrong => Answer::Wrong,
         }
@@ -96,7 +61,7 @@ impl<'a, S: Shard> ShardedIndex<'a, S> {
                 if ranks == 0 {
                     Answer::Absent
                 } else {
-                    before(self.select(one, ranks - 1), end)
+                    only_before(self.select(one, ranks - 1), end)
                 }
             }
             Answer::Absent => Answer::Wrong,

@@ -1,3 +1,2 @@
 pub mod CheckLemmas
-pub mod NearLemmas
 pub mod QueryLemmas

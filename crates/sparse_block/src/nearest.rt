@@ -1,6 +1,5 @@
 //! The nearest bit of a kind on either side of a position, whatever the block holds: a rank and a selection.
-ghost use Rattle.std.specs.Prelude.{◌≡◌, ◌+◌, ◌≤◌, List, ℕ, Bool, min, length};
-ghost use Rattle.bitm_tables.specs.declared.answer.Answer.TheVariants.{Found};
+ghost use Rattle.std.specs.Prelude.{◌+◌, List, ℕ, min};
 ghost use Rattle.bitm_select.specs.Answers.{IsFoundFrom, IsSelected};
 ghost use Rattle.lent_tables.specs.Nearest.{IsNext, IsPrevious};
 ghost use Rattle.lent_tables.specs.Ranks.{IsCountWithin, IsRanked};
@@ -9,46 +8,7 @@ ghost use Rattle.sparse_block.specs.Block.{bits_of, HoldsOnes};
 
 use crate::view::SparseView;
 use bitm_tables::answer::Answer;
-
-/// The selected position, where it is not before `from`: else the block holds no bits.
-#[inline(always)]
-fn not_before(selected: Answer<usize>, from: usize) -> Answer<usize>
-    ensures from { (n : ℕ) → IsPlaceOf n selected → IsFoundFrom from n result }
-    ensures next { (b : List Bool) → (v : Bool) → (r : ℕ) → IsRanked b v from (Found r)
-        → IsSelected b v r selected → IsNext b v from result }
-{
-    match selected {
-        Answer::Found(position) => {
-            if position < from {
-                Answer::Wrong
-            } else {
-                Answer::Found(position)
-            }
-        }
-        Answer::Absent => Answer::Absent,
-        Answer::Wrong => Answer::Wrong,
-    }
-}
-
-/// The selected position, where it is before `end`: else, and where none was selected, the block holds no bits.
-#[inline(always)]
-fn before(selected: Answer<usize>, end: usize) -> Answer<usize>
-    ensures to { IsFoundFrom 0 end result }
-    ensures previous { (b : List Bool) → (v : Bool) → (from r : ℕ) → end ≡ min (from + 1) (length b)
-        → IsRanked b v end (Found (r + 1)) → IsSelected b v r selected → IsPrevious b v from result }
-{
-    match selected {
-        Answer::Found(position) => {
-            if position < end {
-                Answer::Found(position)
-            } else {
-                Answer::Wrong
-            }
-        }
-        Answer::Absent => Answer::Wrong,
-        Answer::Wrong => Answer::Wrong,
-    }
-}
+use lent_tables::{only_before, only_from};
 
 impl<'a> SparseView<'a> {
     /// `rank` for the 1 bits, `rank0` for the 0 bits.
@@ -109,7 +69,7 @@ impl<'a> SparseView<'a> {
             → IsNext (bits_of xs self.now) one from result }
     {
         match self.rank_of(one, from) {
-            Answer::Found(rank) => not_before(self.select_of(one, rank), from),
+            Answer::Found(rank) => only_from(self.select_of(one, rank), from),
             Answer::Absent => Answer::Absent,
             Answer::Wrong => Answer::Wrong,
         }
@@ -137,7 +97,7 @@ impl<'a> SparseView<'a> {
         };
         match self.rank_of(one, end) {
             Answer::Found(0) => Answer::Absent,
-            Answer::Found(ranks) => before(self.select_of(one, ranks - 1), end),
+            Answer::Found(ranks) => only_before(self.select_of(one, ranks - 1), end),
             _ => Answer::Wrong,
         }
     }

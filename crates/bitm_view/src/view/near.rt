@@ -1,60 +1,19 @@
 //! The nearest bit of a kind on either side of a position: a rank and a selection.
-ghost use Rattle.std.specs.Prelude.{◌≡◌, ◌+◌, ◌≤◌, ℕ, Bool, length, min};
+ghost use Rattle.std.specs.Prelude.{◌≡◌, ◌+◌, length};
 ghost use Rattle.bit_lists.specs.Bits.{digit_count};
 ghost use Rattle.bit_lists.specs.Count.{as_bit};
 ghost use Rattle.bitm_select.specs.Answers.{HasBit, IsFoundFrom};
 ghost use Rattle.bitm_tables.specs.Reads.{OnlyReads};
 ghost use Rattle.bitm_tables.specs.Tables.{HasTables};
-ghost use Rattle.bitm_view.specs.Cut.{bits_of_cut, Cut, IsWithin};
-ghost use Rattle.bitm_view.specs.Queries.{NextIn, PreviousIn, RanksIn, SelectsIn};
+ghost use Rattle.bitm_view.specs.Cut.{bits_of_cut};
+ghost use Rattle.bitm_view.specs.Queries.{NextIn, PreviousIn, SelectsIn};
 ghost use Rattle.lent_tables.specs.Nearest.{IsNext, IsPrevious};
-ghost use Rattle.bitm_tables.specs.declared.answer.Answer.TheVariants.{Found, Absent, Wrong};
 
 use crate::view::IndexView;
 use bitm_select::search::selecting::{ByTables, FindsEntry};
 use bitm_tables::answer::Answer;
 use bitm_tables::source::{Probe, TableSource};
-use lent_tables::{ByGuess, is_one};
-
-/// The selected position, where it is not before `from`: else the tables are not those of the words.
-#[inline(always)]
-fn not_before(selected: Answer<usize>, from: usize) -> Answer<usize>
-    ensures { (v : Bool) (c : Cut) (r : ℕ) → IsWithin c → RanksIn v c from (Found r)
-        → SelectsIn v c r selected → NextIn v c from result }
-{
-    match selected {
-        Answer::Found(position) => {
-            if position < from {
-                Answer::Wrong
-            } else {
-                Answer::Found(position)
-            }
-        }
-        Answer::Absent => Answer::Absent,
-        Answer::Wrong => Answer::Wrong,
-    }
-}
-
-/// The selected position, where it is before `end`: else, and where none was selected, the tables are not those of the
-/// words.
-#[inline(always)]
-fn before(selected: Answer<usize>, end: usize) -> Answer<usize>
-    ensures { (v : Bool) (c : Cut) (from r : ℕ) → IsWithin c → end ≡ min (from + 1) c.len
-        → RanksIn v c end (Found (r + 1)) → SelectsIn v c r selected
-        → PreviousIn v c from result }
-{
-    match selected {
-        Answer::Found(position) => {
-            if position < end {
-                Answer::Found(position)
-            } else {
-                Answer::Wrong
-            }
-        }
-        Answer::Absent => Answer::Wrong,
-        Answer::Wrong => Answer::Wrong,
-    }
-}
+use lent_tables::{ByGuess, is_one, only_before, only_from};
 
 impl<'a> IndexView<'a> {
     /// `select_on` in code of its own, which both neighbours share.
@@ -95,7 +54,7 @@ impl<'a> IndexView<'a> {
         }
         match self.rank_on::<T>(source, is_one::<BIT>(), from) {
             Answer::Found(rank) => {
-                not_before(self.select_apart::<BIT, T, F>(source, finder, rank), from)
+                only_from(self.select_apart::<BIT, T, F>(source, finder, rank), from)
             }
             Answer::Absent => Answer::Absent,
             Answer::Wrong => Answer::Wrong,
@@ -145,7 +104,7 @@ impl<'a> IndexView<'a> {
                 if ranks == 0 {
                     Answer::Absent
                 } else {
-                    before(
+                    only_before(
                         self.select_apart::<BIT, T, F>(source, finder, ranks - 1),
                         end,
                     )

@@ -4,7 +4,7 @@ use Rattle.bit_lists.specs.Count.{as_bit}
 use Rattle.bitm_view.specs.Cut.{Cut, IsWithin}
 use Rattle.bitm_view.specs.Queries.{RanksIn}
 use Rattle.bitm_tables.specs.declared.answer.Answer.TheVariants.{Found}
-use Rattle.bitm_view.proofs.NearLemmas.{previous_none}
+use Rattle.bitm_view.proofs.NearLemmas.{previous_in, previous_none_in}
 use Rattle.bitm_view.proofs.view.IndexView.previous_on.Goals as goal
 use Rattle.bitm_view.proofs.view.IndexView.previous_on.Goals.{then-from-self, else-from-self, After-rank_on}
 
@@ -22,7 +22,7 @@ within g c = subst (λ (x : Cut). IsWithin x) c.self.view_is c.self.invariant.wi
 pub returns-then-ranks-eq0-clause-previous : goal.returns-then-ranks-eq0-clause-previous
 returns-then-ranks-eq0-clause-previous g c =
     let d = (goal.at.returns-then-ranks-eq0-clause-previous g c).After-rank_on in
-    previous_none (as_bit g.row.BIT) c.args.self.now (within g d) c.args.from c.if-from-self.end (ends g d)
+    previous_none_in (as_bit g.row.BIT) c.args.self.now (within g d) c.args.from c.if-from-self.end (ends g d)
     (subst (λ (n : ℕ). RanksIn (as_bit g.row.BIT) c.args.self.now c.if-from-self.end (Found n)) c.if-ranks-eq0.true
     (subst (λ (v : Bool). RanksIn v c.args.self.now c.if-from-self.end (Found c.in-Found.ranks)) c.is_one.ensures c.in-Found.ensures.ranks))
 
@@ -30,10 +30,11 @@ pub returns-else-ranks-eq0-clause-previous : goal.returns-else-ranks-eq0-clause-
 returns-else-ranks-eq0-clause-previous g c =
     let d = (goal.at.returns-else-ranks-eq0-clause-previous g c).After-rank_on in
     let back : c.in-Found.ranks ≡ c.in-Found.ranks - 1 + 1 = omega (arith, c.if-ranks-eq0.false) in
-    c.before-else-ranks-eq0.ensures (as_bit g.row.BIT) c.args.self.now c.args.from (c.in-Found.ranks - 1) (within g d) (ends g d)
+    previous_in (as_bit g.row.BIT) c.args.self.now (within g d) c.args.from c.if-from-self.end (ends g d) (c.in-Found.ranks - 1)
+    c.select_apart.result c.only_before.result
     (subst (λ (n : ℕ). RanksIn (as_bit g.row.BIT) c.args.self.now c.if-from-self.end (Found n)) back
     (subst (λ (v : Bool). RanksIn v c.args.self.now c.if-from-self.end (Found c.in-Found.ranks)) c.is_one.ensures c.in-Found.ensures.ranks))
-    c.select_apart.ensures.selects
+    c.select_apart.ensures.selects c.only_before.ensures
 
 pub returns-in-Absent-clause-previous : goal.returns-in-Absent-clause-previous
 returns-in-Absent-clause-previous g c =

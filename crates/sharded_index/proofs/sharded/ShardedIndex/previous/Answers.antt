@@ -2,7 +2,7 @@
 use Rattle.std.proofs.Common.{◌≡◌, ◌+◌, ◌-◌, length, map, min, sym, ◌∙◌, arith}
 use Rattle.sharded_index.specs.Joined.{joined}
 use Rattle.sharded_index.specs.declared.counts.Kind.TheVariants.{Positions}
-use Rattle.sharded_index.proofs.NearLemmas.{previous_none, previous_of}
+use Rattle.lent_tables.proofs.NearestLemmas.{previous_none, previous_of}
 use Rattle.sharded_index.proofs.PlaceLemmas.{claimed_all}
 use Rattle.sharded_index.proofs.sharded.ShardedIndex.previous.Goals as goal
 use Rattle.sharded_index.proofs.sharded.ShardedIndex.previous.Goals.{then-from-total, else-from-total}
@@ -29,5 +29,5 @@ returns-else-ranks-eq0-clause-counts g c = λ a.
       | else-from-total w ↦ omega (arith, long, w.if-from-total.false, w.end-is)
     ] in
     let back : c.in-Found.ranks - 1 + 1 ≡ c.in-Found.ranks = omega (arith, c.if-ranks-eq0.false) in
-    previous_of b c.args.one c.args.from c.if-from-total.end ends (c.in-Found.ranks - 1) c.select.result c.before-else-ranks-eq0.result
-    (back ∙ (c.in-Found.ensures.counts a).1) (c.select.ensures.counts a) c.before-else-ranks-eq0.ensures
+    previous_of b c.args.one c.args.from c.if-from-total.end ends (c.in-Found.ranks - 1) c.select.result c.only_before.result
+    (back ∙ (c.in-Found.ensures.counts a).1) (c.select.ensures.counts a) c.only_before.ensures

@@ -1,9 +1,9 @@
+-- The rank of the position selects the next one.
 use Rattle.sparse_block.specs.Block.{bits_of}
+use Rattle.lent_tables.proofs.NearestLemmas.{next_of}
 use Rattle.sparse_block.proofs.view.SparseView.next.Goals as goal
-
-pub returns-in-Found-clause-from : goal.returns-in-Found-clause-from
-returns-in-Found-clause-from c = c.not_before.ensures.from c.args.self.now.len c.select_of.ensures.inside
 
 pub returns-in-Found-clause-counts : goal.returns-in-Found-clause-counts
 returns-in-Found-clause-counts c = λ xs h.
-    c.not_before.ensures.next (bits_of xs c.args.self.now) c.args.one c.in-Found.rank (c.in-Found.ensures.counts xs h) (c.select_of.ensures.counts xs h)
+    next_of (bits_of xs c.args.self.now) c.args.one c.args.from c.in-Found.rank c.select_of.result c.only_from.result
+    (c.in-Found.ensures.counts xs h).1 (c.select_of.ensures.counts xs h) c.only_from.ensures

@@ -1,10 +1,8 @@
 -- One less than the rank of the end selects the previous one.
-use Rattle.std.proofs.Common.{◌≡◌, ◌+◌, ◌-◌, ℕ, List, length, min, subst, arith}
-use Rattle.bitm_tables.specs.declared.answer.Answer.TheVariants.{Found}
-use Rattle.lent_tables.specs.Ranks.{IsRanked}
+use Rattle.std.proofs.Common.{◌≡◌, ◌+◌, ◌-◌, min, sym, ◌∙◌, arith}
+use Rattle.lent_tables.proofs.NearestLemmas.{previous_none, previous_of}
 use Rattle.sparse_bits.proofs.lemmas.PositionLemmas.{bits_count}
 use Rattle.sparse_block.specs.Block.{bits_of}
-use Rattle.sparse_block.proofs.NearLemmas.{previous_none}
 use Rattle.sparse_block.proofs.view.SparseView.previous.Goals as goal
 use Rattle.sparse_block.proofs.view.SparseView.previous.Goals.{then-from-len, else-from-len}
 
@@ -19,7 +17,7 @@ returns-in-Found-eq0-clause-counts c = λ xs h.
     ] in
     let none : c.in-Found-eq0.field-0 ≡ 0 = omega (arith, c.in-Found-eq0.field-0-is, c.in-Found-eq0.field-0-test) in
     previous_none (bits_of xs v) c.args.one c.args.from end (omega (arith, ends, bits_count v.len xs h.places))
-    (subst (λ (n : ℕ). IsRanked (bits_of xs v) c.args.one end (Found n)) none (c.in-Found-eq0.ensures.counts xs h))
+    (sym none ∙ (c.in-Found-eq0.ensures.counts xs h).1)
 
 pub returns-in-Found-clause-counts : goal.returns-in-Found-clause-counts
 returns-in-Found-clause-counts c = λ xs h.
@@ -30,7 +28,7 @@ returns-in-Found-clause-counts c = λ xs h.
       | then-from-len w ↦ omega (arith, c.len.ensures, w.if-from-len.true, w.end-is)
       | else-from-len w ↦ omega (arith, c.len.ensures, w.if-from-len.false, w.len-end.ensures, w.end-is)
     ] in
-    let back : c.in-Found.ranks ≡ c.in-Found.ranks - 1 + 1 = omega (arith, c.in-Found.ranks-is) in
-    c.before-in-Found.ensures.previous (bits_of xs v) c.args.one c.args.from (c.in-Found.ranks - 1) (omega (arith, ends, bits_count v.len xs h.places))
-    (subst (λ (n : ℕ). IsRanked (bits_of xs v) c.args.one end (Found n)) back (c.in-Found.ensures.counts xs h))
-    (c.select_of.ensures.counts xs h)
+    let back : c.in-Found.ranks - 1 + 1 ≡ c.in-Found.ranks = omega (arith, c.in-Found.ranks-is) in
+    previous_of (bits_of xs v) c.args.one c.args.from end (omega (arith, ends, bits_count v.len xs h.places)) (c.in-Found.ranks - 1)
+    c.select_of.result c.only_before.result (back ∙ (c.in-Found.ensures.counts xs h).1) (c.select_of.ensures.counts xs h)
+    c.only_before.ensures
