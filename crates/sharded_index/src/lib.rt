@@ -40,6 +40,7 @@ mod sharded;
 pub use bitm_tables::answer::Answer;
 pub use building::{are_prefix_sums, prefix_sums};
 pub use counts::{Kind, Place, PrefixCounts};
+pub use groups::write_wrong;
 pub use laws::{
     item_of_joined, picked_in_joined, prefixes_are_sums, rank_in_joined, shards_have_index,
 };

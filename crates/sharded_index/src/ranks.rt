@@ -8,7 +8,7 @@ ghost use Rattle.sharded_index.specs.Sharded.{IfNoCode};
 ghost use Rattle.sharded_index.specs.declared.counts.Kind.TheVariants.{Positions};
 
 use crate::counts::{Kind, Place};
-use crate::groups::{forget, group, has_room};
+use crate::groups::{group, has_room, write_wrong};
 use crate::shard::Shard;
 use crate::sharded::ShardedIndex;
 use bitm_select::search::selected::{WRONG_TABLES, told};
@@ -121,7 +121,7 @@ impl<'a, S: Shard> ShardedIndex<'a, S> {
             (slice_index out.new j) }
     {
         if !has_room(room.len(), self.shards.len(), positions.len()) {
-            forget(out);
+            write_wrong(out);
             return;
         }
         let (ends, rest) = room.split_at_mut(self.shards.len() + 1);
@@ -136,7 +136,7 @@ impl<'a, S: Shard> ShardedIndex<'a, S> {
             &mut *order,
             &mut *inside,
         );
-        forget(&mut *out);
+        write_wrong(&mut *out);
         self.rank_groups(one, positions, &*ends, &*order, &*inside, ranks, out);
     }
 
