@@ -39,3 +39,4 @@ mod stepping;
 pub use checking::{are_counts, counts_of, has_quarters};
 pub use levels::{LevelsView, are_numbers};
 pub use quarters::{are_quarters, fill_quarters};
+pub use stepping::sum_within;
