@@ -53,19 +53,19 @@ abbrev pub IsSelectIn : Bool → ℕ → SparseParts → Answer ℕ → Type 0
 IsSelectIn one rank parts = FindsSelect one rank parts.len (λ xs. HoldsOnes xs parts)
 
 -- the nearest bits of a kind, likewise: on that side of the position
-pub record FindsNext (one : Bool) (from n : ℕ) (holds : List ℕ → Type 0) (answer : Answer ℕ) : Type 0 where
+pub record FindsSparseNext (one : Bool) (from n : ℕ) (holds : List ℕ → Type 0) (answer : Answer ℕ) : Type 0 where
   pub inside : IsFoundFrom from n answer
   pub right : (xs : List ℕ) → holds xs → IsNext (bits_at n 0 xs) one from answer
 
 abbrev pub IsNextIn : Bool → ℕ → SparseParts → Answer ℕ → Type 0
-IsNextIn one from parts = FindsNext one from parts.len (λ xs. HoldsOnes xs parts)
+IsNextIn one from parts = FindsSparseNext one from parts.len (λ xs. HoldsOnes xs parts)
 
-pub record FindsPrevious (one : Bool) (from n : ℕ) (holds : List ℕ → Type 0) (answer : Answer ℕ) : Type 0 where
+pub record FindsSparsePrevious (one : Bool) (from n : ℕ) (holds : List ℕ → Type 0) (answer : Answer ℕ) : Type 0 where
   pub inside : IsFoundFrom 0 (min (from + 1) n) answer
   pub right : (xs : List ℕ) → holds xs → IsPrevious (bits_at n 0 xs) one from answer
 
 abbrev pub IsPreviousIn : Bool → ℕ → SparseParts → Answer ℕ → Type 0
-IsPreviousIn one from parts = FindsPrevious one from parts.len (λ xs. HoldsOnes xs parts)
+IsPreviousIn one from parts = FindsSparsePrevious one from parts.len (λ xs. HoldsOnes xs parts)
 
 -- the answer to a query of a list
 abbrev pub Finds : Query → ℕ → ℕ → (List ℕ → Type 0) → Answer ℕ → Type 0
