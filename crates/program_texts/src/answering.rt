@@ -1,6 +1,5 @@
 //! What the text of a file answers of patterns: how often they stand there, where, and in which lines.
-ghost use Rattle.bitm_block.specs.Header.{IsBlock, IsVerified};
-ghost use Rattle.std.specs.Prelude.{◌≡◌, ◌↔◌, IfOk, IsErrOf, IsTrue, List, OnOk, SomeIff, ℕ};
+ghost use Rattle.std.specs.Prelude.{◌≡◌, IfOk, IsErrOf, List, OnOk, SomeIff, ℕ};
 ghost use Rattle.std.specs.Io.KnownBytes.{Appends};
 ghost use Rattle.std.specs.List.{flat_map};
 ghost use Rattle.program_texts.specs.Answers.{is_found, line_of, AreAnswers, AreWithin};
@@ -14,7 +13,7 @@ use crate::command::Asked;
 use crate::failure::Failure;
 use crate::numbering::lines_with;
 use crate::places::{counts, places};
-use bitm_block::Block;
+use bitm_block::is_verified;
 use program_blocks::words_of_bytes;
 use program_runs::CannotWrite;
 use std::alloc::Global;
@@ -146,16 +145,6 @@ fn opened(words: &[u64], sums: bool) -> Option<TextView<'_>>
         return None;
     }
     Some(view)
-}
-
-/// Whether the sections of a block are as they were written.
-fn is_verified(words: &[u64]) -> bool
-    ensures { IsTrue result ↔ (IsBlock words.now × IsVerified words.now) }
-{
-    match Block::open(words) {
-        Ok(block) => block.verify(),
-        Err(_) => false,
-    }
 }
 
 /// What is to be said of patterns in a text.
