@@ -24,7 +24,7 @@ bitm/src/ranges.rt ones_between:_in zeros_between:_in next_one:_in next_zero:_in
 bitm_strategies/src/binary.rt select:_counted select0:_counted
 bitm_strategies/src/combined.rt select:_counted select0:_counted
 bitm_view/src/view.rt rank_of:rank_on rank:rank_of
-elias_fano/src/finding.rt first_at_least:first_from_on+rise+probe_from
+elias_fano/src/finding.rt first_at_least:_by+found last_at_most:_by+found contains:_by
 louds/src/counted.rt is_leaf_on:is_leaf_by parent_on:parent_by next_sibling_on:next_sibling_by zero_on:zero_by
 louds/src/node.rt degree_of:degree_from_on is_leaf_of:ends_after_on children_of:children_from_on parent_of:_by
 louds/src/tree.rt end degree:_from_on+zero child:_from_on+zero children:_from_on+zero zero:_by is_leaf:_by parent:_by

@@ -19,8 +19,8 @@ KIND is bits, sequence, sparse, matrix or tree; bitm text and bitm strings say w
 /// Does what the arguments say, and answers the status that the program ends with.
 ///
 /// `args` are the arguments without the program's name: `build KIND` reads numbers, and `query BLOCK` questions, from
-/// the standard input; `query --json BLOCK` writes the answers as JSON. The status is 0 where all went well, and 1 where
-/// a line is no question; then the command was done on the file that is named, and nothing was written to `err`.
+/// the standard input; `query --json BLOCK` writes the answers as JSON. The status is 0 where all went well, and 1
+/// where a line is no question; then the command was done on the file that is named, and nothing was written to `err`.
 ///
 /// # Errors
 /// The status is 2, and a text goes to `err`, where the arguments are no command, where something can't be read, where
