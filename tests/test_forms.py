@@ -4,6 +4,8 @@ import json
 import os
 import pty
 import subprocess
+import time
+from contextlib import contextmanager
 
 import pytest
 from programs import built, room
@@ -98,19 +100,58 @@ def test_other_options_are_none(folder, words):
     assert made.returncode == 2 and made.stdout == b""
 
 
-def on_a_terminal(given):
-    """What is written to standard error, a terminal, where the text is this."""
+@contextmanager
+def on_a_terminal(*words):
+    """The program, whose standard error is a terminal, and a list that gets what is written there."""
     mine, theirs = pty.openpty()
-    subprocess.run([PROGRAM, "text", "build"], input=given, stdout=subprocess.DEVNULL, stderr=theirs, check=True)
+    said = []
+    with subprocess.Popen([PROGRAM, *words], stdin=subprocess.PIPE, stdout=subprocess.PIPE, stderr=theirs) as run:
+        yield run, said
     os.write(theirs, b"end")
-    said = b""
-    while not said.endswith(b"end"):
-        said += os.read(mine, 1000)
+    text = b""
+    while not text.endswith(b"end"):
+        text += os.read(mine, 1000)
     os.close(theirs)
     os.close(mine)
-    return said.removesuffix(b"end")
+    said += text.removesuffix(b"end").splitlines()
+
+
+def lines_on_a_terminal(given):
+    """What is written to the terminal, less the bytes that a slow machine has read or written after two seconds."""
+    with on_a_terminal("text", "build") as (run, said):
+        run.communicate(given)
+    return [line for line in said if not line.startswith((b"bitm: read", b"bitm: written"))]
 
 
 def test_much_work_is_told_on_a_terminal():
-    assert on_a_terminal(b"a" * 8_000_000) == b"bitm: working on 8000000 bytes\r\n"
-    assert on_a_terminal(b"a" * 7_999_999) == b""
+    assert lines_on_a_terminal(b"a" * 8_000_000) == [b"bitm: working on 8000000 bytes"]
+    assert lines_on_a_terminal(b"a" * 7_999_999) == []
+
+
+def test_slow_input_is_told_on_a_terminal():
+    """The second number comes more than two seconds after the first, and the third soon after the second."""
+    with on_a_terminal("build", "bits") as (run, said):
+        for wait, line in [(0, b"1\n"), (2.2, b"20\n"), (0.1, b"300\n")]:
+            time.sleep(wait)
+            run.stdin.write(line)
+            run.stdin.flush()
+        run.stdin.close()
+        run.stdout.read()
+    assert said[0] == b"bitm: read 5 bytes"
+
+
+def test_slow_output_is_told_on_a_terminal():
+    """Nobody reads for more than two seconds, and a pipe holds less than the block."""
+    with on_a_terminal("build", "bits") as (run, said):
+        run.stdin.write(b"8000000\n")
+        run.stdin.close()
+        time.sleep(2.5)
+        size = len(run.stdout.read())
+    numbers = [int(line.removeprefix(b"bitm: written ").removesuffix(b" bytes")) for line in said]
+    assert 0 < numbers[0] <= size and numbers == sorted(numbers)
+
+
+def test_a_short_run_says_nothing_on_a_terminal():
+    with on_a_terminal("build", "bits") as (run, said):
+        run.communicate(b"1\n")
+    assert said == []

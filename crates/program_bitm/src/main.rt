@@ -3,8 +3,10 @@
 #![tactic(auto)]
 
 mod process;
+mod progress;
 
 use crate::process::Process;
+use crate::progress::{Counted, Progress};
 use program_help::topic_in;
 use program_runs::CANNOT_READ;
 use std::env::Env;
@@ -17,10 +19,12 @@ fn main(rt: HostRuntime) -> ExitCode {
         let _ = eprintln!(rt; "{}", CANNOT_READ);
         return ExitCode::from(2);
     };
+    let progress = Progress::new(&rt);
+    let stdout = || Counted::new(progress, "written", rt.stdout());
     // Without memory for a buffer each word and each answer is written by itself.
-    let status = match BufWriter::new(rt.alloc(), rt.stdout()) {
-        Ok(mut out) => run(&rt, args.as_slice(), &mut out),
-        Err(_) => run(&rt, args.as_slice(), &mut rt.stdout()),
+    let status = match BufWriter::new(rt.alloc(), stdout()) {
+        Ok(mut out) => run(&rt, progress, args.as_slice(), &mut out),
+        Err(_) => run(&rt, progress, args.as_slice(), &mut stdout()),
     };
     ExitCode::from(status)
 }
@@ -28,7 +32,7 @@ fn main(rt: HostRuntime) -> ExitCode {
 /// Writes the help that the arguments want, or does what they say: those after `text` to a text, those after
 /// `strings` to strings, `check` and `info` to a block of any kind, and all others to the numbers of a text. Answers
 /// the status.
-fn run<W: Write>(rt: &HostRuntime, args: &[String], out: &mut W) -> u8 {
+fn run<W: Write>(rt: &HostRuntime, progress: Progress, args: &[String], out: &mut W) -> u8 {
     if let Some(topic) = topic_in(args) {
         return program_help::start(topic, out, &mut rt.stderr());
     }
@@ -37,7 +41,7 @@ fn run<W: Write>(rt: &HostRuntime, args: &[String], out: &mut W) -> u8 {
         None => ("", args),
     };
     let walks = word == "check" || word == "info";
-    let process = Process { rt, walks };
+    let process = Process { rt, progress, walks };
     let err = &mut rt.stderr();
     if walks {
         program_kinds::start(&process, args, out, err)

@@ -1,19 +1,21 @@
-//! What the program reads from, and what it says on a terminal where work on that takes long.
+//! What the program reads from.
 
-use program_runs::{CannotRead, Sources};
+use crate::progress::{Counted, Progress};
+use program_runs::{CannotRead, Sources, read_all};
 use std::alloc::{Alloc, Global};
-use std::io::IsTerminal;
+use std::io::Input;
 
 /// From how many bytes on a command works for some two seconds.
 const LARGE: usize = 8_000_000;
 
-/// A process that says on standard error, where that is a terminal, how many bytes it is about to work on, where they
-/// are many.
+/// A process that says on a terminal how far it is.
 #[derive(Drop)]
 pub(crate) struct Process<'a> {
     /// The process.
     pub(crate) rt: &'a HostRuntime,
-    /// Whether the work is on all bytes of a file, as that of `check` and `info`, and not just on some.
+    /// How long it has run.
+    pub(crate) progress: Progress<'a>,
+    /// Whether the work is on all bytes of a file, as in `check` and `info`, and not just on some.
     pub(crate) walks: bool,
 }
 
@@ -28,8 +30,8 @@ impl Alloc for Process<'_> {
 impl Process<'_> {
     /// Says how many bytes there are to work on, where they are many.
     fn tell(&self, bytes: usize) {
-        if bytes >= LARGE && self.rt.stderr().is_terminal() {
-            let _ = eprintln!(self.rt; "bitm: working on {bytes} bytes");
+        if bytes >= LARGE {
+            self.progress.tell("working on", bytes as u64);
         }
     }
 }
@@ -44,7 +46,8 @@ impl Sources for Process<'_> {
     }
 
     fn input(&self) -> Result<Vec<u8>, CannotRead> {
-        let bytes = self.rt.input()?;
+        let mut stream = Counted::new(self.progress, "read", self.rt.reader());
+        let bytes = read_all(self.alloc(), &mut stream)?;
         self.tell(bytes.len());
         Ok(bytes)
     }

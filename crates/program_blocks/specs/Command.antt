@@ -1,7 +1,8 @@
 -- The command that the arguments are.
-use Rattle.std.specs.Prelude.{ℕ, List, [], ◌∷◌, codes, ◌&&◌, Option, None, Some, option_map, if◌then◌else◌}
+use Rattle.std.specs.Prelude.{ℕ, List, [], ◌∷◌, codes, Option, None, Some, option_map, if◌then◌else◌}
 use Rattle.std.specs.Str.{bytes_eq}
-use Rattle.program_runs.specs.declared.form.Form.TheVariants.{Text, Json}
+use Rattle.program_runs.specs.Form.{form_of}
+use Rattle.program_runs.specs.declared.form.Form.TheVariants.{Text}
 use Rattle.program_blocks.specs.Kind.{kind_named}
 use Rattle.program_blocks.specs.declared.command.Command.{Command}
 use Rattle.program_blocks.specs.declared.command.Command.TheVariants.{Build, Query}
@@ -15,7 +16,7 @@ command_of word operand =
 
 -- the command that a word and its option are
 abbrev pub command_with : List ℕ → List ℕ → Option Command
-command_with word option = if bytes_eq word (codes "query") && bytes_eq option (codes "--json") then Some (Query Json) else None
+command_with word option = if bytes_eq word (codes "query") then option_map Query (form_of option) else None
 
 -- the command that these arguments are, and what follows its word and its option
 abbrev pub command_in : List (List ℕ) → Option (Command × List ℕ)

@@ -4,6 +4,7 @@ use Rattle.std.specs.Fmt.{decimal}
 use Rattle.std.specs.List.{flat_map}
 use Rattle.bitm.specs.Answer as answer
 use Rattle.bitm.specs.Answer.TheVariants as answers
+use Rattle.program_runs.specs.Form.{none_in}
 use Rattle.program_runs.specs.declared.form.Form.{Form}
 use Rattle.program_runs.specs.declared.form.Form.TheVariants.{Text, Json}
 use Rattle.program_blocks.specs.declared.reply.Reply.{Reply}
@@ -11,14 +12,14 @@ use Rattle.program_blocks.specs.declared.reply.Reply.TheVariants.{Number, Absent
 
 abbrev pub reply_text : Reply → List ℕ
 reply_text (Number number) = decimal number
-reply_text Absent = codes "none"
+reply_text Absent = none_in Text
 reply_text Wrong = codes "wrong block"
 reply_text BadQuestion = codes "bad question"
 
 -- the JSON value of a reply
 abbrev pub reply_json : Reply → List ℕ
 reply_json (Number number) = decimal number
-reply_json Absent = codes "null"
+reply_json Absent = none_in Json
 reply_json Wrong = codes "{\"error\":\"wrong block\"}"
 reply_json BadQuestion = codes "{\"error\":\"bad question\"}"
 

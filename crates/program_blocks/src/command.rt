@@ -3,7 +3,7 @@ ghost use Rattle.std.specs.Prelude.{◌≡◌, ◌<◌, IsNone, length, map, opt
 ghost use Rattle.program_blocks.specs.Command.{command_in, command_of, command_with};
 
 use crate::kind::{Kind, kind_named};
-use program_runs::Form;
+use program_runs::{Form, form_of};
 
 /// A command, less the file that it names.
 #[derive(Clone, Copy)]
@@ -45,8 +45,8 @@ fn command_of(word: &str, operand: &str) -> Option<Command>
 fn command_with(word: &str, option: &str) -> Option<Command>
     ensures { result ≡ command_with word.now option.now }
 {
-    if word == "query" && option == "--json" {
-        Some(Command::Query(Form::Json))
+    if word == "query" {
+        form_of(option).map(Command::Query)
     } else {
         None
     }

@@ -3,7 +3,7 @@ ghost use Rattle.std.specs.Prelude.{◌≡◌};
 ghost use Rattle.program_blocks.specs.Reply.{answer_of, as_number, reply_text, is_good};
 
 use matrix_block::Answer;
-use program_runs::Form;
+use program_runs::{Form, none_in};
 use std::fmt;
 
 /// The answer to a line.
@@ -93,7 +93,7 @@ impl fmt::Display for Written {
 
     fn fmt<W: fmt::Write>(&self, f: &mut fmt::Formatter<W>) -> fmt::Result {
         match (self.form, self.reply) {
-            (Form::Json, Reply::Absent) => write!(f, "null"),
+            (form, Reply::Absent) => write!(f, "{}", none_in(form)),
             (Form::Json, Reply::Wrong) => write!(f, "{}", WRONG_JSON),
             (Form::Json, Reply::BadQuestion) => write!(f, "{}", BAD_QUESTION_JSON),
             (_, reply) => write!(f, "{reply}"),

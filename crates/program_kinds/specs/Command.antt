@@ -1,18 +1,15 @@
 -- The commands of the program.
 use Rattle.std.specs.Prelude.{ℕ, List, [], ◌∷◌, codes, Option, None, Some, option_and_then, option_map, if◌then◌else◌}
 use Rattle.std.specs.Str.{bytes_eq}
+use Rattle.program_runs.specs.Form.{form_of}
 use Rattle.program_runs.specs.declared.form.Form.{Form}
-use Rattle.program_runs.specs.declared.form.Form.TheVariants.{Text, Json}
+use Rattle.program_runs.specs.declared.form.Form.TheVariants.{Text}
 use Rattle.program_kinds.specs.declared.command.Command.{Command}
 use Rattle.program_kinds.specs.declared.command.Command.TheVariants.{Check, Info}
 
 -- the command of a word, with its form
 abbrev pub command_of : List ℕ → Form → Option Command
 command_of word form = if bytes_eq word (codes "check") then Some (Check form) else if bytes_eq word (codes "info") then Some (Info form) else None
-
--- the form that an option asks for
-abbrev pub form_of : List ℕ → Option Form
-form_of option = if bytes_eq option (codes "--json") then Some Json else None
 
 -- the command that these arguments are, with the path of its file
 abbrev pub command_in : List (List ℕ) → Option (Command × List ℕ)

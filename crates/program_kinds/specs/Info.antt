@@ -9,6 +9,7 @@ use Rattle.program_blocks.specs.Kind as kinds
 use Rattle.program_blocks.specs.Old.{old_head_in, IsOld}
 use Rattle.program_blocks.specs.declared.kind.Kind.{Kind as NumberKind}
 use Rattle.program_blocks.specs.declared.old.OldHead.{OldHead}
+use Rattle.program_runs.specs.Form.{none_in}
 use Rattle.program_runs.specs.declared.form.Form.{Form}
 use Rattle.program_runs.specs.declared.form.Form.TheVariants.{Text, Json}
 use Rattle.program_kinds.specs.Kind.{kind_in, kind_text}
@@ -20,14 +21,9 @@ use Rattle.program_kinds.specs.declared.kind.Kind.{Kind}
 abbrev pub hundredths_text : ℕ → List ℕ
 hundredths_text n = decimal (n / 100) ++ codes "." ++ decimal (n % 100 / 10) ++ decimal (n % 100 % 10)
 
--- what is said where there is none
-abbrev pub none_text : Form → List ℕ
-none_text Text = codes "none"
-none_text Json = codes "null"
-
 -- how many bits of so many bytes there are for one of n items, cut to hundredths
 abbrev pub rate_text : Form → ℕ → ℕ → List ℕ
-rate_text form bytes n = if n == 0 then none_text form else hundredths_text (800 * bytes / n)
+rate_text form bytes n = if n == 0 then none_in form else hundredths_text (800 * bytes / n)
 
 -- the kind, as a line or as the first pair of an object
 abbrev pub kind_line : Form → Kind → List ℕ

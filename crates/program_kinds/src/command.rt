@@ -1,8 +1,8 @@
 //! The command that the arguments are.
 ghost use Rattle.std.specs.Prelude.{◌≡◌, map, option_map, string_bytes};
-ghost use Rattle.program_kinds.specs.Command.{command_in, command_of, form_of};
+ghost use Rattle.program_kinds.specs.Command.{command_in, command_of};
 
-use program_runs::Form;
+use program_runs::{Form, form_of};
 
 /// A command, less the file that it names.
 #[derive(Clone, Copy)]
@@ -33,17 +33,6 @@ fn command_of(word: &str, form: Form) -> Option<Command>
         Some(Command::Check(form))
     } else if word == "info" {
         Some(Command::Info(form))
-    } else {
-        None
-    }
-}
-
-/// The form that an option names.
-fn form_of(option: &str) -> Option<Form>
-    ensures { result ≡ form_of option.now }
-{
-    if option == "--json" {
-        Some(Form::Json)
     } else {
         None
     }

@@ -12,7 +12,7 @@ use crate::checking::is_sound;
 use crate::kind::{Kind, kind_in};
 use bitm_block::{Block, Head};
 use program_blocks::{Failure, Format, OldHead, format_in, old_head, words_of_bytes};
-use program_runs::{CannotWrite, Form};
+use program_runs::{CannotWrite, Form, none_in};
 use std::alloc::Global;
 use std::fmt;
 use std::io::Write;
@@ -214,10 +214,7 @@ impl fmt::Display for Rate {
 
     fn fmt<W: fmt::Write>(&self, f: &mut fmt::Formatter<W>) -> fmt::Result {
         if self.len == 0 {
-            return match self.form {
-                Form::Text => write!(f, "none"),
-                Form::Json => write!(f, "null"),
-            };
+            return write!(f, "{}", none_in(self.form));
         }
         let hundredths = 800 * self.bytes as u128 / self.len as u128;
         let (whole, part) = (hundredths / 100, hundredths % 100);

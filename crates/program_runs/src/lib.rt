@@ -13,5 +13,5 @@ mod reading;
 
 pub use ending::{Stop, end};
 pub use failure::{CANNOT_WRITE, CannotWrite, NO_MEMORY};
-pub use form::Form;
-pub use reading::{CANNOT_READ, CannotRead, Sources};
+pub use form::{Form, form_of, none_in};
+pub use reading::{CANNOT_READ, CannotRead, Sources, read_all};

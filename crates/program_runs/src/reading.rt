@@ -2,6 +2,7 @@
 ghost use Rattle.std.specs.Prelude.{IfOk};
 ghost use Rattle.program_runs.specs.Known.{unknown, IsKnownAs, Known};
 
+use std::alloc::Global;
 use std::fs;
 use std::io::{Input, Read};
 use std::rt::Files;
@@ -42,6 +43,24 @@ pub trait Sources {
         ensures { IfOk result (λ bytes. IsKnownAs (known self.now).input bytes.items) };
 }
 
+/// The bytes of a stream.
+///
+/// # Errors
+/// `CannotRead` where it can't be read to its end, or memory was refused.
+///
+/// ```
+/// read_all(rt.alloc(), &mut rt.reader())   // Ok(bytes)
+/// ```
+pub fn read_all<R: Read>(alloc: Global, stream: &mut R) -> Result<Vec<u8>, CannotRead>
+    ensures { IfOk result (λ bytes. IsKnownAs (R.remaining stream.old) bytes.items) }
+{
+    let mut bytes = Vec::new(alloc);
+    match stream.read_to_end(&mut bytes) {
+        Ok(_) => Ok(bytes),
+        Err(_) => Err(CannotRead),
+    }
+}
+
 impl<R: Files + Input + AllocGlobal> Sources for R {
     fn file(&self, path: &str) -> Result<Vec<u8>, CannotRead> {
         match fs::read(self, path) {
@@ -51,10 +70,6 @@ impl<R: Files + Input + AllocGlobal> Sources for R {
     }
 
     fn input(&self) -> Result<Vec<u8>, CannotRead> {
-        let mut bytes = Vec::new(self.alloc());
-        match self.reader().read_to_end(&mut bytes) {
-            Ok(_) => Ok(bytes),
-            Err(_) => Err(CannotRead),
-        }
+        read_all(self.alloc(), &mut self.reader())
     }
 }

@@ -1,7 +1,8 @@
 -- The commands of the program.
-use Rattle.std.specs.Prelude.{ℕ, List, [], ◌∷◌, codes, ◌&&◌, Option, None, Some, if◌then◌else◌}
+use Rattle.std.specs.Prelude.{ℕ, List, [], ◌∷◌, codes, Option, None, Some, option_map, if◌then◌else◌}
 use Rattle.std.specs.Str.{bytes_eq}
-use Rattle.program_runs.specs.declared.form.Form.TheVariants.{Text, Json}
+use Rattle.program_runs.specs.Form.{form_of}
+use Rattle.program_runs.specs.declared.form.Form.TheVariants.{Text}
 use Rattle.program_strings.specs.declared.command.Command.{Command}
 use Rattle.program_strings.specs.declared.command.Command.TheVariants.{Build, Find}
 
@@ -11,5 +12,5 @@ command_in [] = None
 command_in (word ∷ []) = if bytes_eq word (codes "build") then Some (Build, []) else None
 command_in (word ∷ path ∷ []) = if bytes_eq word (codes "find") then Some (Find Text, path) else None
 command_in (word ∷ option ∷ path ∷ []) =
-    if bytes_eq word (codes "find") && bytes_eq option (codes "--json") then Some (Find Json, path) else None
+    if bytes_eq word (codes "find") then option_map (λ form. (Find form, path)) (form_of option) else None
 command_in (word ∷ option ∷ path ∷ other ∷ more) = None

@@ -6,22 +6,17 @@ use Rattle.std.specs.List.{flat_map, list_any}
 use Rattle.bitm_tables.specs.declared.answer.Answer.{Answer}
 use Rattle.bitm_tables.specs.declared.answer.Answer.TheVariants.{Found, Absent, Wrong}
 use Rattle.program_blocks.specs.Bytes.{words_of_bytes}
+use Rattle.program_runs.specs.Form.{none_in}
 use Rattle.program_runs.specs.declared.form.Form.{Form}
-use Rattle.program_runs.specs.declared.form.Form.TheVariants.{Text, Json}
 use Rattle.program_text.specs.Text.{lines_of}
 use Rattle.string_block.specs.Block.{strings_in, IsSoundBlock}
 use Rattle.string_block.specs.Parts.{IsFound, StringParts}
 
--- the line that says that there is none
-abbrev pub none_line : Form → List ℕ
-none_line Text = codes "none\n"
-none_line Json = codes "null\n"
-
 -- the line that says a number, or that there is none
 abbrev pub answer_line : Form → Answer ℕ → List ℕ
 answer_line form (Found number) = decimal number ++ codes "\n"
-answer_line form Absent = none_line form
-answer_line form Wrong = none_line form
+answer_line form Absent = none_in form ++ codes "\n"
+answer_line form Wrong = none_in form ++ codes "\n"
 
 -- whether it is a number
 abbrev pub is_number : Answer ℕ → Bool

@@ -2,7 +2,7 @@
 ghost use Rattle.std.specs.Prelude.{◌≡◌, map, option_map, string_bytes};
 ghost use Rattle.program_strings.specs.Command.{command_in};
 
-use program_runs::Form;
+use program_runs::{Form, form_of};
 
 /// A command, less the file that it names.
 #[derive(Clone, Copy)]
@@ -21,8 +21,8 @@ pub(crate) fn command_in(args: &[String]) -> Option<(Command, &str)>
     match args {
         [word] if word.as_str() == "build" => Some((Command::Build, "")),
         [word, path] if word.as_str() == "find" => Some((Command::Find(Form::Text), path.as_str())),
-        [word, option, path] if word.as_str() == "find" && option.as_str() == "--json" => {
-            Some((Command::Find(Form::Json), path.as_str()))
+        [word, option, path] if word.as_str() == "find" => {
+            Some((Command::Find(form_of(option.as_str())?), path.as_str()))
         }
         _ => None,
     }

@@ -1,13 +1,13 @@
 //! The numbers of the lines of a text.
 ghost use Rattle.std.specs.Prelude.{◌≡◌, ◌++◌, ◌∷◌, [], IfOk, IfSome, IsErrOf, SomeIff};
 ghost use Rattle.program_text.specs.Text.{lines_of};
-ghost use Rattle.program_strings.specs.Finding.{none_line, IsStringFile, WroteFound, WroteNumber, WroteNumbers};
+ghost use Rattle.program_strings.specs.Finding.{IsStringFile, WroteFound, WroteNumber, WroteNumbers};
 ghost use Rattle.string_block.specs.Block.{strings_in, IsSoundBlock};
 ghost use Rattle.string_block.specs.Parts.{AreStrings};
 
 use crate::failure::Failure;
 use program_blocks::words_of_bytes;
-use program_runs::{CannotWrite, Form};
+use program_runs::{CannotWrite, Form, none_in};
 use program_text::FilledLines;
 use std::alloc::Global;
 use std::io::Write;
@@ -94,18 +94,8 @@ fn write_number<W: Write>(
             Ok(true)
         }
         _ => {
-            writeln!(out, "{}", none_text(form))?;
+            writeln!(out, "{}", none_in(form))?;
             Ok(false)
         }
-    }
-}
-
-/// What is written of a line that is none of the strings.
-fn none_text(form: Form) -> &'static str
-    ensures { result.now ++ 10 ∷ [] ≡ none_line form }
-{
-    match form {
-        Form::Text => "none",
-        Form::Json => "null",
     }
 }
