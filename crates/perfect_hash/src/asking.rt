@@ -1,8 +1,8 @@
 //! The number of a hash over any source of words and tables, and over what may hold anything.
-ghost use Rattle.std.specs.Prelude.{◌≡◌, ◌+◌, ◌*◌, ◌<◌, ◌≤◌, length, true, None, IfSome, MatchOption};
+ghost use Rattle.std.specs.Prelude.{◌≡◌, ◌≢◌, ◌↔◌, ◌+◌, ◌*◌, ◌/◌, ◌^◌, ◌<◌, ◌≤◌, length, true, IsTrue, None};
 ghost use Rattle.bitm_select.specs.Answers.{HasBit};
-ghost use Rattle.bit_lists.specs.Bits.{item, IsShort};
-ghost use Rattle.bit_lists.specs.Count.{ones_of, IsRank};
+ghost use Rattle.bit_lists.specs.Bits.{item};
+ghost use Rattle.bit_lists.specs.Count.{ones_of};
 ghost use Rattle.bitm_tables.specs.Reads.{word_read, OnlyReads, ReadsAtMost};
 ghost use Rattle.bitm_tables.specs.Tables.{bits_in, HasSizes, HasTables, IsIndexed};
 ghost use Rattle.perfect_hash.specs.Asking.{IfAbsent, IsBelow, IsNumbered};
@@ -12,8 +12,9 @@ ghost use Rattle.perfect_hash.specs.Placed.{FitIn, IsPlaced, WhereAbsent, WhereW
 
 use crate::querying::{BySource, Query};
 use bit_words::words;
+use bitm::index_laws;
+use bitm_select::search::selected::found;
 use bitm_tables::answer::Answer;
-use bitm_tables::ranking::total_rank_on;
 use bitm_tables::source::TableSource;
 use bitm_tables::source::counts::ReadCounts;
 use hash_levels::{Placing, Plain};
@@ -35,48 +36,122 @@ pub(crate) fn is_one_on<T: TableSource>(source: &mut T, place: usize) -> bool
     words::get_bit(&[source.word(place / 64)], place % 64)
 }
 
-/// The position of the 1 bit that a hash falls on, in the first of the levels where it falls on one; `Wrong` where the
-/// sizes turn out not to be those of levels.
+/// Whether a level of `size` words, which are some, has them after the first `begin` of `len` words. Where `TESTS` is 0
+/// nothing is tested.
 #[inline(always)]
-fn place_on<T: TableSource, P: Placing>(
+fn fits<const TESTS: u8>(size: usize, begin: usize, len: usize) -> bool
+    requires before { begin ≤ len }
+    requires untested { TESTS ≡ 0 → (0 < size) × (begin + size ≤ len) }
+    ensures { IsTrue result ↔ ((0 < size) × (begin + size ≤ len)) }
+{
+    TESTS == 0 || (size != 0 && size <= len - begin)
+}
+
+/// The position of the 1 bit that a hash falls on, in the first of the levels where it falls on one; `Wrong` where the
+/// sizes turn out not to be those of levels. Where `TESTS` is 0 they must be, and are not tested.
+#[inline(always)]
+fn one_by<const TESTS: u8, Q: Query, T: TableSource, P: Placing>(
+    query: &Q,
     source: &mut T,
     placing: &P,
     sizes: &[usize],
     hash: u64,
     reads: &mut ReadCounts,
 ) -> Answer<usize>
-    requires short { IsShort (T.lists source.old).words }
     requires few { length sizes.now ≤ 256 }
-    ensures one { HasBit (bits_in (T.lists source.old)) true result }
-    ensures place { let b = bits_in (T.lists source.old) in
+    requires short { length (Q.bits query.now (T.lists source.old)) < 2 ^ 64 }
+    requires untested { TESTS ≡ 0 → AreSizes sizes.now (Q.bits query.now (T.lists source.old)) }
+    ensures one { HasBit (Q.bits query.now (T.lists source.old)) true result }
+    ensures place { let b = Q.bits query.now (T.lists source.old) in
         AreSizes sizes.now b → IsPlaced
         (place_from (fall_in (P.fall placing.now) sizes.now hash) b 0 0 sizes.now) result }
-    ensures fit { WhereAbsent result (FitIn (length (T.lists source.old).words) sizes.now) }
-    ensures none { let b = bits_in (T.lists source.old) in WhereAbsent result
+    ensures fit { WhereAbsent result
+        (FitIn (length (Q.bits query.now (T.lists source.old)) / 64) sizes.now) }
+    ensures none { let b = Q.bits query.now (T.lists source.old) in WhereAbsent result
         (place_from (fall_in (P.fall placing.now) sizes.now hash) b 0 0 sizes.now ≡ None) }
     ensures wrong { WhereWrong result
-        (FitIn (length (T.lists source.old).words) sizes.now → ⊥) }
+        (FitIn (length (Q.bits query.now (T.lists source.old)) / 64) sizes.now → ⊥) }
     ensures reads { OnlyReads T.lists T.reads source.old source.new 0 0 (length sizes.now) }
-    ensures looked { let b = bits_in (T.lists source.old) in AreSizes sizes.now b
+    ensures looked { let b = Q.bits query.now (T.lists source.old) in AreSizes sizes.now b
         → (T.reads source.new).words ≡ (T.reads source.old).words
-        + looked (fall_in (P.fall placing.now) sizes.now hash) b 0 0 sizes.now }
+        + Q.words_each * looked (fall_in (P.fall placing.now) sizes.now hash) b 0 0 sizes.now }
     ensures seeds { ReadsAtMost reads.old reads.new 0 0 (length sizes.now) }
-    ensures counted { let b = bits_in (T.lists source.old) in AreSizes sizes.now b
+    ensures counted { let b = Q.bits query.now (T.lists source.old) in AreSizes sizes.now b
         → reads.new.words ≡ reads.old.words
         + P.seeds_each * looked (fall_in (P.fall placing.now) sizes.now hash) b 0 0 sizes.now }
 {
     let mut begin = 0;
     for (level, size) in sizes.iter().enumerate() {
-        if *size == 0 || *size > source.words_len() - begin {
+        if !fits::<TESTS>(*size, begin, query.words_len(source)) {
             return Answer::Wrong;
         }
         let place = 64 * begin + placing.place(begin, hash, level as u32, *size, &mut *reads);
-        if is_one_on(source, place) {
+        if query.is_one(source, place) {
             return Answer::Found(place);
         }
         begin += *size;
     }
     Answer::Absent
+}
+
+/// Whether a rank at `place` is a number below `count`. No rank exceeds its position. Where `TESTS` is 0 nothing is
+/// tested.
+#[inline(always)]
+fn is_number<const TESTS: u8>(rank: usize, place: usize, count: usize) -> bool
+    ensures below { IsTrue result → TESTS ≢ 0 → rank < count }
+    ensures passes { (TESTS ≢ 0 → rank < count) → rank ≤ place → IsTrue result }
+{
+    TESTS == 0 || (rank < count && rank <= place)
+}
+
+/// The number of a hash in the bits that `query` queries, where `placing` says where hashes fall: the body of each
+/// look-up of one hash, over a source or an index, which may hold anything where `TESTS` is not 0.
+///
+/// # Cost
+/// Of each level up to the one where the hash falls on a 1 bit, one bit and what places the hash; and one rank.
+#[inline(always)]
+pub(crate) fn number_by<const TESTS: u8, Q: Query, T: TableSource, P: Placing>(
+    query: &Q,
+    source: &mut T,
+    placing: &P,
+    sizes: &[usize],
+    count: usize,
+    hash: u64,
+    reads: &mut ReadCounts,
+) -> Answer<usize>
+    requires few { length sizes.now ≤ 256 }
+    requires short { length (Q.bits query.now (T.lists source.old)) < 2 ^ 64 }
+    requires sized { Q.sized query.now (T.lists source.old) }
+    requires untested { TESTS ≡ 0 → AreSizes sizes.now (Q.bits query.now (T.lists source.old)) }
+    ensures below { TESTS ≢ 0 → IsBelow count result }
+    ensures number { let b = Q.bits query.now (T.lists source.old) in
+        Q.ready query.now (T.lists source.old) → AreSizes sizes.now b
+        → (TESTS ≢ 0 → ones_of b ≤ count)
+        → IsNumbered (number_in (fall_in (P.fall placing.now) sizes.now) sizes.now b hash) result }
+    ensures inside { Q.ready query.now (T.lists source.old)
+        → IsBelow (ones_of (Q.bits query.now (T.lists source.old))) result }
+    ensures fit { IfAbsent result
+        (FitIn (length (Q.bits query.now (T.lists source.old)) / 64) sizes.now) }
+    ensures none { IfAbsent result (number_in (fall_in (P.fall placing.now) sizes.now) sizes.now
+        (Q.bits query.now (T.lists source.old)) hash ≡ None) }
+    ensures reads { OnlyReads T.lists T.reads source.old source.new 1 1 (length sizes.now + 8) }
+    ensures looked { let b = Q.bits query.now (T.lists source.old) in AreSizes sizes.now b
+        → IsWithin 8 ((T.reads source.old).words
+        + Q.words_each * looked (fall_in (P.fall placing.now) sizes.now hash) b 0 0 sizes.now)
+        (T.reads source.new).words }
+    ensures seeds { ReadsAtMost reads.old reads.new 0 0 (length sizes.now) }
+    ensures counted { let b = Q.bits query.now (T.lists source.old) in AreSizes sizes.now b
+        → reads.new.words ≡ reads.old.words
+        + P.seeds_each * looked (fall_in (P.fall placing.now) sizes.now hash) b 0 0 sizes.now }
+{
+    match one_by::<TESTS, Q, T, P>(query, source, placing, sizes, hash, reads) {
+        Answer::Found(place) => match query.rank(source, place) {
+            Some(number) if is_number::<TESTS>(number, place, count) => Answer::Found(number),
+            _ => Answer::Wrong,
+        },
+        Answer::Absent => Answer::Absent,
+        Answer::Wrong => Answer::Wrong,
+    }
 }
 
 /// The number of a hash over any source, whatever words, tables and sizes hold: `Count` of a number below `count`,
@@ -130,24 +205,17 @@ pub fn total_number_by_on<T: TableSource, P: Placing>(
     ensures none { IfAbsent result (number_in (fall_in (P.fall placing.now) sizes.now) sizes.now
         (bits_in (T.lists source.old)) hash ≡ None) }
     ensures reads { OnlyReads T.lists T.reads source.old source.new 1 1 (length sizes.now + 8) }
+    ensures looked { let b = bits_in (T.lists source.old) in AreSizes sizes.now b
+        → IsWithin 8 ((T.reads source.old).words
+        + looked (fall_in (P.fall placing.now) sizes.now hash) b 0 0 sizes.now)
+        (T.reads source.new).words }
     ensures seeds { ReadsAtMost reads.old reads.new 0 0 (length sizes.now) }
 {
-    match place_on(source, placing, sizes, hash, reads) {
-        Answer::Found(place) => {
-            // no rank exceeds its position
-            let most = count.min(place + 1);
-            match total_rank_on(source, place) {
-                Some(number) if number < most => Answer::Found(number),
-                _ => Answer::Wrong,
-            }
-        }
-        Answer::Absent => Answer::Absent,
-        Answer::Wrong => Answer::Wrong,
-    }
+    number_by::<1, BySource, T, P>(&BySource, source, placing, sizes, count, hash, reads)
 }
 
-/// The number of a hash over any source, where `placing` says where hashes fall: of the first level where it falls on a
-/// 1 bit, how many 1 bits stand before that. The seeds that it reads are counted too, at most one a level.
+/// The number of a hash over any source, where `placing` says where hashes fall. The seeds that it reads are counted
+/// too, at most one a level.
 ///
 /// # Conditions
 /// The source's tables are those of its words, which are those of levels of these sizes.
@@ -171,51 +239,7 @@ pub(crate) fn number_by_on<T: TableSource, P: Placing>(
         IsWithin 8 ((T.reads source.old).words
         + looked (fall_in (P.fall placing.now) sizes.now hash) b 0 0 sizes.now)
         (T.reads source.new).words }
-    ensures seeds { ReadsAtMost reads.old reads.new 0 0 (length sizes.now) }
-    ensures counted { let b = bits_in (T.lists source.old) in
-        reads.new.words ≡ reads.old.words
-        + P.seeds_each * looked (fall_in (P.fall placing.now) sizes.now hash) b 0 0 sizes.now }
 {
-    number_by(&BySource, source, placing, sizes, hash, reads)
-}
-
-/// The number of a hash in the bits that `query` queries, where `placing` says where hashes fall: the body of each
-/// look-up of one hash, over a source or an index.
-///
-/// # Cost
-/// Of each level up to the one where the hash falls on a 1 bit, one bit and what places the hash; and one rank.
-#[inline(always)]
-pub(crate) fn number_by<Q: Query, T: TableSource, P: Placing>(
-    query: &Q,
-    source: &mut T,
-    placing: &P,
-    sizes: &[usize],
-    hash: u64,
-    reads: &mut ReadCounts,
-) -> Option<usize>
-    requires ready { Q.ready query.now (T.lists source.old) }
-    requires sizes { AreSizes sizes.now (Q.bits query.now (T.lists source.old)) }
-    ensures value { result ≡ number_in (fall_in (P.fall placing.now) sizes.now) sizes.now
-        (Q.bits query.now (T.lists source.old)) hash }
-    ensures below { IfSome result (λ number.
-        number < ones_of (Q.bits query.now (T.lists source.old))) }
-    ensures reads { OnlyReads T.lists T.reads source.old source.new 1 1 (length sizes.now + 8) }
-    ensures looked { let b = Q.bits query.now (T.lists source.old) in
-        IsWithin 8 ((T.reads source.old).words
-        + Q.words_each * looked (fall_in (P.fall placing.now) sizes.now hash) b 0 0 sizes.now)
-        (T.reads source.new).words }
-    ensures seeds { ReadsAtMost reads.old reads.new 0 0 (length sizes.now) }
-    ensures counted { let b = Q.bits query.now (T.lists source.old) in
-        reads.new.words ≡ reads.old.words
-        + P.seeds_each * looked (fall_in (P.fall placing.now) sizes.now hash) b 0 0 sizes.now }
-{
-    let mut first = 0;
-    for (level, size) in sizes.iter().enumerate() {
-        let place = 64 * first + placing.place(first, hash, level as u32, *size, &mut *reads);
-        if query.is_one(source, place) {
-            return Some(query.rank(source, place));
-        }
-        first += *size;
-    }
-    None
+    index_laws::tables_have_sizes();
+    found(total_number_by_on(source, placing, sizes, usize::MAX, hash, reads))
 }

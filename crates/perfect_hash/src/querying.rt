@@ -1,13 +1,13 @@
 //! How the bits of levels are queried: those of a source, with its reads counted, or those of an index.
-ghost use Rattle.std.specs.Prelude.{◌≡◌, ◌+◌, ◌<◌, ◌≤◌, ℕ, List, Bool, ⊤, length};
+ghost use Rattle.std.specs.Prelude.{◌≡◌, ◌+◌, ◌/◌, ◌<◌, ◌≤◌, ℕ, List, Bool, ⊤, length, MatchOption};
 ghost use Rattle.bit_lists.specs.Bits.{item};
 ghost use Rattle.bit_lists.specs.Count.{ones_before};
 ghost use Rattle.bitm_tables.specs.Reads.{OnlyReads};
-ghost use Rattle.bitm_tables.specs.Tables.{bits_in, IsIndexed, Lists};
+ghost use Rattle.bitm_tables.specs.Tables.{bits_in, HasSizes, HasTables, Lists};
 
 use crate::asking::is_one_on;
 use bitm::Access;
-use bitm_tables::ranking::rank_on;
+use bitm_tables::ranking::total_rank_on;
 use bitm_tables::source::{Probe, TableSource};
 
 /// A way to query bits: a look-up runs one body, over any source and over any index.
@@ -16,10 +16,17 @@ pub(crate) trait Query {
     ghost bits: { Self → Lists → List Bool };
 
     /// Whether ranks are answered where a source has these lists.
+    ghost sized: { Self → Lists → Type 0 };
+
+    /// Whether they are right then.
     ghost ready: { Self → Lists → Type 0 };
 
     /// How many words of the source are read for a bit.
     ghost words_each: { ℕ };
+
+    /// How many words the bits fill.
+    fn words_len<T: TableSource>(&self, source: &T) -> usize
+        ensures { result ≡ length (bits self.now (T.lists source.now)) / 64 };
 
     /// Whether the bit at `place` is 1.
     ///
@@ -31,16 +38,17 @@ pub(crate) trait Query {
         ensures reads { OnlyReads T.lists T.reads source.old source.new 0 0 1 }
         ensures counted { (T.reads source.new).words ≡ (T.reads source.old).words + words_each };
 
-    /// How many 1 bits stand before `place`.
+    /// How many 1 bits stand before `place`; `None` only where the tables are not those of the bits.
     ///
     /// # Conditions
     /// There are no fewer bits.
     /// # Cost
     /// At most one upper entry, one lower entry and eight words of the source are read.
-    fn rank<T: TableSource>(&self, source: &mut T, place: usize) -> usize
-        requires ready { ready self.now (T.lists source.old) }
+    fn rank<T: TableSource>(&self, source: &mut T, place: usize) -> Option<usize>
+        requires sized { sized self.now (T.lists source.old) }
         requires inside { place ≤ length (bits self.now (T.lists source.old)) }
-        ensures count { result ≡ ones_before (bits self.now (T.lists source.old)) place }
+        ensures count { ready self.now (T.lists source.old)
+            → MatchOption result ⊥ (λ n. n ≡ ones_before (bits self.now (T.lists source.old)) place) }
         ensures reads { OnlyReads T.lists T.reads source.old source.new 1 1 8 };
 }
 
@@ -51,9 +59,17 @@ pub(crate) struct BySource;
 impl Query for BySource {
     ghost bits = { λ _ lists. bits_in lists };
 
-    ghost ready = { λ _ lists. IsIndexed lists };
+    ghost sized = { λ _ lists. HasSizes lists };
+
+    ghost ready = { λ _ lists. HasTables lists };
 
     ghost words_each = { 1 };
+
+    #[inline(always)]
+    #[tactic(auto, using(bitm::proofs::BitLaws::bits_are_counted))]
+    fn words_len<T: TableSource>(&self, source: &T) -> usize {
+        source.words_len()
+    }
 
     #[inline(always)]
     fn is_one<T: TableSource>(&self, source: &mut T, place: usize) -> bool {
@@ -61,11 +77,8 @@ impl Query for BySource {
     }
 
     #[inline(always)]
-    fn rank<T: TableSource>(&self, source: &mut T, place: usize) -> usize {
-        match rank_on(source, place) {
-            Some(ones) => ones,
-            None => unreachable!(),
-        }
+    fn rank<T: TableSource>(&self, source: &mut T, place: usize) -> Option<usize> {
+        total_rank_on(source, place)
     }
 }
 
@@ -78,9 +91,16 @@ pub(crate) struct ByIndex<'a, I> {
 impl<'a, I: Access> Query for ByIndex<'a, I> {
     ghost bits = { λ by _. I.bits by.index.now };
 
+    ghost sized = { λ _ _. ⊤ };
+
     ghost ready = { λ _ _. ⊤ };
 
     ghost words_each = { 0 };
+
+    #[inline(always)]
+    fn words_len<T: TableSource>(&self, _source: &T) -> usize {
+        self.index.len() / 64
+    }
 
     #[inline(always)]
     fn is_one<T: TableSource>(&self, _source: &mut T, place: usize) -> bool {
@@ -88,8 +108,8 @@ impl<'a, I: Access> Query for ByIndex<'a, I> {
     }
 
     #[inline(always)]
-    fn rank<T: TableSource>(&self, _source: &mut T, place: usize) -> usize {
-        self.index.rank(place)
+    fn rank<T: TableSource>(&self, _source: &mut T, place: usize) -> Option<usize> {
+        Some(self.index.rank(place))
     }
 }
 

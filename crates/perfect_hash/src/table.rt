@@ -13,7 +13,9 @@ use crate::asking::{number_by, number_by_on};
 use crate::querying::{ByIndex, no_source};
 use bitm::{Access, ArrayWithRank101111, RankSelect101111};
 use bitm_bits::{CloneWords, GetSize};
+use bitm_select::search::selected::found;
 use bitm_strategies::{Select0ForRank101111, SelectForRank101111};
+use bitm_tables::source::Probe;
 use bitm_tables::source::counts::ReadCounts;
 use hash_levels::{KeyHash, Placing, Plain};
 use std::alloc::{AllocError, Global};
@@ -169,7 +171,15 @@ impl<H, I: Access, P: Placing> PerfectHash<H, I, P> {
     {
         let (query, sizes) = (ByIndex { index: &self.index }, self.sizes.as_slice());
         let (source, reads) = (&mut no_source(), &mut ReadCounts::new());
-        number_by(&query, source, &self.placing, sizes, hash, reads)
+        found(number_by::<0, ByIndex<'_, I>, Probe<'_>, P>(
+            &query,
+            source,
+            &self.placing,
+            sizes,
+            0,
+            hash,
+            reads,
+        ))
     }
 }
 

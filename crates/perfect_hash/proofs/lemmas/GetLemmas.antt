@@ -1,5 +1,5 @@
 -- A look-up, level by level.
-use Rattle.std.proofs.Common.{◌≡◌, ℕ, ◌+◌, ◌*◌, ◌<◌, Bool, true, false, List, length, take, ◌≤◌, slice_index, sym, ap, ◌∙◌, ⊎_elim, arith}
+use Rattle.std.proofs.Common.{◌≡◌, ℕ, ◌+◌, ◌*◌, ◌/◌, ◌<◌, Bool, Option, true, false, List, length, take, ◌≤◌, slice_index, sym, ap, ◌∙◌, ⊎_elim, arith}
 use Rattle.std.proofs.lemmas.Bool.{cases_lt}
 use Rattle.std.proofs.lemmas.List.{get_or_default, get_or_past, take_all}
 use Rattle.std.proofs.lemmas.List.Sums.{sum_by_more_le}
@@ -7,7 +7,11 @@ use Rattle.std.specs.List.{sum}
 use Rattle.bit_lists.specs.Bits.{item}
 use Rattle.bit_lists.specs.Count.{ones_before, ones_of}
 use Rattle.bit_lists.proofs.BitLaws.{counts_grow}
+use Rattle.bitm_select.specs.Answers.{place_in}
+use Rattle.bitm_tables.specs.declared.answer.Answer.{Answer}
+use Rattle.bitm_tables.specs.declared.answer.Answer.TheVariants.{Found, Absent, Wrong}
 use Rattle.hash_levels.specs.Numbers.{AreSizes}
+use Rattle.perfect_hash.specs.Asking.{IsNumbered}
 use Rattle.perfect_hash.specs.Placed.{FitIn}
 use Rattle.hash_levels.proofs.lemmas.LevelLemmas.{one_more_after}
 
@@ -31,6 +35,16 @@ level_fits sizes words level begin h inside begins =
 -- sizes of levels fit
 pub sizes_fit : (sizes : List ℕ) (b : List Bool) (words : ℕ) → AreSizes sizes b → length b ≡ 64 * words → FitIn words sizes
 sizes_fit sizes b words h long = record { some = h.some; within = omega (arith, h.all, long) }
+
+-- sizes of levels fill the words of the bits
+pub sizes_fill : (sizes : List ℕ) (b : List Bool) → AreSizes sizes b → FitIn (length b / 64) sizes
+sizes_fill sizes b h = record { some = h.some; within = omega (arith, h.all) }
+
+-- what is found is the number that there is
+pub numbered_found : (number : Option ℕ) (a : Answer ℕ) → IsNumbered number a → place_in a ≡ number
+numbered_found number (Found n) is = sym is
+numbered_found number Absent is = sym is
+numbered_found number Wrong is = absurd is
 
 -- levels that were all looked at fit
 pub all_fit : (sizes : List ℕ) (words level begin : ℕ) → ((i : ℕ) → i < level → 0 < slice_index sizes i) → length sizes ≤ level
