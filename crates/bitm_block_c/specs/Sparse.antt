@@ -7,7 +7,7 @@ use Rattle.bitm_select.specs.Answers.{IsFoundFrom, IsSelected}
 use Rattle.elias_fano.specs.Answers.{IsPlaceOf}
 use Rattle.lent_tables.specs.Nearest.{IsNext, IsPrevious}
 use Rattle.lent_tables.specs.Ranks.{IsCountWithin, IsRanked}
-use Rattle.sparse_block.specs.Answers.{IsBitOf, IsBitWithin}
+use Rattle.sparse_bits.specs.Answers.{IsBitOf, IsBitWithin}
 use Rattle.sparse_bits.specs.Positions.{bits_at}
 use Rattle.sparse_block.specs.Block.{parts_of, HoldsOnes, SparseParts}
 use Rattle.bitm_block_c.specs.declared.sparse.Sparse.{Sparse}

@@ -3,8 +3,8 @@ ghost use Rattle.std.specs.Prelude.{◌↔◌, IsTrue};
 ghost use Rattle.std.specs.List.{Contains};
 ghost use Rattle.elias_fano.specs.Sequence.{IsFirstAtLeast, IsLastAtMost};
 
+use crate::items::Items;
 use crate::predecessor::{contains_by, last_at_most_by};
-use crate::searching::first_at_least_by;
 use crate::sequence::Sequence;
 use bitm_select::search::selected::found;
 use bitm_strategies::{Select0ForRank101111, SelectForRank101111};
@@ -22,8 +22,7 @@ impl<S: SelectForRank101111, S0: Select0ForRank101111> Sequence<S, S0> {
     pub fn first_at_least(&self, v: u64) -> Option<usize>
         ensures { IsFirstAtLeast self.now.items v result }
     {
-        let (mut source, mut low, bits) = self.parts();
-        found(first_at_least_by(&mut source, &bits, &mut low, self.len(), v))
+        found(self.successor(v))
     }
 
     /// The greatest index whose number is at most `v` (the predecessor); `None` exactly where there is none.

@@ -15,10 +15,10 @@ ghost use Rattle.elias_fano.specs.Sequence.{IsSequence, HasFall};
 use crate::checking::check;
 use crate::error::EfError;
 use crate::finds::ByIndex;
+use crate::items::Items;
 use crate::iterating::Numbers;
 use crate::low::LowDigits;
 use crate::making::{make_low, make_upper, width_for};
-use crate::searching::item_by;
 use bitm::{RankSelect101111, Select, index_laws};
 use bitm_bits::{CloneWords, GetSize};
 use bitm_strategies::{
@@ -150,8 +150,7 @@ impl<S: SelectForRank101111, S0: Select0ForRank101111> Sequence<S, S0> {
         requires { i < length self.now.items }
         ensures { result ≡ slice_index self.now.items i }
     {
-        let (mut source, mut low, bits) = self.parts();
-        match item_by(&mut source, &bits, &mut low, self.len(), i) {
+        match self.item(i) {
             Answer::Found(item) => item,
             Answer::Absent | Answer::Wrong => unreachable!(),
         }

@@ -23,7 +23,7 @@ use bitm_select::search::selected::WRONG_TABLES;
 use bitm_tables::answer::Answer;
 use bitm_tables::source::Probe;
 use elias_fano::building::item_at_one;
-use elias_fano::{LowDigits, total_first_at_least_by, total_item_by};
+use elias_fano::{Items, LowDigits, total_first_at_least_by, total_item_by};
 use lent_tables::{ByGuess, Lent, LentSamples, select_list_on};
 use std::marker::Model;
 use tuning::SELECTIONS_SIDE_BY_SIDE;
@@ -328,5 +328,26 @@ impl<'a> LentSequence<'a> {
     {
         let (source, low) = (&mut self.upper.probe(), &mut self.low_digits());
         total_first_at_least_by(source, &self.by_zeros(), low, self.len, v)
+    }
+}
+
+impl<'a> Items for LentSequence<'a> {
+    ghost len = { λ s. s.len };
+
+    ghost holds = { λ xs s. Holds xs s };
+
+    #[inline(always)]
+    fn count(&self) -> usize {
+        self.len()
+    }
+
+    #[inline(always)]
+    fn item(&self, i: usize) -> Answer<u64> {
+        self.get(i)
+    }
+
+    #[inline(always)]
+    fn successor(&self, v: u64) -> Answer<usize> {
+        self.first_at_least(v)
     }
 }

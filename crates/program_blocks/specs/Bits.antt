@@ -6,7 +6,7 @@ use Rattle.bitm_select.specs.Answers.{IsSelected}
 use Rattle.bitm_view.specs.Nearest.{IsNext, IsPrevious}
 use Rattle.bitm_view.specs.Ranks.{IsRanked}
 use Rattle.bits_block.specs.Block as bits
-use Rattle.sparse_block.specs.Answers.{IsBitOf}
+use Rattle.sparse_bits.specs.Answers.{IsBitOf}
 use Rattle.bitm.specs.Answer.{Answer}
 use Rattle.program_blocks.specs.Reply.{answer_of, as_number}
 use Rattle.program_blocks.specs.declared.question.Question.{Question}

@@ -4,7 +4,7 @@ ghost use Rattle.bit_lists.specs.Bits.{bits_of};
 ghost use Rattle.bits_block.specs.Block.{bits_in_block, IsSoundBlock};
 ghost use Rattle.bitm_view.specs.Cut.{bits_of_cut, Cut};
 ghost use Rattle.bitm_select.specs.Tables.{HasTables};
-ghost use Rattle.sparse_block.specs.Answers.{IsBitOf};
+ghost use Rattle.sparse_bits.specs.Answers.{IsBitOf};
 ghost use Rattle.program_blocks.specs.Bits.{HasEnd, HasOnesAt, IsBitsOf, IsBitsReply, IsBitsReplyOne};
 ghost use Rattle.program_blocks.specs.Failure.{IsBlockFailure};
 

@@ -1,3 +1,4 @@
+pub mod Answers
 pub mod Error
 pub mod Looks
 pub mod Positions

@@ -25,6 +25,11 @@ pub record ArePlaces (n k : ℕ) (xs : List ℕ) : Type 0 where
   pub from : (i : ℕ) → i < length xs → k ≤ slice_index xs i
   pub below : (i : ℕ) → i < length xs → slice_index xs i < k + n
 
+-- the positions xs are held, and are those of the 1 bits of n bits
+pub record ArePlacesHeld (xs : List ℕ) (held : Type 0) (n : ℕ) : Type 0 where
+  pub holds : held
+  pub places : ArePlaces n 0 xs
+
 -- the first c of these positions have no more than r 0 bits before them, and the others more
 pub record PartsZeros (xs : List ℕ) (r c : ℕ) : Type 0 where
   pub bound : c ≤ length xs

@@ -1,175 +1,264 @@
-//! The queries of borrowed positions of 1 bits. A query makes no more searches, and reads no more positions, than its
-//! clause says; sparse bits answer by these.
-ghost use Rattle.std.specs.Prelude.{◌≡◌, ◌+◌, ◌<◌, ◌≤◌, length, slice_index, SomeIff, true, false};
-ghost use Rattle.bit_lists.specs.Bits.{digit_count, item};
-ghost use Rattle.bit_lists.specs.Count.{ones_before, IsRank, IsSelect};
-ghost use Rattle.elias_fano.specs.Sequence.{IsFirstAtLeast};
+//! The queries of borrowed positions of 1 bits, which may be anything. A query makes no more searches, and reads no more
+//! positions, than its clause says; sparse bits and views of them answer by these.
+ghost use Rattle.std.specs.Prelude.{◌≡◌, ◌-◌, ◌<◌, ◌≤◌, ℕ, List, length, IfSome, IsSomeAnd, true, false};
+ghost use Rattle.bit_lists.specs.Bits.{digit_count};
+ghost use Rattle.bitm_select.specs.Answers.{IsSelected};
+ghost use Rattle.bitm_tables.specs.declared.answer.Answer.TheVariants.{Found, Wrong};
+ghost use Rattle.elias_fano.specs.Answers.{IsFirst, IsItem, IsOfPlace, IsPlaceOf};
+ghost use Rattle.lent_tables.specs.Ranks.{IsCountWithin, IsRanked};
+ghost use Rattle.sparse_bits.specs.Answers.{IsBitAndRankOf, IsBitOf, IsBitWithin, IsSelectedWithin};
 ghost use Rattle.sparse_bits.specs.Looks.{LooksAtMost, no_looks, one_more_get, one_more_search};
-ghost use Rattle.sparse_bits.specs.Positions.{bits_at, ArePlaces, PartsZeros};
+ghost use Rattle.sparse_bits.specs.Positions.{bits_at, ArePlacesHeld, PartsZeros};
 
-use bitm_strategies::{Select0ForRank101111, SelectForRank101111};
+use bitm_tables::answer::Answer;
 use bitm_tables::source::counts::ReadCounts;
-use elias_fano::Sequence;
+use elias_fano::Items;
 use std::marker::Model;
 
-/// Borrowed positions of 1 bits. Searches and positions that are read are counted; the counts take no bytes at run
-/// time.
+/// Borrowed positions of the 1 bits among so many bits. Searches and positions that are read are counted; the counts
+/// take no bytes at run time.
 #[derive(Drop)]
-pub(crate) struct Ones<'a, S: SelectForRank101111, S0: Select0ForRank101111> {
-    list: &'a Sequence<S, S0>,
+pub struct Ones<'a, P: Items> {
+    positions: &'a P,
+    len: usize,
     // A search counts as a word, and a position that is read too.
     searches: ReadCounts,
     gets: ReadCounts,
 }
 
-impl<'a, S: SelectForRank101111, S0: Select0ForRank101111> Model for Ones<'a, S, S0> {
+impl<'a, P: Items> Model for Ones<'a, P> {
     ghost use Rattle.sparse_bits.specs.Looks.{Looks};
 
-    ghost Value = { Looks };
+    ghost Value = { Looks P };
 
     ghost view = { λ o. record {
-      items = o.list.now.items;
+      positions = o.positions.now;
+      len = o.len;
       searches = o.searches.words;
       gets = o.gets.words;
     } };
 }
 
-impl<'a, S: SelectForRank101111, S0: Select0ForRank101111> Ones<'a, S, S0> {
-    /// These positions, with nothing counted yet.
+/// A count among the first `index` of `len` bits, and `Wrong` where it is more than these.
+#[inline(always)]
+fn count_within(count: usize, index: usize, _len: usize) -> Answer<usize>
+    requires { index ≤ _len }
+    ensures within { IsCountWithin _len index result }
+    ensures count { count ≤ index → result ≡ Found count }
+{
+    if count <= index {
+        Answer::Found(count)
+    } else {
+        Answer::Wrong
+    }
+}
+
+impl<'a, P: Items> Ones<'a, P> {
+    /// These positions among `len` bits, with nothing counted yet.
     #[inline(always)]
-    pub(crate) fn new(list: &'a Sequence<S, S0>) -> Ones<'a, S, S0>
-        ensures { result ≡ no_looks list.now.items }
+    pub fn new(positions: &'a P, len: usize) -> Ones<'a, P>
+        ensures { result ≡ no_looks positions.now len }
     {
         Ones {
-            list,
+            positions,
+            len,
             searches: ReadCounts::new(),
             gets: ReadCounts::new(),
         }
     }
 
+    /// The number of bits.
+    #[inline(always)]
+    fn len(&self) -> usize
+        ensures { result ≡ self.now.len }
+    {
+        self.len
+    }
+
     /// The number of positions.
     #[inline(always)]
     fn count(&self) -> usize
-        ensures { result ≡ length self.now.items }
+        ensures count { result ≡ P.len self.now.positions }
+        ensures held { (xs : List ℕ) → P.holds xs self.now.positions → result ≡ length xs }
     {
-        self.list.len()
+        self.positions.count()
     }
 
     /// Position `i`; one more is read.
-    ///
-    /// # Conditions
-    /// There is such a position.
     #[inline(always)]
-    fn get(&mut self, i: usize) -> u64
-        requires { i < length self.old.items }
-        ensures position { result ≡ slice_index self.old.items i }
+    fn get(&mut self, i: usize) -> Answer<u64>
+        ensures inside { IsOfPlace (P.len self.old.positions) i result }
+        ensures answer { (xs : List ℕ) → P.holds xs self.old.positions → IsItem xs i result }
         ensures counted { self.new ≡ one_more_get self.old }
     {
         self.gets.read_word();
-        self.list.get(i)
+        self.positions.item(i)
     }
 
-    /// The least index whose position is at least `v`; `None` exactly where there is none. One more search is made.
+    /// The least index whose position is at least `v`. One more search is made.
     #[inline(always)]
-    fn first_at_least(&mut self, v: u64) -> Option<usize>
-        ensures answer { IsFirstAtLeast self.old.items v result }
+    fn first_at_least(&mut self, v: u64) -> Answer<usize>
+        ensures inside { IsPlaceOf (P.len self.old.positions) result }
+        ensures answer { (xs : List ℕ) → P.holds xs self.old.positions → IsFirst xs v result }
         ensures counted { self.new ≡ one_more_search self.old }
     {
         self.searches.read_word();
-        self.list.first_at_least(v)
+        self.positions.successor(v)
     }
 
-    /// The number of 1 bits among the first `index` of `len` bits; `None` exactly where there are fewer bits.
+    /// How many of the first `index` bits are 1 bits. Whatever the positions are, that is at most `index`, and the
+    /// answer is `Absent` exactly where there are fewer bits. Where they are those of 1 bits, it is never `Wrong`.
+    ///
+    /// ```
+    /// Ones::new(&positions, 5000).rank_in(101);   // Found(2), where the 1 bits are at 3, 100, 101 and 4000
+    /// ```
     #[inline(always)]
-    pub(crate) fn rank_in(&mut self, len: usize, index: usize) -> Option<usize>
-        requires { ArePlaces len 0 self.old.items }
-        ensures count { IsRank (bits_at len 0 self.old.items) index result }
+    pub fn rank_in(&mut self, index: usize) -> Answer<usize>
+        ensures within { IsCountWithin self.old.len index result }
+        ensures counts { (xs : List ℕ)
+            → ArePlacesHeld xs (P.holds xs self.old.positions) self.old.len
+            → IsRanked (bits_at self.old.len 0 xs) true index result }
         ensures queries { LooksAtMost self.old self.new 1 0 }
     {
-        if index > len {
-            return None;
+        if index > self.len() {
+            return Answer::Absent;
         }
         match self.first_at_least(index as u64) {
-            Some(count) => Some(count),
-            None => Some(self.count()),
+            Answer::Found(count) => count_within(count, index, self.len()),
+            Answer::Absent => count_within(self.count(), index, self.len()),
+            Answer::Wrong => Answer::Wrong,
         }
     }
 
-    /// The bit at position `place`, and the number of 1 bits before it.
+    /// The bit at position `place`, and the number of 1 bits before it. Whatever the positions are, the answer is
+    /// `Absent` exactly where there is no such bit. Where they are those of 1 bits, it is never `Wrong`.
     ///
-    /// # Conditions
-    /// There is such a bit.
+    /// ```
+    /// Ones::new(&positions, 5000).bit_and_rank_in(100);   // Found((true, 1))
+    /// ```
     #[inline(always)]
-    pub(crate) fn bit_and_rank_in(&mut self, len: usize, place: usize) -> (bool, usize)
-        requires places { ArePlaces len 0 self.old.items }
-        requires inside { place < len }
-        ensures bit { result.0 ≡ item (bits_at len 0 self.old.items) place }
-        ensures rank { result.1 ≡ ones_before (bits_at len 0 self.old.items) place }
+    pub fn bit_and_rank_in(&mut self, place: usize) -> Answer<(bool, usize)>
+        ensures within { IsBitWithin self.old.len place result }
+        ensures bit { (xs : List ℕ)
+            → ArePlacesHeld xs (P.holds xs self.old.positions) self.old.len
+            → IsBitAndRankOf (bits_at self.old.len 0 xs) place result }
         ensures queries { LooksAtMost self.old self.new 1 1 }
     {
+        if place >= self.len() {
+            return Answer::Absent;
+        }
         match self.first_at_least(place as u64) {
-            Some(count) => (self.get(count) == place as u64, count),
-            None => (false, self.count()),
+            Answer::Found(rank) => match self.get(rank) {
+                Answer::Found(one) => Answer::Found((one == place as u64, rank)),
+                _ => Answer::Wrong,
+            },
+            Answer::Absent => Answer::Found((false, self.count())),
+            Answer::Wrong => Answer::Wrong,
         }
     }
 
-    /// The bit at position `place` of `len` bits; `None` exactly where there is no such bit.
+    /// The bit at position `place`; else as `bit_and_rank_in`.
+    ///
+    /// ```
+    /// Ones::new(&positions, 5000).bit_in(100);   // Found(true)
+    /// ```
     #[inline(always)]
-    pub(crate) fn bit_in(&mut self, len: usize, place: usize) -> Option<bool>
-        requires { ArePlaces len 0 self.old.items }
-        ensures bit { SomeIff result (place < length (bits_at len 0 self.old.items))
-            (item (bits_at len 0 self.old.items) place) }
+    pub fn bit_in(&mut self, place: usize) -> Answer<bool>
+        ensures within { IsBitWithin self.old.len place result }
+        ensures bit { (xs : List ℕ)
+            → ArePlacesHeld xs (P.holds xs self.old.positions) self.old.len
+            → IsBitOf (bits_at self.old.len 0 xs) place result }
         ensures queries { LooksAtMost self.old self.new 1 1 }
     {
-        if place >= len {
-            return None;
+        match self.bit_and_rank_in(place) {
+            Answer::Found((bit, _)) => Answer::Found(bit),
+            Answer::Absent => Answer::Absent,
+            Answer::Wrong => Answer::Wrong,
         }
-        Some(self.bit_and_rank_in(len, place).0)
     }
 
-    /// The position of the 1 bit of `len` bits with rank `rank`; `None` exactly where there is none.
+    /// The position of the 1 bit with exactly `rank` 1 bits before it. Whatever the positions are, it is that of a bit,
+    /// and the answer is `Absent` exactly where there are no more than `rank` of them. Where they are those of 1 bits,
+    /// it is never `Wrong`.
+    ///
+    /// ```
+    /// Ones::new(&positions, 5000).select_in(3);   // Found(4000)
+    /// ```
     #[inline(always)]
-    pub(crate) fn select_in(&mut self, len: usize, rank: usize) -> Option<usize>
-        requires { ArePlaces len 0 self.old.items }
-        ensures position { IsSelect (bits_at len 0 self.old.items) true rank result }
+    pub fn select_in(&mut self, rank: usize) -> Answer<usize>
+        ensures within { IsSelectedWithin (P.len self.old.positions) self.old.len rank result }
+        ensures counts { (xs : List ℕ)
+            → ArePlacesHeld xs (P.holds xs self.old.positions) self.old.len
+            → IsSelected (bits_at self.old.len 0 xs) true rank result }
         ensures queries { LooksAtMost self.old self.new 0 1 }
     {
-        if rank >= self.count() {
-            return None;
+        match self.get(rank) {
+            Answer::Found(one) => {
+                if one < self.len() as u64 {
+                    Answer::Found(one as usize)
+                } else {
+                    Answer::Wrong
+                }
+            }
+            Answer::Absent => Answer::Absent,
+            Answer::Wrong => Answer::Wrong,
         }
-        Some(self.get(rank) as usize)
     }
 
-    /// How many 1 bits of `len` bits have at most `rank` 0 bits before them, by halving.
-    fn ones_within(&mut self, len: usize, rank: usize) -> usize
-        requires { ArePlaces len 0 self.old.items }
-        ensures parts { PartsZeros self.old.items rank result }
-        ensures queries { LooksAtMost self.old self.new 0 (digit_count (length self.old.items)) }
+    /// How many 1 bits have at most `rank` 0 bits before them, by halving; `None` only where the positions are not
+    /// those of 1 bits.
+    fn ones_within(&mut self, rank: usize) -> Option<usize>
+        ensures within { IfSome result (λ c. c ≤ P.len self.old.positions) }
+        ensures parts { (xs : List ℕ)
+            → ArePlacesHeld xs (P.holds xs self.old.positions) self.old.len
+            → IsSomeAnd result (λ c. PartsZeros xs rank c) }
+        ensures queries { LooksAtMost self.old self.new 0
+            (digit_count (P.len self.old.positions)) }
     {
         let mut low = 0;
         let mut left = self.count();
         while left > 0 {
             let half = left / 2;
-            if self.get(low + half) as usize - (low + half) <= rank {
+            let Answer::Found(one) = self.get(low + half) else {
+                return None;
+            };
+            if one.saturating_sub((low + half) as u64) <= rank as u64 {
                 low += half + 1;
                 left -= half + 1;
             } else {
                 left = half;
             }
         }
-        low
+        Some(low)
     }
 
-    /// The position of the 0 bit of `len` bits with rank `rank`; `None` exactly where there is none.
-    #[inline(always)]
-    pub(crate) fn select0_in(&mut self, len: usize, rank: usize) -> Option<usize>
-        requires { ArePlaces len 0 self.old.items }
-        ensures position { IsSelect (bits_at len 0 self.old.items) false rank result }
-        ensures queries { LooksAtMost self.old self.new 0 (digit_count (length self.old.items)) }
+    /// The position of the 0 bit with exactly `rank` 0 bits before it. Whatever the positions are, it is that of a bit,
+    /// and where there are no more of them than bits, the answer is `Absent` exactly where there are no more than
+    /// `rank` other bits. Where they are those of 1 bits, it is never `Wrong`.
+    ///
+    /// ```
+    /// Ones::new(&positions, 5000).select0_in(3);   // Found(4)
+    /// ```
+    pub fn select0_in(&mut self, rank: usize) -> Answer<usize>
+        ensures within { P.len self.old.positions ≤ self.old.len → IsSelectedWithin
+            (self.old.len - P.len self.old.positions) self.old.len rank result }
+        ensures crowded { self.old.len < P.len self.old.positions → result ≡ Wrong }
+        ensures counts { (xs : List ℕ)
+            → ArePlacesHeld xs (P.holds xs self.old.positions) self.old.len
+            → IsSelected (bits_at self.old.len 0 xs) false rank result }
+        ensures queries { LooksAtMost self.old self.new 0
+            (digit_count (P.len self.old.positions)) }
     {
-        if rank >= len - self.count() {
-            return None;
+        let ones = self.count();
+        if self.len() < ones {
+            return Answer::Wrong;
         }
-        Some(rank + self.ones_within(len, rank))
+        if rank >= self.len() - ones {
+            return Answer::Absent;
+        }
+        match self.ones_within(rank) {
+            Some(before) => Answer::Found(rank + before),
+            None => Answer::Wrong,
+        }
     }
 }

@@ -28,5 +28,6 @@ mod error;
 mod sparse;
 
 pub use checking::check_positions;
+pub use counted::Ones;
 pub use error::SparseError;
 pub use sparse::{BinarySparseBits, SampledSparseBits, SparseBits};

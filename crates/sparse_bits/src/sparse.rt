@@ -3,7 +3,8 @@ ghost use Rattle.std.specs.Prelude.{◌≡◌, ◌≤◌, ◌<◌, ◌↔◌, �
 ghost use Rattle.bit_lists.specs.Bits.{bits_of, IsShort};
 ghost use Rattle.bit_lists.specs.Count.{ones_of, zeros_of, places};
 ghost use Rattle.elias_fano.specs.Parts.{width_of, low_words_of, upper_words_of};
-ghost use Rattle.sparse_bits.specs.Positions.{HasNoRise, HasPast, Rises};
+ghost use Rattle.sparse_bits.specs.Looks.{no_looks};
+ghost use Rattle.sparse_bits.specs.Positions.{bits_at, ArePlaces, HasNoRise, HasPast, Rises};
 ghost use Rattle.sparse_bits.specs.Value.{bytes_of};
 
 use crate::checking::{TOO_MANY, check_positions};
@@ -12,10 +13,12 @@ use crate::error::SparseError;
 use bit_words::{BitOnesIterator, words};
 use bitm::{Access, HasBits, Rank, Select, Select0};
 use bitm_bits::GetSize;
+use bitm_select::search::selected::found;
 use bitm_strategies::{
     AdaptiveCombinedSamplingDensity, BinaryRankSearch, CombinedSampling, Select0ForRank101111,
     SelectForRank101111,
 };
+use bitm_tables::answer::Answer;
 use elias_fano::{Numbers, Sequence};
 use std::alloc::{AllocError, Global};
 use std::marker::Model;
@@ -112,6 +115,16 @@ impl<S: SelectForRank101111, S0: Select0ForRank101111> SparseBits<S, S0> {
         SparseBits::build(alloc, positions.as_slice(), 64 * words.len())
     }
 
+    /// The bits, as they are asked.
+    #[inline(always)]
+    fn asked(&self) -> Ones<'_, Sequence<S, S0>>
+        ensures asked { result ≡ no_looks result.positions (length self.now.bits) }
+        ensures bits { bits_at (length self.now.bits) 0 result.positions.items ≡ self.now.bits }
+        ensures places { ArePlaces (length self.now.bits) 0 result.positions.items }
+    {
+        Ones::new(&self.ones, self.len)
+    }
+
     /// The positions of the 1 bits, as the sequence that holds them.
     #[inline(always)]
     pub fn positions(&self) -> &Sequence<S, S0>
@@ -188,7 +201,7 @@ impl<S: SelectForRank101111, S0: Select0ForRank101111> Rank for SparseBits<S, S0
     /// One search for a successor among the positions of the 1 bits (`Sequence::first_at_least`).
     #[inline]
     fn try_rank(&self, index: usize) -> Option<usize> {
-        Ones::new(&self.ones).rank_in(self.len, index)
+        found(self.asked().rank_in(index))
     }
 }
 
@@ -199,7 +212,10 @@ impl<S: SelectForRank101111, S0: Select0ForRank101111> Access for SparseBits<S, 
     /// One search for a successor, and one position is read.
     #[inline]
     fn try_get_bit(&self, place: usize) -> Option<bool> {
-        Ones::new(&self.ones).bit_in(self.len, place)
+        match self.asked().bit_in(place) {
+            Answer::Found(bit) => Some(bit),
+            Answer::Absent | Answer::Wrong => None,
+        }
     }
 
     /// The bit at position `place`, and the number of 1 bits before it.
@@ -210,7 +226,10 @@ impl<S: SelectForRank101111, S0: Select0ForRank101111> Access for SparseBits<S, 
     /// That of `try_get_bit`.
     #[inline]
     fn bit_and_rank(&self, place: usize) -> (bool, usize) {
-        Ones::new(&self.ones).bit_and_rank_in(self.len, place)
+        match self.asked().bit_and_rank_in(place) {
+            Answer::Found(known) => known,
+            Answer::Absent | Answer::Wrong => unreachable!(),
+        }
     }
 }
 
@@ -221,7 +240,7 @@ impl<S: SelectForRank101111, S0: Select0ForRank101111> Select for SparseBits<S, 
     /// One position is read (`Sequence::get`).
     #[inline]
     fn try_select(&self, rank: usize) -> Option<usize> {
-        Ones::new(&self.ones).select_in(self.len, rank)
+        found(self.asked().select_in(rank))
     }
 }
 
@@ -232,7 +251,7 @@ impl<S: SelectForRank101111, S0: Select0ForRank101111> Select0 for SparseBits<S,
     /// One position is read for each binary digit of the number of 1 bits.
     #[inline]
     fn try_select0(&self, rank: usize) -> Option<usize> {
-        Ones::new(&self.ones).select0_in(self.len, rank)
+        found(self.asked().select0_in(rank))
     }
 }
 

@@ -1,5 +1,5 @@
 -- Numbers each greater than the one before it are positions below an end exactly where the last is.
-use Rattle.std.proofs.Common.{◌≡◌, ℕ, zero, suc, ◌+◌, ◌-◌, ◌<◌, ◌≤◌, ◌↔◌, Bool, true, List, length, get_or, ap, ⊎_elim, arith}
+use Rattle.std.proofs.Common.{◌≡◌, ℕ, zero, suc, ◌+◌, ◌-◌, ◌<◌, ◌↔◌, Bool, true, List, length, get_or, ap, ⊎_elim, arith}
 use Rattle.std.proofs.lemmas.Bool.{cases_lt}
 use Rattle.std.specs.List.Sorted.{IsStrictlyIncreasing}
 use Rattle.sparse_bits.specs.Positions.{ArePlaces, Rises}

@@ -3,7 +3,7 @@ use Rattle.std.specs.Prelude.{◌≡◌, ℕ, ◌^◌, ◌<◌, List, Bool, leng
 use Rattle.bitm_block.specs.Layout.{end_of}
 use Rattle.elias_fano.specs.LentParts.{Holds, LentParts}
 use Rattle.sequence_block.specs.Block.{sections_of, sequence_in, IsBlockOfKind, IsSoundOfKind}
-use Rattle.sparse_bits.specs.Positions.{bits_at, ArePlaces}
+use Rattle.sparse_bits.specs.Positions.{bits_at, ArePlaces, ArePlacesHeld}
 
 -- the parts of the sequence of positions, and how many bits there are: they may hold anything
 pub record SparseParts : Type 0 where
@@ -13,11 +13,6 @@ pub record SparseParts : Type 0 where
 -- these, of a sequence and a number of bits
 abbrev pub parts_of : LentParts → ℕ → SparseParts
 parts_of positions n = record { positions = positions; len = n }
-
--- the positions xs are held, and are those of the 1 bits of n bits
-pub record ArePlacesHeld (xs : List ℕ) (held : Type 0) (n : ℕ) : Type 0 where
-  pub holds : held
-  pub places : ArePlaces n 0 xs
 
 -- the parts are those of n bits whose 1 bits are at the positions xs, with n as they say, whatever samples they have
 abbrev pub HoldsOnes : List ℕ → SparseParts → Type 0

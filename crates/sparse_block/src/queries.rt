@@ -1,35 +1,31 @@
 //! Ranks, selections and bits of a view, whatever its block holds.
-ghost use Rattle.std.specs.Prelude.{◌≡◌, ◌-◌, ◌+◌, ◌≤◌, ◌<◌, List, ℕ, IfSome, IsSomeAnd, true, false};
-ghost use Rattle.bitm_tables.specs.declared.answer.Answer.TheVariants.{Found, Wrong};
+ghost use Rattle.std.specs.Prelude.{◌≡◌, ◌-◌, ◌≤◌, ◌<◌, List, ℕ, true, false};
+ghost use Rattle.bitm_tables.specs.declared.answer.Answer.TheVariants.{Wrong};
 ghost use Rattle.bitm_select.specs.Answers.{IsSelected};
 ghost use Rattle.lent_tables.specs.Ranks.{IsCountWithin, IsRanked};
-ghost use Rattle.sparse_bits.specs.Positions.{PartsZeros};
-ghost use Rattle.sparse_block.specs.Answers.{IsBitOf, IsBitWithin, IsSelectedWithin};
+ghost use Rattle.sparse_bits.specs.Answers.{IsBitOf, IsBitWithin, IsSelectedWithin};
+ghost use Rattle.sparse_bits.specs.Looks.{no_looks};
 ghost use Rattle.sparse_block.specs.Block.{bits_of, HoldsOnes};
 
 use crate::view::SparseView;
 use bitm_tables::answer::Answer;
-
-/// A count among the first `index` of `len` bits, and `Wrong` where it is more than these.
-#[inline(always)]
-fn count_within(count: usize, index: usize, _len: usize) -> Answer<usize>
-    requires { index ≤ _len }
-    ensures within { IsCountWithin _len index result }
-    ensures count { count ≤ index → result ≡ Found count }
-{
-    if count <= index {
-        Answer::Found(count)
-    } else {
-        Answer::Wrong
-    }
-}
+use elias_fano_view::LentSequence;
+use sparse_bits::Ones;
 
 impl<'a> SparseView<'a> {
+    /// The bits, as they are asked.
+    #[inline(always)]
+    fn asked(&self) -> Ones<'_, LentSequence<'a>>
+        ensures { result ≡ no_looks self.now.positions self.now.len }
+    {
+        Ones::new(&self.positions, self.len())
+    }
+
     /// How many of the first `index` bits are 1 bits. Whatever the block holds, they are at most `index`, and the
     /// answer is `Absent` exactly where there are fewer bits. Where it holds bits, the answer is never `Wrong`.
     ///
     /// # Cost
-    /// One search for a successor among the positions (`LentSequence::first_at_least`; evident from the code).
+    /// One search for a successor among the positions (`sparse_bits::Ones::rank_in` has the clause).
     ///
     /// ```
     /// bits.rank(101);   // Found(2)
@@ -40,14 +36,7 @@ impl<'a> SparseView<'a> {
         ensures counts { (xs : List ℕ) → HoldsOnes xs self.now
             → IsRanked (bits_of xs self.now) true index result }
     {
-        if index > self.len() {
-            return Answer::Absent;
-        }
-        match self.positions.first_at_least(index as u64) {
-            Answer::Found(count) => count_within(count, index, self.len()),
-            Answer::Absent => count_within(self.count_bit_ones(), index, self.len()),
-            Answer::Wrong => Answer::Wrong,
-        }
+        self.asked().rank_in(index)
     }
 
     /// How many of the first `index` bits are 0 bits; else as `rank`.
@@ -75,7 +64,7 @@ impl<'a> SparseView<'a> {
     /// Where it holds bits, the answer is never `Wrong`.
     ///
     /// # Cost
-    /// One search for a successor, and one position is read (evident from the code).
+    /// One search for a successor, and at most one position is read (`sparse_bits::Ones::bit_in` has the clause).
     ///
     /// ```
     /// bits.get_bit(100);   // Found(true)
@@ -86,17 +75,7 @@ impl<'a> SparseView<'a> {
         ensures bit { (xs : List ℕ) → HoldsOnes xs self.now
             → IsBitOf (bits_of xs self.now) position result }
     {
-        if position >= self.len() {
-            return Answer::Absent;
-        }
-        match self.positions.first_at_least(position as u64) {
-            Answer::Found(rank) => match self.positions.get(rank) {
-                Answer::Found(one) => Answer::Found(one == position as u64),
-                _ => Answer::Wrong,
-            },
-            Answer::Absent => Answer::Found(false),
-            Answer::Wrong => Answer::Wrong,
-        }
+        self.asked().bit_in(position)
     }
 
     /// The position of the 1 bit with exactly `rank` 1 bits before it. Whatever the block holds, it is that of a bit,
@@ -104,7 +83,7 @@ impl<'a> SparseView<'a> {
     /// answer is never `Wrong`.
     ///
     /// # Cost
-    /// One position is read (`LentSequence::get`; evident from the code).
+    /// One position is read (`sparse_bits::Ones::select_in` has the clause).
     ///
     /// ```
     /// bits.select(3);   // Found(4000)
@@ -115,40 +94,7 @@ impl<'a> SparseView<'a> {
         ensures counts { (xs : List ℕ) → HoldsOnes xs self.now
             → IsSelected (bits_of xs self.now) true rank result }
     {
-        match self.positions.get(rank) {
-            Answer::Found(one) => {
-                if one < self.len() as u64 {
-                    Answer::Found(one as usize)
-                } else {
-                    Answer::Wrong
-                }
-            }
-            Answer::Absent => Answer::Absent,
-            Answer::Wrong => Answer::Wrong,
-        }
-    }
-
-    /// How many 1 bits have at most `rank` 0 bits before them, by halving; `None` only where the block holds no bits.
-    fn ones_within(&self, rank: usize) -> Option<usize>
-        ensures within { IfSome result (λ c. c ≤ self.now.positions.len) }
-        ensures parts { (xs : List ℕ) → HoldsOnes xs self.now
-            → IsSomeAnd result (λ c. PartsZeros xs rank c) }
-    {
-        let mut low = 0;
-        let mut left = self.count_bit_ones();
-        while left > 0 {
-            let half = left / 2;
-            let Answer::Found(one) = self.positions.get(low + half) else {
-                return None;
-            };
-            if one.saturating_sub((low + half) as u64) <= rank as u64 {
-                low += half + 1;
-                left -= half + 1;
-            } else {
-                left = half;
-            }
-        }
-        Some(low)
+        self.asked().select_in(rank)
     }
 
     /// The position of the 0 bit with exactly `rank` 0 bits before it. Whatever the block holds, it is that of a bit,
@@ -156,7 +102,8 @@ impl<'a> SparseView<'a> {
     /// others. Where the block holds bits, the answer is never `Wrong`.
     ///
     /// # Cost
-    /// One position is read for each binary digit of the number of 1 bits (evident from the code).
+    /// At most one position is read for each binary digit of the number of 1 bits (`sparse_bits::Ones::select0_in` has
+    /// the clause).
     ///
     /// ```
     /// bits.select0(3);   // Found(4)
@@ -168,16 +115,6 @@ impl<'a> SparseView<'a> {
         ensures counts { (xs : List ℕ) → HoldsOnes xs self.now
             → IsSelected (bits_of xs self.now) false rank result }
     {
-        let ones = self.count_bit_ones();
-        if self.len() < ones {
-            return Answer::Wrong;
-        }
-        if rank >= self.len() - ones {
-            return Answer::Absent;
-        }
-        match self.ones_within(rank) {
-            Some(before) => Answer::Found(rank + before),
-            None => Answer::Wrong,
-        }
+        self.asked().select0_in(rank)
     }
 }

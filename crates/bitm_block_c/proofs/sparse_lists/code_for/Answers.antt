@@ -1,6 +1,6 @@
 -- What is answered is no code but where there is no such position or bit, or the positions are not those of 1 bits.
 use Rattle.std.proofs.Common.{sym, subst}
-use Rattle.sparse_block.specs.Answers.{IsBitOf, IsBitWithin}
+use Rattle.sparse_bits.specs.Answers.{IsBitOf, IsBitWithin}
 use Rattle.sparse_block.specs.Block.{bits_of}
 use Rattle.bitm_view.specs.Queries.{selected_by}
 use Rattle.bitm_block_c.proofs.CodeLemmas.{bit_code, count_code, place_code}

@@ -1,6 +1,6 @@
 -- What is answered is told, as 0 or 1.
 use Rattle.std.proofs.Common.{sym, subst}
-use Rattle.sparse_block.specs.Answers.{IsBitOf, IsBitWithin}
+use Rattle.sparse_bits.specs.Answers.{IsBitOf, IsBitWithin}
 use Rattle.sparse_block.specs.Block.{bits_of}
 use Rattle.bitm_abi.proofs.ToldLemmas.{told}
 use Rattle.bitm_block_c.specs.Sparse.{IsBit}

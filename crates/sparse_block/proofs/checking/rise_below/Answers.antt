@@ -1,6 +1,5 @@
 -- The last number is the greatest where each is greater than the one before it.
-use Rattle.std.proofs.Common.{◌≡◌, ◌-◌, ◌<◌, length, get_or, ap, sym, ◌∙◌, arith}
-use Rattle.elias_fano.specs.LentParts.{Holds}
+use Rattle.std.proofs.Common.{◌≡◌, ◌-◌, length, get_or, ap, arith}
 use Rattle.sparse_block.proofs.CheckLemmas.{places-by-last, places-none}
 use Rattle.sparse_block.proofs.checking.rise_below.Goals as goal
 

@@ -1,21 +1,31 @@
-use Rattle.std.proofs.Common.{ℕ, length, get_or, nat_eq, sym, ap, ◌∙◌, arith}
-use Rattle.sparse_bits.specs.Looks.{Looks}
-use Rattle.sparse_bits.proofs.lemmas.PositionLemmas.{bit_some, bit_none, rank_some, rank_none}
+-- A bit is 1 exactly at a position that is kept.
+use Rattle.std.proofs.Common.{ℕ, ◌<◌, nat_eq, sym, ap, ◌∙◌, subst, arith}
+use Rattle.sparse_bits.proofs.lemmas.LookLemmas.{searched_positions}
+use Rattle.sparse_bits.proofs.lemmas.PositionLemmas.{bit_none, bit_some, bits_count, rank_none, rank_some}
 use Rattle.sparse_bits.proofs.counted.Ones.bit_and_rank_in.Goals as goal
 
-pub returns-in-Some-clause-bit : goal.returns-in-Some-clause-bit
-returns-in-Some-clause-bit g c =
-    ap (λ (x : ℕ). nat_eq x c.args.place) (c.get.ensures.position ∙ ap (λ (l : Looks). get_or l.items c.in-Some.count 0) c.in-Some.ensures.counted)
-    ∙ bit_some c.args.len c.args.self.now.items c.requires.places c.args.place c.in-Some.count c.requires.inside c.in-Some.ensures.answer
+pub returns-then-place-len-clause-bit : goal.returns-then-place-len-clause-bit
+returns-then-place-len-clause-bit g c = λ xs h. omega (arith, bits_count c.args.self.now.len xs h.places, c.len.ensures, c.if-place-len.true)
 
-pub returns-in-Some-clause-rank : goal.returns-in-Some-clause-rank
-returns-in-Some-clause-rank g c =
-    sym (rank_some c.args.len c.args.self.now.items c.requires.places c.args.place c.in-Some.count (omega (arith, c.requires.inside)) c.in-Some.ensures.answer)
+pub returns-in-Found-get-clause-bit : goal.returns-in-Found-get-clause-bit
+returns-in-Found-get-clause-bit g c = λ xs h.
+    let n = c.args.self.now.len in
+    let inside : c.args.place < n = omega (arith, c.len.ensures, c.if-place-len.false) in
+    let reach = c.in-Found.ensures.answer xs h.holds in
+    let held = subst (λ p. g.P.Items.holds xs p) (sym (searched_positions _ _ c.in-Found.ensures.counted)) h.holds in
+    let item = c.in-Found-get.ensures.answer xs held in (
+      omega (arith, bits_count n xs h.places, inside),
+      ap (λ (x : ℕ). nat_eq x c.args.place) item.1 ∙ bit_some n xs h.places c.args.place c.in-Found.rank (omega (arith, inside)) reach,
+      sym (rank_some n xs h.places c.args.place c.in-Found.rank (omega (arith, inside)) reach),
+    )
 
-pub returns-in-None-clause-bit : goal.returns-in-None-clause-bit
-returns-in-None-clause-bit g c = sym (bit_none c.args.len c.args.self.now.items c.requires.places c.args.place c.requires.inside c.in-None.ensures.answer)
-
-pub returns-in-None-clause-rank : goal.returns-in-None-clause-rank
-returns-in-None-clause-rank g c =
-    c.count.ensures ∙ (ap (λ (l : Looks). length l.items) c.in-None.ensures.counted
-    ∙ sym (rank_none c.args.len c.args.self.now.items c.requires.places c.args.place (omega (arith, c.requires.inside)) c.in-None.ensures.answer))
+pub returns-in-Absent-clause-bit : goal.returns-in-Absent-clause-bit
+returns-in-Absent-clause-bit g c = λ xs h.
+    let n = c.args.self.now.len in
+    let inside : c.args.place < n = omega (arith, c.len.ensures, c.if-place-len.false) in
+    let all = c.in-Absent.ensures.answer xs h.holds in
+    let held = subst (λ p. g.P.Items.holds xs p) (sym (searched_positions _ _ c.in-Absent.ensures.counted)) h.holds in (
+      omega (arith, bits_count n xs h.places, inside),
+      sym (bit_none n xs h.places c.args.place (omega (arith, inside)) all),
+      c.count.ensures.held xs held ∙ sym (rank_none n xs h.places c.args.place (omega (arith, inside)) all),
+    )

@@ -1,16 +1,17 @@
 -- The 0 bit with a rank stands after the 1 bits that have no more 0 bits before them.
 use Rattle.std.proofs.Common.{arith}
-use Rattle.sparse_bits.proofs.lemmas.PositionLemmas.{few_ones, zeros_count, select0_some}
+use Rattle.sparse_bits.proofs.lemmas.PositionLemmas.{few_ones, select0_some, zeros_count}
 use Rattle.sparse_bits.proofs.counted.Ones.select0_in.Goals as goal
 
-pub overflow_sub-len : goal.overflow_sub-len
-overflow_sub-len g c = omega (arith, c.count.ensures, few_ones c.args.len c.args.self.now.items c.requires)
+pub returns-then-len-ones-clause-counts : goal.returns-then-len-ones-clause-counts
+returns-then-len-ones-clause-counts g c = λ xs h.
+    absurd (omega (arith, few_ones c.args.self.now.len xs h.places, c.count-ones.ensures.held xs h.holds, c.len.ensures, c.if-len-ones.true))
 
-pub returns-then-rank-len-clause-position : goal.returns-then-rank-len-clause-position
-returns-then-rank-len-clause-position g c =
-    omega (arith, c.count.ensures, zeros_count c.args.len c.args.self.now.items c.requires, c.if-rank-len.true)
+pub returns-then-rank-len-clause-counts : goal.returns-then-rank-len-clause-counts
+returns-then-rank-len-clause-counts g c = λ xs h.
+    omega (arith, zeros_count c.args.self.now.len xs h.places, c.count-ones.ensures.held xs h.holds, c.len-2.ensures, c.if-rank-len.true)
 
-pub returns-clause-position : goal.returns-clause-position
-returns-clause-position g c =
-    select0_some c.args.len c.args.self.now.items c.requires c.args.rank c.ones_within.result c.ones_within.ensures.parts
-    (omega (arith, c.count.ensures, c.if-rank-len.false))
+pub returns-in-Some-clause-counts : goal.returns-in-Some-clause-counts
+returns-in-Some-clause-counts g c = λ xs h.
+    select0_some c.args.self.now.len xs h.places c.args.rank c.in-Some.before (c.in-Some.ensures.parts xs h)
+    (omega (arith, c.count-ones.ensures.held xs h.holds, c.len-2.ensures, c.if-rank-len.false))

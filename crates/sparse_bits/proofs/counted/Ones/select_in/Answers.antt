@@ -1,14 +1,23 @@
+-- A selection is a position that is kept.
 use Rattle.std.proofs.Common.{ℕ, true, sym, subst, arith}
 use Rattle.bit_lists.specs.Count.{Picks}
 use Rattle.sparse_bits.specs.Positions.{bits_at}
+use Rattle.sparse_bits.proofs.lemmas.LookLemmas.{same_len}
 use Rattle.sparse_bits.proofs.lemmas.PositionLemmas.{ones_count, select_some}
 use Rattle.sparse_bits.proofs.counted.Ones.select_in.Goals as goal
 
-pub returns-then-rank-count-clause-position : goal.returns-then-rank-count-clause-position
-returns-then-rank-count-clause-position g c =
-    omega (arith, ones_count c.args.len c.args.self.now.items c.requires, c.count.ensures, c.if-rank-count.true)
+pub returns-then-one-len-clause-counts : goal.returns-then-one-len-clause-counts
+returns-then-one-len-clause-counts g c = λ xs h.
+    let n = c.args.self.now.len in
+    let item = c.in-Found.ensures.answer xs h.holds in
+    subst (λ (p : ℕ). Picks (bits_at n 0 xs) true c.args.rank p) (sym item.1) (select_some n xs h.places c.args.rank item.0)
 
-pub returns-clause-position : goal.returns-clause-position
-returns-clause-position g c =
-    subst (λ (p : ℕ). Picks (bits_at c.args.len 0 c.args.self.now.items) true c.args.rank p) (sym c.get.ensures.position)
-    (select_some c.args.len c.args.self.now.items c.requires c.args.rank (omega (arith, c.count.ensures, c.if-rank-count.false)))
+pub returns-else-one-len-clause-counts : goal.returns-else-one-len-clause-counts
+returns-else-one-len-clause-counts g c = λ xs h.
+    let item = c.in-Found.ensures.answer xs h.holds in
+    absurd (omega (arith, item.1, h.places.below c.args.rank item.0, same_len _ _ c.in-Found.ensures.counted, c.len.ensures, c.if-one-len.false))
+
+pub returns-in-Absent-clause-counts : goal.returns-in-Absent-clause-counts
+returns-in-Absent-clause-counts g c = λ xs h.
+    let all = c.in-Absent.ensures.answer xs h.holds in
+    omega (arith, all, ones_count c.args.self.now.len xs h.places)

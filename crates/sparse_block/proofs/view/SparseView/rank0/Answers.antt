@@ -1,5 +1,10 @@
-use Rattle.sparse_block.proofs.QueryLemmas.{ranked0}
+-- The bits that are no 1 bits are 0 bits.
+use Rattle.std.proofs.Common.{arith}
+use Rattle.bit_lists.proofs.BitLaws.{ones_and_zeros}
+use Rattle.sparse_block.specs.Block.{bits_of}
 use Rattle.sparse_block.proofs.view.SparseView.rank0.Goals as goal
 
 pub returns-in-Found-clause-counts : goal.returns-in-Found-clause-counts
-returns-in-Found-clause-counts c = λ xs h. ranked0 xs c.args.self.now h c.args.index c.in-Found.ones (c.in-Found.ensures.counts xs h)
+returns-in-Found-clause-counts c = λ xs h.
+    let is = c.in-Found.ensures.counts xs h in
+    (is.0, omega (arith, is.1, ones_and_zeros (bits_of xs c.args.self.now) c.args.index is.0))

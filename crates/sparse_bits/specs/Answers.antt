@@ -1,11 +1,12 @@
--- What a query of sparse bits answers over parts that may hold anything.
+-- What a query of sparse bits answers, over positions that may be anything and over those of the 1 bits.
 use Rattle.std.specs.Prelude.{◌≡◌, ℕ, ◌<◌, ◌≤◌, Bool, List, length}
 use Rattle.bit_lists.specs.Bits.{item}
+use Rattle.bit_lists.specs.Count.{ones_before}
 use Rattle.bitm_tables.specs.declared.answer.Answer.{Answer}
 use Rattle.bitm_tables.specs.declared.answer.Answer.TheVariants.{Found, Absent, Wrong}
 
--- a bit is one of n, and the answer is Absent exactly where there is no such bit
-abbrev pub IsBitWithin : ℕ → ℕ → Answer Bool → Type 0
+-- what is answered of a bit is of one of n, and the answer is Absent exactly where there is no such bit
+abbrev pub IsBitWithin : {A : Type 0} → ℕ → ℕ → Answer A → Type 0
 IsBitWithin n i (Found x) = i < n
 IsBitWithin n i Absent = n ≤ i
 IsBitWithin n i Wrong = i < n
@@ -15,6 +16,12 @@ abbrev pub IsBitOf : List Bool → ℕ → Answer Bool → Type 0
 IsBitOf b i (Found x) = (i < length b) × (x ≡ item b i)
 IsBitOf b i Absent = length b ≤ i
 IsBitOf b i Wrong = ⊥
+
+-- bit i and the number of 1 bits before it, and Absent exactly where there is no such bit
+abbrev pub IsBitAndRankOf : List Bool → ℕ → Answer (Bool × ℕ) → Type 0
+IsBitAndRankOf b i (Found (x, n)) = (i < length b) × (x ≡ item b i) × (n ≡ ones_before b i)
+IsBitAndRankOf b i Absent = length b ≤ i
+IsBitAndRankOf b i Wrong = ⊥
 
 -- of c bits, the position of the one with rank r is one of n, and the answer is Absent exactly where there are no more
 -- than r
