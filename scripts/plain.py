@@ -24,16 +24,19 @@ bitm/src/ranges.rt ones_between:_in zeros_between:_in next_one:_in next_zero:_in
 bitm_strategies/src/binary.rt select:_counted select0:_counted
 bitm_strategies/src/combined.rt select:_counted select0:_counted
 bitm_view/src/view.rt rank_of:rank_on rank:rank_of
-elias_fano/src/finding.rt first_at_least:_by+found last_at_most:_by+found contains:_by
+elias_fano/src/finding.rt first_at_least:successor+found last_at_most:_by+found contains:_by
+elias_fano/src/items.rt item:_by+parts successor:first_at_least_by+parts
+elias_fano_view/src/sequence.rt item:get successor:first_at_least
 louds/src/counted.rt is_leaf_on:is_leaf_by parent_on:parent_by next_sibling_on:next_sibling_by zero_on:zero_by
 louds/src/node.rt degree_of:degree_from_on is_leaf_of:ends_after_on children_of:children_from_on parent_of:_by
 louds/src/tree.rt end degree:_from_on+zero child:_from_on+zero children:_from_on+zero zero:_by is_leaf:_by parent:_by
     child_rank:_by next_sibling:_by previous_sibling:_by
-perfect_hash/src/asking.rt number_by_on:number_by
-perfect_hash/src/table.rt get:number number:_by get_counted:number_by_on
+perfect_hash/src/asking.rt number_by_on:total_number_by_on+found+tables_have_sizes total_number_by_on:number_by
+perfect_hash/src/table.rt get:number number:_by+found get_counted:number_by_on
 sharded_index/src/shard.rt rank:rank_of
-sparse_bits/src/sparse.rt try_rank:rank_in try_get_bit:bit_in bit_and_rank:_in try_select:select_in
-    try_select0:select0_in
+sparse_bits/src/sparse.rt try_rank:rank_in+asked+found try_get_bit:bit_in+asked bit_and_rank:_in+asked
+    try_select:select_in+asked+found try_select0:select0_in+asked+found
+sparse_block/src/queries.rt rank:_in+asked get_bit:bit_in+asked select:_in+asked select0:_in+asked
 text_index/src/growing.rt extend:rows_with
 text_index/src/index.rt count locate extract rows_of rows_with position
 text_index/src/matches.rt matches:rows_of
@@ -60,9 +63,6 @@ OTHERS = {
         "select": "a call of the view for each kind", "select_list": "a call of the view for each kind"},
     "sharded_index/src/sharded.rt": {
         "rank": "the prefix counts, and one shard", "select": "the prefix counts, and one shard"},
-    "sparse_block/src/queries.rt": {
-        "rank": "a successor among the positions", "select": "a number of the positions",
-        "select0": "a search by halves among the positions"},
     "string_block/src/view.rt": {"get": "two starts of strings, and no table"},
     "text_block/src/byte_queries.rt": {"extract_bytes": "None where letters are no bytes, else one body"},
 }
@@ -103,7 +103,7 @@ OTHER_WAYS = {
     },
     "perfect_hash/src/table.rt": {
         "self.number(self.hash(key))": "self.number(self.hash(key)); self.number(self.hash(key))",
-        "number_by(&query,": "self.index.rank(0); number_by(&query,",
+        "found(number_by::<0,": "self.index.rank(0); found(number_by::<0,",
     },
     "wavelet_matrix/src/queries.rt": {
         "levels.select_by(index,": "levels.rank_on(&mut probe, number, k); levels.select_by(index,",
@@ -117,8 +117,10 @@ COUNTED = re.compile(r"_(?:on|by|in|with|counted)$")
 PROBES = re.compile(r"\b(?:probe|own_parts|no_source)\(")
 BRANCH = re.compile(r"\b(?:if|match|for|while|loop)\b")
 CALL = re.compile(r"\b([a-z_]\w*)(?:::<[^();]*?>)?\(")
-# The forms of a branch that decides nothing: the trait's default, and with samples or without.
+# The forms of a branch that decides nothing: the trait's default, an owner's answer, and with samples or without.
 DEFAULT = re.compile(r"match (.*?) \{\s*Some\((\w+)\) => \2,\s*None => unreachable!\(\),\s*\}", re.S)
+ANSWERED = re.compile(r"match (.*?) \{\s*Answer::Found\((\w+)\) => (?:Some\(\2\)|\2),\s*"
+                      r"Answer::Absent \| Answer::Wrong => (?:None|unreachable!\(\)),\s*\}", re.S)
 SAMPLED = re.compile(r"if samples\.samples\.is_empty\(\) \{\s*return ([^;]*);\s*\}")
 # Calls that read neither words nor tables.
 HANDED = set("""all_parts as_slice by_ones by_zeros hash into_reads is_one keys l1ranks l2ranks len low_digits new
@@ -128,7 +130,7 @@ HANDED = set("""all_parts as_slice by_ones by_zeros hash into_reads is_one keys 
 def does_one(body, counted, more=None):
     """Whether a body calls one of these once, with or without samples, and besides only what hands it arguments;
     without `more` it may answer a field as well."""
-    body = DEFAULT.sub(r"\1", body)
+    body = ANSWERED.sub(r"\1", DEFAULT.sub(r"\1", body))
     ways = [*SAMPLED.findall(body), SAMPLED.sub("", body)]
     called = [CALL.findall(it) for it in ways]
     twins = {it for it in counted if all(many.count(it) == 1 for many in called)}
