@@ -8,7 +8,22 @@
 //! second_one(&BinaryRankSearch, &mut source);         // by halves: what it reads is counted
 //! second_one(&index, &mut index.probe());             // by the index's own strategy
 //! ```
+//!
+//! Over memory that may hold anything, `Finds` takes the place of `Selection`: it has no condition on what the words
+//! and tables hold, and its answer says where they are wrong.
+//!
+//! ```
+//! fn second_zero<F: Finds, T: TableSource>(finder: &F, source: &mut T) -> Answer<usize> {
+//!     finder.zero(source, 1)
+//! }
+//! second_zero(&ByTables, &mut source);                // Found(1), Absent or Wrong
+//! second_zero(&index, &mut index.probe());            // Found(1) or Absent
+//! ```
 #![tactic(auto)]
+
+// What is in each file:
+// - `finding`: ways to find the bit of a rank in a source that may hold anything
+mod finding;
 
 ghost use Rattle.std.specs.Prelude.{◌≡◌, ◌*◌, ◌<◌, List, ℕ, ⊤, true, false};
 ghost use Rattle.bit_lists.specs.Count.{ones_of, zeros_of, Picks};
@@ -20,6 +35,7 @@ ghost use Rattle.bitm_selection.specs.Selection.{by_halves, OnlySelectsBy};
 use bitm::{RankSelect101111, Select, Select0};
 use bitm_strategies::{BinaryRankSearch, Select0ForRank101111, SelectForRank101111};
 use bitm_tables::source::TableSource;
+pub use finding::Finds;
 use std::convert::AsSlice;
 
 /// A way to select among the bits of a source.
