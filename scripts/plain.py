@@ -3,7 +3,8 @@
 Such a call is a public function that makes a probe of its tables, or that has a counted twin: `find` has
 `total_find_on`, `find_on`, `find_by` or `find_counted`, with a clause on reads, in its crate or below. It calls its
 twin once, and besides only what hands that its arguments (HANDED): no loop, and no branch but by whether there are
-samples, and in the form of a trait's default, where None is unreachable. PLAIN has those whose body has another name,
+samples, and in the form of a trait's default, where None is unreachable, or of an owner's call of a body whose answer is
+an `Answer`, where Wrong is. PLAIN has those whose body has another name,
 or that call one thing more; OTHERS those that do otherwise, and why."""
 import collections
 import functools
@@ -13,8 +14,8 @@ from checks import below, claim, counts, crates, files, read
 from functions import functions_of
 
 # By file: the calls without a counter, each with the counted body that it runs, or the end of its name after the call's
-# own, or nothing where that is `_on`, and after a `+` what it calls besides. Where a body takes a `Selection` or a
-# `Query`, the counted call runs it too, and stands here as well.
+# own, or nothing where that is `_on`, and after a `+` what it calls besides. Where a body takes a `Selection`, a `Finds`
+# or a `Query`, the counted call runs it too, and stands here as well.
 PLAIN = """
 bitm/src/index.rt try_rank:rank_on try_get_bit:bit_on try_select:select try_select0:select0 rank:try_rank
     select:try_select select0:try_select0 bit_and_rank
@@ -95,11 +96,12 @@ OTHER_WAYS = {
         "parent_of_by(index, &mut probe, self.len(), node.number)": "Some(self.node(self.parent(node.number)?))",
     },
     "louds/src/tree.rt": {
-        "parent_by(index, &mut probe, self.len(), node)": "parent_on(&mut probe, self.len(), node)",
-        "is_leaf_by(index, &mut probe, self.len(), node)": "self.degree(node) == 0",
-        "child_rank_by(index,": "self.zero(node); child_rank_by(index,",
-        "next_sibling_by(index,": "next_sibling_by(index, &mut probe, self.len(), node); next_sibling_by(index,",
-        "previous_sibling_by(index,": "if node == 0 { return None; } previous_sibling_by(index,",
+        "match parent_by(index,": "parent_on(&mut probe, self.len(), node); match parent_by(index,",
+        "match is_leaf_by(index,": "self.degree(node); match is_leaf_by(index,",
+        "match child_rank_by(index,": "self.zero(node); match child_rank_by(index,",
+        "match next_sibling_by(index,":
+            "next_sibling_by(index, &mut probe, self.len(), node); match next_sibling_by(index,",
+        "match previous_sibling_by(index,": "if node == 0 { return None; } match previous_sibling_by(index,",
     },
     "perfect_hash/src/table.rt": {
         "self.number(self.hash(key))": "self.number(self.hash(key)); self.number(self.hash(key))",
@@ -117,14 +119,15 @@ COUNTED = re.compile(r"_(?:on|by|in|with|counted)$")
 PROBES = re.compile(r"\b(?:probe|own_parts|no_source)\(")
 BRANCH = re.compile(r"\b(?:if|match|for|while|loop)\b")
 CALL = re.compile(r"\b([a-z_]\w*)(?:::<[^();]*?>)?\(")
-# The forms of a branch that decides nothing: the trait's default, an owner's answer, and with samples or without.
+# The forms of a branch that decides nothing: the trait's default, the answer of right words, and with samples or without.
 DEFAULT = re.compile(r"match (.*?) \{\s*Some\((\w+)\) => \2,\s*None => unreachable!\(\),\s*\}", re.S)
-ANSWERED = re.compile(r"match (.*?) \{\s*Answer::Found\((\w+)\) => (?:Some\(\2\)|\2),\s*"
-                      r"Answer::Absent \| Answer::Wrong => (?:None|unreachable!\(\)),\s*\}", re.S)
+ANSWERED = re.compile(
+    r"match (.*?) \{\s*Answer::Found\((\w+)\) => (?:Some\(\2\),\s*Answer::Absent => None,\s*Answer::Wrong|\2,\s*_)"
+    r" => unreachable!\(\),\s*\}", re.S)
 SAMPLED = re.compile(r"if samples\.samples\.is_empty\(\) \{\s*return ([^;]*);\s*\}")
 # Calls that read neither words nor tables.
 HANDED = set("""all_parts as_slice by_ones by_zeros hash into_reads is_one keys l1ranks l2ranks len low_digits new
-    no_reads no_source number own_parts parts probe samples sizes tables""".split())
+    no_reads no_source number own_parts parts probe samples sizes tables tables_have_sizes""".split())
 
 
 def does_one(body, counted, more=None):

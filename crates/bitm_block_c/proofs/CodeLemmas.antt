@@ -5,7 +5,7 @@ use Rattle.bitm_tables.specs.declared.answer.Answer.{Answer}
 use Rattle.bitm_tables.specs.declared.answer.Answer.TheVariants.{Found, Absent, Wrong}
 use Rattle.bitm_view.proofs.CodeLemmas.{selected_place}
 use Rattle.bitm_view.specs.Queries.{selected_by}
-use Rattle.louds_block.specs.Answers.{IsChildWithin, IsDegreeWithin, IsParentWithin}
+use Rattle.louds.specs.Answers.{IsChildWithin, IsDegreeWithin, IsParentWithin}
 use Rattle.louds_block.specs.Told.{IsCodeOf}
 use Rattle.elias_fano.specs.Answers.{IsPlaceOf}
 use Rattle.lent_tables.specs.Ranks.{IsCountWithin}

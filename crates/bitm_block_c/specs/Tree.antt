@@ -5,7 +5,7 @@ use Rattle.bitm_abi.specs.Status.{truth_of, Exported, IsFoundBelow}
 use Rattle.bitm_abi.specs.Tree.{tree_parts}
 use Rattle.bitm_abi.specs.declared.tree.Tree.{Tree}
 use Rattle.louds.specs.Counted.{degrees_in, IsLouds}
-use Rattle.louds_block.specs.Answers.{IsChildRankOf, IsChildRankWithin, IsLeafOf, IsLeafWithin, IsNextSiblingOf, IsNextSiblingWithin, IsPreviousSiblingOf, IsPreviousSiblingWithin}
+use Rattle.louds.specs.Answers.{IsChildRankOf, IsChildRankWithin, IsLeafOf, IsLeafWithin, IsNextSiblingOf, IsNextSiblingWithin, IsPreviousSiblingOf, IsPreviousSiblingWithin}
 use Rattle.louds_block.specs.Block.{HasLengths, TreeParts}
 pub use Rattle.louds_block.specs.Told.{IsChild, IsDegree, IsParent}
 use Rattle.bitm_block_c.specs.declared.lists.Asked.{Asked}

@@ -4,6 +4,7 @@ pub mod Parents
 pub mod Labels
 pub mod Held
 pub mod Counted
+pub mod Answers
 pub mod Laws
 pub mod Node
 pub mod Error

@@ -4,8 +4,12 @@ ghost use Rattle.louds.specs.Counted.{degrees_in, IsLouds, OnlySelects};
 ghost use Rattle.louds.specs.Held.{zero_place};
 ghost use Rattle.louds.specs.Tree.{MatchesChild, MatchesNextSibling, MatchesParent};
 
-use crate::selecting::{is_leaf_by, next_sibling_by, parent_by, zero_by};
+use crate::queries::{is_leaf_by, next_sibling_by, parent_by};
+use crate::selecting::zero_by;
+use bitm::index_laws;
+use bitm_select::search::selecting::ByTables;
 use bitm_strategies::BinaryRankSearch;
+use bitm_tables::answer::Answer;
 use bitm_tables::source::TableSource;
 
 /// The position of the 0 bit before the 1 bits of a node, or of the last 0 bit.
@@ -50,7 +54,11 @@ pub fn is_leaf_on<T: TableSource>(source: &mut T, len: usize, node: usize) -> bo
     ensures leaf { result ≡ (slice_index (degrees_in len (T.lists source.old)) node == 0) }
     ensures reads { OnlySelects T.lists T.reads source.old source.new 1 1 }
 {
-    is_leaf_by(&BinaryRankSearch, source, len, node)
+    index_laws::tables_have_sizes();
+    match is_leaf_by(&ByTables, source, len, node) {
+        Answer::Found(leaf) => leaf,
+        _ => unreachable!(),
+    }
 }
 
 /// Child `k` of a node; `None` exactly where it has no more than `k` children.
@@ -87,7 +95,12 @@ pub fn parent_on<T: TableSource>(source: &mut T, len: usize, node: usize) -> Opt
     ensures parent { MatchesParent (degrees_in len (T.lists source.old)) node result }
     ensures reads { OnlySelects T.lists T.reads source.old source.new 1 0 }
 {
-    parent_by(&BinaryRankSearch, source, len, node)
+    index_laws::tables_have_sizes();
+    match parent_by(&ByTables, source, len, node) {
+        Answer::Found(parent) => Some(parent),
+        Answer::Absent => None,
+        Answer::Wrong => unreachable!(),
+    }
 }
 
 /// The next child of a node's parent; `None` exactly where the node is the last child or the root.
@@ -102,5 +115,10 @@ pub fn next_sibling_on<T: TableSource>(source: &mut T, len: usize, node: usize) 
     ensures sibling { MatchesNextSibling (degrees_in len (T.lists source.old)) node result }
     ensures reads { OnlySelects T.lists T.reads source.old source.new 1 1 }
 {
-    next_sibling_by(&BinaryRankSearch, source, len, node)
+    index_laws::tables_have_sizes();
+    match next_sibling_by(&ByTables, source, len, node) {
+        Answer::Found(sibling) => Some(sibling),
+        Answer::Absent => None,
+        Answer::Wrong => unreachable!(),
+    }
 }

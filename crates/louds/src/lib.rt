@@ -26,6 +26,7 @@
 // - `near`: the last 0 bit up to a position, where it is near
 // - `node`: nodes that carry their positions
 // - `parents`: a tree from the list of its nodes' parents
+// - `queries`: parents, leaves and siblings, one body for each, over any source and by any way to find a bit
 // - `run`: the 1 bits of a node, one for each child
 // - `selecting`: the calls that select, over any source and by any selection
 // - `tree`: the type of a tree, and its queries
@@ -40,6 +41,7 @@ mod making;
 mod near;
 mod node;
 mod parents;
+pub mod queries;
 mod run;
 mod selecting;
 mod tree;

@@ -1,19 +1,17 @@
-//! The calls of a tree that select, over any source and by any selection: those of `counted` and those of the tree run
-//! them.
-ghost use Rattle.std.specs.Prelude.{◌≡◌, ◌==◌, ◌+◌, ◌*◌, ◌^◌, ◌<◌, ◌≤◌, ℕ, slice_index};
+//! Where the bits of a node stand, and its parent with its position: over any source that holds a tree, and by any
+//! selection.
+ghost use Rattle.std.specs.Prelude.{◌≡◌, ◌+◌, ◌*◌, ◌^◌, ◌<◌, ◌≤◌, ℕ};
 ghost use Rattle.bitm_tables.specs.Reads.{OnlyReads};
 ghost use Rattle.bitm_selection.specs.Selection.{OnlySelectsBy};
 ghost use Rattle.louds.specs.Counted.{degrees_in, IsLouds};
 ghost use Rattle.louds.specs.Held.{zero_place, IsOneOf};
 ghost use Rattle.louds.specs.Node.{MatchesParentNode};
-ghost use Rattle.louds.specs.Tree.{IsChild, MatchesParent, MatchesChildRank, MatchesNextSibling};
-ghost use Rattle.louds.specs.Tree.{MatchesPreviousSibling};
+ghost use Rattle.louds.specs.Tree.{IsChild};
 
 use crate::near::near_last_zero_on;
 use crate::node::Node;
-use crate::run::{NEAR, ends_after_on};
+use crate::run::NEAR;
 use bitm_selection::Selection;
-use bitm_tables::ranking::bit_on;
 use bitm_tables::source::TableSource;
 
 /// The position of the 0 bit before the 1 bits of a node, or of the last 0 bit.
@@ -52,53 +50,6 @@ pub(crate) fn one_by<F: Selection, T: TableSource>(
         (F.most (T.lists source.old)) 1 0 }
 {
     selection.one_on(source, node)
-}
-
-/// Whether a node has no children.
-///
-/// # Cost
-/// What a selection reads, and one word.
-#[inline(always)]
-pub(crate) fn is_leaf_by<F: Selection, T: TableSource>(
-    selection: &F,
-    source: &mut T,
-    len: usize,
-    node: usize,
-) -> bool
-    requires tree { IsLouds len (T.lists source.old) }
-    requires selects { F.selects selection.now (T.lists source.old).words }
-    requires node { node < len }
-    ensures leaf { result ≡ (slice_index (degrees_in len (T.lists source.old)) node == 0) }
-    ensures reads { OnlySelectsBy T.lists T.reads source.old source.new
-        (F.most (T.lists source.old)) 1 1 }
-{
-    let start = zero_by(selection, source, len, node);
-    ends_after_on(source, len, node, start)
-}
-
-/// The parent of a node; `None` exactly where it is the root.
-///
-/// # Cost
-/// What a selection reads.
-#[inline(always)]
-pub(crate) fn parent_by<F: Selection, T: TableSource>(
-    selection: &F,
-    source: &mut T,
-    len: usize,
-    node: usize,
-) -> Option<usize>
-    requires tree { IsLouds len (T.lists source.old) }
-    requires selects { F.selects selection.now (T.lists source.old).words }
-    requires node { node < len }
-    ensures parent { MatchesParent (degrees_in len (T.lists source.old)) node result }
-    ensures reads { OnlySelectsBy T.lists T.reads source.old source.new
-        (F.most (T.lists source.old)) 1 0 }
-{
-    if node == 0 {
-        None
-    } else {
-        Some(one_by(selection, source, len, node) - node - 1)
-    }
 }
 
 /// The position of the 0 bit before the 1 bits of a node, out of the way of `start_by`, which seldom needs it.
@@ -178,85 +129,4 @@ pub(crate) fn parent_of_by<F: Selection, T: TableSource>(
         number: one - node - 1,
         place: start_by(selection, source, len, node, one),
     })
-}
-
-/// Which child of its parent a node is; `None` exactly where it is the root.
-///
-/// # Cost
-/// What two selections read.
-#[inline(always)]
-pub(crate) fn child_rank_by<F: Selection, T: TableSource>(
-    selection: &F,
-    source: &mut T,
-    len: usize,
-    node: usize,
-) -> Option<usize>
-    requires tree { IsLouds len (T.lists source.old) }
-    requires selects { F.selects selection.now (T.lists source.old).words }
-    requires node { node < len }
-    ensures child { MatchesChildRank (degrees_in len (T.lists source.old)) node result }
-    ensures reads { OnlySelectsBy T.lists T.reads source.old source.new
-        (F.most (T.lists source.old)) 2 0 }
-{
-    if node == 0 {
-        return None;
-    }
-    let one = one_by(selection, source, len, node);
-    let start = zero_by(selection, source, len, one - node - 1);
-    Some(one - start - 1)
-}
-
-/// The next child of a node's parent; `None` exactly where the node is the last child or the root.
-///
-/// # Cost
-/// What a selection reads, and one word.
-#[inline(always)]
-pub(crate) fn next_sibling_by<F: Selection, T: TableSource>(
-    selection: &F,
-    source: &mut T,
-    len: usize,
-    node: usize,
-) -> Option<usize>
-    requires tree { IsLouds len (T.lists source.old) }
-    requires selects { F.selects selection.now (T.lists source.old).words }
-    requires node { node < len }
-    ensures sibling { MatchesNextSibling (degrees_in len (T.lists source.old)) node result }
-    ensures reads { OnlySelectsBy T.lists T.reads source.old source.new
-        (F.most (T.lists source.old)) 1 1 }
-{
-    let next = one_by(selection, source, len, node) + 1;
-    match bit_on(source, next) {
-        Some(true) => Some(node + 1),
-        Some(false) => None,
-        None => unreachable!(),
-    }
-}
-
-/// The child of a node's parent before it; `None` exactly where the node is the first child or the root.
-///
-/// # Cost
-/// What a selection reads, and one word; none of them at the root.
-#[inline(always)]
-pub(crate) fn previous_sibling_by<F: Selection, T: TableSource>(
-    selection: &F,
-    source: &mut T,
-    len: usize,
-    node: usize,
-) -> Option<usize>
-    requires tree { IsLouds len (T.lists source.old) }
-    requires selects { F.selects selection.now (T.lists source.old).words }
-    requires node { node < len }
-    ensures sibling { MatchesPreviousSibling (degrees_in len (T.lists source.old)) node result }
-    ensures reads { OnlySelectsBy T.lists T.reads source.old source.new
-        (F.most (T.lists source.old)) 1 1 }
-{
-    if node == 0 {
-        return None;
-    }
-    let before = one_by(selection, source, len, node) - 1;
-    match bit_on(source, before) {
-        Some(true) => Some(node - 1),
-        Some(false) => None,
-        None => unreachable!(),
-    }
 }

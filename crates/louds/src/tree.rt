@@ -4,6 +4,7 @@ ghost use Rattle.std.specs.Prelude.{slice_index};
 ghost use Rattle.std.specs.Box.{boxed_slice_items};
 ghost use Rattle.std.specs.Int.{div_ceil};
 ghost use Rattle.bitm_tables.specs.Reads.{none_read};
+ghost use Rattle.bitm_tables.specs.Tables.{HasSizes};
 ghost use Rattle.bitm_bits.specs.Size.{saturated_size};
 ghost use Rattle.louds.specs.Counted.{degrees_in, IsLouds};
 ghost use Rattle.louds.specs.Held.{words_of, zero_place};
@@ -13,16 +14,16 @@ ghost use Rattle.louds.specs.Tree.{MatchesParent, MatchesChildRank, MatchesNextS
 use crate::checking::is_tree;
 use crate::error::LoudsError;
 use crate::making::make_bits;
+use crate::queries::{child_rank_by, is_leaf_by, next_sibling_by, parent_by, previous_sibling_by};
 use crate::run::{child_from_on, children_from_on, degree_from_on, end_on};
-use crate::selecting::{
-    child_rank_by, is_leaf_by, next_sibling_by, parent_by, previous_sibling_by, zero_by,
-};
-use bitm::RankSelect101111;
+use crate::selecting::zero_by;
+use bitm::{RankSelect101111, index_laws};
 use bitm_bits::GetSize;
 use bitm_strategies::{
     AdaptiveCombinedSamplingDensity, BinaryRankSearch, CombinedSampling, Select0ForRank101111,
     SelectForRank101111,
 };
+use bitm_tables::answer::Answer;
 use bitm_tables::source::Probe;
 use std::alloc::{AllocError, Global};
 use std::boxed::BoxedSlice;
@@ -112,15 +113,17 @@ impl<S: SelectForRank101111, S0: Select0ForRank101111> Louds<S, S0> {
         self.index.probe()
     }
 
-    /// The index, and a source over its words and tables, with no reads counted yet: what the calls of `selecting`
-    /// take.
+    /// The index, and a source over its words and tables, with no reads counted yet: what the calls of `queries`
+    /// and of `selecting` take.
     #[inline(always)]
     pub(crate) fn parts(&self) -> (&RankSelect101111<S, S0, BoxedSlice<u64, Global>>, Probe<'_>)
         ensures tree { IsLouds (length self.now.degrees) result.1.lists }
         ensures degrees { degrees_in (length self.now.degrees) result.1.lists ≡ self.now.degrees }
         ensures selects { result.1.lists.words ≡ boxed_slice_items result.0.now.content }
+        ensures sized { HasSizes result.1.lists }
         ensures reads { result.1.reads ≡ none_read }
     {
+        index_laws::tables_have_sizes();
         (&self.index, self.index.probe())
     }
 
@@ -175,7 +178,10 @@ impl<S: SelectForRank101111, S0: Select0ForRank101111> Louds<S, S0> {
         ensures { result ≡ (slice_index self.now.degrees node == 0) }
     {
         let (index, mut probe) = self.parts();
-        is_leaf_by(index, &mut probe, self.len(), node)
+        match is_leaf_by(index, &mut probe, self.len(), node) {
+            Answer::Found(leaf) => leaf,
+            _ => unreachable!(),
+        }
     }
 
     /// Child `k` of a node; `None` exactly where it has no more than `k` children.
@@ -253,7 +259,11 @@ impl<S: SelectForRank101111, S0: Select0ForRank101111> Louds<S, S0> {
         ensures { MatchesParent self.now.degrees node result }
     {
         let (index, mut probe) = self.parts();
-        parent_by(index, &mut probe, self.len(), node)
+        match parent_by(index, &mut probe, self.len(), node) {
+            Answer::Found(parent) => Some(parent),
+            Answer::Absent => None,
+            Answer::Wrong => unreachable!(),
+        }
     }
 
     /// Which child of its parent a node is; `None` exactly where it is the root.
@@ -268,7 +278,11 @@ impl<S: SelectForRank101111, S0: Select0ForRank101111> Louds<S, S0> {
         ensures { MatchesChildRank self.now.degrees node result }
     {
         let (index, mut probe) = self.parts();
-        child_rank_by(index, &mut probe, self.len(), node)
+        match child_rank_by(index, &mut probe, self.len(), node) {
+            Answer::Found(k) => Some(k),
+            Answer::Absent => None,
+            Answer::Wrong => unreachable!(),
+        }
     }
 
     /// The next child of a node's parent; `None` exactly where the node is the last child or the root.
@@ -283,7 +297,11 @@ impl<S: SelectForRank101111, S0: Select0ForRank101111> Louds<S, S0> {
         ensures { MatchesNextSibling self.now.degrees node result }
     {
         let (index, mut probe) = self.parts();
-        next_sibling_by(index, &mut probe, self.len(), node)
+        match next_sibling_by(index, &mut probe, self.len(), node) {
+            Answer::Found(sibling) => Some(sibling),
+            Answer::Absent => None,
+            Answer::Wrong => unreachable!(),
+        }
     }
 
     /// The child of a node's parent before it; `None` exactly where the node is the first child or the root.
@@ -298,7 +316,11 @@ impl<S: SelectForRank101111, S0: Select0ForRank101111> Louds<S, S0> {
         ensures { MatchesPreviousSibling self.now.degrees node result }
     {
         let (index, mut probe) = self.parts();
-        previous_sibling_by(index, &mut probe, self.len(), node)
+        match previous_sibling_by(index, &mut probe, self.len(), node) {
+            Answer::Found(sibling) => Some(sibling),
+            Answer::Absent => None,
+            Answer::Wrong => unreachable!(),
+        }
     }
 
     /// All nodes, level by level from the root: an iterator from either end, which reads nothing.

@@ -2,4 +2,3 @@ pub mod BlockLemmas
 pub mod CheckLemmas
 pub mod LeadLemmas
 pub mod NearLemmas
-pub mod SiblingLemmas

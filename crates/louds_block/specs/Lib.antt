@@ -1,4 +1,3 @@
-pub mod Answers
 pub mod Block
 pub mod Check
 pub mod Error

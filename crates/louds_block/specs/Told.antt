@@ -4,7 +4,7 @@ use Rattle.bitm_select.specs.Answers.{told_in}
 use Rattle.bitm_tables.specs.Tables.{Lists}
 use Rattle.bitm_tables.specs.declared.answer.Answer.{Answer}
 use Rattle.louds.specs.Counted.{degrees_in, IsLouds}
-use Rattle.louds_block.specs.Answers.{IsChildOf, IsChildWithin, IsDegreeOf, IsDegreeWithin, IsParentOf, IsParentWithin}
+use Rattle.louds.specs.Answers.{IsChildOf, IsChildWithin, IsDegreeOf, IsDegreeWithin, IsParentOf, IsParentWithin}
 use Rattle.louds_block.specs.Block.{TreeParts}
 
 -- n codes an answer of which P holds

@@ -1,10 +1,10 @@
 //! The children of a node, which stand side by side, over any source: its words and tables may hold anything.
 ghost use Rattle.std.specs.Prelude.{◌≡◌, ◌+◌, ◌<◌, ℕ, List, length};
 ghost use Rattle.bitm_tables.specs.Tables.{HasSizes};
+ghost use Rattle.louds.specs.Answers.{AreChildrenOf, AreChildrenWithin};
 ghost use Rattle.louds.specs.Counted.{degrees_in, IsLouds, OnlySelects};
 ghost use Rattle.louds.specs.Held.{zero_place};
 ghost use Rattle.louds.specs.Tree.{IsTree};
-ghost use Rattle.louds_block.specs.Answers.{AreChildrenOf, AreChildrenWithin};
 
 use crate::queries::total_zero_on;
 use bitm_tables::answer::Answer;

@@ -1,33 +1,20 @@
 //! Parents, children and degrees over any source, of which the words and tables may hold anything.
 ghost use Rattle.std.specs.Prelude.{◌≡◌, ◌+◌, ◌-◌, ◌^◌, ◌<◌, ◌≤◌, ℕ, List, length, slice_index};
-ghost use Rattle.std.specs.Prelude.{IfSome, MatchOption};
+ghost use Rattle.std.specs.Prelude.{IfSome};
 ghost use Rattle.bitm_tables.specs.Reads.{OnlyReads};
 ghost use Rattle.bitm_tables.specs.Tables.{HasSizes};
+ghost use Rattle.louds.specs.Answers.{IsChildOf, IsChildWithin, IsDegreeOf, IsDegreeWithin};
+ghost use Rattle.louds.specs.Answers.{IsParentOf, IsParentWithin};
 ghost use Rattle.louds.specs.Counted.{degrees_in, IsLouds, OnlySelects};
-ghost use Rattle.louds.specs.Held.{zero_place, IsOneOf};
+ghost use Rattle.louds.specs.Held.{zero_place};
 ghost use Rattle.louds.specs.Tree.{IsTree};
-ghost use Rattle.louds_block.specs.Answers.{IsChildOf, IsChildWithin, IsDegreeOf, IsDegreeWithin};
-ghost use Rattle.louds_block.specs.Answers.{IsParentOf, IsParentWithin};
 
 use bitm::near_zero_on;
-use bitm_select::search::selecting::total_select_on;
+use bitm_select::search::selecting::ByTables;
 use bitm_tables::answer::Answer;
 use bitm_tables::source::TableSource;
 use louds::near_last_zero_on;
-
-/// The parent of a node whose 1 bit stands at a position; `Wrong` only where none does.
-#[inline(always)]
-pub(crate) fn parent_at(place: usize, len: usize, node: usize) -> Answer<usize>
-    requires some { 0 < node }
-    requires inside { node < len }
-    ensures inside { IsParentWithin len node result }
-    ensures answer { (d : List ℕ) → len ≡ length d → IsOneOf d node place → IsParentOf d node result }
-{
-    match place.checked_sub(node + 1) {
-        Some(parent) if parent < node => Answer::Found(parent),
-        _ => Answer::Wrong,
-    }
-}
+use louds::queries::{parent_by, zero_by};
 
 /// The parent of a node, by its number.
 ///
@@ -49,30 +36,7 @@ pub fn total_parent_on<T: TableSource>(source: &mut T, len: usize, node: usize) 
         → IsParentOf (degrees_in len (T.lists source.old)) node result }
     ensures reads { OnlySelects T.lists T.reads source.old source.new 1 0 }
 {
-    if node == 0 || node >= len {
-        return Answer::Absent;
-    }
-    match total_one_on(source, len, node) {
-        Some(place) => parent_at(place, len, node),
-        None => Answer::Wrong,
-    }
-}
-
-/// The position of the 1 bit of a node; `None` only where the source holds no tree.
-#[inline(always)]
-pub(crate) fn total_one_on<T: TableSource>(source: &mut T, len: usize, node: usize) -> Option<usize>
-    requires sized { HasSizes (T.lists source.old) }
-    requires node { node < len }
-    ensures place { IsLouds len (T.lists source.old)
-        → MatchOption result ⊥ (IsOneOf (degrees_in len (T.lists source.old)) node) }
-    ensures small { IfSome result (λ place. place < 2 ^ 64 - 1) }
-    ensures reads { OnlySelects T.lists T.reads source.old source.new 1 0 }
-{
-    match total_select_on::<1, T>(source, node) {
-        Answer::Found(place) => Some(place),
-        Answer::Absent => None,
-        Answer::Wrong => None,
-    }
+    parent_by(&ByTables, source, len, node)
 }
 
 /// The position of the 0 bit before the 1 bits of a node, or of the last 0 bit; `None` only where the source holds no
@@ -90,11 +54,7 @@ pub(crate) fn total_zero_on<T: TableSource>(
     ensures small { IfSome result (λ place. place < 2 ^ 64 - 1) }
     ensures reads { OnlySelects T.lists T.reads source.old source.new 1 0 }
 {
-    match total_select_on::<0, T>(source, node) {
-        Answer::Found(place) => Some(place),
-        Answer::Absent => None,
-        Answer::Wrong => None,
-    }
+    zero_by(&ByTables, source, len, node)
 }
 
 /// In how many words the 1 bits of a node are looked at before their end is selected: up to which child, and how many

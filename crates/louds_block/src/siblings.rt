@@ -1,15 +1,15 @@
 //! Leaves, siblings and ranks among siblings over any source, of which the words and tables may hold anything.
 ghost use Rattle.std.specs.Prelude.{◌≡◌, ◌+◌, ◌-◌, ◌^◌, ◌<◌, ◌≤◌};
 ghost use Rattle.bitm_tables.specs.Tables.{HasSizes};
+ghost use Rattle.louds.specs.Answers.{IsChildRankOf, IsChildRankWithin, IsLeafOf, IsLeafWithin};
+ghost use Rattle.louds.specs.Answers.{IsNextSiblingOf, IsNextSiblingWithin};
+ghost use Rattle.louds.specs.Answers.{IsPreviousSiblingOf, IsPreviousSiblingWithin};
 ghost use Rattle.louds.specs.Counted.{degrees_in, IsLouds, OnlySelects};
-ghost use Rattle.louds_block.specs.Answers.{IsChildRankOf, IsChildRankWithin, IsLeafOf, IsLeafWithin};
-ghost use Rattle.louds_block.specs.Answers.{IsNextSiblingOf, IsNextSiblingWithin};
-ghost use Rattle.louds_block.specs.Answers.{IsPreviousSiblingOf, IsPreviousSiblingWithin};
 
-use crate::queries::{parent_at, total_one_on, total_zero_on};
+use bitm_select::search::selecting::ByTables;
 use bitm_tables::answer::Answer;
-use bitm_tables::ranking::bit_on;
 use bitm_tables::source::TableSource;
+use louds::queries::{child_rank_by, is_leaf_by, next_sibling_by, previous_sibling_by};
 
 /// Whether a node has no children, by its number.
 ///
@@ -31,16 +31,7 @@ pub fn total_is_leaf_on<T: TableSource>(source: &mut T, len: usize, node: usize)
         → IsLeafOf (degrees_in len (T.lists source.old)) node result }
     ensures reads { OnlySelects T.lists T.reads source.old source.new 1 1 }
 {
-    if node >= len {
-        return Answer::Absent;
-    }
-    let Some(start) = total_zero_on(source, len, node) else {
-        return Answer::Wrong;
-    };
-    match bit_on(source, start + 1) {
-        Some(bit) => Answer::Found(!bit),
-        None => Answer::Wrong,
-    }
+    is_leaf_by(&ByTables, source, len, node)
 }
 
 /// The next child of a node's parent, by its number.
@@ -68,17 +59,7 @@ pub fn total_next_sibling_on<T: TableSource>(
         → IsNextSiblingOf (degrees_in len (T.lists source.old)) node result }
     ensures reads { OnlySelects T.lists T.reads source.old source.new 1 1 }
 {
-    if node >= len {
-        return Answer::Absent;
-    }
-    let Some(place) = total_one_on(source, len, node) else {
-        return Answer::Wrong;
-    };
-    match bit_on(source, place + 1) {
-        Some(true) if node + 1 < len => Answer::Found(node + 1),
-        Some(false) => Answer::Absent,
-        _ => Answer::Wrong,
-    }
+    next_sibling_by(&ByTables, source, len, node)
 }
 
 /// The child of a node's parent before it, by its number.
@@ -106,20 +87,7 @@ pub fn total_previous_sibling_on<T: TableSource>(
         → IsPreviousSiblingOf (degrees_in len (T.lists source.old)) node result }
     ensures reads { OnlySelects T.lists T.reads source.old source.new 1 1 }
 {
-    if node == 0 || node >= len {
-        return Answer::Absent;
-    }
-    let Some(place) = total_one_on(source, len, node) else {
-        return Answer::Wrong;
-    };
-    if place == 0 {
-        return Answer::Wrong;
-    }
-    match bit_on(source, place - 1) {
-        Some(true) => Answer::Found(node - 1),
-        Some(false) => Answer::Absent,
-        None => Answer::Wrong,
-    }
+    previous_sibling_by(&ByTables, source, len, node)
 }
 
 /// Which child of its parent a node is, counted from 0, by the node's number.
@@ -143,20 +111,5 @@ pub fn total_child_rank_on<T: TableSource>(source: &mut T, len: usize, node: usi
         → IsChildRankOf (degrees_in len (T.lists source.old)) node result }
     ensures reads { OnlySelects T.lists T.reads source.old source.new 2 0 }
 {
-    if node == 0 || node >= len {
-        return Answer::Absent;
-    }
-    let Some(place) = total_one_on(source, len, node) else {
-        return Answer::Wrong;
-    };
-    let Answer::Found(parent) = parent_at(place, len, node) else {
-        return Answer::Wrong;
-    };
-    let Some(start) = total_zero_on(source, len, parent) else {
-        return Answer::Wrong;
-    };
-    match place.checked_sub(start + 1) {
-        Some(k) if k < len => Answer::Found(k),
-        _ => Answer::Wrong,
-    }
+    child_rank_by(&ByTables, source, len, node)
 }

@@ -1,11 +1,11 @@
 //! A tree in a block that may hold anything.
 ghost use Rattle.std.specs.Prelude.{◌≡◌, ◌^◌, ◌<◌, ◌↔◌, IsTrue, SomeIff};
 ghost use Rattle.bitm_tables.specs.Reads.{none_read};
+ghost use Rattle.louds.specs.Answers.{IsChildOf, IsChildWithin, IsDegreeOf, IsDegreeWithin};
+ghost use Rattle.louds.specs.Answers.{IsChildRankOf, IsChildRankWithin, IsLeafOf, IsLeafWithin};
+ghost use Rattle.louds.specs.Answers.{IsNextSiblingOf, IsNextSiblingWithin, IsParentOf, IsParentWithin};
+ghost use Rattle.louds.specs.Answers.{IsPreviousSiblingOf, IsPreviousSiblingWithin};
 ghost use Rattle.louds.specs.Counted.{degrees_in, IsLouds};
-ghost use Rattle.louds_block.specs.Answers.{IsChildOf, IsChildWithin, IsDegreeOf, IsDegreeWithin};
-ghost use Rattle.louds_block.specs.Answers.{IsChildRankOf, IsChildRankWithin, IsLeafOf, IsLeafWithin};
-ghost use Rattle.louds_block.specs.Answers.{IsNextSiblingOf, IsNextSiblingWithin, IsParentOf, IsParentWithin};
-ghost use Rattle.louds_block.specs.Answers.{IsPreviousSiblingOf, IsPreviousSiblingWithin};
 ghost use Rattle.louds_block.specs.Block.{parts_of, tree_in, HasLengths, HasTreeSections, HoldsTree, IsTreeBlock};
 
 use crate::checking::holds_tree;

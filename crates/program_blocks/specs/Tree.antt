@@ -1,6 +1,6 @@
 -- What a tree answers.
 use Rattle.std.specs.Prelude.{◌≡◌, ℕ, List}
-use Rattle.louds_block.specs.Answers.{IsChildOf, IsChildRankOf, IsDegreeOf, IsNextSiblingOf, IsParentOf, IsPreviousSiblingOf}
+use Rattle.louds.specs.Answers.{IsChildOf, IsChildRankOf, IsDegreeOf, IsNextSiblingOf, IsParentOf, IsPreviousSiblingOf}
 use Rattle.program_blocks.specs.Reply.{answer_of}
 use Rattle.program_blocks.specs.declared.question.Question.{Question}
 use Rattle.program_blocks.specs.declared.question.Question.TheVariants.{One, Two}

@@ -2,10 +2,10 @@
 ghost use Rattle.std.specs.Prelude.{◌≡◌, ◌+◌, ◌-◌, ◌*◌, ◌<◌, ◌≤◌, IfSome, length, ℕ, List};
 ghost use Rattle.bit_lists.specs.Bits.{digit_count};
 ghost use Rattle.bitm_tables.specs.Tables.{HasSizes};
+ghost use Rattle.louds.specs.Answers.{IsChildWithin};
 ghost use Rattle.louds.specs.Counted.{degrees_in, IsLouds, OnlySelects};
 ghost use Rattle.louds.specs.Labels.{MatchesChildWith, Rise};
 ghost use Rattle.louds.specs.Tree.{AreChildren};
-ghost use Rattle.louds_block.specs.Answers.{IsChildWithin};
 ghost use Rattle.trie_block.specs.Answers.{IsChildByLabelOf, IsLongestOf, IsLongestWithin};
 ghost use Rattle.trie_block.specs.Answers.{IsNodeOf, IsNodeWithin};
 ghost use Rattle.trie_block.specs.Labels.{labels_of, Grow, HasLabels, IsFirstFrom, ReadsLabels};

@@ -1,6 +1,6 @@
 //! A trie in a block that may hold anything.
 ghost use Rattle.std.specs.Prelude.{◌≡◌, ◌↔◌, IsTrue, SomeIff, length};
-ghost use Rattle.louds_block.specs.Answers.{IsChildWithin};
+ghost use Rattle.louds.specs.Answers.{IsChildWithin};
 ghost use Rattle.trie_block.specs.Answers.{IsChildByLabelOf, IsEndOf, IsLabelOf, IsLongestOf, IsLongestWithin};
 ghost use Rattle.trie_block.specs.Answers.{IsNodeOf, IsNodeWithin, IsWordOf, IsWordWithin};
 ghost use Rattle.trie_block.specs.Block.{degrees_of_parts, labels_of_parts, trie_in, trie_of};

@@ -1,7 +1,7 @@
 -- What is answered is told, as 0 or 1.
 use Rattle.std.proofs.Common.{sym, subst}
 use Rattle.louds.specs.Counted.{degrees_in}
-use Rattle.louds_block.specs.Answers.{IsLeafOf, IsLeafWithin}
+use Rattle.louds.specs.Answers.{IsLeafOf, IsLeafWithin}
 use Rattle.bitm_abi.proofs.ToldLemmas.{told}
 use Rattle.bitm_block_c.specs.Tree.{IsLeaf}
 use Rattle.bitm_block_c.proofs.queries.bitm_tree_is_leaf.Goals as goal

@@ -1,8 +1,0 @@
--- The one of a node tells its parent, and each node has one.
-use Rattle.louds_block.proofs.queries.total_parent_on.Goals as goal
-
-pub returns-in-Some-clause-answer : goal.returns-in-Some-clause-answer
-returns-in-Some-clause-answer g c = λ h. c.parent_at.ensures.answer _ h.held.count (c.in-Some.ensures.place h)
-
-pub returns-in-None-clause-answer : goal.returns-in-None-clause-answer
-returns-in-None-clause-answer g c = λ h. c.in-None.ensures.place h
