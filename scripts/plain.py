@@ -28,10 +28,11 @@ bitm_view/src/view.rt rank_of:rank_on rank:rank_of
 elias_fano/src/finding.rt first_at_least:successor+found last_at_most:_by+found contains:_by
 elias_fano/src/items.rt item:_by+parts successor:first_at_least_by+parts
 elias_fano_view/src/sequence.rt item:get successor:first_at_least
-louds/src/counted.rt is_leaf_on:is_leaf_by parent_on:parent_by next_sibling_on:next_sibling_by zero_on:zero_by
-louds/src/node.rt degree_of:degree_from_on is_leaf_of:ends_after_on children_of:children_from_on parent_of:_by
-louds/src/tree.rt end degree:_from_on+zero child:_from_on+zero children:_from_on+zero zero:_by is_leaf:_by parent:_by
-    child_rank:_by next_sibling:_by previous_sibling:_by
+louds/src/counted.rt degree_on:total_degree_on child_on:total_child_on is_leaf_on:is_leaf_by parent_on:parent_by
+    next_sibling_on:next_sibling_by
+louds/src/node.rt degree_of:degree_after_on is_leaf_of:ends_after_on children_of:children_after_on parent_of:_by
+louds/src/tree.rt end:_after_on degree:_after_on+zero child:_after_on+zero children:_after_on+zero zero:_by is_leaf:_by
+    parent:_by child_rank:_by next_sibling:_by previous_sibling:_by
 perfect_hash/src/asking.rt number_by_on:total_number_by_on+found+tables_have_sizes total_number_by_on:number_by
 perfect_hash/src/table.rt get:number number:_by+found get_counted:number_by_on
 sharded_index/src/shard.rt rank:rank_of
@@ -122,8 +123,8 @@ CALL = re.compile(r"\b([a-z_]\w*)(?:::<[^();]*?>)?\(")
 # The forms of a branch that decides nothing: the trait's default, the answer of right words, and with samples or without.
 DEFAULT = re.compile(r"match (.*?) \{\s*Some\((\w+)\) => \2,\s*None => unreachable!\(\),\s*\}", re.S)
 ANSWERED = re.compile(
-    r"match (.*?) \{\s*Answer::Found\((\w+)\) => (?:Some\(\2\),\s*Answer::Absent => None,\s*Answer::Wrong|\2,\s*_)"
-    r" => unreachable!\(\),\s*\}", re.S)
+    r"match (.*?) \{\s*Answer::Found\((?:(\w+)|\((\w+), (\w+)\))\) => "
+    r"(?:Some\(\2\),\s*Answer::Absent => None,\s*Answer::Wrong|\2,\s*_|\3\.\.\4,\s*_) => unreachable!\(\),\s*\}", re.S)
 SAMPLED = re.compile(r"if samples\.samples\.is_empty\(\) \{\s*return ([^;]*);\s*\}")
 # Calls that read neither words nor tables.
 HANDED = set("""all_parts as_slice by_ones by_zeros hash into_reads is_one keys l1ranks l2ranks len low_digits new

@@ -1,28 +1,14 @@
 //! The calls of a tree over any source, by binary search: what they read is counted.
-ghost use Rattle.std.specs.Prelude.{◌≡◌, ◌==◌, ◌^◌, ◌<◌, ◌≤◌, slice_index};
+ghost use Rattle.std.specs.Prelude.{◌≡◌, ◌==◌, ◌<◌, slice_index};
 ghost use Rattle.louds.specs.Counted.{degrees_in, IsLouds, OnlySelects};
-ghost use Rattle.louds.specs.Held.{zero_place};
 ghost use Rattle.louds.specs.Tree.{MatchesChild, MatchesNextSibling, MatchesParent};
 
+use crate::children::{total_child_on, total_degree_on};
 use crate::queries::{is_leaf_by, next_sibling_by, parent_by};
-use crate::selecting::zero_by;
 use bitm::index_laws;
 use bitm_select::search::selecting::ByTables;
-use bitm_strategies::BinaryRankSearch;
 use bitm_tables::answer::Answer;
 use bitm_tables::source::TableSource;
-
-/// The position of the 0 bit before the 1 bits of a node, or of the last 0 bit.
-#[inline(always)]
-pub(crate) fn zero_on<T: TableSource>(source: &mut T, len: usize, node: usize) -> usize
-    requires tree { IsLouds len (T.lists source.old) }
-    requires node { node ≤ len }
-    ensures place { result ≡ zero_place (degrees_in len (T.lists source.old)) node }
-    ensures small { result < 2 ^ 62 }
-    ensures reads { OnlySelects T.lists T.reads source.old source.new 1 0 }
-{
-    zero_by(&BinaryRankSearch, source, len, node)
-}
 
 /// How many children a node has.
 ///
@@ -30,16 +16,17 @@ pub(crate) fn zero_on<T: TableSource>(source: &mut T, len: usize, node: usize) -
 /// The source holds a tree of `len` nodes, and there is such a node.
 /// # Cost
 /// What two selections by binary search read.
-#[tactic(auto, using(crate::proofs::lemmas::TreeLemmas::zero_place_more))]
 pub fn degree_on<T: TableSource>(source: &mut T, len: usize, node: usize) -> usize
     requires tree { IsLouds len (T.lists source.old) }
     requires node { node < len }
     ensures degree { result ≡ slice_index (degrees_in len (T.lists source.old)) node }
     ensures reads { OnlySelects T.lists T.reads source.old source.new 2 0 }
 {
-    let start = zero_on(source, len, node);
-    let end = zero_on(source, len, node + 1);
-    end - start - 1
+    index_laws::tables_have_sizes();
+    match total_degree_on(source, len, node) {
+        Answer::Found(degree) => degree,
+        _ => unreachable!(),
+    }
 }
 
 /// Whether a node has no children.
@@ -67,19 +54,17 @@ pub fn is_leaf_on<T: TableSource>(source: &mut T, len: usize, node: usize) -> bo
 /// The source holds a tree of `len` nodes, and there is such a node.
 /// # Cost
 /// What two selections by binary search read.
-#[tactic(auto, using(crate::proofs::lemmas::TreeLemmas::zero_place_more))]
 pub fn child_on<T: TableSource>(source: &mut T, len: usize, node: usize, k: usize) -> Option<usize>
     requires tree { IsLouds len (T.lists source.old) }
     requires node { node < len }
     ensures child { MatchesChild (degrees_in len (T.lists source.old)) node k result }
     ensures reads { OnlySelects T.lists T.reads source.old source.new 2 0 }
 {
-    let start = zero_on(source, len, node);
-    let end = zero_on(source, len, node + 1);
-    if k < end - start - 1 {
-        Some(start + k - node)
-    } else {
-        None
+    index_laws::tables_have_sizes();
+    match total_child_on(source, len, node, k) {
+        Answer::Found(child) => Some(child),
+        Answer::Absent => None,
+        Answer::Wrong => unreachable!(),
     }
 }
 

@@ -16,6 +16,7 @@
 
 // What is in each file:
 // - `checking`: which lists of degrees are trees
+// - `children`: degrees and children, one body for each, over any source
 // - `climbing`: ways up and down from nodes
 // - `counted`: the calls of a tree over any source, with a bound on their reads
 // - `error`: why degrees were refused
@@ -27,10 +28,10 @@
 // - `node`: nodes that carry their positions
 // - `parents`: a tree from the list of its nodes' parents
 // - `queries`: parents, leaves and siblings, one body for each, over any source and by any way to find a bit
-// - `run`: the 1 bits of a node, one for each child
-// - `selecting`: the calls that select, over any source and by any selection
+// - `selecting`: where the bits of a node stand, over any source and by any selection
 // - `tree`: the type of a tree, and its queries
 mod checking;
+pub mod children;
 mod climbing;
 pub mod counted;
 mod error;
@@ -42,7 +43,6 @@ mod near;
 mod node;
 mod parents;
 pub mod queries;
-mod run;
 mod selecting;
 mod tree;
 

@@ -1,13 +1,14 @@
 //! Nodes that carry their positions, so that a walk selects once where it goes. What is read from a node's position on,
-//! the clauses of `run` count; what a selection by the tree's own strategy reads, no clause here does.
+//! the clauses of `children` count; what a selection by the tree's own strategy reads, no clause here does.
 ghost use Rattle.std.specs.Prelude.{◌≡◌, ◌==◌, ◌<◌, length, slice_index};
 ghost use Rattle.louds.specs.Node.{IsNode, MatchesChildNode, MatchesNextSiblingNode, MatchesParentNode};
 ghost use Rattle.louds.specs.Tree.{AreChildren, IsChild};
 
-use crate::run::{children_from_on, degree_from_on, ends_after_on};
+use crate::children::{children_after_on, degree_after_on, ends_after_on};
 use crate::selecting::parent_of_by;
 use crate::tree::Louds;
 use bitm_strategies::{Select0ForRank101111, SelectForRank101111};
+use bitm_tables::answer::Answer;
 use std::marker::Model;
 use std::ops::Range;
 
@@ -86,7 +87,10 @@ impl<S: SelectForRank101111, S0: Select0ForRank101111> Louds<S, S0> {
         requires { IsNode self.now.degrees node }
         ensures { result ≡ slice_index self.now.degrees node.number }
     {
-        degree_from_on(&mut self.probe(), self.len(), node.number, node.place)
+        match degree_after_on(&mut self.probe(), self.len(), node.number, node.place) {
+            Answer::Found(degree) => degree,
+            _ => unreachable!(),
+        }
     }
 
     /// Whether a node has no children: `is_leaf` without its selection.
@@ -114,7 +118,10 @@ impl<S: SelectForRank101111, S0: Select0ForRank101111> Louds<S, S0> {
         requires { IsNode self.now.degrees node }
         ensures { AreChildren self.now.degrees node.number result.start result.end }
     {
-        children_from_on(&mut self.probe(), self.len(), node.number, node.place)
+        match children_after_on(&mut self.probe(), self.len(), node.number, node.place) {
+            Answer::Found((first, past)) => first..past,
+            _ => unreachable!(),
+        }
     }
 
     /// Child `k` of a node that has more than `k` children: `child_of` without its test.

@@ -8,9 +8,9 @@ ghost use Rattle.louds.specs.Held.{zero_place, IsOneOf};
 ghost use Rattle.louds.specs.Node.{MatchesParentNode};
 ghost use Rattle.louds.specs.Tree.{IsChild};
 
+use crate::children::NEAR_WORDS;
 use crate::near::near_last_zero_on;
 use crate::node::Node;
-use crate::run::NEAR;
 use bitm_selection::Selection;
 use bitm_tables::source::TableSource;
 
@@ -94,7 +94,7 @@ fn start_by<F: Selection, T: TableSource>(
     ensures reads { OnlySelectsBy T.lists T.reads source.old source.new
         (F.most (T.lists source.old)) 1 2 }
 {
-    match near_last_zero_on::<NEAR, T>(source, one) {
+    match near_last_zero_on::<NEAR_WORDS, T>(source, one) {
         Some(place) => place,
         None => far_zero_by(selection, source, len, one - node - 1),
     }

@@ -12,10 +12,10 @@ ghost use Rattle.louds.specs.Tree.{AreChildren, IsTree, MatchesChild, MatchesLas
 ghost use Rattle.louds.specs.Tree.{MatchesParent, MatchesChildRank, MatchesNextSibling, MatchesPreviousSibling};
 
 use crate::checking::is_tree;
+use crate::children::{child_after_on, children_after_on, degree_after_on, end_after_on};
 use crate::error::LoudsError;
 use crate::making::make_bits;
 use crate::queries::{child_rank_by, is_leaf_by, next_sibling_by, parent_by, previous_sibling_by};
-use crate::run::{child_from_on, children_from_on, degree_from_on, end_on};
 use crate::selecting::zero_by;
 use bitm::{RankSelect101111, index_laws};
 use bitm_bits::GetSize;
@@ -103,13 +103,16 @@ impl<S: SelectForRank101111, S0: Select0ForRank101111> Louds<S, S0> {
         self.len
     }
 
-    /// A source over the bits and the tables, with no reads counted yet: what the calls of `counted` take.
+    /// A source over the bits and the tables, with no reads counted yet: what the calls of `counted`, `queries` and
+    /// `children` take.
     #[inline(always)]
     pub fn probe(&self) -> Probe<'_>
         ensures tree { IsLouds (length self.now.degrees) result.lists }
         ensures degrees { degrees_in (length self.now.degrees) result.lists ≡ self.now.degrees }
+        ensures sized { HasSizes result.lists }
         ensures reads { result.reads ≡ none_read }
     {
+        index_laws::tables_have_sizes();
         self.index.probe()
     }
 
@@ -141,7 +144,7 @@ impl<S: SelectForRank101111, S0: Select0ForRank101111> Louds<S, S0> {
     /// The position of the 0 bit after the 1 bits of a node, where that before them stands at `start`.
     ///
     /// # Cost
-    /// That of `run::end_on`.
+    /// Two words, and what a selection by binary search reads where these have no 0 bit after `start`.
     #[inline(always)]
     pub(crate) fn end(&self, node: usize, start: usize) -> usize
         requires node { node < length self.now.degrees }
@@ -149,7 +152,10 @@ impl<S: SelectForRank101111, S0: Select0ForRank101111> Louds<S, S0> {
         ensures place { result ≡ zero_place self.now.degrees (node + 1) }
         ensures small { result < 2 ^ 62 }
     {
-        end_on(&mut self.probe(), self.len(), node, start)
+        match end_after_on(&mut self.probe(), self.len(), node, start) {
+            Some(end) => end,
+            None => unreachable!(),
+        }
     }
 
     /// How many children a node has.
@@ -163,7 +169,10 @@ impl<S: SelectForRank101111, S0: Select0ForRank101111> Louds<S, S0> {
         requires { node < length self.now.degrees }
         ensures { result ≡ slice_index self.now.degrees node }
     {
-        degree_from_on(&mut self.probe(), self.len(), node, self.zero(node))
+        match degree_after_on(&mut self.probe(), self.len(), node, self.zero(node)) {
+            Answer::Found(degree) => degree,
+            _ => unreachable!(),
+        }
     }
 
     /// Whether a node has no children.
@@ -189,14 +198,18 @@ impl<S: SelectForRank101111, S0: Select0ForRank101111> Louds<S, S0> {
     /// # Conditions
     /// There is such a node.
     /// # Cost
-    /// One selection and two words; where it has more than 64 children a selection by binary search too.
+    /// One selection and two words; where `k` is 64 or more a selection by binary search too.
     #[inline]
     pub fn child(&self, node: usize, k: usize) -> Option<usize>
         requires { node < length self.now.degrees }
         ensures child { MatchesChild self.now.degrees node k result }
         ensures inside { IfSome result (λ child. child < length self.now.degrees) }
     {
-        child_from_on(&mut self.probe(), self.len(), node, self.zero(node), k)
+        match child_after_on(&mut self.probe(), self.len(), node, self.zero(node), k) {
+            Answer::Found(child) => Some(child),
+            Answer::Absent => None,
+            Answer::Wrong => unreachable!(),
+        }
     }
 
     /// The first child of a node; `None` exactly where it has none.
@@ -204,7 +217,7 @@ impl<S: SelectForRank101111, S0: Select0ForRank101111> Louds<S, S0> {
     /// # Conditions
     /// There is such a node.
     /// # Cost
-    /// One selection and two words; where it has more than 64 children a selection by binary search too.
+    /// One selection and two words.
     #[inline]
     pub fn first_child(&self, node: usize) -> Option<usize>
         requires { node < length self.now.degrees }
@@ -225,7 +238,10 @@ impl<S: SelectForRank101111, S0: Select0ForRank101111> Louds<S, S0> {
         requires { node < length self.now.degrees }
         ensures { AreChildren self.now.degrees node result.start result.end }
     {
-        children_from_on(&mut self.probe(), self.len(), node, self.zero(node))
+        match children_after_on(&mut self.probe(), self.len(), node, self.zero(node)) {
+            Answer::Found((first, past)) => first..past,
+            _ => unreachable!(),
+        }
     }
 
     /// The last child of a node; `None` exactly where it has none.

@@ -1,4 +1,3 @@
 pub mod BlockLemmas
 pub mod CheckLemmas
 pub mod LeadLemmas
-pub mod NearLemmas

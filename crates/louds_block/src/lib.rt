@@ -21,31 +21,27 @@
 // What is in each file:
 // - `building`: the block of a tree, written into the caller's memory
 // - `checking`: whether words hold a tree
-// - `children`: the children of a node, side by side, over any source
 // - `error`: why no block was written
 // - `lists`: lists of parents, degrees and children over any source
-// - `queries`: parents, children and degrees over any source
+// - `queries`: parents, leaves, siblings and ranks among siblings over any source
 // - `sections`: the sections of the block of a tree
-// - `siblings`: leaves, siblings and ranks among siblings over any source
 // - `tree`: the view of a block, and its queries
 mod building;
 mod checking;
-mod children;
 mod error;
 mod lists;
 mod queries;
 mod sections;
-mod siblings;
 mod tree;
 
 pub use bitm_tables::answer::Answer;
 pub use building::{build, write_tree};
-pub use children::total_children_on;
 pub use error::BuildError;
 pub use lists::{total_child_list_on, total_degree_list_on, total_parent_list_on};
-pub use queries::{total_child_on, total_degree_on, total_parent_on};
-pub use sections::{LOUDS, Lens, size};
-pub use siblings::{
-    total_child_rank_on, total_is_leaf_on, total_next_sibling_on, total_previous_sibling_on,
+pub use louds::children::{total_child_on, total_children_on, total_degree_on};
+pub use queries::{
+    total_child_rank_on, total_is_leaf_on, total_next_sibling_on, total_parent_on,
+    total_previous_sibling_on,
 };
+pub use sections::{LOUDS, Lens, size};
 pub use tree::LoudsView;

@@ -9,12 +9,12 @@ ghost use Rattle.louds.specs.Counted.{OnlySelects};
 ghost use Rattle.louds_block.specs.Block.{TreeParts};
 ghost use Rattle.louds_block.specs.Told.{in_lists, IsChild, IsCodeOf, IsDegree, IsParent};
 
-use crate::queries::{child_after_on, degree_after_on};
 use crate::tree::LoudsView;
 use bitm_many::lists::total_select_many_on;
 use bitm_select::search::selected::told;
 use bitm_tables::answer::Answer;
 use bitm_tables::source::TableSource;
+use louds::children::{child_after_on, degree_after_on};
 use louds::queries::parent_at;
 
 /// A query of a node, which is answered from the position of a bit: of the 1 bit with the node's rank, or of the 0 bit

@@ -9,14 +9,15 @@ ghost use Rattle.louds.specs.Counted.{degrees_in, IsLouds};
 ghost use Rattle.louds_block.specs.Block.{parts_of, tree_in, HasLengths, HasTreeSections, HoldsTree, IsTreeBlock};
 
 use crate::checking::holds_tree;
-use crate::queries::{total_child_on, total_degree_on, total_parent_on};
-use crate::sections::{LOUDS, Lens};
-use crate::siblings::{
-    total_child_rank_on, total_is_leaf_on, total_next_sibling_on, total_previous_sibling_on,
+use crate::queries::{
+    total_child_rank_on, total_is_leaf_on, total_next_sibling_on, total_parent_on,
+    total_previous_sibling_on,
 };
+use crate::sections::{LOUDS, Lens};
 use bitm_block::Block;
 use bitm_tables::answer::Answer;
 use block_tables::{BlockProbe, are_tables};
+use louds::children::{total_child_on, total_degree_on};
 use std::marker::Model;
 
 /// Whether header and directory are those of words with two tables, of the kind of a tree.

@@ -13,7 +13,7 @@ ghost use Rattle.trie_block.specs.Labels.{labels_of, Grow, HasLabels, IsFirstFro
 use crate::labels::LabelProbe;
 use bitm_tables::answer::Answer;
 use bitm_tables::source::TableSource;
-use louds_block::total_children_on;
+use louds::children::total_children_on;
 use suffix_order::Letters;
 
 /// Of the nodes from `first` on and before `past`, the first whose label is not less than the given one, by halving;

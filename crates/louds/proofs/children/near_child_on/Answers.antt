@@ -5,9 +5,9 @@ use Rattle.bit_lists.specs.Count.{IsLastTo}
 use Rattle.bitm_tables.specs.Tables.{bits_in}
 use Rattle.louds.specs.Counted.{degrees_in}
 use Rattle.louds.specs.Held.{zero_place}
-use Rattle.louds_block.proofs.NearLemmas.{has_child, no_child, no_room}
-use Rattle.louds_block.proofs.queries.near_child_on.Goals as goal
-use Rattle.louds_block.proofs.queries.near_child_on.Goals.{After-near_last_zero_on}
+use Rattle.louds.proofs.lemmas.ChildLemmas.{has_child, no_child, no_room}
+use Rattle.louds.proofs.children.near_child_on.Goals as goal
+use Rattle.louds.proofs.children.near_child_on.Goals.{After-near_last_zero_on}
 
 pub returns-then-place-words_len-clause-answer : goal.returns-then-place-words_len-clause-answer
 returns-then-place-words_len-clause-answer g c = λ h start.

@@ -1,7 +1,7 @@
--- The zero after a node's ones stands behind that before them.
+-- The 0 bit after a node's 1 bits stands behind that before them, by the children of the node.
 use Rattle.std.proofs.Common.{arith}
 use Rattle.louds.proofs.lemmas.TreeLemmas.{zero_place_more}
-use Rattle.louds_block.proofs.queries.child_between.Goals as goal
+use Rattle.louds.proofs.children.children_between.Goals as goal
 
 pub returns-then-end-start-clause-answer : goal.returns-then-end-start-clause-answer
 returns-then-end-start-clause-answer c = λ d len _ from to.

@@ -3,7 +3,7 @@ use Rattle.std.proofs.Common.{◌+◌, not, ap, ◌∙◌, arith}
 use Rattle.bit_lists.specs.Bits.{item}
 use Rattle.bitm_tables.specs.Tables.{bits_in}
 use Rattle.louds.proofs.lemmas.HeldLemmas.{after_zero_inside, bit_after_zero}
-use Rattle.louds.proofs.run.ends_after_on.Goals as goal
+use Rattle.louds.proofs.children.ends_after_on.Goals as goal
 
 pub unreachable-requires : goal.unreachable-requires
 unreachable-requires g c =

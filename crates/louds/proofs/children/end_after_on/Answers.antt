@@ -5,7 +5,7 @@ use Rattle.bit_lists.specs.Count.{IsFirstFrom}
 use Rattle.louds.specs.Counted.{degrees_in}
 use Rattle.louds.specs.Held.{zero_place}
 use Rattle.louds.proofs.lemmas.HeldLemmas.{run_end, zero_small}
-use Rattle.louds_block.proofs.queries.total_end_on.Goals as goal
+use Rattle.louds.proofs.children.end_after_on.Goals as goal
 
 pub returns-in-Some-clause-place : goal.returns-in-Some-clause-place
 returns-in-Some-clause-place g c = λ h start.

@@ -3,7 +3,7 @@
 use Rattle.std.proofs.Common.{◌<◌, length, arith}
 use Rattle.std.proofs.lemmas.List.Sums.{sum_by_more_le}
 use Rattle.louds.proofs.lemmas.TreeLemmas.{zero_place_more}
-use Rattle.louds_block.proofs.queries.degree_between.Goals as goal
+use Rattle.louds.proofs.children.degree_between.Goals as goal
 
 pub returns-then-end-start-clause-answer : goal.returns-then-end-start-clause-answer
 returns-then-end-start-clause-answer c = λ d len tree from to.

@@ -1,0 +1,379 @@
+//! Degrees and children, one body for each: over any source, of which the words and tables may hold anything, by binary
+//! search. The calls of the tree, those of `counted` and those over a block run them.
+ghost use Rattle.std.specs.Prelude.{◌≡◌, ◌==◌, ◌+◌, ◌-◌, ◌^◌, ◌<◌, ◌≤◌, ℕ, List, length, slice_index, IfSome, Some};
+ghost use Rattle.bitm_tables.specs.Reads.{OnlyReads};
+ghost use Rattle.bitm_tables.specs.Tables.{HasSizes};
+ghost use Rattle.louds.specs.Answers.{AreChildrenOf, AreChildrenWithin, IsChildOf, IsChildWithin};
+ghost use Rattle.louds.specs.Answers.{IsDegreeOf, IsDegreeWithin};
+ghost use Rattle.louds.specs.Counted.{degrees_in, IsLouds, OnlySelects};
+ghost use Rattle.louds.specs.Held.{zero_place};
+ghost use Rattle.louds.specs.Tree.{IsTree};
+
+use crate::near::near_last_zero_on;
+use crate::queries::zero_by;
+use bitm::near_zero_on;
+use bitm_select::search::selecting::ByTables;
+use bitm_tables::answer::Answer;
+use bitm_tables::ranking::bit_on;
+use bitm_tables::source::TableSource;
+
+/// In how many words the 1 bits of a node are looked at before their end is selected: up to which child, and how many
+/// words these bits and the 0 bit before them are in at most.
+const NEAR: usize = 64;
+
+pub(crate) const NEAR_WORDS: usize = 2;
+
+/// The position of the 0 bit before the 1 bits of a node, or of the last 0 bit; `None` only where the source holds no
+/// tree.
+#[inline(always)]
+fn total_zero_on<T: TableSource>(source: &mut T, len: usize, node: usize) -> Option<usize>
+    requires sized { HasSizes (T.lists source.old) }
+    requires node { node ≤ len }
+    ensures place { IsLouds len (T.lists source.old)
+        → result ≡ Some (zero_place (degrees_in len (T.lists source.old)) node) }
+    ensures small { IfSome result (λ place. place < 2 ^ 64 - 1) }
+    ensures reads { OnlySelects T.lists T.reads source.old source.new 1 0 }
+{
+    zero_by(&ByTables, source, len, node)
+}
+
+/// Child `k` of a node that has more than `k` children, of which the 0 bit before its 1 bits stands at `start`; `Wrong`
+/// only where it does not.
+#[inline(always)]
+fn child_from(start: usize, len: usize, node: usize, k: usize) -> Answer<usize>
+    requires node { node < len }
+    requires room { start + k < 2 ^ 64 }
+    ensures inside { IsChildWithin len node result }
+    ensures answer { (d : List ℕ) → len ≡ length d → IsTree d → start ≡ zero_place d node
+        → k < slice_index d node → IsChildOf d node k result }
+{
+    match (start + k).checked_sub(node) {
+        Some(child) if node < child && child < len => Answer::Found(child),
+        _ => Answer::Wrong,
+    }
+}
+
+/// Child `k` of a node, of which the 0 bits before and after its 1 bits stand at `start` and `end`; `Wrong` only where
+/// they do not.
+#[inline(always)]
+fn child_between(start: usize, end: usize, len: usize, node: usize, k: usize) -> Answer<usize>
+    requires { node < len }
+    ensures inside { IsChildWithin len node result }
+    ensures answer { (d : List ℕ) → len ≡ length d → IsTree d → start ≡ zero_place d node
+        → end ≡ zero_place d (node + 1) → IsChildOf d node k result }
+{
+    if end <= start {
+        return Answer::Wrong;
+    }
+    if k >= end - start - 1 {
+        return Answer::Absent;
+    }
+    child_from(start, len, node, k)
+}
+
+/// Child `k` of a node, one of its first 64, of which the 0 bit before its 1 bits stands at `start`; `Wrong` only where
+/// the source holds no tree.
+///
+/// The last 0 bit up to where the child's 1 bit would stand is that at `start` exactly where there is such a child.
+#[inline(always)]
+fn near_child_on<T: TableSource>(
+    source: &mut T,
+    len: usize,
+    node: usize,
+    start: usize,
+    k: usize,
+) -> Answer<usize>
+    requires sized { HasSizes (T.lists source.old) }
+    requires node { node < len }
+    requires near { k < 64 }
+    ensures inside { IsChildWithin len node result }
+    ensures answer { IsLouds len (T.lists source.old)
+        → start ≡ zero_place (degrees_in len (T.lists source.old)) node
+        → IsChildOf (degrees_in len (T.lists source.old)) node k result }
+    ensures reads { OnlyReads T.lists T.reads source.old source.new 0 0 2 }
+{
+    let place = start.saturating_add(k + 1);
+    if place / 64 >= source.words_len() {
+        return Answer::Absent;
+    }
+    match near_last_zero_on::<NEAR_WORDS, T>(source, place) {
+        Some(last) if last > start => Answer::Absent,
+        Some(last) if last == start => child_from(start, len, node, k),
+        _ => Answer::Wrong,
+    }
+}
+
+/// Child `k` of a node, of which the 0 bit before its 1 bits stands at `start`; `Wrong` only where it does not, or the
+/// source holds no tree.
+///
+/// # Conditions
+/// There are fewer than 2^58 words, and the tables have the right lengths. They may hold anything. There is such a
+/// node.
+/// # Cost
+/// Two words where `k` is less than 64, and what a selection by binary search reads otherwise, whatever the source
+/// holds.
+#[inline(always)]
+pub fn child_after_on<T: TableSource>(
+    source: &mut T,
+    len: usize,
+    node: usize,
+    start: usize,
+    k: usize,
+) -> Answer<usize>
+    requires sized { HasSizes (T.lists source.old) }
+    requires node { node < len }
+    ensures inside { IsChildWithin len node result }
+    ensures answer { IsLouds len (T.lists source.old)
+        → start ≡ zero_place (degrees_in len (T.lists source.old)) node
+        → IsChildOf (degrees_in len (T.lists source.old)) node k result }
+    ensures near { k < 64 → OnlyReads T.lists T.reads source.old source.new 0 0 2 }
+    ensures reads { OnlySelects T.lists T.reads source.old source.new 1 0 }
+{
+    if k < NEAR {
+        return near_child_on(source, len, node, start, k);
+    }
+    match total_zero_on(source, len, node + 1) {
+        Some(end) => child_between(start, end, len, node, k),
+        None => Answer::Wrong,
+    }
+}
+
+/// Child `k` of a node, by its number.
+///
+/// Whatever the source holds, a child is more than the node and less than the number of nodes. Where it holds a tree,
+/// the answer is the child, `Absent` exactly where there is none, and never `Wrong`.
+///
+/// # Conditions
+/// There are fewer than 2^58 words, and the tables have the right lengths. They may hold anything.
+/// # Cost
+/// What two selections by binary search read, whatever the source holds; of the first 64 children what one selection
+/// reads, and two words.
+///
+/// ```
+/// total_child_on(&mut source, 4, 0, 1);   // Found(2), Absent or Wrong
+/// ```
+pub fn total_child_on<T: TableSource>(
+    source: &mut T,
+    len: usize,
+    node: usize,
+    k: usize,
+) -> Answer<usize>
+    requires { HasSizes (T.lists source.old) }
+    ensures inside { IsChildWithin len node result }
+    ensures answer { IsLouds len (T.lists source.old)
+        → IsChildOf (degrees_in len (T.lists source.old)) node k result }
+    ensures near { k < 64 → OnlySelects T.lists T.reads source.old source.new 1 2 }
+    ensures reads { OnlySelects T.lists T.reads source.old source.new 2 0 }
+{
+    if node >= len {
+        return Answer::Absent;
+    }
+    match total_zero_on(source, len, node) {
+        Some(start) => child_after_on(source, len, node, start, k),
+        None => Answer::Wrong,
+    }
+}
+
+/// The degree of a node, of which the 0 bits before and after its 1 bits stand at `start` and `end`; `Wrong` only where
+/// they do not.
+#[inline(always)]
+fn degree_between(start: usize, end: usize, len: usize, node: usize) -> Answer<usize>
+    requires { node < len }
+    ensures inside { IsDegreeWithin len node result }
+    ensures answer { (d : List ℕ) → len ≡ length d → IsTree d → start ≡ zero_place d node
+        → end ≡ zero_place d (node + 1) → IsDegreeOf d node result }
+{
+    if end <= start {
+        return Answer::Wrong;
+    }
+    let degree = end - start - 1;
+    if degree < len {
+        return Answer::Found(degree);
+    }
+    Answer::Wrong
+}
+
+/// The position of the 0 bit after the 1 bits of a node, of which that before them stands at `start`; `None` only where
+/// it does not, or the source holds no tree.
+#[inline(always)]
+pub(crate) fn end_after_on<T: TableSource>(
+    source: &mut T,
+    len: usize,
+    node: usize,
+    start: usize,
+) -> Option<usize>
+    requires sized { HasSizes (T.lists source.old) }
+    requires node { node < len }
+    ensures place { IsLouds len (T.lists source.old)
+        → start ≡ zero_place (degrees_in len (T.lists source.old)) node
+        → result ≡ Some (zero_place (degrees_in len (T.lists source.old)) (node + 1)) }
+    ensures reads { OnlySelects T.lists T.reads source.old source.new 1 2 }
+{
+    match near_zero_on::<NEAR_WORDS, T>(source, start.saturating_add(1)) {
+        Some(end) => Some(end),
+        None => total_zero_on(source, len, node + 1),
+    }
+}
+
+/// The degree of a node, of which the 0 bit before its 1 bits stands at `start`; `Wrong` only where it does not, or the
+/// source holds no tree.
+///
+/// # Conditions
+/// There are fewer than 2^58 words, and the tables have the right lengths. They may hold anything. There is such a
+/// node.
+/// # Cost
+/// Two words, and what a selection by binary search reads where these have no 0 bit after `start`, whatever the source
+/// holds.
+#[inline(always)]
+pub fn degree_after_on<T: TableSource>(
+    source: &mut T,
+    len: usize,
+    node: usize,
+    start: usize,
+) -> Answer<usize>
+    requires sized { HasSizes (T.lists source.old) }
+    requires node { node < len }
+    ensures inside { IsDegreeWithin len node result }
+    ensures answer { IsLouds len (T.lists source.old)
+        → start ≡ zero_place (degrees_in len (T.lists source.old)) node
+        → IsDegreeOf (degrees_in len (T.lists source.old)) node result }
+    ensures reads { OnlySelects T.lists T.reads source.old source.new 1 2 }
+{
+    match end_after_on(source, len, node, start) {
+        Some(end) => degree_between(start, end, len, node),
+        None => Answer::Wrong,
+    }
+}
+
+/// How many children a node has, by its number.
+///
+/// Whatever the source holds, that is less than the number of nodes, and the answer is `Absent` exactly where there is
+/// no such node. Where it holds a tree, the answer is the degree, and never `Wrong`.
+///
+/// # Conditions
+/// There are fewer than 2^58 words, and the tables have the right lengths. They may hold anything.
+/// # Cost
+/// What two selections by binary search read, whatever the source holds.
+///
+/// ```
+/// total_degree_on(&mut source, 4, 0);   // Found(2), Absent or Wrong
+/// ```
+pub fn total_degree_on<T: TableSource>(source: &mut T, len: usize, node: usize) -> Answer<usize>
+    requires { HasSizes (T.lists source.old) }
+    ensures inside { IsDegreeWithin len node result }
+    ensures answer { IsLouds len (T.lists source.old)
+        → IsDegreeOf (degrees_in len (T.lists source.old)) node result }
+    ensures reads { OnlySelects T.lists T.reads source.old source.new 2 0 }
+{
+    if node >= len {
+        return Answer::Absent;
+    }
+    let start = total_zero_on(source, len, node);
+    let end = total_zero_on(source, len, node + 1);
+    match (start, end) {
+        (Some(start), Some(end)) => degree_between(start, end, len, node),
+        _ => Answer::Wrong,
+    }
+}
+
+/// The children of a node, of which the 0 bits before and after its 1 bits stand at `start` and `end`; `Wrong` only
+/// where they do not.
+#[inline(always)]
+fn children_between(start: usize, end: usize, len: usize, node: usize) -> Answer<(usize, usize)>
+    requires { node < len }
+    ensures inside { AreChildrenWithin len node result }
+    ensures answer { (d : List ℕ) → len ≡ length d → IsTree d → start ≡ zero_place d node
+        → end ≡ zero_place d (node + 1) → AreChildrenOf d node result }
+{
+    if end <= start {
+        return Answer::Wrong;
+    }
+    match start.checked_sub(node) {
+        Some(first) if node < first && end - 1 - node <= len => {
+            Answer::Found((first, end - 1 - node))
+        }
+        _ => Answer::Wrong,
+    }
+}
+
+/// The children of a node, of which the 0 bit before its 1 bits stands at `start`; `Wrong` only where it does not, or
+/// the source holds no tree.
+#[inline(always)]
+pub(crate) fn children_after_on<T: TableSource>(
+    source: &mut T,
+    len: usize,
+    node: usize,
+    start: usize,
+) -> Answer<(usize, usize)>
+    requires sized { HasSizes (T.lists source.old) }
+    requires node { node < len }
+    ensures answer { IsLouds len (T.lists source.old)
+        → start ≡ zero_place (degrees_in len (T.lists source.old)) node
+        → AreChildrenOf (degrees_in len (T.lists source.old)) node result }
+    ensures reads { OnlySelects T.lists T.reads source.old source.new 1 2 }
+{
+    match end_after_on(source, len, node, start) {
+        Some(end) => children_between(start, end, len, node),
+        None => Answer::Wrong,
+    }
+}
+
+/// The children of a node, by its number: the nodes from the first of the two numbers on, and before the second.
+///
+/// Whatever the source holds, these are nodes after the given one, and the answer is `Absent` exactly where there is no
+/// such node. Where it holds a tree, they are the children in their order, and the answer is never `Wrong`.
+///
+/// # Conditions
+/// There are fewer than 2^58 words, and the tables have the right lengths. They may hold anything.
+/// # Cost
+/// What two selections by binary search read, whatever the source holds.
+///
+/// ```
+/// total_children_on(&mut source, 4, 0);   // Found((1, 3)), Absent or Wrong
+/// ```
+pub fn total_children_on<T: TableSource>(
+    source: &mut T,
+    len: usize,
+    node: usize,
+) -> Answer<(usize, usize)>
+    requires { HasSizes (T.lists source.old) }
+    ensures inside { AreChildrenWithin len node result }
+    ensures answer { IsLouds len (T.lists source.old)
+        → AreChildrenOf (degrees_in len (T.lists source.old)) node result }
+    ensures reads { OnlySelects T.lists T.reads source.old source.new 2 0 }
+{
+    if node >= len {
+        return Answer::Absent;
+    }
+    let start = total_zero_on(source, len, node);
+    let end = total_zero_on(source, len, node + 1);
+    match (start, end) {
+        (Some(start), Some(end)) => children_between(start, end, len, node),
+        _ => Answer::Wrong,
+    }
+}
+
+/// Whether a node has no children, where the 0 bit before its 1 bits stands at `start`.
+///
+/// # Conditions
+/// The source holds a tree of `len` nodes, and there is such a node.
+/// # Cost
+/// One word.
+#[inline(always)]
+pub(crate) fn ends_after_on<T: TableSource>(
+    source: &mut T,
+    len: usize,
+    node: usize,
+    start: usize,
+) -> bool
+    requires tree { IsLouds len (T.lists source.old) }
+    requires node { node < len }
+    requires start { start ≡ zero_place (degrees_in len (T.lists source.old)) node }
+    ensures leaf { result ≡ (slice_index (degrees_in len (T.lists source.old)) node == 0) }
+    ensures reads { OnlyReads T.lists T.reads source.old source.new 0 0 1 }
+{
+    match bit_on(source, start + 1) {
+        Some(bit) => !bit,
+        None => unreachable!(),
+    }
+}
