@@ -214,7 +214,8 @@ impl<S: SelectForRank101111, S0: Select0ForRank101111> Access for SparseBits<S, 
     fn try_get_bit(&self, place: usize) -> Option<bool> {
         match self.asked().bit_in(place) {
             Answer::Found(bit) => Some(bit),
-            Answer::Absent | Answer::Wrong => None,
+            Answer::Absent => None,
+            Answer::Wrong => unreachable!(),
         }
     }
 
@@ -228,7 +229,7 @@ impl<S: SelectForRank101111, S0: Select0ForRank101111> Access for SparseBits<S, 
     fn bit_and_rank(&self, place: usize) -> (bool, usize) {
         match self.asked().bit_and_rank_in(place) {
             Answer::Found(known) => known,
-            Answer::Absent | Answer::Wrong => unreachable!(),
+            _ => unreachable!(),
         }
     }
 }
