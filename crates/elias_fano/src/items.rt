@@ -1,4 +1,4 @@
-//! What is asked of a sequence, whoever holds it.
+//! The queries of a sequence, whoever holds it.
 ghost use Rattle.std.specs.Prelude.{◌≡◌, ◌^◌, ◌<◌, ℕ, List, length};
 ghost use Rattle.elias_fano.specs.Answers.{IsFirst, IsItem, IsOfPlace, IsPlaceOf};
 
@@ -7,7 +7,7 @@ use crate::sequence::Sequence;
 use bitm_strategies::{Select0ForRank101111, SelectForRank101111};
 use bitm_tables::answer::Answer;
 
-/// Numbers in order, or memory in their place that may hold anything: an owner's sequence, or a view's.
+/// Numbers in order, or memory that may hold anything: an owner's sequence, or a view's.
 pub trait Items {
     /// How many numbers there are, as it says.
     ghost len: { Self → ℕ };

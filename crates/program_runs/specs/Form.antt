@@ -4,7 +4,7 @@ use Rattle.std.specs.Str.{bytes_eq}
 use Rattle.program_runs.specs.declared.form.Form.{Form}
 use Rattle.program_runs.specs.declared.form.Form.TheVariants.{Text, Json}
 
--- the form that an option asks for
+-- the form that an option selects
 abbrev pub form_of : List ℕ → Option Form
 form_of option = if bytes_eq option (codes "--json") then Some Json else None
 

@@ -11,7 +11,7 @@ pub enum Form {
     Json,
 }
 
-/// The form that an option asks for, if it is one that does.
+/// The form that an option selects, if it is one that does.
 ///
 /// ```
 /// form_of("--json")   // Some(Form::Json)

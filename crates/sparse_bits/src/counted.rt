@@ -1,5 +1,5 @@
-//! The queries of borrowed positions of 1 bits, which may be anything. A query makes no more searches, and reads no more
-//! positions, than its clause says; sparse bits and views of them answer by these.
+//! The queries of borrowed positions of 1 bits, which may be anything. A query makes no more searches, and reads no
+//! more positions, than its clause says; sparse bits and views of them answer by these.
 ghost use Rattle.std.specs.Prelude.{◌≡◌, ◌-◌, ◌<◌, ◌≤◌, ℕ, List, length, IfSome, IsSomeAnd, true, false};
 ghost use Rattle.bit_lists.specs.Bits.{digit_count};
 ghost use Rattle.bitm_select.specs.Answers.{IsSelected};
@@ -15,8 +15,8 @@ use bitm_tables::source::counts::ReadCounts;
 use elias_fano::Items;
 use std::marker::Model;
 
-/// Borrowed positions of the 1 bits among so many bits. Searches and positions that are read are counted; the counts
-/// take no bytes at run time.
+/// Borrowed positions of the 1 bits among a given number of bits. Searches and positions that are read are counted; the
+/// counts take no bytes at run time.
 #[derive(Drop)]
 pub struct Ones<'a, P: Items> {
     positions: &'a P,

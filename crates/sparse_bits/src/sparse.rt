@@ -115,7 +115,7 @@ impl<S: SelectForRank101111, S0: Select0ForRank101111> SparseBits<S, S0> {
         SparseBits::build(alloc, positions.as_slice(), 64 * words.len())
     }
 
-    /// The bits, as they are asked.
+    /// The bits, as the bodies of their queries take them.
     #[inline(always)]
     fn asked(&self) -> Ones<'_, Sequence<S, S0>>
         ensures asked { result ≡ no_looks result.positions (length self.now.bits) }

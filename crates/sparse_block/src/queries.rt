@@ -13,7 +13,7 @@ use elias_fano_view::LentSequence;
 use sparse_bits::Ones;
 
 impl<'a> SparseView<'a> {
-    /// The bits, as they are asked.
+    /// The bits, as the bodies of their queries take them.
     #[inline(always)]
     fn asked(&self) -> Ones<'_, LentSequence<'a>>
         ensures { result ≡ no_looks self.now.positions self.now.len }
