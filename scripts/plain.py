@@ -30,6 +30,7 @@ elias_fano/src/items.rt item:_by+parts successor:first_at_least_by+parts
 elias_fano_view/src/sequence.rt item:get successor:first_at_least
 louds/src/counted.rt degree_on:total_degree_on child_on:total_child_on is_leaf_on:is_leaf_by parent_on:parent_by
     next_sibling_on:next_sibling_by
+louds/src/labelled.rt child_by_label:_by find:_by
 louds/src/node.rt degree_of:degree_after_on is_leaf_of:ends_after_on children_of:children_after_on parent_of:_by
 louds/src/tree.rt end:_after_on degree:_after_on+zero child:_after_on+zero children:_after_on+zero zero:_by is_leaf:_by
     parent:_by child_rank:_by next_sibling:_by previous_sibling:_by
@@ -42,6 +43,7 @@ sparse_block/src/queries.rt rank:_in+asked get_bit:bit_in+asked select:_in+asked
 text_index/src/growing.rt extend:rows_with
 text_index/src/index.rt count locate extract rows_of rows_with position
 text_index/src/matches.rt matches:rows_of
+trie_block/src/queries.rt total_child_by_label_on:child_by_label_by total_find_on:find_by total_longest_on:longest_by
 wavelet_matrix/src/distinct.rt quantile_and_count
 wavelet_matrix/src/queries.rt get get_and_rank get_many rank rank_many select:_by try_select:_by
 wavelet_matrix/src/range_queries.rt count_less range_count quantile next_value previous_value intersect

@@ -4,7 +4,8 @@ use Rattle.bitm_tables.specs.declared.answer.Answer.{Answer}
 use Rattle.louds.specs.Labels.{AreLabels}
 use Rattle.louds.specs.Tree.{IsTree}
 use Rattle.louds.specs.Answers.{IsChildWithin}
-use Rattle.trie_block.specs.Answers.{IsChildByLabelOf, IsEndOf, IsLabelOf, IsLongestOf, IsLongestWithin, IsNodeOf, IsNodeWithin, IsWordOf, IsWordWithin}
+use Rattle.louds.specs.Leading.{IsChildByLabelOf, IsLongestOf, IsLongestWithin, IsNodeOf, IsNodeWithin}
+use Rattle.trie_block.specs.Answers.{IsEndOf, IsLabelOf, IsWordOf, IsWordWithin}
 use Rattle.trie_block.specs.Block.{degrees_of_parts, labels_of_parts, trie_of, HasTrieLengths, HasTrieRoom, HoldsTrie, TrieParts}
 use Rattle.bitm_abi.specs.Status.{truth_of, Exported, IsFoundBelow}
 use Rattle.bitm_abi.specs.Tree.{tree_parts}

@@ -2,6 +2,7 @@ pub mod Tree
 pub mod Above
 pub mod Parents
 pub mod Labels
+pub mod Leading
 pub mod Held
 pub mod Counted
 pub mod Answers

@@ -307,6 +307,7 @@ pub(crate) fn children_after_on<T: TableSource>(
 ) -> Answer<(usize, usize)>
     requires sized { HasSizes (T.lists source.old) }
     requires node { node < len }
+    ensures inside { AreChildrenWithin len node result }
     ensures answer { IsLouds len (T.lists source.old)
         → start ≡ zero_place (degrees_in len (T.lists source.old)) node
         → AreChildrenOf (degrees_in len (T.lists source.old)) node result }

@@ -9,9 +9,11 @@ ghost use Rattle.louds.specs.Tree.{IsTree};
 
 use crate::error::{LabelsError, LoudsError};
 use crate::labels::{Packed, all_fit};
+use crate::leading::{child_by_label_by, find_by};
 use crate::tree::{Louds, SampledOnes, SampledZeros};
 use bitm_bits::GetSize;
 use bitm_strategies::{Select0ForRank101111, SelectForRank101111};
+use bitm_tables::answer::Answer;
 use std::alloc::{AllocError, Global};
 use std::marker::Model;
 
@@ -177,29 +179,19 @@ impl<S: SelectForRank101111, S0: Select0ForRank101111> LabelledLouds<S, S0> {
     /// # Conditions
     /// There is such a node.
     /// # Cost
-    /// Two selections, and halving among the labels of the children: as many labels as the number of children has
-    /// binary digits, and one.
+    /// That of `Louds::children`, and halving among the labels of the children: as many labels as the number of
+    /// children has binary digits, and one.
     pub fn child_by_label(&self, node: usize, label: u64) -> Option<usize>
         requires { node < length self.now.degrees }
         ensures child { MatchesChildWith self.now.degrees self.now.labels node label result }
         ensures inside { IfSome result (λ child. child < length self.now.degrees) }
     {
-        let _nodes = self.tree.len();
-        let children = self.tree.children(node);
-        let mut low = children.start;
-        let mut high = children.end;
-        while low < high {
-            let middle = low + (high - low) / 2;
-            if self.labels.get(middle) < label {
-                low = middle + 1;
-            } else {
-                high = middle;
-            }
-        }
-        if low < children.end && self.labels.get(low) == label {
-            Some(low)
-        } else {
-            None
+        let (index, mut probe) = self.tree.parts();
+        let mut labels = self.labels.probe();
+        match child_by_label_by(index, &mut probe, &mut labels, self.tree.len(), node, label) {
+            Answer::Found(child) => Some(child),
+            Answer::Absent => None,
+            Answer::Wrong => unreachable!(),
         }
     }
 
@@ -210,15 +202,13 @@ impl<S: SelectForRank101111, S0: Select0ForRank101111> LabelledLouds<S, S0> {
     pub fn find(&self, word: &[u64]) -> Option<usize>
         ensures { MatchesWord self.now.degrees self.now.labels word.now result }
     {
-        let _nodes = self.tree.len();
-        let mut at = 0;
-        for label in word {
-            match self.child_by_label(at, *label) {
-                Some(child) => at = child,
-                None => return None,
-            }
+        let (index, mut probe) = self.tree.parts();
+        let mut labels = self.labels.probe();
+        match find_by(index, &mut probe, &mut labels, self.tree.len(), word) {
+            Answer::Found(node) => Some(node),
+            Answer::Absent => None,
+            Answer::Wrong => unreachable!(),
         }
-        Some(at)
     }
 
     /// The word that leads from the root to a node: the labels on the way down, without the root's.

@@ -4,6 +4,7 @@ ghost use Rattle.std.specs.Box.{boxed_slice_items};
 ghost use Rattle.std.specs.Int.{div_ceil};
 ghost use Rattle.louds.specs.Labels.{HasRoom, numbers_of};
 
+use crate::probing::RootedProbe;
 use bit_words::{n_lowest_bits, words};
 use bitm_bits::{BitVec, GetSize};
 use std::alloc::{AllocError, Global};
@@ -74,6 +75,20 @@ pub fn write_numbers(words: &mut [u64], numbers: &[u64], width: u8)
     }
 }
 
+/// Number `i` of the `_len` numbers that words hold.
+///
+/// # Conditions
+/// There is such a number.
+#[inline(always)]
+#[tactic(auto, using(crate::proofs::lemmas::LabelLemmas::number_inside, crate::proofs::lemmas::LabelLemmas::number_packed))]
+pub(crate) fn number_of(words: &[u64], width: u8, _len: usize, i: usize) -> u64
+    requires room { HasRoom words.now width _len }
+    requires inside { i < _len }
+    ensures { result ≡ slice_index (numbers_of words.now width _len) i }
+{
+    words::get_fragment(words, i, width)
+}
+
 impl Packed {
     /// The numbers, packed.
     ///
@@ -105,11 +120,23 @@ impl Packed {
     /// # Conditions
     /// There is such a number.
     #[inline(always)]
+    #[tactic(auto, using(crate::proofs::lemmas::LabelLemmas::numbers_counted))]
     pub(crate) fn get(&self, i: usize) -> u64
         requires { i < length self.now.items }
         ensures { result ≡ slice_index self.now.items i }
     {
-        words::get_fragment(self.words.as_slice(), i, self.width)
+        number_of(self.words.as_slice(), self.width, self.len, i)
+    }
+
+    /// The numbers as the labels of that many nodes, with no reads counted yet.
+    #[inline(always)]
+    #[tactic(auto, using(crate::proofs::lemmas::LabelLemmas::numbers_counted))]
+    pub(crate) fn probe(&self) -> RootedProbe<'_>
+        ensures room { HasRoom result.words result.width (length self.now.items) }
+        ensures items { numbers_of result.words result.width (length self.now.items)
+            ≡ self.now.items }
+    {
+        RootedProbe::new(self.words.as_slice(), self.width)
     }
 
     /// A copy of the numbers.

@@ -20,13 +20,16 @@
 // - `climbing`: ways up and down from nodes
 // - `counted`: the calls of a tree over any source, with a bound on their reads
 // - `error`: why degrees were refused
+// - `finding`: ways to find the children of a node
 // - `labelled`: a tree whose nodes have labels
 // - `labels`: numbers of one width, side by side
 // - `laws`: laws of the definitions
+// - `leading`: children by their labels, and nodes by their words, one body for each, over any source and labels
 // - `making`: the bits of a tree, built in one pass over the degrees
 // - `near`: the last 0 bit up to a position, where it is near
 // - `node`: nodes that carry their positions
 // - `parents`: a tree from the list of its nodes' parents
+// - `probing`: labels of nodes, whose reads are counted
 // - `queries`: parents, leaves and siblings, one body for each, over any source and by any way to find a bit
 // - `selecting`: where the bits of a node stand, over any source and by any selection
 // - `tree`: the type of a tree, and its queries
@@ -35,13 +38,16 @@ pub mod children;
 mod climbing;
 pub mod counted;
 mod error;
+pub mod finding;
 mod labelled;
 mod labels;
 pub mod laws;
+pub mod leading;
 mod making;
 mod near;
 mod node;
 mod parents;
+pub mod probing;
 pub mod queries;
 mod selecting;
 mod tree;

@@ -1,4 +1,3 @@
 pub mod BlockLemmas
 pub mod LabelLemmas
-pub mod ReadLemmas
 pub mod RiseLemmas

@@ -1,9 +1,11 @@
 //! The labels of nodes, whose reads are counted.
 ghost use Rattle.std.specs.Prelude.{◌≡◌, ◌+◌, ◌^◌, ◌<◌, slice_index};
-ghost use Rattle.trie_block.specs.Labels.{labels_of, none_read_of, HasLabels};
+ghost use Rattle.louds.specs.Leading.{none_read_of};
+ghost use Rattle.trie_block.specs.Labels.{labels_of, HasLabels};
 
 use bit_words::words;
 use bitm_tables::source::counts::ReadCounts;
+use louds::probing::Labels;
 use std::marker::Model;
 
 /// The labels of the nodes from 1 on, a fragment of `width` bits for each; each label that is read is counted.
@@ -22,7 +24,7 @@ pub struct LabelProbe<'a> {
 }
 
 impl<'a> Model for LabelProbe<'a> {
-    ghost use Rattle.trie_block.specs.Labels.{LabelReads};
+    ghost use Rattle.louds.specs.Leading.{LabelReads};
 
     ghost Value = { LabelReads };
 
@@ -66,5 +68,18 @@ impl<'a> LabelProbe<'a> {
     {
         self.reads.read_word();
         words::get_fragment(self.words, node - 1, self.width)
+    }
+}
+
+impl<'a> Labels for LabelProbe<'a> {
+    ghost seen = { λ l. l };
+
+    ghost fitting = { HasLabels };
+
+    ghost listed = { labels_of };
+
+    #[inline(always)]
+    fn label_of(&mut self, len: usize, node: usize) -> u64 {
+        self.label(len, node)
     }
 }

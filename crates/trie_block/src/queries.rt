@@ -1,81 +1,20 @@
 //! Children by their labels, and words, over any source: its words and tables, and the labels, may hold anything.
-ghost use Rattle.std.specs.Prelude.{◌≡◌, ◌+◌, ◌-◌, ◌*◌, ◌<◌, ◌≤◌, IfSome, length, ℕ, List};
+ghost use Rattle.std.specs.Prelude.{◌+◌, ◌*◌, length};
 ghost use Rattle.bit_lists.specs.Bits.{digit_count};
 ghost use Rattle.bitm_tables.specs.Tables.{HasSizes};
 ghost use Rattle.louds.specs.Answers.{IsChildWithin};
 ghost use Rattle.louds.specs.Counted.{degrees_in, IsLouds, OnlySelects};
-ghost use Rattle.louds.specs.Labels.{MatchesChildWith, Rise};
-ghost use Rattle.louds.specs.Tree.{AreChildren};
-ghost use Rattle.trie_block.specs.Answers.{IsChildByLabelOf, IsLongestOf, IsLongestWithin};
-ghost use Rattle.trie_block.specs.Answers.{IsNodeOf, IsNodeWithin};
-ghost use Rattle.trie_block.specs.Labels.{labels_of, Grow, HasLabels, IsFirstFrom, ReadsLabels};
+ghost use Rattle.louds.specs.Labels.{Rise};
+ghost use Rattle.louds.specs.Leading.{IsChildByLabelOf, IsLongestOf, IsLongestWithin, IsNodeOf};
+ghost use Rattle.louds.specs.Leading.{IsNodeWithin, ReadsLabels};
+ghost use Rattle.trie_block.specs.Labels.{labels_of, HasLabels};
 
 use crate::labels::LabelProbe;
+use bitm_select::search::selecting::ByTables;
 use bitm_tables::answer::Answer;
 use bitm_tables::source::TableSource;
-use louds::children::total_children_on;
+use louds::leading::{child_by_label_by, find_by, longest_by};
 use suffix_order::Letters;
-
-/// Of the nodes from `first` on and before `past`, the first whose label is not less than the given one, by halving;
-/// `past` where each is less.
-fn first_from(
-    labels: &mut LabelProbe<'_>,
-    len: usize,
-    first: usize,
-    past: usize,
-    label: u64,
-) -> usize
-    requires labels { HasLabels labels.old.words labels.old.width len }
-    requires some { 0 < first }
-    requires order { first ≤ past }
-    requires inside { past ≤ len }
-    ensures from { first ≤ result }
-    ensures to { result ≤ past }
-    ensures answer { Grow (labels_of labels.old.words labels.old.width len) first past
-        → IsFirstFrom (labels_of labels.old.words labels.old.width len) first past label result }
-    ensures reads { ReadsLabels labels.old labels.new (digit_count (past - first)) }
-{
-    let mut low = first;
-    let mut high = past;
-    while low < high {
-        let middle = low + (high - low) / 2;
-        if labels.label(len, middle) < label {
-            low = middle + 1;
-        } else {
-            high = middle;
-        }
-    }
-    low
-}
-
-/// The child with the given label of a node whose children are the nodes from `first` on and before `past`.
-fn child_among(
-    labels: &mut LabelProbe<'_>,
-    len: usize,
-    first: usize,
-    past: usize,
-    label: u64,
-) -> Option<usize>
-    requires labels { HasLabels labels.old.words labels.old.width len }
-    requires some { 0 < first }
-    requires order { first ≤ past }
-    requires inside { past ≤ len }
-    ensures inside { IfSome result (λ child. (first ≤ child) × (child < past)) }
-    ensures answer { (d : List ℕ) (node : ℕ) → Rise d (labels_of labels.old.words labels.old.width len)
-        → AreChildren d node first past
-        → MatchesChildWith d (labels_of labels.old.words labels.old.width len) node label result }
-    ensures reads { ReadsLabels labels.old labels.new (digit_count len + 1) }
-{
-    let low = first_from(&mut *labels, len, first, past, label);
-    if low >= past {
-        return None;
-    }
-    if labels.label(len, low) == label {
-        Some(low)
-    } else {
-        None
-    }
-}
 
 /// The child of a node with this label, by its number.
 ///
@@ -108,14 +47,7 @@ pub fn total_child_by_label_on<T: TableSource>(
     ensures reads { OnlySelects T.lists T.reads source.old source.new 2 0 }
     ensures labels { ReadsLabels labels.old labels.new (digit_count len + 1) }
 {
-    match total_children_on(source, len, node) {
-        Answer::Found((first, past)) => match child_among(labels, len, first, past, label) {
-            Some(child) => Answer::Found(child),
-            None => Answer::Absent,
-        },
-        Answer::Absent => Answer::Absent,
-        Answer::Wrong => Answer::Wrong,
-    }
+    child_by_label_by(&ByTables, source, labels, len, node, label)
 }
 
 /// The deepest node to which a beginning of a word leads from the root, and how many labels lead there: all of them
@@ -150,20 +82,7 @@ pub fn total_longest_on<T: TableSource, W: Letters>(
     ensures labels { ReadsLabels labels.old labels.new
         (length (W.letters word) * (digit_count len + 1)) }
 {
-    if len == 0 {
-        return Answer::Absent;
-    }
-    let count = word.letters_len();
-    let mut at = 0;
-    for i in 0..count {
-        let label = word.letter_at(i);
-        match total_child_by_label_on(&mut *source, &mut *labels, len, at, label) {
-            Answer::Found(child) => at = child,
-            Answer::Absent => return Answer::Found((at, i)),
-            Answer::Wrong => return Answer::Wrong,
-        }
-    }
-    Answer::Found((at, count))
+    longest_by(&ByTables, source, labels, len, word)
 }
 
 /// The node to which a word leads from the root, label by label. A word is a list of labels, such as `&[u64]`, or
@@ -197,15 +116,5 @@ pub fn total_find_on<T: TableSource, W: Letters>(
     ensures labels { ReadsLabels labels.old labels.new
         (length (W.letters word) * (digit_count len + 1)) }
 {
-    match total_longest_on(source, labels, len, word) {
-        Answer::Found((node, matched)) => {
-            if matched == word.letters_len() {
-                Answer::Found(node)
-            } else {
-                Answer::Absent
-            }
-        }
-        Answer::Absent => Answer::Absent,
-        Answer::Wrong => Answer::Wrong,
-    }
+    find_by(&ByTables, source, labels, len, word)
 }

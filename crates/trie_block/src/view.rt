@@ -1,8 +1,9 @@
 //! A trie in a block that may hold anything.
 ghost use Rattle.std.specs.Prelude.{◌≡◌, ◌↔◌, IsTrue, SomeIff, length};
 ghost use Rattle.louds.specs.Answers.{IsChildWithin};
-ghost use Rattle.trie_block.specs.Answers.{IsChildByLabelOf, IsEndOf, IsLabelOf, IsLongestOf, IsLongestWithin};
-ghost use Rattle.trie_block.specs.Answers.{IsNodeOf, IsNodeWithin, IsWordOf, IsWordWithin};
+ghost use Rattle.louds.specs.Leading.{IsChildByLabelOf, IsLongestOf, IsLongestWithin, IsNodeOf};
+ghost use Rattle.louds.specs.Leading.{IsNodeWithin};
+ghost use Rattle.trie_block.specs.Answers.{IsEndOf, IsLabelOf, IsWordOf, IsWordWithin};
 ghost use Rattle.trie_block.specs.Block.{degrees_of_parts, labels_of_parts, trie_in, trie_of};
 ghost use Rattle.trie_block.specs.Block.{HasTrieLengths, HasTrieSections, HoldsTrie, IsSoundBlock, IsTrieBlock};
 

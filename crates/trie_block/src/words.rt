@@ -3,7 +3,8 @@ ghost use Rattle.std.specs.Prelude.{◌≡◌, ◌+◌, ◌-◌, ◌<◌, ◌∷
 ghost use Rattle.bitm_tables.specs.Tables.{HasSizes};
 ghost use Rattle.louds.specs.Counted.{degrees_in, IsLouds, OnlySelects};
 ghost use Rattle.trie_block.specs.Answers.{IsWordOf, IsWordWithin};
-ghost use Rattle.trie_block.specs.Labels.{labels_of, HasLabels, ReadsLabels};
+ghost use Rattle.louds.specs.Leading.{ReadsLabels};
+ghost use Rattle.trie_block.specs.Labels.{labels_of, HasLabels};
 
 use crate::labels::LabelProbe;
 use bitm_tables::answer::Answer;

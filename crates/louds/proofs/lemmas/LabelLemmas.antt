@@ -6,10 +6,10 @@ use Rattle.std.proofs.lemmas.List.FromFn.{length-map-range_with_len, get_or-map-
 use Rattle.std.proofs.lemmas.Nat.{row_fits}
 use Rattle.std.specs.List.{sum}
 use Rattle.bit_lists.specs.Bits.{bits_of}
-use Rattle.bit_lists.specs.Number.{number_at, with_number}
+use Rattle.bit_lists.specs.Number.{number_at, with_number, IsFragmentInRange}
 use Rattle.bit_lists.proofs.BitLaws.{bits_are_counted, number_beside_is_kept, read_after_write}
 use Rattle.louds.proofs.lemmas.TreeLemmas.{sum_all, sum_order, sum_more}
-use Rattle.louds.specs.Labels.{IsChildWith, Leads, Rise, numbers_of}
+use Rattle.louds.specs.Labels.{HasRoom, IsChildWith, Leads, Rise, numbers_of}
 use Rattle.louds.specs.Tree.{AreChildren, IsChild, IsNextSibling, IsTree}
 
 -- ---- packed numbers
@@ -18,6 +18,14 @@ use Rattle.louds.specs.Tree.{AreChildren, IsChild, IsNextSibling, IsTree}
 pub number_packed : (words : List ℕ) (width n i : ℕ) → i < n → get_or (numbers_of words width n) i 0 ≡ number_at (bits_of words) (i * width) width
 number_packed words width n i less =
     get_or-map-range_with_len (λ k. number_at (bits_of words) (k * width) width) 0 n i i 0 less (omega arith)
+
+-- its fragment stands in the words
+pub number_inside : (words : List ℕ) (width n i : ℕ) → HasRoom words width n → i < n → IsFragmentInRange words i width
+number_inside words width n i h inside =
+    let fits = row_fits i width n width inside (omega arith) in (
+      omega (arith, fits, h.short, h.some),
+      (omega (arith, fits, h.tight, h.some), omega (arith, fits, h.tight)),
+    )
 
 pub numbers_counted : (words : List ℕ) (width n : ℕ) → length (numbers_of words width n) ≡ n
 numbers_counted words width n = length-map-range_with_len (λ k. number_at (bits_of words) (k * width) width) 0 n

@@ -5,8 +5,9 @@ use Rattle.bitm_tables.specs.Tables.{HasSizes, Lists}
 use Rattle.louds.specs.Counted.{degrees_in, IsLouds}
 use Rattle.louds.specs.Labels.{Leads}
 use Rattle.louds.specs.Tree.{IsChild}
-use Rattle.trie_block.specs.Labels.{labels_of, LabelReads}
-use Rattle.trie_block.proofs.ReadLemmas.{same_labels, same_list, selects_next, selects_nothing, selects_within}
+use Rattle.louds.proofs.lemmas.ReadLemmas.{same_held, same_read, selects_next, selects_nothing, selects_within}
+use Rattle.louds.specs.Leading.{LabelReads}
+use Rattle.trie_block.specs.Labels.{labels_of, HasLabels}
 use Rattle.trie_block.proofs.words.total_word_on.Goals as goal
 
 -- what a parent that was found says, in the source that was given
@@ -19,7 +20,7 @@ total_parent_on-requires g c = subst (λ (m : Lists). HasSizes m) (sym c.loop-at
 pub label-requires-clause-labels : goal.label-requires-clause-labels
 label-requires-clause-labels g c =
     let i = c.loop-at.invariant.labels in
-    same_labels c.args.labels.now c.loop-at.labels c.args.len i.words i.width c.requires.labels
+    same_held HasLabels c.args.labels.now c.loop-at.labels c.args.len i.words i.width c.requires.labels
 
 pub loop-at-init : goal.loop-at-init
 loop-at-init g c =
@@ -50,7 +51,7 @@ loop-at-preserved g c =
     let counted = c.label.ensures.counted in
     let less : count + 1 ≤ length out → count < length c.loop-at.out = λ within. omega (arith, inv.room, within) in
     let label : c.label.result ≡ get_or ls at 0 =
-    c.label.ensures.label ∙ ap (λ xs. get_or xs at 0) (same_list c.args.labels.now c.loop-at.labels n inv.labels.words inv.labels.width) in
+    c.label.ensures.label ∙ ap (λ xs. get_or xs at 0) (same_read labels_of c.args.labels.now c.loop-at.labels n inv.labels.words inv.labels.width) in
     let has : HasParent n at parent old = subst (λ (m : Lists). HasParent n at parent m) inv.reads.same c.in-Found.ensures.answer in
     record {
       inside = omega (arith, c.in-Found.ensures.inside.0, inv.inside);

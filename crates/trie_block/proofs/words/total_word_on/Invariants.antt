@@ -1,7 +1,8 @@
 use Rattle.std.proofs.Common.{◌≡◌, ℕ, ◌+◌, ◌-◌, ◌<◌, ◌≤◌, List, length, take, drop}
 use Rattle.louds.specs.Counted.{degrees_in, IsLouds, OnlySelects}
 use Rattle.louds.specs.Labels.{Leads}
-use Rattle.trie_block.specs.Labels.{labels_of, ReadsLabels}
+use Rattle.louds.specs.Leading.{ReadsLabels}
+use Rattle.trie_block.specs.Labels.{labels_of}
 use Rattle.trie_block.proofs.words.total_word_on.Given as goal
 
 -- in a tree the labels so far lead from a node on the way to the last one

@@ -4,10 +4,10 @@ use Rattle.bitm_tables.specs.declared.answer.Answer.{Answer}
 use Rattle.bitm_tables.specs.Tables.{Lists}
 use Rattle.louds.specs.Counted.{degrees_in, IsLouds}
 use Rattle.louds.specs.Labels.{Rise}
-use Rattle.trie_block.specs.Answers.{IsLongestOf}
 use Rattle.trie_block.specs.Block.{degrees_of_parts, labels_of_parts, HoldsTrie, TrieParts}
-use Rattle.trie_block.specs.Labels.{labels_of, LabelReads}
-use Rattle.trie_block.proofs.ReadLemmas.{moved}
+use Rattle.louds.specs.Leading.{IsLongestOf, LabelReads}
+use Rattle.trie_block.specs.Labels.{labels_of}
+use Rattle.louds.proofs.lemmas.ReadLemmas.{moved}
 use Rattle.trie_block.proofs.view.TrieView.longest.Goals as goal
 
 -- what is answered of n nodes in the lists of a source with these labels

@@ -5,8 +5,9 @@ use Rattle.bitm_tables.specs.Tables.{Lists}
 use Rattle.louds.specs.Counted.{degrees_in, IsLouds}
 use Rattle.trie_block.specs.Answers.{IsWordOf}
 use Rattle.trie_block.specs.Block.{degrees_of_parts, labels_of_parts, HoldsTrie, TrieParts}
-use Rattle.trie_block.specs.Labels.{labels_of, LabelReads}
-use Rattle.trie_block.proofs.ReadLemmas.{moved}
+use Rattle.louds.specs.Leading.{LabelReads}
+use Rattle.trie_block.specs.Labels.{labels_of}
+use Rattle.louds.proofs.lemmas.ReadLemmas.{moved}
 use Rattle.trie_block.proofs.view.TrieView.word.Goals as goal
 
 -- what is answered of n nodes in the lists of a source with these labels

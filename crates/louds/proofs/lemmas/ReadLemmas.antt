@@ -5,7 +5,7 @@ use Rattle.bitm_tables.specs.declared.source.counts.ReadCounts.{ReadCounts}
 use Rattle.bitm_tables.specs.Tables.{Lists}
 use Rattle.bitm_selection.specs.Selection.{by_halves}
 use Rattle.louds.specs.Counted.{OnlySelects}
-use Rattle.trie_block.specs.Labels.{labels_of, HasLabels, LabelReads, ReadsLabels}
+use Rattle.louds.specs.Leading.{LabelReads, ReadsLabels}
 
 module _ {S : Type 0} (lists_of : S → Lists) (reads_of : S → ReadCounts) where
   -- two selections more
@@ -99,10 +99,13 @@ labels_most s t k n m first within = record {
 pub moved : (P : Lists → List ℕ → Type 0) (old new : Lists) (ls xs : List ℕ) → new ≡ old → xs ≡ ls → P new xs → P old ls
 moved P old new ls xs same is h = subst (λ (m : Lists). P m ls) same (subst (λ (l : List ℕ). P new l) is h)
 
--- they have the same labels
-pub same_list : (s t : LabelReads) (n : ℕ) → t.words ≡ s.words → t.width ≡ s.width → labels_of t.words t.width n ≡ labels_of s.words s.width n
-same_list s t n words width = ap (λ w. labels_of w t.width n) words ∙ ap (λ k. labels_of s.words k n) width
+-- what is read of the same words is the same
+pub same_read : {A : Type 0} (f : List ℕ → ℕ → ℕ → A) (s t : LabelReads) (n : ℕ) → t.words ≡ s.words → t.width ≡ s.width
+    → f t.words t.width n ≡ f s.words s.width n
+same_read f s t n words width = ap (λ w. f w t.width n) words ∙ ap (λ k. f s.words k n) width
 
-pub same_labels : (s t : LabelReads) (n : ℕ) → t.words ≡ s.words → t.width ≡ s.width → HasLabels s.words s.width n → HasLabels t.words t.width n
-same_labels s t n words width h =
-    subst (λ (w : List ℕ). HasLabels w t.width n) (sym words) (subst (λ (k : ℕ). HasLabels s.words k n) (sym width) h)
+-- and what holds of them holds
+pub same_held : (P : List ℕ → ℕ → ℕ → Type 0) (s t : LabelReads) (n : ℕ) → t.words ≡ s.words → t.width ≡ s.width
+    → P s.words s.width n → P t.words t.width n
+same_held P s t n words width h =
+    subst (λ (w : List ℕ). P w t.width n) (sym words) (subst (λ (k : ℕ). P s.words k n) (sym width) h)
