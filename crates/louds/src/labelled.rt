@@ -10,6 +10,8 @@ ghost use Rattle.louds.specs.Tree.{IsTree};
 use crate::error::{LabelsError, LoudsError};
 use crate::labels::{Packed, all_fit};
 use crate::leading::{child_by_label_by, find_by};
+use crate::probing::ListProbe;
+use crate::rising::labels_rise;
 use crate::tree::{Louds, SampledOnes, SampledZeros};
 use bitm_bits::GetSize;
 use bitm_strategies::{Select0ForRank101111, SelectForRank101111};
@@ -47,6 +49,8 @@ impl<S: SelectForRank101111, S0: Select0ForRank101111> Model for LabelledLouds<S
 ///
 /// # Conditions
 /// There is a label for each node.
+/// # Cost
+/// One pass over the bits of the tree, and two labels for each node.
 fn rise<S: SelectForRank101111, S0: Select0ForRank101111>(
     tree: &Louds<S, S0>,
     labels: &[u64],
@@ -54,18 +58,7 @@ fn rise<S: SelectForRank101111, S0: Select0ForRank101111>(
     requires { length labels.now ≡ length tree.now.degrees }
     ensures { IsTrue result ↔ Rise tree.now.degrees labels.now }
 {
-    let _nodes = tree.len();
-    for node in 0..labels.len() {
-        match tree.next_sibling(node) {
-            Some(next) => {
-                if labels[next] <= labels[node] {
-                    return false;
-                }
-            }
-            None => {}
-        }
-    }
-    true
+    labels_rise(tree.words(), &mut ListProbe::new(labels), labels.len())
 }
 
 /// Whether these are labels for the nodes of a tree: one of at most `width` bits for each, and those of siblings rise.
@@ -93,7 +86,7 @@ impl<S: SelectForRank101111, S0: Select0ForRank101111> LabelledLouds<S, S0> {
     /// else `OutOfMemory` where memory was refused, or `NotLabels` only where these are no labels for that tree
     /// (`are_labels` tests it). Nothing stays allocated then.
     /// # Cost
-    /// That of `Louds::build`, a call of `next_sibling` for each node, and two passes over the labels.
+    /// That of `Louds::build`, a pass over the bits of the tree, and three passes over the labels.
     pub fn build(
         alloc: Global,
         degrees: &[usize],

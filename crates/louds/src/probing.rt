@@ -1,5 +1,5 @@
 //! Labels of nodes, whose reads are counted.
-ghost use Rattle.std.specs.Prelude.{◌≡◌, ◌+◌, ◌<◌, ℕ, List, slice_index};
+ghost use Rattle.std.specs.Prelude.{◌≡◌, ◌+◌, ◌<◌, ℕ, List, length, slice_index};
 ghost use Rattle.louds.specs.Labels.{numbers_of, HasRoom};
 ghost use Rattle.louds.specs.Leading.{none_read_of, LabelReads};
 
@@ -29,6 +29,49 @@ pub trait Labels {
         ensures label { result
             ≡ slice_index (listed (seen self.old).words (seen self.old).width len) node }
         ensures counted { seen self.new ≡ record (seen self.old) { read = (seen self.old).read + 1 } };
+}
+
+/// The labels of all nodes, the root's too, in a list.
+#[derive(Drop)]
+pub(crate) struct ListProbe<'a> {
+    labels: &'a [u64],
+    // A label counts as a word.
+    reads: ReadCounts,
+}
+
+impl<'a> Model for ListProbe<'a> {
+    ghost use Rattle.louds.specs.Leading.{LabelReads};
+
+    ghost Value = { LabelReads };
+
+    ghost view = { λ l. record { words = l.labels.now; width = 64; read = l.reads.words } };
+}
+
+impl<'a> ListProbe<'a> {
+    /// These labels, with no reads counted yet.
+    #[inline(always)]
+    pub(crate) fn new(labels: &'a [u64]) -> ListProbe<'a>
+        ensures { result ≡ none_read_of labels.now 64 }
+    {
+        ListProbe {
+            labels,
+            reads: ReadCounts::new(),
+        }
+    }
+}
+
+impl<'a> Labels for ListProbe<'a> {
+    ghost seen = { λ l. l };
+
+    ghost fitting = { λ labels _ n. length labels ≡ n };
+
+    ghost listed = { λ labels _ _. labels };
+
+    #[inline(always)]
+    fn label_of(&mut self, _len: usize, node: usize) -> u64 {
+        self.reads.read_word();
+        self.labels[node]
+    }
 }
 
 /// The labels of all nodes, the root's too: a fragment of `width` bits for each.

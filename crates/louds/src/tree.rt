@@ -7,7 +7,8 @@ ghost use Rattle.bitm_tables.specs.Reads.{none_read};
 ghost use Rattle.bitm_tables.specs.Tables.{HasSizes};
 ghost use Rattle.bitm_bits.specs.Size.{saturated_size};
 ghost use Rattle.louds.specs.Counted.{degrees_in, IsLouds};
-ghost use Rattle.louds.specs.Held.{words_of, zero_place};
+ghost use Rattle.louds.specs.Held.{degrees_of, words_of, zero_place, IsHeld};
+ghost use Rattle.bit_lists.specs.Bits.{bits_of};
 ghost use Rattle.louds.specs.Tree.{AreChildren, IsTree, MatchesChild, MatchesLastChild};
 ghost use Rattle.louds.specs.Tree.{MatchesParent, MatchesChildRank, MatchesNextSibling, MatchesPreviousSibling};
 
@@ -128,6 +129,16 @@ impl<S: SelectForRank101111, S0: Select0ForRank101111> Louds<S, S0> {
     {
         index_laws::tables_have_sizes();
         (&self.index, self.index.probe())
+    }
+
+    /// The words with the bits.
+    #[inline(always)]
+    pub(crate) fn words(&self) -> &[u64]
+        ensures held { IsHeld self.now.degrees (length self.now.degrees) (bits_of result.now) }
+        ensures degrees { degrees_of (bits_of result.now) (length self.now.degrees)
+            ≡ self.now.degrees }
+    {
+        self.index.content().as_slice()
     }
 
     /// The position of the 0 bit before the 1 bits of a node, or of the last 0 bit.

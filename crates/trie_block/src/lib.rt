@@ -22,7 +22,6 @@
 
 // What is in each file:
 // - `building`: the block of a trie, written into the caller's memory
-// - `checking`: whether the labels in a block are those of its tree
 // - `error`: why no block was written
 // - `given`: whether labels that are given are those of a tree
 // - `labels`: the labels of nodes, whose reads are counted
@@ -31,7 +30,6 @@
 // - `view`: the view of a block, and its queries
 // - `words`: the word that leads to a node, over any source
 mod building;
-mod checking;
 mod error;
 mod given;
 mod labels;

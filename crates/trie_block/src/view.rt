@@ -8,7 +8,6 @@ ghost use Rattle.trie_block.specs.Block.{degrees_of_parts, labels_of_parts, trie
 ghost use Rattle.trie_block.specs.Block.{HasTrieLengths, HasTrieSections, HoldsTrie, IsSoundBlock, IsTrieBlock};
 
 use crate::building::has_ends;
-use crate::checking::{label_of, labels_rise};
 use crate::labels::LabelProbe;
 use crate::queries::{total_child_by_label_on, total_find_on, total_longest_on};
 use crate::sections::{TRIE, is_shape, label_words};
@@ -16,6 +15,7 @@ use crate::words::total_word_on;
 use bit_words::words;
 use bitm_block::Block;
 use bitm_tables::answer::Answer;
+use louds::rising::labels_rise;
 use louds_block::LoudsView;
 use std::marker::Model;
 use suffix_order::Letters;
@@ -221,8 +221,8 @@ impl<'a> TrieView<'a> {
     pub fn check(&self) -> bool
         ensures { IsTrue result ↔ HoldsTrie self.now }
     {
-        self.tree.check()
-            && labels_rise(self.tree.words(), self.labels, self.width, self.tree.len())
+        let mut labels = LabelProbe::new(self.labels, self.width);
+        self.tree.check() && labels_rise(self.tree.words(), &mut labels, self.tree.len())
     }
 
     /// The label of a node, whatever the block holds: `Absent` exactly at the root and where there is no such node, and
@@ -241,7 +241,7 @@ impl<'a> TrieView<'a> {
         if node == 0 || node >= self.tree.len() {
             return Answer::Absent;
         }
-        Answer::Found(label_of(self.labels, self.width, self.tree.len(), node))
+        Answer::Found(LabelProbe::new(self.labels, self.width).label(self.tree.len(), node))
     }
 
     /// Whether a word ends at a node, whatever the block holds: `Absent` exactly where there is no such node or the
