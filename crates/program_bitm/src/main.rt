@@ -41,7 +41,11 @@ fn run<W: Write>(rt: &HostRuntime, progress: Progress, args: &[String], out: &mu
         None => ("", args),
     };
     let walks = word == "check" || word == "info";
-    let process = Process { rt, progress, walks };
+    let process = Process {
+        rt,
+        progress,
+        walks,
+    };
     let err = &mut rt.stderr();
     if walks {
         program_kinds::start(&process, args, out, err)
