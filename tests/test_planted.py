@@ -65,7 +65,7 @@ PLANTS = {
         "thin", "bindings/javascript/src/tree.js", "return got >= 0 ? got :", "return got >= 0 ? got + 1 :",
         "src/tree.js: return"),
     "a line out of the list of plain calls": (
-        "thin", "scripts/plain.py", "\nelias_fano/src/finding.rt first_at_least:_by+found last_at_most:_by+found contains:_by", "",
+        "thin", "scripts/plain.py", "\nelias_fano/src/finding.rt first_at_least:successor+found last_at_most:_by+found contains:_by", "",
         "elias_fano/src/finding.rt: first_at_least does more or less"),
     "a file of tests whose tests are renamed": (
         "ran", "bindings/tests/test_formats.py", "def test_", "def check_", "bindings/tests/test_formats.py: 0 where"),
