@@ -3,6 +3,7 @@ as JSON, which Python's own reader takes, and what it says on a terminal."""
 import json
 import os
 import pty
+import select
 import subprocess
 import time
 from contextlib import contextmanager
@@ -102,11 +103,12 @@ def test_other_options_are_none(folder, words):
 
 @contextmanager
 def on_a_terminal(*words):
-    """The program, whose standard error is a terminal, and a list that gets what is written there."""
+    """The program, whose standard error is a terminal, the end of the terminal to look at, and a list that gets what is
+    written there."""
     mine, theirs = pty.openpty()
     said = []
     with subprocess.Popen([PROGRAM, *words], stdin=subprocess.PIPE, stdout=subprocess.PIPE, stderr=theirs) as run:
-        yield run, said
+        yield run, mine, said
     os.write(theirs, b"end")
     text = b""
     while not text.endswith(b"end"):
@@ -116,42 +118,45 @@ def on_a_terminal(*words):
     said += text.removesuffix(b"end").splitlines()
 
 
-def lines_on_a_terminal(given):
-    """What is written to the terminal, less the bytes that a slow machine has read or written after two seconds."""
-    with on_a_terminal("text", "build") as (run, said):
-        run.communicate(given)
-    return [line for line in said if not line.startswith((b"bitm: read", b"bitm: written"))]
+def told(said, done):
+    """How many bytes were said to be read or written, each time."""
+    return [int(line.split()[2]) for line in said if line.startswith(b"bitm: " + done)]
 
 
 def test_much_work_is_told_on_a_terminal():
-    assert lines_on_a_terminal(b"a" * 8_000_000) == [b"bitm: working on 8000000 bytes"]
-    assert lines_on_a_terminal(b"a" * 7_999_999) == []
+    """A slow machine has read or written bytes after two seconds too."""
+    for size, lines in [(8_000_000, [b"bitm: working on 8000000 bytes"]), (7_999_999, [])]:
+        with on_a_terminal("text", "build") as (run, _, said):
+            run.communicate(b"a" * size)
+        assert [line for line in said if not line.startswith((b"bitm: read", b"bitm: written"))] == lines
 
 
 def test_slow_input_is_told_on_a_terminal():
-    """The second number comes more than two seconds after the first, and the third soon after the second."""
-    with on_a_terminal("build", "bits") as (run, said):
-        for wait, line in [(0, b"1\n"), (2.2, b"20\n"), (0.1, b"300\n")]:
-            time.sleep(wait)
-            run.stdin.write(line)
+    """Empty lines, which are passed over, come until the terminal says how much was read: not before two seconds."""
+    began, given = time.monotonic(), 0
+    with on_a_terminal("build", "bits") as (run, terminal, said):
+        while given < 600 and not select.select([terminal], [], [], 0.1)[0]:
+            given += run.stdin.write(b"\n")
             run.stdin.flush()
-        run.stdin.close()
-        run.stdout.read()
-    assert said[0] == b"bitm: read 5 bytes"
+        took = time.monotonic() - began
+        run.communicate()
+    assert took >= 2 and 0 < told(said, b"read")[0] <= given
 
 
 def test_slow_output_is_told_on_a_terminal():
-    """Nobody reads for more than two seconds, and a pipe holds less than the block."""
-    with on_a_terminal("build", "bits") as (run, said):
+    """After the first byte nobody reads for more than two seconds, and a pipe holds less than the block."""
+    with on_a_terminal("build", "bits") as (run, _, said):
         run.stdin.write(b"8000000\n")
         run.stdin.close()
-        time.sleep(2.5)
-        size = len(run.stdout.read())
-    numbers = [int(line.removeprefix(b"bitm: written ").removesuffix(b" bytes")) for line in said]
+        size = len(run.stdout.read(1))
+        time.sleep(2.2)
+        size += len(run.stdout.read())
+    numbers = told(said, b"written")
     assert 0 < numbers[0] <= size and numbers == sorted(numbers)
 
 
 def test_a_short_run_says_nothing_on_a_terminal():
-    with on_a_terminal("build", "bits") as (run, said):
+    began = time.monotonic()
+    with on_a_terminal("build", "bits") as (run, _, said):
         run.communicate(b"1\n")
-    assert said == []
+    assert said == [] or time.monotonic() - began >= 2
