@@ -341,3 +341,19 @@ def test_edit_that_no_goal_refuses_is_a_failure():
     assert crate.verdict(edit, refused.ALONE, "", False) == "NOT REFUSED"
     assert "was refused by other" in crate.verdict(edit, refused.ALL_GOALS, line.format("other"), False)
     assert crate.verdict(edit, refused.ALL_GOALS, line.format(edit.goal), False) == ""
+
+
+def test_what_was_refused_is_kept_by_all_that_its_checks_read(tmp_path):
+    refused = script("refused")
+    library = tmp_path / "rlibs/program_runs.rlib/interface"
+    library.parent.mkdir(parents=True)
+
+    def kept(interface="one", tiers=(0,), **others):
+        library.write_text(interface)
+        crate = refused.Crate("program_help", tiers)
+        for it in crate.edits:
+            vars(it).update(others)
+        return crate.kept(str(tmp_path))
+
+    assert kept() == kept() and kept().parent.name == "program_help"
+    assert len({kept(), kept("two"), kept(tiers=(0, 1)), kept(name="other"), kept(text="other")}) == 5
