@@ -44,12 +44,14 @@ pub fn are_numbers(len: usize, width: usize) -> bool
 #[derive(Drop)]
 pub struct LevelsView<'a> {
     len: usize,
+    // Fields are laid as they stand here: these three share eight bytes, so that a matrix has no more than 128, which
+    // are copied without a call.
     width: u8,
+    known: u8,
+    compact: bool,
     ones: &'a [u64],
     zeros: &'a [u64],
-    known: u8,
     starts: &'a [u64],
-    compact: bool,
     quarters: &'a [u64],
 }
 

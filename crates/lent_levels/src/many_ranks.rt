@@ -83,6 +83,15 @@ impl<'a> LevelsView<'a> {
         (next, after)
     }
 
+    /// An end, or an index past the end of every level where there are fewer numbers. A plain copy of all ends would be
+    /// a call of C's `memcpy`: the archive for C calls nothing.
+    #[inline(always)]
+    fn end_place(&self, end: usize) -> usize
+        ensures { end ≤ self.now.len → result ≡ end }
+    {
+        if end > self.len() { ASTRAY } else { end }
+    }
+
     /// Puts the numbers where they stand before all indices, after the known levels, and before the ends, at the first
     /// level.
     fn begin_places(
@@ -100,12 +109,12 @@ impl<'a> LevelsView<'a> {
         ensures starts { (k : ℕ) → k < length numbers.now → (lists : Lists)
             → slice_index numbers.now k < 2 ^ self.now.width → IsPlaceOnTheWay self.now lists
             self.now.known (slice_index numbers.now k) 0 (slice_index firsts.new k) }
-        ensures ends { (k : ℕ) → k < length numbers.now
+        ensures ends { (k : ℕ) → k < length numbers.now → slice_index ends.now k ≤ self.now.len
             → slice_index lasts.new k ≡ slice_index ends.now k }
     {
         for k in 0..numbers.len() {
             firsts[k] = self.known_place(numbers[k]);
-            lasts[k] = ends[k];
+            lasts[k] = self.end_place(ends[k]);
         }
     }
 

@@ -24,11 +24,11 @@ use std::marker::Model;
 pub struct Levels {
     len: usize,
     width: u8,
+    known: u8,
+    compact: bool,
     ones: BoxedSlice<u64, Global>,
     zeros: BoxedSlice<u64, Global>,
-    known: u8,
     starts: BoxedSlice<u64, Global>,
-    compact: bool,
     quarters: BoxedSlice<u64, Global>,
 }
 

@@ -1,5 +1,5 @@
 -- One more number begins, while the others stay.
-use Rattle.std.proofs.Common.{◌≡◌, ℕ, ◌^◌, ◌<◌, get_or, length, ◌∙◌, arith}
+use Rattle.std.proofs.Common.{◌≡◌, ℕ, ◌^◌, ◌<◌, ◌≤◌, get_or, length, ◌∙◌, arith}
 use Rattle.std.proofs.lemmas.List.{length-set}
 use Rattle.bitm_tables.specs.Tables.{Lists}
 use Rattle.matrix_levels.proofs.lemmas.ManyLemmas.{done-more}
@@ -17,12 +17,12 @@ loop-k-preserved c =
     let room : k < length vs = omega (arith, c.loop-k-test.true, i.lasts_len) in
     let P : ℕ → ℕ → ℕ → Type 0 = λ j p q. (lists : Lists) → get_or c.args.numbers.now j 0 < 2 ^ l.width
     → IsPlaceOnTheWay l lists l.known (get_or c.args.numbers.now j 0) 0 p in
-    let Q : ℕ → ℕ → ℕ → Type 0 = λ j p q. p ≡ get_or c.args.ends.now j 0 in
+    let Q : ℕ → ℕ → ℕ → Type 0 = λ j p q. get_or c.args.ends.now j 0 ≤ l.len → p ≡ get_or c.args.ends.now j 0 in
     record {
       firsts_len = length-set us k _ ∙ i.firsts_len;
       lasts_len = length-set vs k _ ∙ i.lasts_len;
       starts = done-more P us us k _ 0 within within i.starts c.known_place.ensures;
-      ends = done-more Q vs vs k _ 0 room room i.ends (let e : get_or c.args.ends.now k 0 ≡ get_or c.args.ends.now k 0 = omega arith in e);
+      ends = done-more Q vs vs k _ 0 room room i.ends c.end_place.ensures;
     }
 
 pub returns-clause-starts : goal.returns-clause-starts

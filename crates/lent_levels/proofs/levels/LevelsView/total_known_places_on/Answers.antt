@@ -17,7 +17,7 @@ loop-depth-init g c =
       few = omega arith;
       lasts_len = c.begin_places.ensures.lasts;
       each = λ j less near.
-          let is = c.begin_places.ensures.ends j less in
+          let is = c.begin_places.ensures.ends j less near in
           record {
             inside = λ _. omega (arith, is, near);
             place = λ h. is ∙ level_place-first (numbers_in l (T.lists s)) l.width (get_or c.args.numbers.now j 0) (get_or c.args.ends.now j 0);
