@@ -1,6 +1,4 @@
 pub mod CheckLemmas
-pub mod LevelLemmas
-pub mod ListLemmas
 pub mod NextLemmas
 pub mod PairLemmas
 pub mod QuarterLemmas

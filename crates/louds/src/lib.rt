@@ -32,6 +32,7 @@
 // - `probing`: labels of nodes, whose reads are counted
 // - `queries`: parents, leaves and siblings, one body for each, over any source and by any way to find a bit
 // - `rising`: whether the labels of siblings rise, one body, over any labels
+// - `selecting`: where the bits of a node stand, over any source and by any selection
 // - `tree`: the type of a tree, and its queries
 mod checking;
 pub mod children;
@@ -50,6 +51,7 @@ mod parents;
 pub mod probing;
 pub mod queries;
 pub mod rising;
+mod selecting;
 mod tree;
 
 pub use checking::is_tree;

@@ -1,4 +1,5 @@
 pub mod BlockLemmas
 pub mod FrequentLemmas
+pub mod ListLemmas
 pub mod SharedLemmas
 pub mod TallyLemmas

@@ -1,0 +1,16 @@
+use Rattle.std.proofs.Common.{◌≡◌, ℕ, ◌*◌, ◌<◌, ◌≤◌, length, get_or}
+use Rattle.bitm_tables.specs.Reads.{OnlyReads}
+use Rattle.lent_levels.specs.Walk.{AreBothOnTheWay}
+use Rattle.lent_levels.proofs.levels.LevelsView.total_first_places_on.Given as goal
+
+-- those so far stand on the next level
+abbrev pub invariant-loop-k : goal.invariant-loop-k
+invariant-loop-k g l =
+    let T = g.T.TableSource in
+    record {
+      firsts_len : length l.firsts ≡ length l.numbers;
+      lasts_len : length l.lasts ≡ length l.numbers;
+      done : (j : ℕ) → j < l.k → get_or l.ends j 0 ≤ l.self.len
+          → AreBothOnTheWay l.self (T.lists l.fn.source) 1 (get_or l.numbers j 0) 0 (get_or l.ends j 0) (get_or l.firsts j 0) (get_or l.lasts j 0);
+      reads : OnlyReads T.lists T.reads l.fn.source l.source (2 * l.k) (2 * l.k) (16 * l.k);
+    }
