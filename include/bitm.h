@@ -1758,7 +1758,7 @@ BITM_MUST_USE uint32_t bitm_matrix_check(const uint64_t *block, size_t block_len
  * BITM_WRONG only where the block is not that of a matrix.
  *
  * The number at an index. BITM_NONE exactly if index is len or more. Reads for each bit of the width at most one upper
- * entry, one lower entry and nine words; with quarters no lower entry and three words, and one number of the quarters
+ * entry, one lower entry and eight words; with quarters no lower entry and two words, and one number of the quarters
  * (evident from the code).
  *
  *     if (bitm_matrix_get(&matrix, 4, &value) != BITM_OK || value != 5) return 1; */

@@ -14,8 +14,8 @@ from checks import below, claim, counts, crates, files, read
 from functions import functions_of
 
 # By file: the calls without a counter, each with the counted body that it runs, or the end of its name after the call's
-# own, or nothing where that is `_on`, and after a `+` what it calls besides. Where a body takes a `Selection`, a `Finds`
-# or a `Query`, the counted call runs it too, and stands here as well.
+# own, or nothing where that is `_on`, and after a `+` what it calls besides. Where a body takes a `Finds` or a
+# `Query`, the counted call runs it too, and stands here as well.
 PLAIN = """
 bitm/src/index.rt try_rank:rank_on try_get_bit:bit_on try_select:select try_select0:select0 rank:try_rank
     select:try_select select0:try_select0 bit_and_rank
@@ -44,21 +44,25 @@ text_index/src/growing.rt extend:rows_with
 text_index/src/index.rt count locate extract rows_of rows_with position
 text_index/src/matches.rt matches:rows_of
 trie_block/src/queries.rt total_child_by_label_on:child_by_label_by total_find_on:find_by total_longest_on:longest_by
-wavelet_matrix/src/distinct.rt quantile_and_count
-wavelet_matrix/src/queries.rt get get_and_rank get_many rank rank_many select:_by try_select:_by
-wavelet_matrix/src/range_queries.rt count_less range_count quantile next_value previous_value intersect
+wavelet_matrix/src/distinct.rt quantile_and_count:total_quantile_and_count_on
+wavelet_matrix/src/queries.rt get:total_get_on try_get:total_get_on get_and_rank:total_get_and_rank_on
+    get_many:total_get_list_on rank:total_rank_on try_rank:total_rank_on rank_many:total_rank_list_on
+    select:total_nth_by try_select:total_select_by
+wavelet_matrix/src/range_queries.rt count_less:total_count_less_on range_count:total_range_count_on
+    quantile:total_quantile_on next_value:total_next_value_on previous_value:total_previous_value_on intersect
 """
 # Public functions that have a twin, or make a probe, and do not run one body: by file, and why.
 OTHERS = {
     "bitm/src/queries.rt": {"bit_and_rank": "the default of a trait: a bit, and a rank"},
     "bitm_abi/src/hash.rt": {"number": "one body with seeds, the same without"},
     "bitm_abi/src/shards.rt": {
-        "rank": "a shard with a wrong length is Wrong", "select": "a shard with a wrong length is Wrong",
-        "select_list": "a shard with a wrong length is Wrong"},
+        "rank": "a shard with a wrong length is Wrong", "rank_list": "a shard with a wrong length is Wrong",
+        "select": "a shard with a wrong length is Wrong", "select_list": "a shard with a wrong length is Wrong"},
     "bitm_lists_c/src/moving.rt": {"bitm_cursor_start": "writes where the cursor stands, or says why not"},
     "block_items/src/items.rt": {"next": "an iterator over items, each of which is one query"},
     "block_items/src/views.rt": {"item": "a query of the view, whose answer the iterator takes"},
     "elias_fano_view/src/sequence/items.rt": {"items_from": "a selection, and one body for all numbers after it"},
+    "matrix_block/src/shared.rt": {"intersect": "next values of both ranges by turns, without memory of its own"},
     "perfect_hash/src/dictionary.rt": {"get": "a number, and the key's fingerprint there"},
     "seeded_block/src/packed.rt": {"get": "a byte of a word, and no table"},
     "sharded_index/src/near.rt": {"next": "a rank and a selection", "previous": "a rank and a selection"},
@@ -68,7 +72,13 @@ OTHERS = {
     "sharded_index/src/sharded.rt": {
         "rank": "the prefix counts, and one shard", "select": "the prefix counts, and one shard"},
     "string_block/src/view.rt": {"get": "two starts of strings, and no table"},
+    "text_collection/src/collection.rt": {
+        "count": "a pattern of other letters is nowhere, else one count", "locate": "positions, each with its document"},
+    "text_index/src/growing.rt": {"count": "no reads: the rows are known"},
+    "text_index/src/matches.rt": {"next": "an iterator over positions, each of which is one query"},
     "text_block/src/byte_queries.rt": {"extract_bytes": "None where letters are no bytes, else one body"},
+    "wavelet_matrix/src/distinct.rt": {"next": "an iterator over items, each of which is one query"},
+    "wavelet_matrix/src/iterating.rt": {"next": "an iterator over items, each of which is one query"},
 }
 # Bodies that take another way: by file, a text in it, and what takes its place.
 OTHER_WAYS = {
@@ -96,7 +106,7 @@ OTHER_WAYS = {
     },
     "louds/src/node.rt": {
         "ends_after_on(&mut self.probe(), self.len(), node.number, node.place)": "self.is_leaf(node.number)",
-        "parent_of_by(index, &mut probe, self.len(), node.number)": "Some(self.node(self.parent(node.number)?))",
+        "match parent_of_by(index,": "self.parent(node.number); match parent_of_by(index,",
     },
     "louds/src/tree.rt": {
         "match parent_by(index,": "parent_on(&mut probe, self.len(), node); match parent_by(index,",
@@ -111,12 +121,14 @@ OTHER_WAYS = {
         "found(number_by::<0,": "self.index.rank(0); found(number_by::<0,",
     },
     "wavelet_matrix/src/queries.rt": {
-        "levels.select_by(index,": "levels.rank_on(&mut probe, number, k); levels.select_by(index,",
-        "levels.try_select_by(index,": "levels.rank_on(&mut probe, number, k); levels.try_select_by(index,",
+        "match levels.total_nth_by(index,":
+            "levels.total_rank_on(&mut probe, number, k); match levels.total_nth_by(index,",
+        "match levels.total_select_by(index,":
+            "levels.total_rank_on(&mut probe, number, k); match levels.total_select_by(index,",
     },
 }
 SOURCES = re.compile(r"crates/(?!test_|example_|program_|tool_)\w+/src/.*\.rt")
-ON_READS = re.compile(r"ReadsAtMost|OnlyReads|OnlySelects|OnlySteps|ReadsLabels|ReadsFragments")
+ON_READS = re.compile(r"ReadsAtMost|OnlyReads|OnlyRanks|OnlySelects|OnlySteps|ReadsLabels|ReadsFragments")
 TWINS = ("total_{}_on", "{}_on", "total_{}_by", "{}_by", "{}_counted", "try_{}")
 COUNTED = re.compile(r"_(?:on|by|in|with|counted)$")
 PROBES = re.compile(r"\b(?:probe|own_parts|no_source)\(")
@@ -192,7 +204,7 @@ def twins(file, function, body):
 def is_counted(function):
     """Whether a function has a counter itself, or takes the source that it reads."""
     head = " ".join(function.lines[function.at - 1 : function.opens])
-    has_source = re.search(r"TableSource|Selection\b|Query\b|\bsource: &mut|ReadCounts", head)
+    has_source = re.search(r"TableSource|Finds\b|Query\b|\bsource: &mut|ReadCounts", head)
     return has_source or any(ON_READS.search(words) for _, _, words in function.clauses())
 
 

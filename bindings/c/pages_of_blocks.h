@@ -52,7 +52,7 @@ static void open_sparse_bits(uint64_t *one)
     TOUCHES(2, 0, 0, bitm_block_section(block, words, 3, section));
 }
 
-/* A matrix in a block, whose words take 32 pages. For each bit of the width a number takes nine words, which may be of
+/* A matrix in a block, whose words take 32 pages. For each bit of the width a number takes eight words, which may be of
  * two pages here, a rank and a range twice as many, and a selection as a number; all take a page or two of tables. */
 static void query_a_matrix(uint64_t *one)
 {

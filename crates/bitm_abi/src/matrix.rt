@@ -31,6 +31,7 @@ pub struct Matrix<'a> {
 
 impl<'a> Matrix<'a> {
     /// What C is passed for a view of a block.
+    #[tactic(auto, using(crate::proofs::MatrixLemmas::plain))]
     #[inline(always)]
     pub fn of(view: &MatrixView<'a>) -> Matrix<'a>
         ensures { matrix_parts result ≡ view.now }

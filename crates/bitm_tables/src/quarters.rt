@@ -6,13 +6,14 @@
 //! To pack the counts before a block and within it into one number is due to Vigna, 'Broadword implementation of
 //! rank/select queries' (WEA 2008); here the counts within a block are for every two words, and the table takes half
 //! the space.
-ghost use Rattle.std.specs.Prelude.{◌≡◌, ◌+◌, ◌*◌, ◌/◌, ◌^◌, ◌<◌, ◌≤◌, ℕ, length, slice_index, IfOk};
+ghost use Rattle.std.specs.Prelude.{◌≡◌, ◌+◌, ◌*◌, ◌/◌, ◌^◌, ◌<◌, ◌≤◌, ℕ, List, length, slice_index};
+ghost use Rattle.std.specs.Prelude.{IfOk, IfSome, MatchOption};
 ghost use Rattle.std.specs.Box.{boxed_slice_items};
 ghost use Rattle.bit_lists.specs.Bits.{bits_of, item, IsShort};
-ghost use Rattle.bit_lists.specs.Count.{ones_before};
+ghost use Rattle.bit_lists.specs.Count.{ones_before, IsRank};
 ghost use Rattle.bitm_tables.specs.Quarters.{AreQuartersOf, quarter_count, record_count};
 ghost use Rattle.bitm_tables.specs.Reads.{OnlyReads};
-ghost use Rattle.bitm_tables.specs.Tables.{IsIndexed, bits_in};
+ghost use Rattle.bitm_tables.specs.Tables.{HasSizes, HasTables, IsIndexed, bits_in};
 
 use crate::entry::{ones_to_entry, ones_to_record};
 use crate::levels::{RECORD_BITS, RECORDS_PER_L2_ENTRY, U64_PER_L2_RECORDS};
@@ -89,7 +90,7 @@ pub fn make_quarters<T: TableSource>(
 /// The number of 1 bits in a basic block before a quarter, from the block's number: one shift, and no branch for the
 /// first quarter.
 #[inline(always)]
-fn ones_to_quarter(number: u64, quarter: usize) -> usize
+pub fn ones_to_quarter(number: u64, quarter: usize) -> usize
     requires { quarter < 4 }
     ensures { result ≡ quarter_count number quarter }
 {
@@ -99,21 +100,23 @@ fn ones_to_quarter(number: u64, quarter: usize) -> usize
     (number >> (62 - 5 * first / 64) & 0x3FF) as usize
 }
 
-/// The word that has bit `last`, and the number of 1 bits up to and including that bit.
+/// The word that has bit `last`, and the number of 1 bits up to and including that bit where the tables are those of
+/// the words and `number` is that of its basic block; any number otherwise.
 ///
 /// # Conditions
 /// There is such a bit.
 #[inline(always)]
-fn word_and_ones<T: TableSource>(source: &mut T, quarters: &[u64], last: usize) -> (u64, usize)
-    requires indexed { IsIndexed (T.lists source.old) }
-    requires quarters { AreQuartersOf (bits_in (T.lists source.old)) quarters.now }
-    requires inside { last < length (bits_in (T.lists source.old)) }
+fn word_and_ones<T: TableSource>(source: &mut T, number: u64, last: usize) -> (u64, usize)
+    requires sized { HasSizes (T.lists source.old) }
+    requires inside { last / 64 < length (T.lists source.old).words }
     ensures word { result.0 ≡ slice_index (T.lists source.old).words (last / 64) }
-    ensures ones { result.1 ≡ ones_before (bits_in (T.lists source.old)) (last + 1) }
+    ensures ones { (quarters : List ℕ) → HasTables (T.lists source.old)
+        → AreQuartersOf (bits_in (T.lists source.old)) quarters
+        → number ≡ slice_index quarters (last / 512)
+        → result.1 ≡ ones_before (bits_in (T.lists source.old)) (last + 1) }
     ensures reads { OnlyReads T.lists T.reads source.old source.new 1 0 2 }
 {
     let at = last / 64;
-    let number = quarters[last / RECORD_BITS];
     let to_record = ones_to_entry(number);
     let to_quarter = ones_to_quarter(number, at / QUARTER_WORDS % 4);
     // The quarter's first word counts unless it has the bit. A product needs no branch.
@@ -124,8 +127,45 @@ fn word_and_ones<T: TableSource>(source: &mut T, quarters: &[u64], last: usize) 
     let to_part = ones_to_part(source, last >> 32);
     (
         word,
-        to_part + (to_record + to_quarter + in_first + in_word),
+        to_part.wrapping_add(to_record + to_quarter + in_first + in_word),
     )
+}
+
+/// The number of 1 bits among the first `index` bits of the source's words, where its tables and the quarters are those
+/// of the words; whatever they hold, `None` where there are fewer bits.
+///
+/// # Conditions
+/// There are fewer than 2^58 words, and the tables have the right lengths. Tables and quarters may hold anything, and
+/// the quarters may be of any length.
+/// # Cost
+/// At most one upper entry, no lower entry and two words are read, whatever they hold; by its code, and in no clause,
+/// one number of the quarters.
+///
+/// ```
+/// total_rank_by_quarters_on(&mut source, &quarters, 3);   // of the word 0b1011, its tables and quarters: Some(2)
+/// ```
+#[inline(always)]
+pub fn total_rank_by_quarters_on<T: TableSource>(
+    source: &mut T,
+    quarters: &[u64],
+    index: usize,
+) -> Option<usize>
+    requires { HasSizes (T.lists source.old) }
+    ensures inside { IfSome result (λ _. index ≤ length (bits_in (T.lists source.old))) }
+    ensures answer { HasTables (T.lists source.old)
+        → AreQuartersOf (bits_in (T.lists source.old)) quarters.now
+        → IsRank (bits_in (T.lists source.old)) index result }
+    ensures reads { OnlyReads T.lists T.reads source.old source.new 1 0 2 }
+{
+    // Where no bit counts, this wraps to a number past every position, so one test covers both cases.
+    let last = index.wrapping_sub(1);
+    if last / 64 >= source.words_len() {
+        return if index == 0 { Some(0) } else { None };
+    }
+    if last / RECORD_BITS >= quarters.len() {
+        return None;
+    }
+    Some(word_and_ones(source, quarters[last / RECORD_BITS], last).1)
 }
 
 /// The number of 1 bits among the first `index` bits of the source's words.
@@ -144,10 +184,45 @@ pub fn rank_by_quarters_on<T: TableSource>(source: &mut T, quarters: &[u64], ind
     ensures ones { result ≡ ones_before (bits_in (T.lists source.old)) index }
     ensures reads { OnlyReads T.lists T.reads source.old source.new 1 0 2 }
 {
-    if index == 0 {
-        return 0;
+    match total_rank_by_quarters_on(source, quarters, index) {
+        Some(ones) => ones,
+        None => unreachable!(),
     }
-    word_and_ones(source, quarters, index - 1).1
+}
+
+/// The bit at position `place` of the source's words, and the number of 1 bits before it where its tables and the
+/// quarters are those of the words, any number otherwise; whatever they hold, `None` where there is no such bit.
+///
+/// # Conditions
+/// Those of `total_rank_by_quarters_on`.
+/// # Cost
+/// That of `total_rank_by_quarters_on`.
+///
+/// ```
+/// total_bit_and_rank_by_quarters_on(&mut source, &quarters, 3);   // of the word 0b1011: Some((true, 2))
+/// ```
+#[inline(always)]
+pub fn total_bit_and_rank_by_quarters_on<T: TableSource>(
+    source: &mut T,
+    quarters: &[u64],
+    place: usize,
+) -> Option<(bool, usize)>
+    requires { HasSizes (T.lists source.old) }
+    ensures bit { let b = bits_in (T.lists source.old) in
+        IfSome result (λ r. (place < length b) × (r.0 ≡ item b place)) }
+    ensures answer { let b = bits_in (T.lists source.old) in HasTables (T.lists source.old)
+        → AreQuartersOf b quarters.now
+        → MatchOption result (length b ≤ place) (λ r. r.1 ≡ ones_before b place) }
+    ensures reads { OnlyReads T.lists T.reads source.old source.new 1 0 2 }
+{
+    if place / 64 >= source.words_len() {
+        return None;
+    }
+    if place / RECORD_BITS >= quarters.len() {
+        return None;
+    }
+    let (word, ones) = word_and_ones(source, quarters[place / RECORD_BITS], place);
+    Some(bit_and_ones_before(word, ones, place))
 }
 
 /// The bit at position `place` of the source's words, and the number of 1 bits before it.
@@ -169,6 +244,8 @@ pub fn bit_and_rank_by_quarters_on<T: TableSource>(
     ensures ones { result.1 ≡ ones_before (bits_in (T.lists source.old)) place }
     ensures reads { OnlyReads T.lists T.reads source.old source.new 1 0 2 }
 {
-    let (word, ones) = word_and_ones(source, quarters, place);
-    bit_and_ones_before(word, ones, place)
+    match total_bit_and_rank_by_quarters_on(source, quarters, place) {
+        Some(both) => both,
+        None => unreachable!(),
+    }
 }

@@ -1,6 +1,6 @@
 //! Rank over a source, with a bound on its reads.
 ghost use Rattle.std.specs.Prelude.{◌≡◌, ◌+◌, ◌*◌, ◌/◌, ◌^◌, ◌<◌, ◌≤◌, ℕ, List};
-ghost use Rattle.std.specs.Prelude.{length, slice_index, count_ones, MatchOption, SomeIff};
+ghost use Rattle.std.specs.Prelude.{length, slice_index, count_ones, IfSome, MatchOption, SomeIff};
 ghost use Rattle.bit_lists.specs.Bits.{bits_of, item, IsShort};
 ghost use Rattle.bit_lists.specs.Count.{ones_before, IsRank};
 ghost use Rattle.bitm_tables.specs.Reads.{word_read, OnlyReads, ReadsAtMost};
@@ -273,13 +273,36 @@ fn word_and_ones<T: TableSource>(source: &mut T, last: usize) -> (u64, usize)
 /// The source's tables are those of its words, which are fewer than 2^58.
 /// # Cost
 /// At most one upper entry, one lower entry and the eight words of the bit's basic block are read.
-#[tactic(auto, using(bit_lists::proofs::BitLaws::bits_are_counted, bit_lists::proofs::lemmas::BitsLemmas::item_tested))]
 #[inline(always)]
 pub fn bit_and_rank_on<T: TableSource>(source: &mut T, place: usize) -> Option<(bool, usize)>
     requires { IsIndexed (T.lists source.old) }
     ensures answer { let b = bits_in (T.lists source.old) in
         MatchOption result (length b ≤ place)
         (λ r. (place < length b) × (r.0 ≡ item b place) × (r.1 ≡ ones_before b place)) }
+    ensures reads { OnlyReads T.lists T.reads source.old source.new 1 1 8 }
+{
+    total_bit_and_rank_on(source, place)
+}
+
+/// The bit at position `place` of the source's words, and the number of 1 bits before it where its tables are those of
+/// the words, any number otherwise; `None` exactly where there is no such bit, whatever the tables hold.
+///
+/// # Conditions
+/// There are fewer than 2^58 words, and the tables have the right lengths. They may hold anything.
+/// # Cost
+/// At most one upper entry, one lower entry and the eight words of the bit's basic block are read.
+///
+/// ```
+/// total_bit_and_rank_on(&mut source, 3);   // of the word 0b1011 and its tables: Some((true, 2))
+/// ```
+#[tactic(auto, using(bit_lists::proofs::BitLaws::bits_are_counted, bit_lists::proofs::lemmas::BitsLemmas::item_tested))]
+#[inline(always)]
+pub fn total_bit_and_rank_on<T: TableSource>(source: &mut T, place: usize) -> Option<(bool, usize)>
+    requires { HasSizes (T.lists source.old) }
+    ensures bit { let b = bits_in (T.lists source.old) in
+        MatchOption result (length b ≤ place) (λ r. (place < length b) × (r.0 ≡ item b place)) }
+    ensures ones { HasTables (T.lists source.old)
+        → IfSome result (λ r. r.1 ≡ ones_before (bits_in (T.lists source.old)) place) }
     ensures reads { OnlyReads T.lists T.reads source.old source.new 1 1 8 }
 {
     if place / 64 >= source.words_len() {
@@ -289,16 +312,17 @@ pub fn bit_and_rank_on<T: TableSource>(source: &mut T, place: usize) -> Option<(
     Some(bit_and_ones_before(word, ones, place))
 }
 
-/// The bit at position `place` and the number of 1 bits before it, from the word that has it and the number of 1 bits
+/// The bit at position `place` from the word that has it, and the number of 1 bits before it from the number of 1 bits
 /// up to and including it; from any other word and number, any answer.
 ///
 /// The word is shifted as `ones_through` shifts it, once for both, and the bit is then its highest.
 #[tactic(auto, using(crate::proofs::lemmas::RankLemmas::item_shifted))]
 #[inline(always)]
 pub(crate) fn bit_and_ones_before(word: u64, ones: usize, place: usize) -> (bool, usize)
-    ensures { (ws : List ℕ) → IsShort ws → place < 64 * length ws → word ≡ slice_index ws (place / 64)
-        → ones ≡ ones_before (bits_of ws) (place + 1)
-        → (result.0 ≡ item (bits_of ws) place) × (result.1 ≡ ones_before (bits_of ws) place) }
+    ensures bit { (ws : List ℕ) → place < 64 * length ws → word ≡ slice_index ws (place / 64)
+        → result.0 ≡ item (bits_of ws) place }
+    ensures ones { (ws : List ℕ) → IsShort ws → place < 64 * length ws → word ≡ slice_index ws (place / 64)
+        → ones ≡ ones_before (bits_of ws) (place + 1) → result.1 ≡ ones_before (bits_of ws) place }
 {
     let bit = word << (63 - place % 64) >> 63 != 0;
     (bit, ones.wrapping_sub(bit as usize))

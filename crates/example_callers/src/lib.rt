@@ -27,7 +27,7 @@
 //! | index your own array by ranks of such tables | `ranked` |
 //! | query the parts of a sequence that came from elsewhere and may be wrong | `lent_sequence` |
 //! | select from samples that may be stale | `sampled` |
-//! | select over a source or by an index in one body, and by your own selection | `selection` |
+//! | select over a source or by an index in one body, and in a way of your own | `selection` |
 //! | select by your own strategy | `strategies` |
 //! | sample by your own density | `density` |
 #![tactic(auto)]

@@ -1,35 +1,41 @@
-//! A call that selects by any selection: over a source with its reads counted, or by an index's own strategies. And a
-//! selection of a client's own.
+//! A call that selects in any way: over a source with its reads counted, or by an index's own strategies. And a way of
+//! a client's own.
 ghost use Rattle.std.specs.Prelude.{◌≡◌, ◌+◌, ◌*◌, ◌<◌, ℕ, true, length, slice_index};
 ghost use Rattle.bitm.specs.Bits.{bits_of};
-ghost use Rattle.bitm.specs.Count.{ones_of, zeros_of, Picks};
+ghost use Rattle.bitm.specs.Count.{ones_of, Picks};
 ghost use Rattle.bitm.specs.Tables.{bits_in, IsIndexed};
 ghost use Rattle.bitm_selection.specs.Selection.{by_halves, OnlySelectsBy};
 
 use bitm::{
-    BinaryRankSearch, RankSelect101111, Select0ForRank101111, SelectForRank101111, TableSource,
+    Answer, RankSelect101111, Select0ForRank101111, SelectForRank101111, TableSource, index_laws,
 };
-use bitm_selection::Selection;
+use bitm_selection::Finds;
+use bitm_view::ByTables;
 use std::convert::AsSlice;
 
 /// How many 0 bits stand between the 1 bit of a rank and the next 1 bit.
 ///
 /// # Conditions
-/// The source's tables are those of its words, among which the selection selects, and both 1 bits are there.
+/// The source's tables are those of its words, in which the finder finds bits, and both 1 bits are there.
 /// # Cost
-/// Two selections.
+/// Two searches.
 #[tactic(auto, using(bitm::proofs::Callers::ones_are_bits))]
-pub fn gap_by<F: Selection, T: TableSource>(selection: &F, source: &mut T, rank: usize) -> usize
+pub fn gap_by<F: Finds, T: TableSource>(finder: &F, source: &mut T, rank: usize) -> usize
     requires indexed { IsIndexed (T.lists source.old) }
-    requires selects { F.selects selection.now (T.lists source.old).words }
+    requires finds { F.finds finder.now (T.lists source.old) }
     requires both { rank + 1 < ones_of (bits_in (T.lists source.old)) }
     ensures gap { let b = bits_in (T.lists source.old) in
         (p : ℕ) × Picks b true rank p × Picks b true (rank + 1) (p + 1 + result) }
     ensures reads { OnlySelectsBy T.lists T.reads source.old source.new
         (F.most (T.lists source.old)) 2 0 }
 {
-    let one = selection.one_on(source, rank);
-    let next = selection.one_on(source, rank + 1);
+    index_laws::tables_have_sizes();
+    let Answer::Found(one) = finder.one(source, rank) else {
+        unreachable!()
+    };
+    let Answer::Found(next) = finder.one(source, rank + 1) else {
+        unreachable!()
+    };
     next - one - 1
 }
 
@@ -47,7 +53,7 @@ pub fn gap_on<T: TableSource>(source: &mut T, rank: usize) -> usize
     ensures reads { OnlySelectsBy T.lists T.reads source.old source.new
         (by_halves (T.lists source.old)) 2 0 }
 {
-    gap_by(&BinaryRankSearch, source, rank)
+    gap_by(&ByTables, source, rank)
 }
 
 /// `gap_by` in an index's words, by its own strategies.
@@ -65,32 +71,34 @@ pub fn gap<S: SelectForRank101111, S0: Select0ForRank101111, BV: AsSlice<u64>>(
     gap_by(index, &mut index.probe(), rank)
 }
 
-/// The first 1 bits by a list of their positions, and all other bits as another selection finds them.
+/// The first 1 bits by a list of their positions, and all other bits as another finder finds them.
 #[derive(Clone, Copy)]
 pub struct Front<'a, F> {
     /// The positions of the first 1 bits.
     pub places: &'a [usize],
-    /// What selects the other bits.
+    /// What finds the other bits.
     pub rest: F,
 }
 
-/// In the words that have their first 1 bits at these positions, and in which the other selection selects: what that
+/// In the words that have their first 1 bits at these positions, and in which the other finder finds bits: what that
 /// one reads.
-impl<'a, F: Selection> Selection for Front<'a, F> {
-    ghost selects = { λ front words. F.selects front.rest words
+impl<'a, F: Finds> Finds for Front<'a, F> {
+    ghost finds = { λ front lists. F.finds front.rest lists
         × ((r : ℕ) → r < length front.places.now
-        → Picks (bits_of words) true r (slice_index front.places.now r)) };
+        → Picks (bits_in lists) true r (slice_index front.places.now r)) };
 
     ghost most = { F.most };
 
-    fn one_on<T: TableSource>(&self, source: &mut T, rank: usize) -> usize {
+    #[tactic(auto, using(bitm::proofs::BitLaws::bits_are_counted))]
+    fn one<T: TableSource>(&self, source: &mut T, rank: usize) -> Answer<usize> {
         match self.places.get(rank) {
-            Some(place) => *place,
-            None => self.rest.one_on(source, rank),
+            Some(place) if *place == usize::MAX => Answer::Wrong,
+            Some(place) => Answer::Found(*place),
+            None => self.rest.one(source, rank),
         }
     }
 
-    fn zero_on<T: TableSource>(&self, source: &mut T, rank: usize) -> usize {
-        self.rest.zero_on(source, rank)
+    fn zero<T: TableSource>(&self, source: &mut T, rank: usize) -> Answer<usize> {
+        self.rest.zero(source, rank)
     }
 }

@@ -1,4 +1,6 @@
 pub mod CheckLemmas
+pub mod LevelLemmas
+pub mod ListLemmas
 pub mod NextLemmas
 pub mod PairLemmas
 pub mod QuarterLemmas

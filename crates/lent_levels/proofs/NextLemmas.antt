@@ -1,10 +1,10 @@
 -- Numbers of a range beside a bound, and between two.
-use Rattle.std.proofs.Common.{◌≡◌, ℕ, ◌+◌, ◌-◌, ◌<◌, ◌≤◌, ◌⊎◌, inl, inr, nat_lt, List, length, slice_range, All, sym, ap, arith, ⊎_elim}
+use Rattle.std.proofs.Common.{◌≡◌, ℕ, ◌+◌, ◌-◌, ◌<◌, ◌≤◌, ◌⊎◌, inl, inr, nat_lt, List, length, slice_range, All, sym, arith, ⊎_elim}
 use Rattle.std.proofs.lemmas.Bool.{cases_lt}
 use Rattle.std.proofs.lemmas.List.Sums.{count_by-le-length}
 use Rattle.matrix_levels.specs.Numbers.{count_between, count_less}
 use Rattle.matrix_levels.proofs.lemmas.CountLemmas.{length-range}
-use Rattle.matrix_levels.proofs.lemmas.OrderLemmas.{all-less, between-is, between-none, count_less-grows}
+use Rattle.matrix_levels.proofs.lemmas.OrderLemmas.{all-less, between-is, count_less-grows}
 
 -- where no more than those that are less are in the range, all are less
 pub next-none : (xs : List ℕ) (s e v : ℕ) → (e - s ≤ count_less (slice_range xs s e) v) ⊎ (length xs < e)
@@ -35,17 +35,6 @@ previous-none xs s e v k some none =
     (cases_lt (length xs) e)))
     (cases_lt e s)
 
--- what is less than the lesser of two bounds, and what is between them, is less than the higher
-pub between-more : (ys : List ℕ) (low high m : ℕ) → (low ≤ high → m ≡ low) → (high ≤ low → m ≡ high)
-    → count_less ys m + count_between ys low high ≡ count_less ys high
-between-more ys low high m lower higher =
-    ⊎_elim
-    (λ above. let same : m ≡ high = higher (omega (arith, above)) in
-    omega (arith, ap (count_less ys) same, between-none ys low high (omega (arith, above))))
-    (λ order. omega (
-      arith,
-      ap (count_less ys) (lower order),
-      between-is ys low high order,
-      count_less-grows ys low high order,
-    ))
-    (cases_lt high low)
+-- what is less than the lower of two bounds, and what is between them, is less than the higher
+pub between-more : (ys : List ℕ) (low high : ℕ) → low ≤ high → count_less ys low + count_between ys low high ≡ count_less ys high
+between-more ys low high order = omega (arith, between-is ys low high order, count_less-grows ys low high order)

@@ -1,10 +1,8 @@
 -- One level on, by what words and tables say; and what was read on the way.
-use Rattle.std.proofs.Common.{◌≡◌, ℕ, suc, ◌+◌, ◌*◌, ◌^◌, ◌<◌, ◌≤◌, Bool, true, false, if◌then◌else◌, List, length, take, get_or, count_by, refl, sym, ap, ◌∙◌, arith}
+use Rattle.std.proofs.Common.{◌≡◌, ℕ, suc, ◌+◌, ◌*◌, ◌^◌, ◌<◌, ◌≤◌, Bool, true, false, List, length, take, get_or, count_by, refl, sym, ap, ◌∙◌, arith}
 use Rattle.std.proofs.lemmas.List.{length-take-le}
 use Rattle.std.proofs.Math.Nat.{pow-succ'}
 use Rattle.bit_lists.specs.Bits.{digit, item}
-use Rattle.bit_lists.specs.Count.{is_same, ones_before}
-use Rattle.bit_lists.proofs.BitLaws.{count_after_item}
 use Rattle.bitm_tables.specs.declared.source.counts.ReadCounts.{ReadCounts}
 use Rattle.bitm_tables.specs.Reads.{OnlyReads}
 use Rattle.bitm_tables.specs.Tables.{Lists}
@@ -72,12 +70,3 @@ step-is xs l b h d p less inside v next bit moves =
       own,
       omega (arith, moves, moved-inside (digit_place l d) v (level xs l.width d) p (omega (arith, inside, len)) (sym own), len),
     )
-
--- a bit and the 1 bits before it are those up to it and with it
-pub ones-with-bit : (b : List Bool) (i : ℕ) (v : Bool) → i < length b → v ≡ item b i → ones_before b (i + 1) ≡ ones_before b i + bool_byte v
-ones-with-bit b i v inside is =
-    count_after_item b true i inside ∙ ap (λ k. ones_before b i + k) (as-byte (item b i) ∙ ap bool_byte (sym is))
-  where
-    as-byte : (u : Bool) → (if is_same true u then 1 else 0) ≡ bool_byte u
-    as-byte true = refl
-    as-byte false = refl

@@ -1,11 +1,10 @@
 -- Items on their way from level to level.
-use Rattle.std.proofs.Common.{◌≤◌, ◌≡◌, ℕ, ◌^◌, ◌<◌, inl, inr, ⊎_elim, subst, arith}
+use Rattle.std.proofs.Common.{◌≡◌, ℕ, ◌+◌, ◌-◌, ◌*◌, ◌^◌, ◌<◌, ◌≤◌, inl, inr, ⊎_elim, ap, subst, arith}
 use Rattle.std.proofs.lemmas.Bool.{cases_lt}
 use Rattle.bitm_tables.specs.Tables.{Lists}
 use Rattle.matrix_levels.specs.Matrix.{numbers_in, IsMatrix, LevelTables}
 use Rattle.matrix_levels.proofs.lemmas.ManyLemmas.{level-first, level-last}
-use Rattle.matrix_levels.proofs.lemmas.WalkLemmas.{level_place-first}
-use Rattle.lent_levels.specs.Walk.{AreBothOnTheWay, IsOnTheWay, IsTold}
+use Rattle.lent_levels.specs.Walk.{IsOnTheWay, IsTold}
 
 -- an item begins at its index, with no digits
 pub begins : (l : LevelTables) (lists : Lists) (i : ℕ) → IsOnTheWay l lists 0 i i 0
@@ -39,11 +38,16 @@ told l lists i p n d e w = record {
       (cases_lt i l.len);
 }
 
--- a number begins before all indices, and before an index
-pub both-begin : (l : LevelTables) (lists : Lists) (v e : ℕ) → e ≤ l.len → AreBothOnTheWay l lists 0 v 0 e 0 e
-both-begin l lists v e inside = record {
-  first_in = λ _. omega arith;
-  last_in = λ _. inside;
-  first = λ _. level_place-first (numbers_in l lists) l.width v 0;
-  last = λ _. level_place-first (numbers_in l lists) l.width v e;
-}
+-- what the levels of both places read, one level more
+pub both-levels-more : (k d n : ℕ) → k ≤ d → k * n + 2 * ((d - k) * n) + 2 * n ≤ k * n + 2 * ((d + 1 - k) * n)
+both-levels-more k d n from =
+    let one : d + 1 - k ≡ d - k + 1 = omega (arith, from) in
+    let e : (d + 1 - k) * n ≡ (d - k + 1) * n = ap (λ m. m * n) one in
+    omega (arith, e)
+
+-- and after the last one
+pub both-levels : (k w n : ℕ) → k ≤ w → k * n + 2 * ((w - k) * n) ≤ (2 * w - k) * n
+both-levels k w n most =
+    let all : 2 * w - k ≡ k + 2 * (w - k) = omega (arith, most) in
+    let e : (2 * w - k) * n ≡ (k + 2 * (w - k)) * n = ap (λ m. m * n) all in
+    omega (arith, e)

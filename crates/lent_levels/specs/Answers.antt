@@ -1,5 +1,5 @@
 -- What is answered of a matrix in memory that may hold anything, and in that of a matrix.
-use Rattle.std.specs.Prelude.{◌≡◌, ⊤, ℕ, ◌^◌, ◌<◌, ◌≤◌, ◌⊎◌, List, length, slice_index}
+use Rattle.std.specs.Prelude.{◌≡◌, ⊤, ℕ, ◌^◌, ◌<◌, ◌≤◌, ◌⊎◌, List, Option, Some, None, length, slice_index}
 use Rattle.bitm_tables.specs.declared.answer.Answer.{Answer}
 use Rattle.bitm_tables.specs.declared.answer.Answer.TheVariants.{Found, Absent, Wrong}
 use Rattle.matrix_levels.specs.Numbers.{count_before, PicksItem}
@@ -69,3 +69,8 @@ abbrev pub AreRanksOf : List ℕ → ℕ → ℕ → ℕ → Answer (ℕ × ℕ)
 AreRanksOf xs v s e (Found c) = (s ≤ length xs) × (e ≤ length xs) × (c.0 ≡ count_before xs v s) × (c.1 ≡ count_before xs v e)
 AreRanksOf xs v s e Absent = (length xs < s) ⊎ (length xs < e)
 AreRanksOf xs v s e Wrong = ⊥
+
+-- what was found, or that words and tables are wrong
+abbrev pub found_or_wrong : {X : Type 0} → Option X → Answer X
+found_or_wrong (Some x) = Found x
+found_or_wrong None = Wrong

@@ -26,6 +26,12 @@ pub record IsTold (l : LevelTables) (lists : Lists) (i p n : ℕ) : Type 0 where
   pub found : p < l.len → IsNumberAt l lists i (Found n)
   pub unanswered : l.len ≤ p → IsNumberAt l lists i Absent ⊎ IsNumberAt l lists i Wrong
 
+-- a number v stands, or would, at place p of level d where it stands before index i of the list. A place past the end says
+-- that it went astray, as none does in a matrix
+pub record IsPlaceOnTheWay (l : LevelTables) (lists : Lists) (d v i p : ℕ) : Type 0 where
+  pub inside : IsMatrix l lists → p ≤ l.len
+  pub place : IsMatrix l lists → p ≡ level_place (numbers_in l lists) l.width v d i
+
 -- a number v stands, or would, at the places p and q of level d where it stands before the indices s and e of the list. A
 -- place past the end says that they went astray, as none do in a matrix
 pub record AreBothOnTheWay (l : LevelTables) (lists : Lists) (d v s e p q : ℕ) : Type 0 where

@@ -1,8 +1,7 @@
 //! The numbers of a range beside a bound or between two, over any source: words and tables may hold anything.
 ghost use Rattle.std.specs.Prelude.{◌≡◌, ◌+◌, ◌*◌, ◌≤◌, ℕ, List, length, slice_range};
-ghost use Rattle.bitm_tables.specs.Reads.{OnlyReads};
 ghost use Rattle.bitm_tables.specs.Tables.{HasSizes, bits_in};
-ghost use Rattle.matrix_levels.specs.Matrix.{IsMatrix, numbers_in};
+ghost use Rattle.matrix_levels.specs.Matrix.{IsMatrix, OnlyRanks, numbers_in};
 ghost use Rattle.matrix_levels.specs.Numbers.{count_between, count_less};
 ghost use Rattle.lent_levels.specs.Ranges.{IsCountOf, IsCountWithin};
 ghost use Rattle.lent_levels.specs.Ranges.{IsNextOf, IsNextWithin, IsPreviousOf, IsPreviousWithin};
@@ -12,15 +11,6 @@ use crate::levels::LevelsView;
 use crate::stepping::difference;
 use bitm_tables::answer::Answer;
 use bitm_tables::source::TableSource;
-
-/// The lesser of two bounds.
-#[inline(always)]
-fn lesser(low: u64, high: u64) -> u64
-    ensures low { low ≤ high → result ≡ low }
-    ensures high { high ≤ low → result ≡ high }
-{
-    if low < high { low } else { high }
-}
 
 /// The answer, with `Wrong` in place of a number that is less than `bound`.
 #[inline(always)]
@@ -80,6 +70,7 @@ impl<'a> LevelsView<'a> {
     /// ```
     /// levels.total_next_value_on(&mut source, 1, 5, 2);   // Found(4), Absent or Wrong
     /// ```
+    #[inline(always)]
     pub fn total_next_value_on<T: TableSource>(
         &self,
         source: &mut T,
@@ -92,8 +83,8 @@ impl<'a> LevelsView<'a> {
         ensures inside { IsNextWithin self.now.len self.now.width start end bound result }
         ensures answer { IsMatrix self.now (T.lists source.old)
             → IsNextOf (numbers_in self.now (T.lists source.old)) start end bound result }
-        ensures reads { OnlyReads T.lists T.reads source.old source.new
-            (4 * self.now.width) (4 * self.now.width) (32 * self.now.width) }
+        ensures reads { OnlyRanks self.now T.lists T.reads source.old source.new
+            (4 * self.now.width) }
     {
         let less = match self.total_count_less_on(source, start, end, bound) {
             Answer::Found(less) => less,
@@ -118,6 +109,7 @@ impl<'a> LevelsView<'a> {
     /// ```
     /// levels.total_previous_value_on(&mut source, 1, 5, 5);   // Found(4), Absent or Wrong
     /// ```
+    #[inline(always)]
     pub fn total_previous_value_on<T: TableSource>(
         &self,
         source: &mut T,
@@ -130,8 +122,8 @@ impl<'a> LevelsView<'a> {
         ensures inside { IsPreviousWithin self.now.len self.now.width start end bound result }
         ensures answer { IsMatrix self.now (T.lists source.old)
             → IsPreviousOf (numbers_in self.now (T.lists source.old)) start end bound result }
-        ensures reads { OnlyReads T.lists T.reads source.old source.new
-            (4 * self.now.width) (4 * self.now.width) (32 * self.now.width) }
+        ensures reads { OnlyRanks self.now T.lists T.reads source.old source.new
+            (4 * self.now.width) }
     {
         let less = match self.total_count_less_on(source, start, end, bound) {
             Answer::Found(less) => less,
@@ -155,11 +147,12 @@ impl<'a> LevelsView<'a> {
     /// # Conditions
     /// Those of `total_get_on`.
     /// # Cost
-    /// Twice that of `total_count_less_on`.
+    /// Twice that of `total_count_less_on`; nothing is read where `high` is no more than `low`.
     ///
     /// ```
     /// levels.total_range_count_on(&mut source, 1, 5, 1, 5);   // Found(3), Absent or Wrong
     /// ```
+    #[inline(always)]
     pub fn total_range_count_on<T: TableSource>(
         &self,
         source: &mut T,
@@ -174,15 +167,22 @@ impl<'a> LevelsView<'a> {
         ensures answer { let numbers = numbers_in self.now (T.lists source.old) in
             IsMatrix self.now (T.lists source.old) → IsCountOf numbers start end
             (count_between (slice_range numbers start end) low high) result }
-        ensures reads { OnlyReads T.lists T.reads source.old source.new
-            (4 * self.now.width) (4 * self.now.width) (32 * self.now.width) }
+        ensures reads { OnlyRanks self.now T.lists T.reads source.old source.new
+            (4 * self.now.width) }
+        ensures nothing { high ≤ low → T.reads source.new ≡ T.reads source.old }
     {
+        if end < start || end > self.len() {
+            return Answer::Absent;
+        }
+        if high <= low {
+            return Answer::Found(0);
+        }
         let less = match self.total_count_less_on(source, start, end, high) {
             Answer::Found(less) => less,
             Answer::Absent => return Answer::Absent,
             Answer::Wrong => return Answer::Wrong,
         };
-        let below = match self.total_count_less_on(source, start, end, lesser(low, high)) {
+        let below = match self.total_count_less_on(source, start, end, low) {
             Answer::Found(below) => below,
             Answer::Absent => return Answer::Absent,
             Answer::Wrong => return Answer::Wrong,

@@ -2,10 +2,12 @@
 ghost use Rattle.std.specs.Prelude.{◌≡◌, ◌+◌, ◌*◌, ◌<◌, ◌≤◌, ◌↔◌, IsTrue, length};
 ghost use Rattle.bit_lists.specs.Count.{ones_before, zeros_before};
 ghost use Rattle.bitm_tables.specs.Tables.{IsIndexed, bits_in};
-ghost use Rattle.lent_levels.specs.Check.{AreCounts, AreCountsAt, HasQuarters};
+ghost use Rattle.matrix_levels.specs.Matrix.{IsMatrix};
+ghost use Rattle.lent_levels.specs.Check.{AreCounts, AreCountsAt, HasQuarters, HasStarts};
 
 use crate::levels::LevelsView;
 use crate::quarters::are_quarters;
+use bitm::index_laws;
 use bitm_tables::ranking::rank_on;
 use bitm_tables::source::TableSource;
 
@@ -63,7 +65,7 @@ fn are_counts_at<T: TableSource>(levels: &LevelsView<'_>, source: &mut T, depth:
 /// The source's tables are those of its words, and there are enough words for all numbers.
 /// # Cost
 /// Two ranks for each level (evident from the code).
-pub fn are_counts<T: TableSource>(levels: &LevelsView<'_>, source: &mut T) -> bool
+fn are_counts<T: TableSource>(levels: &LevelsView<'_>, source: &mut T) -> bool
     requires indexed { IsIndexed (T.lists source.old) }
     requires room { levels.now.width * levels.now.len ≤ length (bits_in (T.lists source.old)) }
     ensures answer { IsTrue result ↔ AreCounts levels.now (bits_in (T.lists source.old)) }
@@ -83,14 +85,71 @@ pub fn are_counts<T: TableSource>(levels: &LevelsView<'_>, source: &mut T) -> bo
 /// The source's tables are those of its words.
 /// # Cost
 /// That of `are_quarters`, and nothing where there are none (evident from the code).
+fn has_quarters<T: TableSource>(levels: &LevelsView<'_>, source: &mut T) -> bool
+    requires { IsIndexed (T.lists source.old) }
+    ensures answer { IsTrue result ↔ HasQuarters levels.now (bits_in (T.lists source.old)) }
+    ensures same { T.lists source.new ≡ T.lists source.old }
+{
+    levels.is_compact() || are_quarters(source, levels.quarters())
+}
+
+/// Whether the table of starts of levels says of each prefix of the known length where the numbers with it start.
+///
+/// # Conditions
+/// The source's tables are those of its words, there are enough words for all numbers, and the tables of the levels and
+/// the quarters are those of the words.
+/// # Cost
+/// For each prefix a rank for each level that is known (evident from the code).
+fn has_starts<T: TableSource>(levels: &LevelsView<'_>, source: &mut T) -> bool
+    requires indexed { IsIndexed (T.lists source.old) }
+    requires room { levels.now.width * levels.now.len ≤ length (bits_in (T.lists source.old)) }
+    requires counts { AreCounts levels.now (bits_in (T.lists source.old)) }
+    requires quarters { HasQuarters levels.now (bits_in (T.lists source.old)) }
+    ensures { IsTrue result ↔ HasStarts levels.now (bits_in (T.lists source.old)) }
+{
+    index_laws::tables_have_sizes();
+    let (known, width) = (levels.known(), levels.width());
+    // These find where a prefix starts without the table.
+    let plain = levels.without_starts();
+    // There is one prefix without bits, and none of its bits is read.
+    let rest = (width - known) % 64;
+    for begin in 0..levels.starts().len() {
+        let number = (begin as u64) << rest;
+        match plain.total_place_on(source, number, 0, known, 0) {
+            Some(place) => {
+                if levels.starts()[begin] != place as u64 {
+                    return false;
+                }
+            }
+            None => unreachable!(),
+        }
+    }
+    true
+}
+
+/// Whether the levels are those of a matrix in a source: their tables, the quarters where there are any, and the table
+/// of starts are those of the words.
+///
+/// # Conditions
+/// The source's tables are those of its words, and there are enough words for all numbers.
+/// # Cost
+/// Two ranks for each level, with quarters two for every two words, and with known bits one for each prefix of them and
+/// each of their levels (evident from the code).
 ///
 /// ```
-/// has_quarters(&levels, &mut source);   // true of compact levels
+/// are_levels(&levels, &mut source);   // true of the levels that a matrix lends
 /// ```
-pub fn has_quarters<T: TableSource>(levels: &LevelsView<'_>, source: &mut T) -> bool
-    requires { IsIndexed (T.lists source.old) }
-    ensures { IsTrue result ↔ HasQuarters levels.now (bits_in (T.lists source.old)) }
+pub fn are_levels<T: TableSource>(levels: &LevelsView<'_>, source: &mut T) -> bool
+    requires indexed { IsIndexed (T.lists source.old) }
+    requires room { levels.now.width * levels.now.len ≤ length (bits_in (T.lists source.old)) }
+    ensures { IsTrue result ↔ IsMatrix levels.now (T.lists source.old) }
 {
-    let quarters = levels.quarters();
-    quarters.is_empty() || are_quarters(source, quarters)
+    let _len = levels.len(); // whose clause says that the tables are as long as those of a matrix
+    if !are_counts(levels, source) {
+        return false;
+    }
+    if !has_quarters(levels, source) {
+        return false;
+    }
+    has_starts(levels, source)
 }

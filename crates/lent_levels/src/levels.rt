@@ -1,8 +1,15 @@
 //! The tables of the levels of a matrix, which may hold anything.
-ghost use Rattle.std.specs.Prelude.{◌≡◌, ◌<◌, ◌↔◌, ◌==◌, IsTrue, SomeIff, length, slice_index};
-ghost use Rattle.lent_levels.specs.Levels.{levels_with, AreNumbers, HasLevels};
+ghost use Rattle.std.specs.Prelude.{◌≡◌, ◌-◌, ◌/◌, ◌^◌, ◌<◌, ◌≤◌, ◌↔◌, ℕ, List, Bool, Some, IfSome, IsTrue, SomeIff};
+ghost use Rattle.std.specs.Prelude.{[], ◌∷◌, length, slice_index};
+ghost use Rattle.matrix_levels.specs.Levels.{level_place};
+ghost use Rattle.matrix_levels.specs.Matrix.{IsMatrixOf};
+ghost use Rattle.lent_levels.specs.Levels.{levels_with, tables_of, AreNumbers, HasLevels};
 
+use matrix_levels::without_lowest;
 use std::marker::Model;
+
+/// The table of starts of levels of which no bits are known: all numbers start at index 0.
+static NONE_KNOWN: [u64; 1] = [0];
 
 /// Whether a matrix can have the given number of numbers of `width` bits: these are 1 to 64, and all bits together
 /// fewer than 2^63.
@@ -24,11 +31,11 @@ pub fn are_numbers(len: usize, width: usize) -> bool
 }
 
 /// The tables of the levels of a matrix: how many 1 bits stand before each level, and how many of its items have a 0
-/// bit; and perhaps the quarters of the words (`fill_quarters`), by which ranks read fewer words. They may hold
-/// anything.
+/// bit; perhaps a table of starts, which says for each number of some of the highest bits, those that are known, where
+/// the numbers that begin with it start after these levels; and perhaps the quarters of the words (`fill_quarters`), by
+/// which ranks read fewer words. They may hold anything.
 ///
-/// Contracts see the levels as those of `matrix_levels`, with no bits known from a table of starts, and compact where
-/// there are no quarters.
+/// Contracts see the levels as those of `matrix_levels`.
 ///
 /// ```
 /// let Some(levels) = LevelsView::over(6, 3, ones, zeros, &[]) else { .. };   // of three words each
@@ -37,21 +44,44 @@ pub fn are_numbers(len: usize, width: usize) -> bool
 #[derive(Drop)]
 pub struct LevelsView<'a> {
     len: usize,
+    // Fields are laid as they stand here: these three share eight bytes, so that a matrix has no more than 128, which
+    // are copied without a call.
     width: u8,
+    known: u8,
+    compact: bool,
     ones: &'a [u64],
     zeros: &'a [u64],
+    starts: &'a [u64],
     quarters: &'a [u64],
 }
 
 impl<'a> Model for LevelsView<'a> {
     ghost use Rattle.matrix_levels.specs.Matrix.{LevelTables};
-    ghost use Rattle.lent_levels.specs.Levels.{levels_with, HasLevels};
+    ghost use Rattle.lent_levels.specs.Levels.{HasLevels};
 
     ghost Value = { LevelTables };
 
-    ghost view = { λ l. levels_with l.len l.width l.ones.now l.zeros.now l.quarters.now };
+    ghost view = { λ l. record {
+      len = l.len;
+      width = l.width;
+      ones = l.ones.now;
+      zeros = l.zeros.now;
+      known = l.known;
+      starts = l.starts.now;
+      compact = l.compact;
+      quarters = l.quarters.now;
+    } };
 
-    ghost invariant = { λ l. HasLevels (levels_with l.len l.width l.ones.now l.zeros.now l.quarters.now) };
+    ghost invariant = { λ l. HasLevels (record {
+      len = l.len;
+      width = l.width;
+      ones = l.ones.now;
+      zeros = l.zeros.now;
+      known = l.known;
+      starts = l.starts.now;
+      compact = l.compact;
+      quarters = l.quarters.now;
+    }) };
 }
 
 impl<'a> LevelsView<'a> {
@@ -84,8 +114,91 @@ impl<'a> LevelsView<'a> {
             width,
             ones,
             zeros,
+            known: 0,
+            starts: NONE_KNOWN.as_slice(),
+            compact: quarters.is_empty(),
             quarters,
         })
+    }
+
+    /// The levels of these tables, which are of the right lengths: `known` bits are known from the starts, and ranks go
+    /// by the quarters unless the levels are compact.
+    #[inline(always)]
+    pub(crate) fn of_tables(
+        len: usize,
+        width: u8,
+        ones: &'a [u64],
+        zeros: &'a [u64],
+        known: u8,
+        starts: &'a [u64],
+        compact: bool,
+        quarters: &'a [u64],
+    ) -> LevelsView<'a>
+        requires { HasLevels (tables_of len width ones.now zeros.now known starts.now compact quarters.now) }
+        ensures { result ≡ tables_of len width ones.now zeros.now known starts.now compact quarters.now }
+    {
+        LevelsView {
+            len,
+            width,
+            ones,
+            zeros,
+            known,
+            starts,
+            compact,
+            quarters,
+        }
+    }
+
+    /// The same levels once more.
+    ///
+    /// ```
+    /// levels.copy().len();   // levels.len()
+    /// ```
+    #[inline(always)]
+    pub fn copy(&self) -> LevelsView<'a>
+        ensures { result ≡ self.now }
+    {
+        LevelsView {
+            len: self.len,
+            width: self.width,
+            ones: self.ones,
+            zeros: self.zeros,
+            known: self.known,
+            starts: self.starts,
+            compact: self.compact,
+            quarters: self.quarters,
+        }
+    }
+
+    /// These levels without their table of starts: no bits are known.
+    #[inline(always)]
+    pub(crate) fn without_starts(&self) -> LevelsView<'a>
+        ensures { result ≡ tables_of self.now.len self.now.width self.now.ones self.now.zeros 0 (0 ∷ [])
+            self.now.compact self.now.quarters }
+    {
+        LevelsView::of_tables(
+            self.len,
+            self.width,
+            self.ones,
+            self.zeros,
+            0,
+            NONE_KNOWN.as_slice(),
+            self.compact,
+            self.quarters,
+        )
+    }
+
+    /// The table of starts, which has an entry for each prefix of the known length.
+    ///
+    /// ```
+    /// levels.starts().len();   // 1 where none are known
+    /// ```
+    #[inline(always)]
+    pub fn starts(&self) -> &'a [u64]
+        ensures starts { result.now ≡ self.now.starts }
+        ensures len { length result.now ≡ 2 ^ self.now.known }
+    {
+        self.starts
     }
 
     /// How many numbers there are.
@@ -145,10 +258,64 @@ impl<'a> LevelsView<'a> {
     /// ```
     #[inline(always)]
     pub fn quarters(&self) -> &'a [u64]
-        ensures quarters { result.now ≡ self.now.quarters }
-        ensures compact { self.now.compact ≡ (length result.now == 0) }
+        ensures { result.now ≡ self.now.quarters }
     {
         self.quarters
+    }
+
+    /// Whether ranks go by the index alone, and not by the quarters.
+    ///
+    /// ```
+    /// levels.is_compact();   // true without quarters
+    /// ```
+    #[inline(always)]
+    pub fn is_compact(&self) -> bool
+        ensures { result ≡ self.now.compact }
+    {
+        self.compact
+    }
+
+    /// How many of the highest bits are known from the table of starts.
+    ///
+    /// ```
+    /// levels.known();   // 0 without such a table
+    /// ```
+    #[inline(always)]
+    pub fn known(&self) -> u8
+        ensures known { result ≡ self.now.known }
+        ensures most { result ≤ self.now.width }
+    {
+        self.known
+    }
+
+    /// Where the numbers whose known high bits are `begin` start after these levels, as the table of starts says;
+    /// `None` only where the table is not that of a matrix.
+    #[inline(always)]
+    pub(crate) fn start_at(&self, begin: u64) -> Option<usize>
+        requires begin { begin < 2 ^ self.now.known }
+        ensures inside { IfSome result (λ start. start ≤ self.now.len) }
+        ensures start { (xs : List ℕ) (b : List Bool) (x : ℕ) → IsMatrixOf xs self.now b
+            → x < 2 ^ self.now.width → x / 2 ^ (self.now.width - self.now.known) ≡ begin
+            → result ≡ Some (level_place xs self.now.width x self.now.known 0) }
+    {
+        let start = self.starts()[begin as usize] as usize;
+        if start <= self.len() {
+            Some(start)
+        } else {
+            None
+        }
+    }
+
+    /// Where the numbers that begin with the known high bits of this one start after these levels, as the table of
+    /// starts says; `None` only where the table is not that of a matrix.
+    #[inline(always)]
+    pub(crate) fn start_of(&self, number: u64) -> Option<usize>
+        requires fit { number < 2 ^ self.now.width }
+        ensures inside { IfSome result (λ start. start ≤ self.now.len) }
+        ensures start { (xs : List ℕ) (b : List Bool) → IsMatrixOf xs self.now b
+            → result ≡ Some (level_place xs self.now.width number self.now.known 0) }
+    {
+        self.start_at(without_lowest(number, self.width() - self.known()))
     }
 
     /// How many 1 bits stand before a level, as the table says.

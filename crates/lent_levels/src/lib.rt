@@ -13,30 +13,39 @@
 // What is in each file:
 // - `bounds`: the numbers of a range beside a bound or between two
 // - `checking`: whether the tables of levels are those of the words
+// - `laws`: what holds of every matrix
 // - `levels`: the tables of levels, which may hold anything
+// - `lists`: lists of numbers and of ranks
 // - `many`: many numbers by their indices at once
 // - `many_ranks`: many ranks of numbers at once
+// - `owned`: the tables of levels, owned
 // - `pairs`: two answers of one walk
 // - `quantiles`: the numbers of a range in order
 // - `quarters`: quarters of the words: written, checked, and ranked by
 // - `queries`: a number by its index, and ranks
 // - `ranges`: queries of ranges
 // - `selecting`: the indices of a number
+// - `shared`: the numbers that two ranges share
 // - `stepping`: the step from one level to the next
 mod bounds;
 mod checking;
+pub mod laws;
 mod levels;
+mod lists;
 mod many;
 mod many_ranks;
+mod owned;
 mod pairs;
 mod quantiles;
 mod quarters;
 mod queries;
 mod ranges;
 mod selecting;
+mod shared;
 mod stepping;
 
-pub use checking::{are_counts, counts_of, has_quarters};
+pub use checking::{are_levels, counts_of};
 pub use levels::{LevelsView, are_numbers};
+pub use owned::Levels;
 pub use quarters::{are_quarters, fill_quarters};
 pub use stepping::sum_within;

@@ -2,8 +2,8 @@
 //!
 //! All go from level to level together, so that each waits for memory while the others do.
 ghost use Rattle.std.specs.Prelude.{◌≡◌, ◌+◌, ◌*◌, ◌^◌, ◌<◌, ◌≤◌, ℕ, length, slice_index};
-ghost use Rattle.bitm_tables.specs.Reads.{OnlyReads};
 ghost use Rattle.bitm_tables.specs.Tables.{HasSizes, bits_in};
+ghost use Rattle.matrix_levels.specs.Matrix.{OnlyRanks};
 ghost use Rattle.lent_levels.specs.Walk.{IsOnTheWay, IsTold};
 
 use crate::levels::LevelsView;
@@ -26,7 +26,7 @@ impl<'a> LevelsView<'a> {
         requires small { place < self.now.len → number < 2 ^ depth }
         ensures moved { (i : ℕ) → IsOnTheWay self.now (T.lists source.old) depth i place number
             → IsOnTheWay self.now (T.lists source.old) (depth + 1) i result.0 result.1 }
-        ensures reads { OnlyReads T.lists T.reads source.old source.new 1 1 9 }
+        ensures reads { OnlyRanks self.now T.lists T.reads source.old source.new 1 }
     {
         if place >= self.len() {
             return (place, number);
@@ -54,8 +54,8 @@ impl<'a> LevelsView<'a> {
         ensures numbers { length numbers.new ≡ length indices.now }
         ensures each { (k : ℕ) → k < length indices.now → IsOnTheWay self.now (T.lists source.old) 1
             (slice_index indices.now k) (slice_index places.new k) (slice_index numbers.new k) }
-        ensures reads { OnlyReads T.lists T.reads source.old source.new
-            (length indices.now) (length indices.now) (9 * length indices.now) }
+        ensures reads { OnlyRanks self.now T.lists T.reads source.old source.new
+            (length indices.now) }
     {
         for k in 0..indices.len() {
             let (place, number) = self.total_moved_on(source, 0, indices[k], 0);
@@ -85,8 +85,8 @@ impl<'a> LevelsView<'a> {
         ensures each { (k : ℕ) → k < length indices.now
             → IsOnTheWay self.now (T.lists source.old) (depth + 1) (slice_index indices.now k)
             (slice_index places.new k) (slice_index numbers.new k) }
-        ensures reads { OnlyReads T.lists T.reads source.old source.new
-            (length indices.now) (length indices.now) (9 * length indices.now) }
+        ensures reads { OnlyRanks self.now T.lists T.reads source.old source.new
+            (length indices.now) }
     {
         let _indices = indices;
         for k in 0..places.len() {
@@ -97,20 +97,8 @@ impl<'a> LevelsView<'a> {
     }
 
     /// The numbers at the indices: `numbers` gets each, and `places` an index below the length for each that was found,
-    /// and for no other.
-    ///
-    /// Whatever words and tables hold, a number has no more bits than the width. Where they are those of a matrix, each
-    /// index of a number is answered by it.
-    ///
-    /// # Conditions
-    /// Those of `total_get_on`, and there are as many `places` and `numbers` as indices. What they have is overwritten.
-    /// # Cost
-    /// For each index what `total_get_on` reads.
-    ///
-    /// ```
-    /// levels.total_get_many_on(&mut source, &[4, 1], &mut places, &mut numbers);   // 5 and 1
-    /// ```
-    pub fn total_get_many_on<T: TableSource>(
+    /// and for no other. What the two have is overwritten.
+    pub(crate) fn total_get_many_on<T: TableSource>(
         &self,
         source: &mut T,
         indices: &[usize],
@@ -125,8 +113,8 @@ impl<'a> LevelsView<'a> {
         ensures numbers { length numbers.new ≡ length indices.now }
         ensures each { (k : ℕ) → k < length indices.now → IsTold self.now (T.lists source.old)
             (slice_index indices.now k) (slice_index places.new k) (slice_index numbers.new k) }
-        ensures reads { OnlyReads T.lists T.reads source.old source.new (self.now.width * length indices.now)
-            (self.now.width * length indices.now) (9 * (self.now.width * length indices.now)) }
+        ensures reads { OnlyRanks self.now T.lists T.reads source.old source.new
+            (self.now.width * length indices.now) }
     {
         let width = self.width();
         self.total_first_level_on(source, indices, &mut *places, &mut *numbers);

@@ -1,10 +1,10 @@
 //! Many ranks of numbers at once, over any source: words and tables may hold anything.
 //!
 //! All go from level to level together, so that each waits for memory while the others do.
-ghost use Rattle.std.specs.Prelude.{◌≡◌, ◌+◌, ◌*◌, ◌<◌, ◌≤◌, ℕ, length, slice_index};
-ghost use Rattle.bitm_tables.specs.Reads.{OnlyReads};
+ghost use Rattle.std.specs.Prelude.{◌≡◌, ◌+◌, ◌-◌, ◌*◌, ◌^◌, ◌<◌, ◌≤◌, ℕ, length, slice_index};
 ghost use Rattle.bitm_tables.specs.Tables.{HasSizes, Lists, bits_in};
-ghost use Rattle.lent_levels.specs.Walk.{AreBothOnTheWay, IsRankAt};
+ghost use Rattle.matrix_levels.specs.Matrix.{OnlyRanks};
+ghost use Rattle.lent_levels.specs.Walk.{AreBothOnTheWay, IsPlaceOnTheWay, IsRankAt};
 
 use crate::levels::LevelsView;
 use crate::stepping::difference;
@@ -16,8 +16,51 @@ use matrix_levels::{digit_of, fits};
 const ASTRAY: usize = usize::MAX;
 
 impl<'a> LevelsView<'a> {
-    /// Where a number at two indices of a level, or that would stand there, stands at the next one. Indices past the
-    /// end stay there, and they go there only where words and tables are not those of a matrix.
+    /// Where a number stands after the known levels, before all indices, as the table of starts says: an index past the
+    /// end where it has more bits than the width, or the table is not that of a matrix.
+    #[inline(always)]
+    fn known_place(&self, number: u64) -> usize
+        ensures { (lists : Lists) → number < 2 ^ self.now.width
+            → IsPlaceOnTheWay self.now lists self.now.known number 0 result }
+    {
+        if !fits(number, self.width()) {
+            return ASTRAY;
+        }
+        match self.start_of(number) {
+            Some(start) => start,
+            None => ASTRAY,
+        }
+    }
+
+    /// Where a number at an index of a level, or that would stand there, stands at the next one. An index past the end
+    /// stays there, and goes there only where words and tables are not those of a matrix.
+    #[inline(always)]
+    fn total_place_moved_on<T: TableSource>(
+        &self,
+        source: &mut T,
+        depth: u8,
+        number: u64,
+        place: usize,
+    ) -> usize
+        requires sized { HasSizes (T.lists source.old) }
+        requires room { self.now.width * self.now.len ≤ length (bits_in (T.lists source.old)) }
+        requires depth { depth < self.now.width }
+        ensures moved { (i : ℕ)
+            → IsPlaceOnTheWay self.now (T.lists source.old) depth number i place
+            → IsPlaceOnTheWay self.now (T.lists source.old) (depth + 1) number i result }
+        ensures reads { OnlyRanks self.now T.lists T.reads source.old source.new 1 }
+    {
+        if place > self.len() {
+            return ASTRAY;
+        }
+        let digit = digit_of(number, self.width() - 1 - depth);
+        match self.total_next_on(source, depth, digit, place) {
+            Some(next) => next,
+            None => ASTRAY,
+        }
+    }
+
+    /// Where a number at two indices of a level, or that would stand there, stands at the next one.
     #[inline(always)]
     fn total_both_moved_on<T: TableSource>(
         &self,
@@ -33,24 +76,79 @@ impl<'a> LevelsView<'a> {
         ensures moved { (s e : ℕ)
             → AreBothOnTheWay self.now (T.lists source.old) depth number s e first last
             → AreBothOnTheWay self.now (T.lists source.old) (depth + 1) number s e result.0 result.1 }
-        ensures reads { OnlyReads T.lists T.reads source.old source.new 2 2 16 }
+        ensures reads { OnlyRanks self.now T.lists T.reads source.old source.new 2 }
     {
-        let len = self.len();
-        if first > len || last > len {
-            return (ASTRAY, ASTRAY);
-        }
-        let digit = digit_of(number, self.width() - 1 - depth);
-        let Some(next) = self.total_next_on(source, depth, digit, first) else {
-            return (ASTRAY, ASTRAY);
-        };
-        let Some(after) = self.total_next_on(source, depth, digit, last) else {
-            return (ASTRAY, ASTRAY);
-        };
+        let next = self.total_place_moved_on(source, depth, number, first);
+        let after = self.total_place_moved_on(source, depth, number, last);
         (next, after)
     }
 
-    /// Moves the numbers, before all indices and before the ends, from the first level to the second.
-    fn total_first_places_on<T: TableSource>(
+    /// An end, or an index past the end of every level where there are fewer numbers. A plain copy of all ends would be
+    /// a call of C's `memcpy`: the archive for C calls nothing.
+    #[inline(always)]
+    fn end_place(&self, end: usize) -> usize
+        ensures { end ≤ self.now.len → result ≡ end }
+    {
+        if end > self.len() { ASTRAY } else { end }
+    }
+
+    /// Puts the numbers where they stand before all indices, after the known levels, and before the ends, at the first
+    /// level.
+    fn begin_places(
+        &self,
+        numbers: &[u64],
+        ends: &[usize],
+        firsts: &mut [usize],
+        lasts: &mut [usize],
+    )
+        requires ends { length ends.now ≡ length numbers.now }
+        requires firsts { length firsts.old ≡ length numbers.now }
+        requires lasts { length lasts.old ≡ length numbers.now }
+        ensures firsts { length firsts.new ≡ length numbers.now }
+        ensures lasts { length lasts.new ≡ length numbers.now }
+        ensures starts { (k : ℕ) → k < length numbers.now → (lists : Lists)
+            → slice_index numbers.now k < 2 ^ self.now.width → IsPlaceOnTheWay self.now lists
+            self.now.known (slice_index numbers.now k) 0 (slice_index firsts.new k) }
+        ensures ends { (k : ℕ) → k < length numbers.now → slice_index ends.now k ≤ self.now.len
+            → slice_index lasts.new k ≡ slice_index ends.now k }
+    {
+        for k in 0..numbers.len() {
+            firsts[k] = self.known_place(numbers[k]);
+            lasts[k] = self.end_place(ends[k]);
+        }
+    }
+
+    /// Moves the numbers before the ends from a level to the next.
+    fn total_lasts_level_on<T: TableSource>(
+        &self,
+        source: &mut T,
+        depth: u8,
+        numbers: &[u64],
+        ends: &[usize],
+        lasts: &mut [usize],
+    )
+        requires sized { HasSizes (T.lists source.old) }
+        requires room { self.now.width * self.now.len ≤ length (bits_in (T.lists source.old)) }
+        requires depth { depth < self.now.width }
+        requires lasts { length lasts.old ≡ length numbers.now }
+        requires each { (k : ℕ) → k < length numbers.now → slice_index ends.now k ≤ self.now.len
+            → IsPlaceOnTheWay self.now (T.lists source.old) depth (slice_index numbers.now k)
+            (slice_index ends.now k) (slice_index lasts.old k) }
+        ensures lasts { length lasts.new ≡ length numbers.now }
+        ensures each { (k : ℕ) → k < length numbers.now → slice_index ends.now k ≤ self.now.len
+            → IsPlaceOnTheWay self.now (T.lists source.old) (depth + 1) (slice_index numbers.now k)
+            (slice_index ends.now k) (slice_index lasts.new k) }
+        ensures reads { OnlyRanks self.now T.lists T.reads source.old source.new
+            (length numbers.now) }
+    {
+        let _ends = ends;
+        for k in 0..numbers.len() {
+            lasts[k] = self.total_place_moved_on(source, depth, numbers[k], lasts[k]);
+        }
+    }
+
+    /// Where the numbers stand after the known levels, before all indices and before the ends.
+    fn total_known_places_on<T: TableSource>(
         &self,
         source: &mut T,
         numbers: &[u64],
@@ -60,22 +158,21 @@ impl<'a> LevelsView<'a> {
     )
         requires sized { HasSizes (T.lists source.old) }
         requires room { self.now.width * self.now.len ≤ length (bits_in (T.lists source.old)) }
-        requires some { 0 < self.now.width }
         requires ends { length ends.now ≡ length numbers.now }
         requires firsts { length firsts.old ≡ length numbers.now }
         requires lasts { length lasts.old ≡ length numbers.now }
         ensures firsts { length firsts.new ≡ length numbers.now }
         ensures lasts { length lasts.new ≡ length numbers.now }
         ensures each { (k : ℕ) → k < length numbers.now → slice_index ends.now k ≤ self.now.len
-            → AreBothOnTheWay self.now (T.lists source.old) 1 (slice_index numbers.now k)
+            → slice_index numbers.now k < 2 ^ self.now.width
+            → AreBothOnTheWay self.now (T.lists source.old) self.now.known (slice_index numbers.now k)
             0 (slice_index ends.now k) (slice_index firsts.new k) (slice_index lasts.new k) }
-        ensures reads { OnlyReads T.lists T.reads source.old source.new
-            (2 * length numbers.now) (2 * length numbers.now) (16 * length numbers.now) }
+        ensures reads { OnlyRanks self.now T.lists T.reads source.old source.new
+            (self.now.known * length numbers.now) }
     {
-        for k in 0..numbers.len() {
-            let (first, last) = self.total_both_moved_on(source, 0, numbers[k], 0, ends[k]);
-            firsts[k] = first;
-            lasts[k] = last;
+        self.begin_places(numbers, ends, &mut *firsts, &mut *lasts);
+        for depth in 0..self.known() {
+            self.total_lasts_level_on(source, depth, numbers, ends, &mut *lasts);
         }
     }
 
@@ -95,15 +192,17 @@ impl<'a> LevelsView<'a> {
         requires firsts { length firsts.old ≡ length numbers.now }
         requires lasts { length lasts.old ≡ length numbers.now }
         requires each { (k : ℕ) → k < length numbers.now → slice_index ends.now k ≤ self.now.len
+            → slice_index numbers.now k < 2 ^ self.now.width
             → AreBothOnTheWay self.now (T.lists source.old) depth (slice_index numbers.now k)
             0 (slice_index ends.now k) (slice_index firsts.old k) (slice_index lasts.old k) }
         ensures firsts { length firsts.new ≡ length numbers.now }
         ensures lasts { length lasts.new ≡ length numbers.now }
         ensures each { (k : ℕ) → k < length numbers.now → slice_index ends.now k ≤ self.now.len
+            → slice_index numbers.now k < 2 ^ self.now.width
             → AreBothOnTheWay self.now (T.lists source.old) (depth + 1) (slice_index numbers.now k)
             0 (slice_index ends.now k) (slice_index firsts.new k) (slice_index lasts.new k) }
-        ensures reads { OnlyReads T.lists T.reads source.old source.new
-            (2 * length numbers.now) (2 * length numbers.now) (16 * length numbers.now) }
+        ensures reads { OnlyRanks self.now T.lists T.reads source.old source.new
+            (2 * length numbers.now) }
     {
         let _ends = ends;
         for k in 0..numbers.len() {
@@ -144,15 +243,14 @@ impl<'a> LevelsView<'a> {
         ensures firsts { length firsts.new ≡ length numbers.now }
         ensures lasts { length lasts.new ≡ length numbers.now }
         ensures each { (k : ℕ) → k < length numbers.now → slice_index ends.now k ≤ self.now.len
+            → slice_index numbers.now k < 2 ^ self.now.width
             → AreBothOnTheWay self.now (T.lists source.old) self.now.width (slice_index numbers.now k)
             0 (slice_index ends.now k) (slice_index firsts.new k) (slice_index lasts.new k) }
-        ensures reads { OnlyReads T.lists T.reads source.old source.new
-            (2 * (self.now.width * length numbers.now)) (2 * (self.now.width * length numbers.now))
-            (16 * (self.now.width * length numbers.now)) }
+        ensures reads { OnlyRanks self.now T.lists T.reads source.old source.new
+            ((2 * self.now.width - self.now.known) * length numbers.now) }
     {
-        let width = self.width();
-        self.total_first_places_on(source, numbers, ends, &mut *firsts, &mut *lasts);
-        for depth in 1..width {
+        self.total_known_places_on(source, numbers, ends, &mut *firsts, &mut *lasts);
+        for depth in self.known()..self.width() {
             self.total_places_level_on(source, depth, numbers, ends, &mut *firsts, &mut *lasts);
         }
     }
@@ -169,7 +267,7 @@ impl<'a> LevelsView<'a> {
     /// ```
     #[inline(always)]
     pub fn rank_between(&self, number: u64, end: usize, first: usize, last: usize) -> Answer<usize>
-        ensures { (lists : Lists) → (end ≤ self.now.len
+        ensures { (lists : Lists) → (end ≤ self.now.len → number < 2 ^ self.now.width
             → AreBothOnTheWay self.now lists self.now.width number 0 end first last)
             → IsRankAt self.now lists number end result }
     {

@@ -2,12 +2,11 @@
 //! tables may hold anything.
 //!
 //! All positions go from level to level together, so that each waits for memory while the others do.
-ghost use Rattle.std.specs.Prelude.{◌≡◌, ◌*◌, ◌^◌, ◌<◌, ◌≤◌, IfSome, IsSomeAnd, length};
-ghost use Rattle.bitm_tables.specs.Reads.{OnlyReads};
+ghost use Rattle.std.specs.Prelude.{◌≡◌, ◌*◌, ◌-◌, ◌/◌, ◌^◌, ◌<◌, ◌≤◌, ℕ, Some, IfSome, IsSomeAnd, length, slice_index};
 ghost use Rattle.bitm_tables.specs.Tables.{HasSizes, bits_in};
 ghost use Rattle.matrix_levels.specs.Levels.{level_place};
-ghost use Rattle.matrix_levels.specs.Matrix.{IsMatrix, numbers_in};
-ghost use Rattle.lent_levels.specs.Answers.{AreRanksOf, AreRanksWithin, IsItemOf, IsItemWithin};
+ghost use Rattle.matrix_levels.specs.Matrix.{IsMatrix, OnlyRanks, numbers_in};
+ghost use Rattle.lent_levels.specs.Answers.{AreRanksOf, AreRanksWithin, IsItemOf, IsItemWithin, found_or_wrong};
 
 use crate::levels::LevelsView;
 use crate::stepping::difference;
@@ -16,6 +15,62 @@ use bitm_tables::source::TableSource;
 use matrix_levels::{digit_of, fits};
 
 impl<'a> LevelsView<'a> {
+    /// The item at index `place` of the first level that is not known, with these bits before it; where the numbers
+    /// that are equal to it start after the last level, and where it stands there; `None` only where words and tables
+    /// are not those of a matrix.
+    #[inline(always)]
+    fn total_ways_on<T: TableSource>(
+        &self,
+        source: &mut T,
+        number: u64,
+        place: usize,
+    ) -> Option<(u64, usize, usize)>
+        requires sized { HasSizes (T.lists source.old) }
+        requires room { self.now.width * self.now.len ≤ length (bits_in (T.lists source.old)) }
+        requires small { number < 2 ^ self.now.known }
+        requires inside { place < self.now.len }
+        ensures inside { IfSome result (λ ways. ways.0 < 2 ^ self.now.width) }
+        ensures answer { let numbers = numbers_in self.now (T.lists source.old) in let width = self.now.width in
+            (i : ℕ) → IsMatrix self.now (T.lists source.old) → i < self.now.len
+            → place ≡ level_place numbers width (slice_index numbers i) self.now.known i
+            → number ≡ slice_index numbers i / 2 ^ (width - self.now.known)
+            → IsSomeAnd result (λ ways. (ways.0 ≡ slice_index numbers i)
+            × (ways.1 ≡ level_place numbers width (slice_index numbers i) width 0)
+            × (ways.2 ≡ level_place numbers width (slice_index numbers i) width i)) }
+        ensures reads { OnlyRanks self.now T.lists T.reads source.old source.new
+            (2 * (self.now.width - self.now.known)) }
+    {
+        let mut base = self.start_at(number)?;
+        let (mut found, mut at) = (number, place);
+        for depth in self.known()..self.width() {
+            let (digit, next) = self.total_step_on(source, depth, at)?;
+            let first = self.total_next_on(source, depth, digit, base)?;
+            found = 2 * found + digit as u64;
+            at = next;
+            base = first;
+        }
+        Some((found, base, at))
+    }
+
+    /// Number `i`, and how many of the numbers before it are the same; `None` only where words and tables are not
+    /// those of a matrix.
+    #[inline(always)]
+    fn total_item_on<T: TableSource>(&self, source: &mut T, i: usize) -> Option<(u64, usize)>
+        requires sized { HasSizes (T.lists source.old) }
+        requires room { self.now.width * self.now.len ≤ length (bits_in (T.lists source.old)) }
+        requires inside { i < self.now.len }
+        ensures inside { IsItemWithin self.now.len self.now.width i (found_or_wrong result) }
+        ensures answer { IsMatrix self.now (T.lists source.old)
+            → IsItemOf (numbers_in self.now (T.lists source.old)) i (found_or_wrong result) }
+        ensures reads { OnlyRanks self.now T.lists T.reads source.old source.new
+            (2 * self.now.width - self.now.known) }
+    {
+        let (number, place) = self.total_way_on(source, 0, self.known(), 0, i)?;
+        let (found, first, at) = self.total_ways_on(source, number, place)?;
+        let rank = difference(first, at, i)?;
+        Some((found, rank))
+    }
+
     /// Number `i`, and how many of the numbers before it are the same.
     ///
     /// Whatever words and tables hold, the number has no more bits than the width, there are at most `i` before it, and
@@ -25,11 +80,12 @@ impl<'a> LevelsView<'a> {
     /// # Conditions
     /// Those of `total_get_on`.
     /// # Cost
-    /// For each level at most two upper entries, two lower entries and seventeen words are read, whatever they hold.
+    /// What `total_rank_on` reads, and not what `total_get_on` reads besides, whatever words and tables hold.
     ///
     /// ```
     /// levels.total_get_and_rank_on(&mut source, 4);   // Found((5, 0)), Absent or Wrong
     /// ```
+    #[inline(always)]
     pub fn total_get_and_rank_on<T: TableSource>(
         &self,
         source: &mut T,
@@ -40,33 +96,20 @@ impl<'a> LevelsView<'a> {
         ensures inside { IsItemWithin self.now.len self.now.width i result }
         ensures answer { IsMatrix self.now (T.lists source.old)
             → IsItemOf (numbers_in self.now (T.lists source.old)) i result }
-        ensures reads { OnlyReads T.lists T.reads source.old source.new
-            (2 * self.now.width) (2 * self.now.width) (17 * self.now.width) }
+        ensures reads { OnlyRanks self.now T.lists T.reads source.old source.new
+            (2 * self.now.width - self.now.known) }
     {
         if i >= self.len() {
             return Answer::Absent;
         }
-        let (mut place, mut base) = (i, 0);
-        let mut number = 0;
-        for depth in 0..self.width() {
-            let Some((digit, next)) = self.total_step_on(source, depth, place) else {
-                return Answer::Wrong;
-            };
-            let Some(first) = self.total_next_on(source, depth, digit, base) else {
-                return Answer::Wrong;
-            };
-            number = 2 * number + digit as u64;
-            place = next;
-            base = first;
-        }
-        match difference(base, place, i) {
-            Some(rank) => Answer::Found((number, rank)),
+        match self.total_item_on(source, i) {
+            Some(item) => Answer::Found(item),
             None => Answer::Wrong,
         }
     }
 
-    /// Where a number at the front of the list and at two indices of it, or that would stand there, stands after the
-    /// last level; `None` only where words and tables are not those of a matrix.
+    /// Where the numbers that are equal to this one start after the last level, and where those among the first `start`
+    /// and among the first `end` end there; `None` only where words and tables are not those of a matrix.
     #[inline(always)]
     fn total_three_places_on<T: TableSource>(
         &self,
@@ -77,6 +120,7 @@ impl<'a> LevelsView<'a> {
     ) -> Option<(usize, usize, usize)>
         requires sized { HasSizes (T.lists source.old) }
         requires room { self.now.width * self.now.len ≤ length (bits_in (T.lists source.old)) }
+        requires fit { number < 2 ^ self.now.width }
         requires start { start ≤ self.now.len }
         requires end { end ≤ self.now.len }
         ensures places { let numbers = numbers_in self.now (T.lists source.old) in
@@ -84,12 +128,13 @@ impl<'a> LevelsView<'a> {
             → IsSomeAnd result (λ places. (places.0 ≡ level_place numbers width number width 0)
             × (places.1 ≡ level_place numbers width number width start)
             × (places.2 ≡ level_place numbers width number width end)) }
-        ensures reads { OnlyReads T.lists T.reads source.old source.new
-            (3 * self.now.width) (3 * self.now.width) (24 * self.now.width) }
+        ensures reads { OnlyRanks self.now T.lists T.reads source.old source.new
+            (3 * self.now.width - self.now.known) }
     {
-        let width = self.width();
-        let (mut base, mut first, mut last) = (0, start, end);
-        for depth in 0..width {
+        let (known, width) = (self.known(), self.width());
+        let mut base = self.start_of(number)?;
+        let (mut first, mut last) = self.total_places_on(source, number, 0, known, start, end)?;
+        for depth in known..width {
             let digit = digit_of(number, width - 1 - depth);
             let front = self.total_next_on(source, depth, digit, base)?;
             let next = self.total_next_on(source, depth, digit, first)?;
@@ -109,11 +154,13 @@ impl<'a> LevelsView<'a> {
     /// # Conditions
     /// Those of `total_get_on`.
     /// # Cost
-    /// For each level at most three upper entries, three lower entries and 24 words are read, whatever they hold.
+    /// For each level what three ranks read, and for each level that is known what two read, whatever words and tables
+    /// hold.
     ///
     /// ```
     /// levels.total_ranks_on(&mut source, 1, 2, 4);   // Found((1, 2)), Absent or Wrong
     /// ```
+    #[inline(always)]
     pub fn total_ranks_on<T: TableSource>(
         &self,
         source: &mut T,
@@ -126,8 +173,8 @@ impl<'a> LevelsView<'a> {
         ensures inside { AreRanksWithin self.now.len start end result }
         ensures answer { IsMatrix self.now (T.lists source.old)
             → AreRanksOf (numbers_in self.now (T.lists source.old)) number start end result }
-        ensures reads { OnlyReads T.lists T.reads source.old source.new
-            (3 * self.now.width) (3 * self.now.width) (24 * self.now.width) }
+        ensures reads { OnlyRanks self.now T.lists T.reads source.old source.new
+            (3 * self.now.width - self.now.known) }
     {
         if start > self.len() || end > self.len() {
             return Answer::Absent;

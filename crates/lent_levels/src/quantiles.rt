@@ -1,9 +1,8 @@
 //! The numbers of a range in order, over any source: words and tables may hold anything.
 ghost use Rattle.std.specs.Prelude.{◌≡◌, ◌*◌, ◌-◌, ◌^◌, ◌<◌, ◌≤◌, IfSome, IsSomeAnd, length, slice_range};
-ghost use Rattle.bitm_tables.specs.Reads.{OnlyReads};
 ghost use Rattle.bitm_tables.specs.Tables.{HasSizes, bits_in};
 ghost use Rattle.matrix_levels.specs.Numbers.{count_equal, IsSmallest};
-ghost use Rattle.matrix_levels.specs.Matrix.{IsMatrix, numbers_in};
+ghost use Rattle.matrix_levels.specs.Matrix.{IsMatrix, OnlyRanks, numbers_in};
 ghost use Rattle.lent_levels.specs.Ranges.{IsSmallestOf, IsSmallestWithin, IsTallyOf, IsTallyWithin};
 
 use crate::levels::LevelsView;
@@ -32,8 +31,8 @@ impl<'a> LevelsView<'a> {
             = slice_range (numbers_in self.now (T.lists source.old)) start end in
             IsMatrix self.now (T.lists source.old) → IsSomeAnd result (λ tally.
             IsSmallest range k tally.0 × (tally.1 ≡ count_equal range tally.0)) }
-        ensures reads { OnlyReads T.lists T.reads source.old source.new
-            (2 * self.now.width) (2 * self.now.width) (16 * self.now.width) }
+        ensures reads { OnlyRanks self.now T.lists T.reads source.old source.new
+            (2 * self.now.width) }
     {
         let (mut first, mut last) = (start, end);
         let mut left = k;
@@ -70,6 +69,7 @@ impl<'a> LevelsView<'a> {
     /// ```
     /// levels.total_quantile_and_count_on(&mut source, 1, 5, 1);   // Found((1, 2)), Absent or Wrong
     /// ```
+    #[inline(always)]
     pub fn total_quantile_and_count_on<T: TableSource>(
         &self,
         source: &mut T,
@@ -82,8 +82,8 @@ impl<'a> LevelsView<'a> {
         ensures inside { IsTallyWithin self.now.len self.now.width start end k result }
         ensures answer { IsMatrix self.now (T.lists source.old)
             → IsTallyOf (numbers_in self.now (T.lists source.old)) start end k result }
-        ensures reads { OnlyReads T.lists T.reads source.old source.new
-            (2 * self.now.width) (2 * self.now.width) (16 * self.now.width) }
+        ensures reads { OnlyRanks self.now T.lists T.reads source.old source.new
+            (2 * self.now.width) }
     {
         if end > self.len() || end.saturating_sub(start) <= k {
             return Answer::Absent;
@@ -108,6 +108,7 @@ impl<'a> LevelsView<'a> {
     /// ```
     /// levels.total_quantile_on(&mut source, 1, 5, 2);   // Found(4), Absent or Wrong
     /// ```
+    #[inline(always)]
     pub fn total_quantile_on<T: TableSource>(
         &self,
         source: &mut T,
@@ -120,8 +121,8 @@ impl<'a> LevelsView<'a> {
         ensures inside { IsSmallestWithin self.now.len self.now.width start end k result }
         ensures answer { IsMatrix self.now (T.lists source.old)
             → IsSmallestOf (numbers_in self.now (T.lists source.old)) start end k result }
-        ensures reads { OnlyReads T.lists T.reads source.old source.new
-            (2 * self.now.width) (2 * self.now.width) (16 * self.now.width) }
+        ensures reads { OnlyRanks self.now T.lists T.reads source.old source.new
+            (2 * self.now.width) }
     {
         match self.total_quantile_and_count_on(source, start, end, k) {
             Answer::Found((number, _)) => Answer::Found(number),

@@ -1,10 +1,9 @@
 //! Queries of the numbers of a range, over any source: words and tables may hold anything.
 ghost use Rattle.std.specs.Prelude.{◌≡◌, ◌+◌, ◌*◌, ◌-◌, ◌^◌, ◌<◌, ◌≤◌, ℕ, List, Bool, true, false, Some};
 ghost use Rattle.std.specs.Prelude.{IfSome, IsSomeAnd, count_by, if◌then◌else◌, length, slice_range, take};
-ghost use Rattle.bitm_tables.specs.Reads.{OnlyReads};
 ghost use Rattle.bitm_tables.specs.Tables.{HasSizes, bits_in};
 ghost use Rattle.matrix_levels.specs.Levels.{ArePlacesAfter, has_digit, level, partition_place};
-ghost use Rattle.matrix_levels.specs.Matrix.{IsMatrix, IsMatrixOf, digit_place, level_in, numbers_in};
+ghost use Rattle.matrix_levels.specs.Matrix.{IsMatrix, IsMatrixOf, OnlyRanks, digit_place, level_in, numbers_in};
 ghost use Rattle.matrix_levels.specs.Numbers.{count_less};
 ghost use Rattle.lent_levels.specs.Ranges.{IsCountOf, IsCountWithin};
 
@@ -48,7 +47,7 @@ impl<'a> LevelsView<'a> {
             ≡ partition_place place true items last - partition_place place true items first)
             × (part.2
             ≡ partition_place place false items last - partition_place place false items first)) }
-        ensures reads { OnlyReads T.lists T.reads source.old source.new 2 2 16 }
+        ensures reads { OnlyRanks self.now T.lists T.reads source.old source.new 2 }
     {
         let before = self.total_ones_on(source, depth, first)?;
         let through = self.total_ones_on(source, depth, last)?;
@@ -106,8 +105,8 @@ impl<'a> LevelsView<'a> {
         ensures inside { IfSome result (λ count. count ≤ end - start) }
         ensures answer { IsMatrix self.now (T.lists source.old) → result ≡ Some (count_less
             (slice_range (numbers_in self.now (T.lists source.old)) start end) bound) }
-        ensures reads { OnlyReads T.lists T.reads source.old source.new
-            (2 * self.now.width) (2 * self.now.width) (16 * self.now.width) }
+        ensures reads { OnlyRanks self.now T.lists T.reads source.old source.new
+            (2 * self.now.width) }
     {
         let width = self.width();
         let (mut first, mut last) = (start, end);
@@ -134,11 +133,12 @@ impl<'a> LevelsView<'a> {
     /// # Conditions
     /// Those of `total_get_on`.
     /// # Cost
-    /// For each level at most two upper entries, two lower entries and sixteen words are read, whatever they hold.
+    /// For each level what two ranks read, whatever words and tables hold.
     ///
     /// ```
     /// levels.total_count_less_on(&mut source, 1, 5, 4);   // Found(2), Absent or Wrong
     /// ```
+    #[inline(always)]
     pub fn total_count_less_on<T: TableSource>(
         &self,
         source: &mut T,
@@ -152,8 +152,8 @@ impl<'a> LevelsView<'a> {
         ensures answer { let numbers = numbers_in self.now (T.lists source.old) in
             IsMatrix self.now (T.lists source.old) → IsCountOf numbers start end
             (count_less (slice_range numbers start end) bound) result }
-        ensures reads { OnlyReads T.lists T.reads source.old source.new
-            (2 * self.now.width) (2 * self.now.width) (16 * self.now.width) }
+        ensures reads { OnlyRanks self.now T.lists T.reads source.old source.new
+            (2 * self.now.width) }
     {
         if end < start || end > self.len() {
             return Answer::Absent;

@@ -1,18 +1,19 @@
-//! The indices of a number, over any source: words and tables may hold anything.
-ghost use Rattle.std.specs.Prelude.{◌≡◌, ◌+◌, ◌*◌, ◌^◌, ◌<◌, ◌≤◌, ℕ, List, Bool, IfSome, IsSomeAnd, length};
+//! The indices of a number, over any source and by any way to find a bit: words and tables may hold anything.
+ghost use Rattle.std.specs.Prelude.{◌≡◌, ◌+◌, ◌-◌, ◌*◌, ◌^◌, ◌<◌, ◌≤◌, ℕ, List, Bool, IfSome, IsSomeAnd, length};
 ghost use Rattle.bitm_select.specs.Answers.{place_in};
 ghost use Rattle.bit_lists.specs.Count.{count_of, Picks};
-ghost use Rattle.bitm_tables.specs.Reads.{OnlyReads};
 ghost use Rattle.bitm_tables.specs.Tables.{HasSizes, HasTables, bits_in};
 ghost use Rattle.bitm_selection.specs.Selection.{by_halves, OnlySelectsBy};
 ghost use Rattle.matrix_levels.specs.Levels.{level};
-ghost use Rattle.matrix_levels.specs.Matrix.{IsBitOf, IsMatrix, IsMatrixOf, level_in, numbers_in};
-ghost use Rattle.matrix_levels.specs.Numbers.{PicksItem};
+ghost use Rattle.matrix_levels.specs.Matrix.{IsBitOf, IsMatrix, IsMatrixOf, OnlyRanks, OnlyRanksAndSelects, level_in};
+ghost use Rattle.matrix_levels.specs.Matrix.{numbers_in};
+ghost use Rattle.matrix_levels.specs.Numbers.{count_before, PicksItem};
 ghost use Rattle.lent_levels.specs.Answers.{IsIndexAmong, IsIndexOf, IsIndexWithin};
 
 use crate::levels::LevelsView;
 use crate::stepping::difference;
-use bitm_select::search::selecting::total_select_on;
+use bitm_select::search::selecting::ByTables;
+use bitm_selection::Finds;
 use bitm_tables::answer::Answer;
 use bitm_tables::source::TableSource;
 use matrix_levels::{digit_of, fits};
@@ -30,20 +31,25 @@ fn found(answer: Answer<usize>) -> Option<usize>
 }
 
 /// The position of the bit of this kind and rank among the words of a source; `None` only where there is none, or the
-/// tables are not those of the words.
+/// tables are not those of the words, or `finder` does not find their bits.
 #[inline(always)]
-fn selected_on<T: TableSource>(source: &mut T, digit: bool, rank: usize) -> Option<usize>
+fn selected_by<F: Finds, T: TableSource>(
+    finder: &F,
+    source: &mut T,
+    digit: bool,
+    rank: usize,
+) -> Option<usize>
     requires { HasSizes (T.lists source.old) }
-    ensures answer { HasTables (T.lists source.old)
+    ensures answer { HasTables (T.lists source.old) → F.finds finder.now (T.lists source.old)
         → rank < count_of (bits_in (T.lists source.old)) digit
         → IsSomeAnd result (Picks (bits_in (T.lists source.old)) digit rank) }
     ensures reads { OnlySelectsBy T.lists T.reads source.old source.new
-        (by_halves (T.lists source.old)) 1 0 }
+        (F.most (T.lists source.old)) 1 0 }
 {
     if digit {
-        found(total_select_on::<1, T>(source, rank))
+        found(finder.one(source, rank))
     } else {
-        found(total_select_on::<0, T>(source, rank))
+        found(finder.zero(source, rank))
     }
 }
 
@@ -70,8 +76,9 @@ impl<'a> LevelsView<'a> {
     /// From where a number came to an index of the next level; `None` only where words and tables are not those of a
     /// matrix, or the number does not stand there.
     #[inline(always)]
-    fn total_back_on<T: TableSource>(
+    fn total_back_by<F: Finds, T: TableSource>(
         &self,
+        finder: &F,
         source: &mut T,
         depth: u8,
         number: u64,
@@ -82,14 +89,15 @@ impl<'a> LevelsView<'a> {
         requires inside { place < self.now.len }
         ensures inside { IfSome result (λ back. back < self.now.len) }
         ensures answer { (k : ℕ) → IsMatrix self.now (T.lists source.old)
+            → F.finds finder.now (T.lists source.old)
             → PicksItem (level_in self.now (T.lists source.old) (depth + 1)) number k place
             → IsSomeAnd result (PicksItem (level_in self.now (T.lists source.old) depth) number k) }
         ensures reads { OnlySelectsBy T.lists T.reads source.old source.new
-            (by_halves (T.lists source.old)) 1 0 }
+            (F.most (T.lists source.old)) 1 0 }
     {
         let len = self.len();
         let (digit, rank) = self.bit_before(depth, number, place);
-        match selected_on(source, digit, rank) {
+        match selected_by(finder, source, digit, rank) {
             Some(bit) => difference(depth as usize * len, bit, len - 1),
             None => None,
         }
@@ -98,8 +106,9 @@ impl<'a> LevelsView<'a> {
     /// From where a number came to an index after the last level; `None` only where words and tables are not those of a
     /// matrix, or the number does not stand there.
     #[inline(always)]
-    fn total_first_place_on<T: TableSource>(
+    fn total_first_place_by<F: Finds, T: TableSource>(
         &self,
+        finder: &F,
         source: &mut T,
         number: u64,
         place: usize,
@@ -108,20 +117,86 @@ impl<'a> LevelsView<'a> {
         requires inside { place < self.now.len }
         ensures inside { IfSome result (λ first. first < self.now.len) }
         ensures answer { (k : ℕ) → IsMatrix self.now (T.lists source.old)
+            → F.finds finder.now (T.lists source.old)
             → PicksItem (level_in self.now (T.lists source.old) self.now.width) number k place
             → IsSomeAnd result (PicksItem (numbers_in self.now (T.lists source.old)) number k) }
         ensures reads { OnlySelectsBy T.lists T.reads source.old source.new
-            (by_halves (T.lists source.old)) self.now.width 0 }
+            (F.most (T.lists source.old)) self.now.width 0 }
     {
         let width = self.width();
         let mut at = place;
         for up in 0..width {
-            let Some(back) = self.total_back_on(source, width - 1 - up, number, at) else {
+            let Some(back) = self.total_back_by(finder, source, width - 1 - up, number, at) else {
                 return None;
             };
             at = back;
         }
         Some(at)
+    }
+
+    /// The index after the last level of this number with exactly `k` such numbers before it, where there are more than
+    /// `k`; `None` only where there are not, or words and tables are not those of a matrix.
+    #[inline(always)]
+    fn total_nth_place_on<T: TableSource>(
+        &self,
+        source: &mut T,
+        number: u64,
+        k: usize,
+    ) -> Option<usize>
+        requires sized { HasSizes (T.lists source.old) }
+        requires room { self.now.width * self.now.len ≤ length (bits_in (T.lists source.old)) }
+        ensures inside { IfSome result (λ place. place < self.now.len) }
+        ensures answer { let numbers = numbers_in self.now (T.lists source.old) in
+            IsMatrix self.now (T.lists source.old) → k < count_before numbers number (length numbers)
+            → IsSomeAnd result (PicksItem (level_in self.now (T.lists source.old) self.now.width) number k) }
+        ensures reads { OnlyRanks self.now T.lists T.reads source.old source.new
+            (self.now.width - self.now.known) }
+    {
+        if !fits(number, self.width()) {
+            return None;
+        }
+        let first = self.total_start_on(source, number)?;
+        if k >= self.len() - first {
+            return None;
+        }
+        Some(first + k)
+    }
+
+    /// The index of this number with exactly `k` such numbers before it, where it is known that there are more than
+    /// `k`: so none are counted.
+    ///
+    /// Whatever words and tables hold, it is the index of a number. Where they are those of a matrix, in whose words
+    /// `finder` finds bits, and there are more than `k` such numbers, it is the right one; the answer is `None` only
+    /// where one of this does not hold.
+    ///
+    /// # Conditions
+    /// Those of `total_get_on`.
+    /// # Cost
+    /// For each level a search, and for each that is not known a rank, whatever words and tables hold.
+    ///
+    /// ```
+    /// levels.total_nth_by(&ByTables, &mut source, 1, 2);   // Some(5), or None
+    /// ```
+    #[inline(always)]
+    pub fn total_nth_by<F: Finds, T: TableSource>(
+        &self,
+        finder: &F,
+        source: &mut T,
+        number: u64,
+        k: usize,
+    ) -> Option<usize>
+        requires sized { HasSizes (T.lists source.old) }
+        requires room { self.now.width * self.now.len ≤ length (bits_in (T.lists source.old)) }
+        ensures inside { IfSome result (λ index. index < self.now.len) }
+        ensures answer { let numbers = numbers_in self.now (T.lists source.old) in
+            IsMatrix self.now (T.lists source.old) → F.finds finder.now (T.lists source.old)
+            → k < count_before numbers number (length numbers)
+            → IsSomeAnd result (PicksItem numbers number k) }
+        ensures reads { OnlyRanksAndSelects self.now T.lists T.reads source.old source.new
+            (self.now.width - self.now.known) (F.most (T.lists source.old)) self.now.width }
+    {
+        let place = self.total_nth_place_on(source, number, k)?;
+        self.total_first_place_by(finder, source, number, place)
     }
 
     /// The index after the last level of this number with exactly `k` such numbers before it.
@@ -139,11 +214,11 @@ impl<'a> LevelsView<'a> {
         ensures answer { IsMatrix self.now (T.lists source.old)
             → IsIndexAmong (numbers_in self.now (T.lists source.old))
             (level_in self.now (T.lists source.old) self.now.width) number k result }
-        ensures reads { OnlyReads T.lists T.reads source.old source.new
-            (2 * self.now.width) (2 * self.now.width) (16 * self.now.width) }
+        ensures reads { OnlyRanks self.now T.lists T.reads source.old source.new
+            (2 * self.now.width - self.now.known) }
     {
         let len = self.len();
-        let Some((first, last)) = self.total_places_on(source, number, 0, len) else {
+        let Some((first, last)) = self.total_stretch_on(source, number, len) else {
             return Answer::Wrong;
         };
         let count = last.saturating_sub(first);
@@ -155,17 +230,59 @@ impl<'a> LevelsView<'a> {
 
     /// The index of this number with exactly `k` such numbers before it.
     ///
-    /// Whatever words and tables hold, it is that of a number. Where they are those of a matrix, it is the right one,
-    /// and the answer is `Absent` exactly where there are no more than `k` such numbers, and never `Wrong`.
+    /// Whatever words and tables hold, it is the index of a number. Where they are those of a matrix, in whose words
+    /// `finder` finds bits, it is the right one, and the answer is `Absent` exactly where there are no more than `k`
+    /// such numbers, and never `Wrong`.
     ///
     /// # Conditions
     /// Those of `total_get_on`.
     /// # Cost
-    /// For each level what two ranks read, and what a selection by binary search reads, whatever they hold.
+    /// For each level a search, and two ranks, or one where it is known, whatever words and tables hold.
+    ///
+    /// ```
+    /// levels.total_select_by(&ByTables, &mut source, 1, 2);   // Found(5), Absent or Wrong
+    /// ```
+    #[inline(always)]
+    pub fn total_select_by<F: Finds, T: TableSource>(
+        &self,
+        finder: &F,
+        source: &mut T,
+        number: u64,
+        k: usize,
+    ) -> Answer<usize>
+        requires sized { HasSizes (T.lists source.old) }
+        requires room { self.now.width * self.now.len ≤ length (bits_in (T.lists source.old)) }
+        ensures inside { IsIndexWithin self.now.len result }
+        ensures answer { IsMatrix self.now (T.lists source.old) → F.finds finder.now (T.lists source.old)
+            → IsIndexOf (numbers_in self.now (T.lists source.old)) number k result }
+        ensures reads { OnlyRanksAndSelects self.now T.lists T.reads source.old source.new
+            (2 * self.now.width - self.now.known) (F.most (T.lists source.old)) self.now.width }
+    {
+        if !fits(number, self.width()) {
+            return Answer::Absent;
+        }
+        let place = match self.total_last_place_on(source, number, k) {
+            Answer::Found(place) => place,
+            other => return other,
+        };
+        match self.total_first_place_by(finder, source, number, place) {
+            Some(first) => Answer::Found(first),
+            None => Answer::Wrong,
+        }
+    }
+
+    /// `total_select_by` by binary search in the tables.
+    ///
+    /// # Conditions
+    /// Those of `total_get_on`.
+    /// # Cost
+    /// That of `total_select_by`; a search reads at most one upper entry more than their number has binary digits, 23
+    /// lower entries and eight words.
     ///
     /// ```
     /// levels.total_select_on(&mut source, 1, 2);   // Found(5), Absent or Wrong
     /// ```
+    #[inline(always)]
     pub fn total_select_on<T: TableSource>(
         &self,
         source: &mut T,
@@ -177,20 +294,9 @@ impl<'a> LevelsView<'a> {
         ensures inside { IsIndexWithin self.now.len result }
         ensures answer { IsMatrix self.now (T.lists source.old)
             → IsIndexOf (numbers_in self.now (T.lists source.old)) number k result }
-        ensures reads { let each = by_halves (T.lists source.old) in let w = self.now.width in
-            OnlyReads T.lists T.reads source.old source.new
-            (2 * w + w * each.upper) (2 * w + w * each.lower) (16 * w + (w * each.words + 0)) }
+        ensures reads { OnlyRanksAndSelects self.now T.lists T.reads source.old source.new
+            (2 * self.now.width - self.now.known) (by_halves (T.lists source.old)) self.now.width }
     {
-        if !fits(number, self.width()) {
-            return Answer::Absent;
-        }
-        let place = match self.total_last_place_on(source, number, k) {
-            Answer::Found(place) => place,
-            other => return other,
-        };
-        match self.total_first_place_on(source, number, place) {
-            Some(first) => Answer::Found(first),
-            None => Answer::Wrong,
-        }
+        self.total_select_by(&ByTables, source, number, k)
     }
 }

@@ -1,5 +1,7 @@
 -- Nodes that carry a place among the bits.
-use Rattle.std.specs.Prelude.{◌≡◌, ℕ, ◌<◌, ◌≤◌, List, length, slice_index, Option, MatchOption}
+use Rattle.std.specs.Prelude.{◌≡◌, ℕ, ◌<◌, ◌≤◌, ◌⊎◌, List, length, slice_index, Option, MatchOption}
+use Rattle.bitm_tables.specs.declared.answer.Answer.{Answer}
+use Rattle.bitm_tables.specs.declared.answer.Answer.TheVariants.{Found, Absent, Wrong}
 use Rattle.louds.specs.Held.{zero_place}
 use Rattle.louds.specs.Tree.{IsChild, IsLast, IsNextSibling}
 
@@ -8,7 +10,7 @@ pub record NodeValue : Type 0 where
   pub number : ℕ
   pub place : ℕ
 
--- there is a node of this number, and the place is that of the zero before its ones
+-- there is a node of this number, and at the place stands the zero before its ones
 pub record IsNode (d : List ℕ) (v : NodeValue) : Type 0 where
   pub inside : v.number < length d
   pub place : v.place ≡ zero_place d v.number
@@ -20,6 +22,19 @@ MatchesChildNode d i k o = MatchOption o (slice_index d i ≤ k) (λ v. IsNode d
 -- the parent of node v with its place, and None exactly at the root
 abbrev pub MatchesParentNode : List ℕ → ℕ → Option NodeValue → Type 0
 MatchesParentNode d v o = MatchOption o (v ≡ 0) (λ i. IsNode d i × (i.number < v) × ((k : ℕ) × IsChild d i.number k v))
+
+-- of n nodes, in memory that may hold anything: a parent is a node before v, and Absent is answered exactly at the root
+-- and where v is no node
+abbrev pub IsParentNodeWithin : ℕ → ℕ → Answer NodeValue → Type 0
+IsParentNodeWithin n v (Found p) = (p.number < v) × (v < n)
+IsParentNodeWithin n v Absent = (v ≡ 0) ⊎ (n ≤ v)
+IsParentNodeWithin n v Wrong = (0 < v) × (v < n)
+
+-- the parent of node v with its place, and Absent exactly at the root and where v is no node
+abbrev pub IsParentNodeOf : List ℕ → ℕ → Answer NodeValue → Type 0
+IsParentNodeOf d v (Found p) = IsNode d p × (p.number < v) × ((k : ℕ) × IsChild d p.number k v)
+IsParentNodeOf d v Absent = (v ≡ 0) ⊎ (length d ≤ v)
+IsParentNodeOf d v Wrong = ⊥
 
 -- the next child of the parent of v with its place, and None exactly where v is the last one or the root
 abbrev pub MatchesNextSiblingNode : List ℕ → ℕ → Option NodeValue → Type 0

@@ -1,5 +1,5 @@
 //! Degrees and children, one body for each: over any source, of which the words and tables may hold anything, by binary
-//! search. The calls of the tree, those of `counted` and those over a block run them.
+//! search. The calls of the tree, the calls of `counted` and calls over a block run them.
 ghost use Rattle.std.specs.Prelude.{◌≡◌, ◌==◌, ◌+◌, ◌-◌, ◌^◌, ◌<◌, ◌≤◌, ℕ, List, length, slice_index, IfSome, Some};
 ghost use Rattle.bitm_tables.specs.Reads.{OnlyReads};
 ghost use Rattle.bitm_tables.specs.Tables.{HasSizes};
@@ -47,9 +47,11 @@ fn child_from(start: usize, len: usize, node: usize, k: usize) -> Answer<usize>
     ensures answer { (d : List ℕ) → len ≡ length d → IsTree d → start ≡ zero_place d node
         → k < slice_index d node → IsChildOf d node k result }
 {
-    match (start + k).checked_sub(node) {
-        Some(child) if node < child && child < len => Answer::Found(child),
-        _ => Answer::Wrong,
+    let child = (start + k).wrapping_sub(node);
+    if node < child && child < len {
+        Answer::Found(child)
+    } else {
+        Answer::Wrong
     }
 }
 
@@ -74,7 +76,7 @@ fn child_between(start: usize, end: usize, len: usize, node: usize, k: usize) ->
 /// Child `k` of a node, one of its first 64, of which the 0 bit before its 1 bits stands at `start`; `Wrong` only where
 /// the source holds no tree.
 ///
-/// The last 0 bit up to where the child's 1 bit would stand is that at `start` exactly where there is such a child.
+/// The last 0 bit up to where the child's 1 bit would stand is the one at `start` exactly where there is such a child.
 #[inline(always)]
 fn near_child_on<T: TableSource>(
     source: &mut T,
@@ -183,18 +185,16 @@ fn degree_between(start: usize, end: usize, len: usize, node: usize) -> Answer<u
     ensures answer { (d : List ℕ) → len ≡ length d → IsTree d → start ≡ zero_place d node
         → end ≡ zero_place d (node + 1) → IsDegreeOf d node result }
 {
-    if end <= start {
-        return Answer::Wrong;
-    }
-    let degree = end - start - 1;
+    let degree = end.wrapping_sub(start).wrapping_sub(1);
     if degree < len {
-        return Answer::Found(degree);
+        Answer::Found(degree)
+    } else {
+        Answer::Wrong
     }
-    Answer::Wrong
 }
 
-/// The position of the 0 bit after the 1 bits of a node, of which that before them stands at `start`; `None` only where
-/// it does not, or the source holds no tree.
+/// The position of the 0 bit after the 1 bits of a node, where the 0 bit before them stands at `start`; `None` only
+/// where it does not, or the source holds no tree.
 #[inline(always)]
 pub(crate) fn end_after_on<T: TableSource>(
     source: &mut T,
@@ -285,14 +285,12 @@ fn children_between(start: usize, end: usize, len: usize, node: usize) -> Answer
     ensures answer { (d : List ℕ) → len ≡ length d → IsTree d → start ≡ zero_place d node
         → end ≡ zero_place d (node + 1) → AreChildrenOf d node result }
 {
-    if end <= start {
-        return Answer::Wrong;
-    }
-    match start.checked_sub(node) {
-        Some(first) if node < first && end - 1 - node <= len => {
-            Answer::Found((first, end - 1 - node))
-        }
-        _ => Answer::Wrong,
+    let first = start.wrapping_sub(node);
+    let past = end.wrapping_sub(node + 1);
+    if node < first && first <= past && past <= len {
+        Answer::Found((first, past))
+    } else {
+        Answer::Wrong
     }
 }
 

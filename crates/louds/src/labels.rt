@@ -80,7 +80,7 @@ pub fn write_numbers(words: &mut [u64], numbers: &[u64], width: u8)
 /// # Conditions
 /// There is such a number.
 #[inline(always)]
-#[tactic(auto, using(crate::proofs::lemmas::LabelLemmas::number_inside, crate::proofs::lemmas::LabelLemmas::number_packed))]
+#[tactic(auto, using(crate::proofs::lemmas::LabelLemmas::number_inside, crate::proofs::lemmas::LabelLemmas::packed_at))]
 pub(crate) fn number_of(words: &[u64], width: u8, _len: usize, i: usize) -> u64
     requires room { HasRoom words.now width _len }
     requires inside { i < _len }

@@ -32,7 +32,6 @@
 // - `probing`: labels of nodes, whose reads are counted
 // - `queries`: parents, leaves and siblings, one body for each, over any source and by any way to find a bit
 // - `rising`: whether the labels of siblings rise, one body, over any labels
-// - `selecting`: where the bits of a node stand, over any source and by any selection
 // - `tree`: the type of a tree, and its queries
 mod checking;
 pub mod children;
@@ -51,7 +50,6 @@ mod parents;
 pub mod probing;
 pub mod queries;
 pub mod rising;
-mod selecting;
 mod tree;
 
 pub use checking::is_tree;

@@ -5,7 +5,7 @@ ghost use Rattle.louds.specs.Node.{IsNode, MatchesChildNode, MatchesNextSiblingN
 ghost use Rattle.louds.specs.Tree.{AreChildren, IsChild};
 
 use crate::children::{children_after_on, degree_after_on, ends_after_on};
-use crate::selecting::parent_of_by;
+use crate::queries::parent_of_by;
 use crate::tree::Louds;
 use bitm_strategies::{Select0ForRank101111, SelectForRank101111};
 use bitm_tables::answer::Answer;
@@ -189,7 +189,11 @@ impl<S: SelectForRank101111, S0: Select0ForRank101111> Louds<S, S0> {
         ensures { MatchesParentNode self.now.degrees node.number result }
     {
         let (index, mut probe) = self.parts();
-        parent_of_by(index, &mut probe, self.len(), node.number)
+        match parent_of_by(index, &mut probe, self.len(), node.number) {
+            Answer::Found(parent) => Some(parent),
+            Answer::Absent => None,
+            Answer::Wrong => unreachable!(),
+        }
     }
 
     /// The next child of a node's parent; `None` exactly where the node is the last child or the root.

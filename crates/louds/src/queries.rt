@@ -1,10 +1,12 @@
 //! Parents, leaves and siblings, one body for each: over any source, of which the words and tables may hold anything,
-//! and by any way to find a bit. The calls of the tree, those of `counted` and those over a block run them.
+//! and by any way to find a bit. The calls of the tree, the calls of `counted` and calls over a block run them.
 //!
 //! ```
 //! parent_by(&ByTables, &mut source, 4, 3);   // Found(2), Absent or Wrong
 //! ```
-ghost use Rattle.std.specs.Prelude.{◌≡◌, ◌+◌, ◌-◌, ◌*◌, ◌^◌, ◌<◌, ◌≤◌, ℕ, List, length, IfSome, MatchOption, Some};
+ghost use Rattle.std.specs.Prelude.{◌≡◌, ◌+◌, ◌-◌, ◌*◌, ◌^◌, ◌<◌, ◌≤◌, ℕ, List, length, slice_index};
+ghost use Rattle.std.specs.Prelude.{IfSome, MatchOption, Some};
+ghost use Rattle.bitm_tables.specs.Reads.{OnlyReads};
 ghost use Rattle.bitm_tables.specs.Tables.{HasSizes};
 ghost use Rattle.bitm_selection.specs.Selection.{OnlySelectsBy};
 ghost use Rattle.louds.specs.Answers.{IsChildRankOf, IsChildRankWithin, IsLeafOf, IsLeafWithin};
@@ -12,7 +14,12 @@ ghost use Rattle.louds.specs.Answers.{IsNextSiblingOf, IsNextSiblingWithin, IsPa
 ghost use Rattle.louds.specs.Answers.{IsPreviousSiblingOf, IsPreviousSiblingWithin};
 ghost use Rattle.louds.specs.Counted.{degrees_in, IsLouds};
 ghost use Rattle.louds.specs.Held.{zero_place, IsOneOf};
+ghost use Rattle.louds.specs.Node.{IsParentNodeOf, IsParentNodeWithin};
+ghost use Rattle.louds.specs.Tree.{IsChild};
 
+use crate::children::NEAR_WORDS;
+use crate::near::near_last_zero_on;
+use crate::node::Node;
 use bitm_selection::Finds;
 use bitm_tables::answer::Answer;
 use bitm_tables::ranking::bit_on;
@@ -90,9 +97,11 @@ pub fn parent_at(place: usize, len: usize, node: usize) -> Answer<usize>
     ensures inside { IsParentWithin len node result }
     ensures answer { (d : List ℕ) → len ≡ length d → IsOneOf d node place → IsParentOf d node result }
 {
-    match place.checked_sub(node + 1) {
-        Some(parent) if parent < node => Answer::Found(parent),
-        _ => Answer::Wrong,
+    let parent = place.wrapping_sub(node + 1);
+    if parent < node {
+        Answer::Found(parent)
+    } else {
+        Answer::Wrong
     }
 }
 
@@ -125,6 +134,106 @@ pub fn parent_by<F: Finds, T: TableSource>(
     }
     match one_by(finder, source, len, node) {
         Some(place) => parent_at(place, len, node),
+        None => Answer::Wrong,
+    }
+}
+
+/// `zero_by`, out of the way of `start_by`, which seldom needs it.
+#[inline(never)]
+fn far_zero_by<F: Finds, T: TableSource>(
+    finder: &F,
+    source: &mut T,
+    len: usize,
+    node: usize,
+) -> Option<usize>
+    requires sized { HasSizes (T.lists source.old) }
+    requires node { node ≤ len }
+    ensures place { IsLouds len (T.lists source.old) → F.finds finder.now (T.lists source.old)
+        → result ≡ Some (zero_place (degrees_in len (T.lists source.old)) node) }
+    ensures reads { OnlySelectsBy T.lists T.reads source.old source.new
+        (F.most (T.lists source.old)) 1 0 }
+{
+    zero_by(finder, source, len, node)
+}
+
+/// The position of the 0 bit before the 1 bits of a node, where the 1 bit of a child stands at `one`; `None` only where
+/// the source holds no tree in which it does, or `finder` does not find its bits.
+///
+/// # Conditions
+/// There are fewer than 2^58 words, and the tables have the right lengths. They may hold anything. There is such a
+/// node.
+/// # Cost
+/// Two words, and what a search reads where these have no 0 bit up to `one`, whatever the source holds; in a tree that
+/// is so only where 64 other children or more stand before the child.
+#[inline(always)]
+fn start_by<F: Finds, T: TableSource>(
+    finder: &F,
+    source: &mut T,
+    len: usize,
+    node: usize,
+    one: usize,
+) -> Option<usize>
+    requires sized { HasSizes (T.lists source.old) }
+    requires node { node < len }
+    ensures place { let d = degrees_in len (T.lists source.old) in
+        IsLouds len (T.lists source.old) → F.finds finder.now (T.lists source.old)
+        → (k : ℕ) → k < slice_index d node → one ≡ zero_place d node + 1 + k
+        → result ≡ Some (zero_place d node) }
+    ensures near { let d = degrees_in len (T.lists source.old) in
+        IsLouds len (T.lists source.old)
+        → (k : ℕ) → k < slice_index d node → one ≡ zero_place d node + 1 + k → k < 64
+        → OnlyReads T.lists T.reads source.old source.new 0 0 2 }
+    ensures reads { OnlySelectsBy T.lists T.reads source.old source.new
+        (F.most (T.lists source.old)) 1 2 }
+{
+    if one / 64 >= source.words_len() {
+        return None;
+    }
+    match near_last_zero_on::<NEAR_WORDS, T>(source, one) {
+        Some(place) => Some(place),
+        None => far_zero_by(finder, source, len, node),
+    }
+}
+
+/// The parent of a node, with its position, by the node's number: `parent_by` with what a walk carries on.
+///
+/// Whatever the source holds, a parent is less than the node, and the answer is `Absent` exactly at the root and where
+/// there is no such node. Where it holds a tree of which `finder` finds the bits, the answer is the parent, and never
+/// `Wrong`.
+///
+/// # Conditions
+/// There are fewer than 2^58 words, and the tables have the right lengths. They may hold anything.
+/// # Cost
+/// What two searches read, and two words, whatever the source holds; in a tree of which `finder` finds the bits what
+/// one search reads, and two words, unless 64 children of the parent or more stand before the node.
+#[inline(always)]
+pub(crate) fn parent_of_by<F: Finds, T: TableSource>(
+    finder: &F,
+    source: &mut T,
+    len: usize,
+    node: usize,
+) -> Answer<Node>
+    requires { HasSizes (T.lists source.old) }
+    ensures inside { IsParentNodeWithin len node result }
+    ensures answer { IsLouds len (T.lists source.old) → F.finds finder.now (T.lists source.old)
+        → IsParentNodeOf (degrees_in len (T.lists source.old)) node result }
+    ensures near { IsLouds len (T.lists source.old) → F.finds finder.now (T.lists source.old)
+        → (i k : ℕ) → IsChild (degrees_in len (T.lists source.old)) i k node → k < 64
+        → OnlySelectsBy T.lists T.reads source.old source.new (F.most (T.lists source.old)) 1 2 }
+    ensures reads { OnlySelectsBy T.lists T.reads source.old source.new
+        (F.most (T.lists source.old)) 2 2 }
+{
+    if node == 0 || node >= len {
+        return Answer::Absent;
+    }
+    let Some(one) = one_by(finder, source, len, node) else {
+        return Answer::Wrong;
+    };
+    let Answer::Found(number) = parent_at(one, len, node) else {
+        return Answer::Wrong;
+    };
+    match start_by(finder, source, len, number, one) {
+        Some(place) => Answer::Found(Node { number, place }),
         None => Answer::Wrong,
     }
 }
@@ -200,15 +309,17 @@ pub fn child_rank_by<F: Finds, T: TableSource>(
     let Some(start) = zero_by(finder, source, len, parent) else {
         return Answer::Wrong;
     };
-    match place.checked_sub(start + 1) {
-        Some(k) if k < len => Answer::Found(k),
-        _ => Answer::Wrong,
+    let k = place.wrapping_sub(start + 1);
+    if k < len {
+        Answer::Found(k)
+    } else {
+        Answer::Wrong
     }
 }
 
 /// The next child of a node's parent, by its number.
 ///
-/// Whatever the source holds, it is the number after that of the node, and there is such a node. Where the source holds
+/// Whatever the source holds, it is the number after the node's own, and there is such a node. Where the source holds
 /// a tree of which `finder` finds the bits, the answer is the next sibling, `Absent` exactly at the last child, at the
 /// root and where there is no such node, and never `Wrong`.
 ///
@@ -245,7 +356,7 @@ pub fn next_sibling_by<F: Finds, T: TableSource>(
 
 /// The child of a node's parent before it, by its number.
 ///
-/// Whatever the source holds, it is the number before that of the node. Where the source holds a tree of which `finder`
+/// Whatever the source holds, it is the number before the node's own. Where the source holds a tree of which `finder`
 /// finds the bits, the answer is the previous sibling, `Absent` exactly at the first child, at the root and where there
 /// is no such node, and never `Wrong`.
 ///
@@ -273,10 +384,7 @@ pub fn previous_sibling_by<F: Finds, T: TableSource>(
     let Some(place) = one_by(finder, source, len, node) else {
         return Answer::Wrong;
     };
-    if place == 0 {
-        return Answer::Wrong;
-    }
-    match bit_on(source, place - 1) {
+    match bit_on(source, place.wrapping_sub(1)) {
         Some(true) => Answer::Found(node - 1),
         Some(false) => Answer::Absent,
         None => Answer::Wrong,

@@ -16,8 +16,9 @@ use crate::checking::is_tree;
 use crate::children::{child_after_on, children_after_on, degree_after_on, end_after_on};
 use crate::error::LoudsError;
 use crate::making::make_bits;
-use crate::queries::{child_rank_by, is_leaf_by, next_sibling_by, parent_by, previous_sibling_by};
-use crate::selecting::zero_by;
+use crate::queries::{
+    child_rank_by, is_leaf_by, next_sibling_by, parent_by, previous_sibling_by, zero_by,
+};
 use bitm::{RankSelect101111, index_laws};
 use bitm_bits::GetSize;
 use bitm_strategies::{
@@ -38,8 +39,8 @@ pub(crate) const TOO_MANY: usize = 1 << 60;
 /// children of all nodes before `i`, and `k`.
 ///
 /// It is held as 10 and then for each node its degree in 1 bits and a 0 bit, `2 * n + 1` bits for `n` nodes, with an
-/// index. The 1 bit of rank `v` is that of node `v`, among those of its parent; the 0 bit of rank `v` stands before the
-/// 1 bits of node `v`. Generic in the two strategies that select 1 bits and 0 bits.
+/// index. The 1 bit of rank `v` is the bit of node `v`, among the 1 bits of its parent; the 0 bit of rank `v` stands
+/// before the 1 bits of node `v`. Generic in the two strategies that select 1 bits and 0 bits.
 #[derive(Drop)]
 pub struct Louds<S: SelectForRank101111, S0: Select0ForRank101111> {
     len: usize,
@@ -68,8 +69,8 @@ impl<S: SelectForRank101111, S0: Select0ForRank101111> Louds<S, S0> {
     /// The tree of the degrees, which stay as they are.
     ///
     /// # Errors
-    /// `TooLong` exactly where there are 2^60 degrees or more; else `NotATree` exactly where they are those of no tree;
-    /// else `OutOfMemory` where memory was refused. Nothing stays allocated then.
+    /// `TooLong` exactly where there are 2^60 degrees or more; else `NotATree` exactly where they are the degrees of no
+    /// tree; else `OutOfMemory` where memory was refused. Nothing stays allocated then.
     /// # Cost
     /// One pass over the degrees to test them, one to write their bits, and one over the bits for the index.
     pub fn build(alloc: Global, degrees: &[usize]) -> Result<Self, LoudsError>
@@ -117,8 +118,7 @@ impl<S: SelectForRank101111, S0: Select0ForRank101111> Louds<S, S0> {
         self.index.probe()
     }
 
-    /// The index, and a source over its words and tables, with no reads counted yet: what the calls of `queries`
-    /// and of `selecting` take.
+    /// The index, and a source over its words and tables, with no reads counted yet: what the calls of `queries` take.
     #[inline(always)]
     pub(crate) fn parts(&self) -> (&RankSelect101111<S, S0, BoxedSlice<u64, Global>>, Probe<'_>)
         ensures tree { IsLouds (length self.now.degrees) result.1.lists }
@@ -149,10 +149,13 @@ impl<S: SelectForRank101111, S0: Select0ForRank101111> Louds<S, S0> {
         ensures small { result < 2 ^ 62 }
     {
         let (index, mut probe) = self.parts();
-        zero_by(index, &mut probe, self.len(), node)
+        match zero_by(index, &mut probe, self.len(), node) {
+            Some(place) => place,
+            None => unreachable!(),
+        }
     }
 
-    /// The position of the 0 bit after the 1 bits of a node, where that before them stands at `start`.
+    /// The position of the 0 bit after the 1 bits of a node, where the 0 bit before them stands at `start`.
     ///
     /// # Cost
     /// Two words, and what a selection by binary search reads where these have no 0 bit after `start`.

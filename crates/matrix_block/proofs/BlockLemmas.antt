@@ -284,7 +284,14 @@ parts-hold xs w old new quarters can has parts quarters_len right =
     ∙ ap (λ x. parts_of l lists.words x (section_in new 2)) has.upper_are
     ∙ ap (parts_of l lists.words lists.upper) has.lower_are in
     let lengths : HasLengths whole = record {
-      levels = record { plain = refl; numbers = can.numbers; ones_len = parts.ones_len; zeros_len = parts.zeros_len };
+      levels = record {
+        numbers = can.numbers;
+        ones_len = parts.ones_len;
+        zeros_len = parts.zeros_len;
+        known_most = omega arith;
+        starts_len = refl;
+        no_quarters = λ e. eqb-true (length quarters) 0 e;
+      };
       words_len = parts.words_len;
       sized = record {
         short = omega (arith, can.numbers.short, parts.words_len);
@@ -292,6 +299,9 @@ parts-hold xs w old new quarters can has parts quarters_len right =
         lower_len = omega (arith, parts.lower_len, parts.words_len);
       };
       quarters_len = quarters_len ∙ ap (quarters_for (length quarters == 0)) (sym parts.words_len);
+      known_none = refl;
+      starts_none = refl;
+      compact_is = refl;
     } in
     record {
       sound = record {

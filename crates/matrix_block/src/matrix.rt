@@ -11,7 +11,7 @@ use crate::sections::{Lens, MATRIX, QUARTERS};
 use bitm_block::Block;
 use bitm_tables::answer::Answer;
 use block_tables::{BlockProbe, are_tables};
-use lent_levels::{LevelsView, are_counts, has_quarters};
+use lent_levels::{LevelsView, are_levels};
 use std::marker::Model;
 
 /// Whether header and directory are those of a matrix.
@@ -131,7 +131,8 @@ impl<'a> MatrixView<'a> {
         }
     }
 
-    /// The levels of numbers in words with two tables; `None` exactly where a length is not that of the numbers.
+    /// The levels of numbers in words with two tables; `None` exactly where a length is not that of the numbers,
+    /// or the levels have a table of starts.
     ///
     /// ```
     /// MatrixView::over(levels, words, upper, lower);   // Some(..) of one word each, for six numbers of three bits
@@ -150,8 +151,18 @@ impl<'a> MatrixView<'a> {
         if words.len() != lens.words || upper.len() != lens.upper || lower.len() != lens.lower {
             return None;
         }
-        let quarters = levels.quarters().len();
-        if quarters != 0 && quarters != lens.quarters {
+        let quarters = if levels.is_compact() {
+            0
+        } else {
+            lens.quarters
+        };
+        if levels.quarters().len() != quarters {
+            return None;
+        }
+        if levels.known() != 0 || levels.starts()[0] != 0 {
+            return None;
+        }
+        if levels.is_compact() != levels.quarters().is_empty() {
             return None;
         }
         Some(MatrixView {
@@ -245,8 +256,7 @@ impl<'a> MatrixView<'a> {
     /// Whether the block holds a matrix: then the answers are those of its numbers.
     ///
     /// # Cost
-    /// One pass over the words, two ranks for each level, and with quarters two for every two words (evident from the
-    /// code).
+    /// One pass over the words, and that of `lent_levels::are_levels`.
     ///
     /// ```
     /// matrix.check();   // true
@@ -258,7 +268,7 @@ impl<'a> MatrixView<'a> {
             return false;
         }
         let (levels, mut source) = self.parts();
-        are_counts(levels, &mut source) && has_quarters(levels, &mut source)
+        are_levels(levels, &mut source)
     }
 
     /// Number `i`. Whatever the block holds, it has no more bits than the width, and the answer is `Absent` exactly

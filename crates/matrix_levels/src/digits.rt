@@ -39,7 +39,7 @@ pub fn fits(number: u64, width: u8) -> bool
 
 /// The number without its lowest `count` bits.
 #[inline(always)]
-pub(crate) fn without_lowest(number: u64, count: u8) -> u64
+pub fn without_lowest(number: u64, count: u8) -> u64
     requires { count ≤ 64 }
     ensures { result ≡ number / 2 ^ count }
 {

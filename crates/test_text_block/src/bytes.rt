@@ -1,6 +1,6 @@
 //! Texts of bytes: which bytes are letters, and what is answered of bytes.
 use crate::banana::banana;
-use matrix_block::{LevelsView, MatrixView};
+use matrix_block::MatrixView;
 use std::alloc::Global;
 use std::process::Abort;
 use std::test::Fail;
@@ -94,9 +94,12 @@ fn bytes_are_extracted(rt: HostRuntime) -> Result<(), Fail> {
 /// The same matrix.
 fn same<'a>(matrix: &MatrixView<'a>) -> Option<MatrixView<'a>> {
     let (levels, _source) = matrix.parts();
-    let (ones, zeros) = (levels.ones(), levels.zeros());
-    let levels = LevelsView::over(levels.len(), levels.width(), ones, zeros, levels.quarters())?;
-    MatrixView::over(levels, matrix.words(), matrix.upper(), matrix.lower())
+    MatrixView::over(
+        levels.copy(),
+        matrix.words(),
+        matrix.upper(),
+        matrix.lower(),
+    )
 }
 
 /// The text of a view, whose letters stand for these bytes.

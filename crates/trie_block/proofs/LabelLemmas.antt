@@ -4,7 +4,7 @@ use Rattle.std.proofs.Math.Nat.{mul-le-mul_left}
 use Rattle.std.proofs.lemmas.Nat.{row_fits}
 use Rattle.bit_lists.specs.Bits.{bits_of}
 use Rattle.bit_lists.specs.Number.{number_at, IsFragmentInRange}
-use Rattle.louds.proofs.lemmas.LabelLemmas.{number_packed}
+use Rattle.louds.proofs.lemmas.LabelLemmas.{packed_at}
 use Rattle.louds.specs.Labels.{numbers_of}
 use Rattle.trie_block.specs.Labels.{labels_of, HasLabels, IsShape}
 
@@ -24,7 +24,7 @@ two_labels xs v some = (
 pub label_packed : (words : List ℕ) (width n v : ℕ) → 0 < v → v < n
     → get_or (labels_of words width n) v 0 ≡ number_at (bits_of words) ((v - 1) * width) width
 label_packed words width n v some inside =
-    after_first (numbers_of words width (n - 1)) 0 v some ∙ number_packed words width (n - 1) (v - 1) (omega arith)
+    after_first (numbers_of words width (n - 1)) 0 v some ∙ packed_at words width (n - 1) (v - 1) (omega arith)
 
 -- all labels together have few bits
 pub bits_few : (n width : ℕ) → IsShape n width → (n - 1) * width < 2 ^ 63

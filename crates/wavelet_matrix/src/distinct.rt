@@ -6,6 +6,7 @@ ghost use Rattle.matrix_levels.specs.Numbers.{count_equal, IsSmallest};
 
 use crate::matrix::WaveletMatrix;
 use bitm_strategies::{Select0ForRank101111, SelectForRank101111};
+use bitm_tables::answer::Answer;
 use std::iter::{FusedIterator, Iterator};
 use std::marker::Model;
 use std::ops::Range;
@@ -52,7 +53,10 @@ impl<S: SelectForRank101111, S0: Select0ForRank101111> WaveletMatrix<S, S0> {
             ≡ count_equal (slice_range self.now.items range.start range.end) result.0 }
     {
         let (levels, mut probe) = self.parts();
-        levels.quantile_and_count_on(&mut probe, range.start, range.end, k)
+        match levels.total_quantile_and_count_on(&mut probe, range.start, range.end, k) {
+            Answer::Found(tally) => tally,
+            _ => unreachable!(),
+        }
     }
 
     /// The distinct numbers of a range, rising, each with how often it is in the range.

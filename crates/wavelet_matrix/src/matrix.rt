@@ -5,6 +5,7 @@ ghost use Rattle.std.specs.Int.{div_ceil};
 ghost use Rattle.bit_lists.specs.Bits.{bits_of};
 ghost use Rattle.bitm_tables.specs.Reads.{none_read};
 ghost use Rattle.bitm_bits.specs.Size.{saturated_size};
+ghost use Rattle.lent_levels.specs.Laws.{Fits};
 ghost use Rattle.matrix_levels.specs.Levels.{known_of};
 ghost use Rattle.matrix_levels.specs.Matrix.{IsMatrix, items_of, numbers_in, quarters_for, words_of};
 
@@ -12,7 +13,8 @@ use bitm::RankSelect101111;
 use bitm_bits::GetSize;
 use bitm_strategies::{BinaryRankSearch, Select0ForRank101111, SelectForRank101111};
 use bitm_tables::source::Probe;
-use matrix_levels::{Levels, known_for, make_levels, quarters_unless};
+use lent_levels::{Levels, LevelsView, laws};
+use matrix_levels::{known_for, make_levels, quarters_unless};
 use std::alloc::{AllocError, Global};
 use std::boxed::BoxedSlice;
 use std::marker::Model;
@@ -209,15 +211,17 @@ impl<S: SelectForRank101111, S0: Select0ForRank101111> WaveletMatrix<S, S0> {
         self.levels.width()
     }
 
-    /// The levels, and a source over the words and tables, with no reads counted yet: what the calls of `Levels` take.
+    /// The levels, and a source over the words and tables, with no reads counted yet: what the calls of `LevelsView`
+    /// take.
     #[inline(always)]
-    pub fn parts(&self) -> (&Levels, Probe<'_>)
-        ensures matrix { IsMatrix result.0.now result.1.lists }
-        ensures items { numbers_in result.0.now result.1.lists ≡ self.now.items }
-        ensures len { result.0.now.len ≡ length self.now.items }
-        ensures width { result.0.now.width ≡ self.now.width }
-        ensures compact { result.0.now.compact ≡ self.now.compact }
-        ensures known { result.0.now.known ≡ known_of (length self.now.items) self.now.width }
+    pub fn parts(&self) -> (LevelsView<'_>, Probe<'_>)
+        ensures fits { Fits result.0 result.1.lists }
+        ensures matrix { IsMatrix result.0 result.1.lists }
+        ensures items { numbers_in result.0 result.1.lists ≡ self.now.items }
+        ensures len { result.0.len ≡ length self.now.items }
+        ensures width { result.0.width ≡ self.now.width }
+        ensures compact { result.0.compact ≡ self.now.compact }
+        ensures known { result.0.known ≡ known_of (length self.now.items) self.now.width }
         ensures fit { All (λ x. x < 2 ^ self.now.width) self.now.items }
         ensures reads { result.1.reads ≡ none_read }
     {
@@ -230,21 +234,24 @@ impl<S: SelectForRank101111, S0: Select0ForRank101111> WaveletMatrix<S, S0> {
     pub(crate) fn all_parts(
         &self,
     ) -> (
-        &Levels,
+        LevelsView<'_>,
         &RankSelect101111<S, S0, BoxedSlice<u64, Global>>,
         Probe<'_>,
     )
-        ensures matrix { IsMatrix result.0.now result.2.lists }
-        ensures items { numbers_in result.0.now result.2.lists ≡ self.now.items }
-        ensures len { result.0.now.len ≡ length self.now.items }
-        ensures width { result.0.now.width ≡ self.now.width }
-        ensures compact { result.0.now.compact ≡ self.now.compact }
-        ensures known { result.0.now.known ≡ known_of (length self.now.items) self.now.width }
+        ensures fits { Fits result.0 result.2.lists }
+        ensures matrix { IsMatrix result.0 result.2.lists }
+        ensures items { numbers_in result.0 result.2.lists ≡ self.now.items }
+        ensures len { result.0.len ≡ length self.now.items }
+        ensures width { result.0.width ≡ self.now.width }
+        ensures compact { result.0.compact ≡ self.now.compact }
+        ensures known { result.0.known ≡ known_of (length self.now.items) self.now.width }
         ensures fit { All (λ x. x < 2 ^ self.now.width) self.now.items }
         ensures selects { result.2.lists.words ≡ boxed_slice_items result.1.now.content }
         ensures reads { result.2.reads ≡ none_read }
     {
-        (&self.levels, &self.index, self.index.probe())
+        laws::matrices_fit();
+        let probe = self.index.probe();
+        (self.levels.lend(), &self.index, probe)
     }
 
     /// A copy of the matrix, with strategies of its own.

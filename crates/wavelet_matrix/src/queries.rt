@@ -4,6 +4,7 @@ ghost use Rattle.matrix_levels.specs.Numbers.{count_before, GetsEach, PicksItem,
 
 use crate::matrix::WaveletMatrix;
 use bitm_strategies::{Select0ForRank101111, SelectForRank101111};
+use bitm_tables::answer::Answer;
 
 impl<S: SelectForRank101111, S0: Select0ForRank101111> WaveletMatrix<S, S0> {
     /// Number `i`.
@@ -11,14 +12,17 @@ impl<S: SelectForRank101111, S0: Select0ForRank101111> WaveletMatrix<S, S0> {
     /// # Conditions
     /// There is such a number.
     /// # Cost
-    /// That of `Levels::get_on`.
+    /// That of `LevelsView::total_get_on`.
     #[inline]
     pub fn get(&self, i: usize) -> u64
         requires { i < length self.now.items }
         ensures { result ≡ slice_index self.now.items i }
     {
         let (levels, mut probe) = self.parts();
-        levels.get_on(&mut probe, i)
+        match levels.total_get_on(&mut probe, i) {
+            Answer::Found(number) => number,
+            _ => unreachable!(),
+        }
     }
 
     /// Number `i`; `None` exactly where there is none.
@@ -26,10 +30,11 @@ impl<S: SelectForRank101111, S0: Select0ForRank101111> WaveletMatrix<S, S0> {
     pub fn try_get(&self, i: usize) -> Option<u64>
         ensures { SomeIff result (i < length self.now.items) (slice_index self.now.items i) }
     {
-        if i < self.len() {
-            Some(self.get(i))
-        } else {
-            None
+        let (levels, mut probe) = self.parts();
+        match levels.total_get_on(&mut probe, i) {
+            Answer::Found(number) => Some(number),
+            Answer::Absent => None,
+            Answer::Wrong => unreachable!(),
         }
     }
 
@@ -38,14 +43,14 @@ impl<S: SelectForRank101111, S0: Select0ForRank101111> WaveletMatrix<S, S0> {
     /// # Conditions
     /// There are as many `numbers` as `places`, and there is a number at each index.
     /// # Cost
-    /// That of `Levels::get_many_on`: all go from level to level together.
+    /// That of `LevelsView::total_get_list_on`: all go from level to level together.
     pub fn get_many(&self, places: &mut [usize], numbers: &mut [u64])
         requires same_length { length numbers.old ≡ length places.old }
         requires inside { All (λ p. p < length self.now.items) places.old }
         ensures { GetsEach self.now.items places.old numbers.new }
     {
         let (levels, mut probe) = self.parts();
-        levels.get_many_on(&mut probe, places, numbers);
+        let _found = levels.total_get_list_on(&mut probe, places, numbers);
     }
 
     /// How many of the first `i` numbers are this one.
@@ -53,14 +58,17 @@ impl<S: SelectForRank101111, S0: Select0ForRank101111> WaveletMatrix<S, S0> {
     /// # Conditions
     /// There are no fewer than `i` numbers.
     /// # Cost
-    /// That of `Levels::rank_on`.
+    /// That of `LevelsView::total_rank_on`.
     #[inline]
     pub fn rank(&self, number: u64, i: usize) -> usize
         requires { i ≤ length self.now.items }
         ensures { result ≡ count_before self.now.items number i }
     {
         let (levels, mut probe) = self.parts();
-        levels.rank_on(&mut probe, number, i)
+        match levels.total_rank_on(&mut probe, number, i) {
+            Answer::Found(count) => count,
+            _ => unreachable!(),
+        }
     }
 
     /// How many of the first `i` numbers are this one; `None` exactly where there are fewer numbers.
@@ -68,10 +76,11 @@ impl<S: SelectForRank101111, S0: Select0ForRank101111> WaveletMatrix<S, S0> {
     pub fn try_rank(&self, number: u64, i: usize) -> Option<usize>
         ensures { IsItemRank self.now.items number i result }
     {
-        if i <= self.len() {
-            Some(self.rank(number, i))
-        } else {
-            None
+        let (levels, mut probe) = self.parts();
+        match levels.total_rank_on(&mut probe, number, i) {
+            Answer::Found(count) => Some(count),
+            Answer::Absent => None,
+            Answer::Wrong => unreachable!(),
         }
     }
 
@@ -81,7 +90,7 @@ impl<S: SelectForRank101111, S0: Select0ForRank101111> WaveletMatrix<S, S0> {
     /// # Conditions
     /// There are as many `numbers` and `ranks` as `places`, and no index is past the end.
     /// # Cost
-    /// That of `Levels::rank_many_on`: all go from level to level together.
+    /// That of `LevelsView::total_rank_list_on`: all go from level to level together.
     pub fn rank_many(&self, numbers: &[u64], places: &[usize], ranks: &mut [usize])
         requires numbers { length numbers.now ≡ length places.now }
         requires ranks { length ranks.old ≡ length places.now }
@@ -89,7 +98,7 @@ impl<S: SelectForRank101111, S0: Select0ForRank101111> WaveletMatrix<S, S0> {
         ensures { RanksEach self.now.items numbers.now places.now ranks.new }
     {
         let (levels, mut probe) = self.parts();
-        levels.rank_many_on(&mut probe, numbers, places, ranks);
+        let _found = levels.total_rank_list_on(&mut probe, numbers, places, ranks);
     }
 
     /// Number `i`, and how many of the numbers before it are equal to it.
@@ -97,7 +106,7 @@ impl<S: SelectForRank101111, S0: Select0ForRank101111> WaveletMatrix<S, S0> {
     /// # Conditions
     /// There is such a number.
     /// # Cost
-    /// That of `Levels::get_and_rank_on`: no more than `rank` takes.
+    /// That of `LevelsView::total_get_and_rank_on`: no more than `rank` takes.
     ///
     /// ```
     /// // of 3, 1, 4, 1, 5, 1
@@ -110,7 +119,10 @@ impl<S: SelectForRank101111, S0: Select0ForRank101111> WaveletMatrix<S, S0> {
         ensures count { result.1 ≡ count_before self.now.items result.0 i }
     {
         let (levels, mut probe) = self.parts();
-        levels.get_and_rank_on(&mut probe, i)
+        match levels.total_get_and_rank_on(&mut probe, i) {
+            Answer::Found(item) => item,
+            _ => unreachable!(),
+        }
     }
 
     /// The index of this number with exactly `k` such numbers before it.
@@ -125,7 +137,10 @@ impl<S: SelectForRank101111, S0: Select0ForRank101111> WaveletMatrix<S, S0> {
         ensures { PicksItem self.now.items number k result }
     {
         let (levels, index, mut probe) = self.all_parts();
-        levels.select_by(index, &mut probe, number, k)
+        match levels.total_nth_by(index, &mut probe, number, k) {
+            Some(place) => place,
+            None => unreachable!(),
+        }
     }
 
     /// The index of this number with exactly `k` such numbers before it; `None` exactly where there is none.
@@ -137,6 +152,10 @@ impl<S: SelectForRank101111, S0: Select0ForRank101111> WaveletMatrix<S, S0> {
         ensures { IsItemSelect self.now.items number k result }
     {
         let (levels, index, mut probe) = self.all_parts();
-        levels.try_select_by(index, &mut probe, number, k)
+        match levels.total_select_by(index, &mut probe, number, k) {
+            Answer::Found(place) => Some(place),
+            Answer::Absent => None,
+            Answer::Wrong => unreachable!(),
+        }
     }
 }

@@ -5,6 +5,7 @@ ghost use Rattle.matrix_levels.specs.Shared.{AreShared};
 
 use crate::matrix::WaveletMatrix;
 use bitm_strategies::{Select0ForRank101111, SelectForRank101111};
+use bitm_tables::answer::Answer;
 use std::alloc::{AllocError, Global};
 use std::ops::Range;
 
@@ -14,7 +15,7 @@ impl<S: SelectForRank101111, S0: Select0ForRank101111> WaveletMatrix<S, S0> {
     /// # Conditions
     /// The range does not end before it starts, nor past the numbers.
     /// # Cost
-    /// That of `Levels::count_less_on`.
+    /// That of `LevelsView::total_count_less_on`.
     #[inline]
     pub fn count_less(&self, range: Range<usize>, bound: u64) -> usize
         requires order { range.start ≤ range.end }
@@ -22,7 +23,10 @@ impl<S: SelectForRank101111, S0: Select0ForRank101111> WaveletMatrix<S, S0> {
         ensures { result ≡ count_less (slice_range self.now.items range.start range.end) bound }
     {
         let (levels, mut probe) = self.parts();
-        levels.count_less_on(&mut probe, range.start, range.end, bound)
+        match levels.total_count_less_on(&mut probe, range.start, range.end, bound) {
+            Answer::Found(count) => count,
+            _ => unreachable!(),
+        }
     }
 
     /// How many numbers of a range are at least `low` and less than `high`; none where `high` is no more than `low`.
@@ -30,7 +34,7 @@ impl<S: SelectForRank101111, S0: Select0ForRank101111> WaveletMatrix<S, S0> {
     /// # Conditions
     /// The range does not end before it starts, nor past the numbers.
     /// # Cost
-    /// That of `Levels::range_count_on`.
+    /// That of `LevelsView::total_range_count_on`.
     #[inline]
     pub fn range_count(&self, range: Range<usize>, low: u64, high: u64) -> usize
         requires order { range.start ≤ range.end }
@@ -39,7 +43,10 @@ impl<S: SelectForRank101111, S0: Select0ForRank101111> WaveletMatrix<S, S0> {
             ≡ count_between (slice_range self.now.items range.start range.end) low high }
     {
         let (levels, mut probe) = self.parts();
-        levels.range_count_on(&mut probe, range.start, range.end, low, high)
+        match levels.total_range_count_on(&mut probe, range.start, range.end, low, high) {
+            Answer::Found(count) => count,
+            _ => unreachable!(),
+        }
     }
 
     /// The number of a range that would stand at index `k` if the range were sorted.
@@ -47,7 +54,7 @@ impl<S: SelectForRank101111, S0: Select0ForRank101111> WaveletMatrix<S, S0> {
     /// # Conditions
     /// The range does not end before it starts, nor past the numbers, and has more than `k` of them.
     /// # Cost
-    /// That of `Levels::quantile_on`.
+    /// That of `LevelsView::total_quantile_on`.
     #[inline]
     pub fn quantile(&self, range: Range<usize>, k: usize) -> u64
         requires order { range.start ≤ range.end }
@@ -56,7 +63,10 @@ impl<S: SelectForRank101111, S0: Select0ForRank101111> WaveletMatrix<S, S0> {
         ensures { IsSmallest (slice_range self.now.items range.start range.end) k result }
     {
         let (levels, mut probe) = self.parts();
-        levels.quantile_on(&mut probe, range.start, range.end, k)
+        match levels.total_quantile_on(&mut probe, range.start, range.end, k) {
+            Answer::Found(number) => number,
+            _ => unreachable!(),
+        }
     }
 
     /// The least number of a range that is at least `bound`; `None` exactly where all are less.
@@ -64,7 +74,7 @@ impl<S: SelectForRank101111, S0: Select0ForRank101111> WaveletMatrix<S, S0> {
     /// # Conditions
     /// The range does not end before it starts, nor past the numbers.
     /// # Cost
-    /// That of `Levels::next_value_on`.
+    /// That of `LevelsView::total_next_value_on`.
     #[inline]
     pub fn next_value(&self, range: Range<usize>, bound: u64) -> Option<u64>
         requires order { range.start ≤ range.end }
@@ -72,7 +82,11 @@ impl<S: SelectForRank101111, S0: Select0ForRank101111> WaveletMatrix<S, S0> {
         ensures { IsNextItem (slice_range self.now.items range.start range.end) bound result }
     {
         let (levels, mut probe) = self.parts();
-        levels.next_value_on(&mut probe, range.start, range.end, bound)
+        match levels.total_next_value_on(&mut probe, range.start, range.end, bound) {
+            Answer::Found(number) => Some(number),
+            Answer::Absent => None,
+            Answer::Wrong => unreachable!(),
+        }
     }
 
     /// The greatest number of a range that is less than `bound`; `None` exactly where none is.
@@ -80,7 +94,7 @@ impl<S: SelectForRank101111, S0: Select0ForRank101111> WaveletMatrix<S, S0> {
     /// # Conditions
     /// The range does not end before it starts, nor past the numbers.
     /// # Cost
-    /// That of `Levels::previous_value_on`.
+    /// That of `LevelsView::total_previous_value_on`.
     #[inline]
     pub fn previous_value(&self, range: Range<usize>, bound: u64) -> Option<u64>
         requires order { range.start ≤ range.end }
@@ -88,7 +102,11 @@ impl<S: SelectForRank101111, S0: Select0ForRank101111> WaveletMatrix<S, S0> {
         ensures { IsPreviousItem (slice_range self.now.items range.start range.end) bound result }
     {
         let (levels, mut probe) = self.parts();
-        levels.previous_value_on(&mut probe, range.start, range.end, bound)
+        match levels.total_previous_value_on(&mut probe, range.start, range.end, bound) {
+            Answer::Found(number) => Some(number),
+            Answer::Absent => None,
+            Answer::Wrong => unreachable!(),
+        }
     }
 
     /// The numbers that are in both ranges, each once, rising.
@@ -98,7 +116,7 @@ impl<S: SelectForRank101111, S0: Select0ForRank101111> WaveletMatrix<S, S0> {
     /// # Errors
     /// `AllocError` if memory was refused.
     /// # Cost
-    /// That of `Levels::intersect_on`: one walk down both ranges, which stops where either is empty.
+    /// That of `LevelsView::intersect_on`: one walk down both ranges, which stops where either is empty.
     pub fn intersect(
         &self,
         alloc: Global,

@@ -186,16 +186,6 @@ module _ (d : List ℕ) (n : ℕ) (b : List Bool) (h : IsHeld d n b) where
       omega (arith, zero_place_more d v (omega (arith, h.count)), (h.zeros (v + 1) (omega arith)).inside)
 
   -- after the one of a node
-  pub after_one_inside : (v p : ℕ) → v < n → IsOneOf d v p → p + 1 < length b
-  after_one_inside v p less one =
-      ⊎_elim
-      (λ none. let first : zero_place d 0 ≡ 0 + 1 = refl in omega (arith, one.0 none, first, (h.zeros 0 (omega arith)).inside))
-      (λ other.
-      let o = one.1 (omega arith) in
-      let c = o.3 in
-      omega (arith, o.4, c.some, zero_place_more d o.0 c.node, (h.zeros (o.0 + 1) (omega (arith, h.count, c.node))).inside))
-      (cases_eq v 0)
-
   pub next_of_one : (v p : ℕ) → v < n → IsOneOf d v p → item b (p + 1) ≡ true → IsNextSibling d v (v + 1)
   next_of_one v p less one is =
       ⊎_elim
@@ -237,11 +227,6 @@ module _ (d : List ℕ) (n : ℕ) (b : List Bool) (h : IsHeld d n b) where
 
   -- ---- the bit before a one
 
-  -- a node's one that is not the root's stands after the first bit, and before the end
-  pub before_one_inside : (v p : ℕ) → v < n → 0 < v → IsOneOf d v p → (0 < p) × (p < length b)
-  before_one_inside v p less some one =
-      let o = one.1 some in (omega (arith, o.4), omega (arith, after_one_inside v p less one))
-
   pub previous_of_one : (v p q : ℕ) → 0 < v → IsOneOf d v p → q + 1 ≡ p → item b q ≡ true → IsNextSibling d (v - 1) v
   previous_of_one v p q some one at is =
       let o = one.1 some in
@@ -277,10 +262,6 @@ module _ (d : List ℕ) (n : ℕ) (b : List Bool) (h : IsHeld d n b) where
       let before : IsChild d i (k - 1) (v - 1) = record { node = c.node; some = omega (arith, c.some); number = omega (arith, c.number) } in
       absurd (clash b q (ap (item b) (sym at_k) ∙ (child_one i (k - 1) (v - 1) before).item) is))
       (cases_lt k 1)
-
-  -- the places of ones are well below the greatest number
-  pub one_small : (v p : ℕ) → Picks b true v p → p < 2 ^ 62
-  one_small v p picked = omega (arith, picked.inside, h.tight, h.short)
 
   -- they hold what they hold
   pub held_degrees : IsHeld (degrees_of b n) n b

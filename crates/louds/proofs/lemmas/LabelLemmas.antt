@@ -1,4 +1,4 @@
--- Labels packed side by side, those of siblings, and the ways that words lead.
+-- Labels packed side by side, the labels of siblings, and the ways that words lead.
 use Rattle.std.proofs.Common.{◌≡◌, ℕ, zero, suc, ◌+◌, ◌*◌, ◌-◌, ◌^◌, ◌<◌, ◌≤◌, inl, List, [], ◌∷◌, ◌++◌, length, take, get_or, refl, sym, ap, ◌∙◌, ⊎_elim, arith, subst}
 use Rattle.std.proofs.lemmas.Bool.{cases_lt}
 use Rattle.std.proofs.lemmas.Grind.{same_number_lists}
@@ -14,9 +14,9 @@ use Rattle.louds.specs.Tree.{AreChildren, IsChild, IsNextSibling, IsTree}
 
 -- ---- packed numbers
 
--- number i of those that are packed
-pub number_packed : (words : List ℕ) (width n i : ℕ) → i < n → get_or (numbers_of words width n) i 0 ≡ number_at (bits_of words) (i * width) width
-number_packed words width n i less =
+-- number i of the packed numbers
+pub packed_at : (words : List ℕ) (width n i : ℕ) → i < n → get_or (numbers_of words width n) i 0 ≡ number_at (bits_of words) (i * width) width
+packed_at words width n i less =
     get_or-map-range_with_len (λ k. number_at (bits_of words) (k * width) width) 0 n i i 0 less (omega arith)
 
 -- its fragment stands in the words
@@ -62,7 +62,7 @@ packed_all words xs width n all h =
     same_number_lists (numbers_of words width (length xs)) xs (numbers_counted words width (length xs))
     (λ i less.
     let inside : i < length xs = omega (arith, less, numbers_counted words width (length xs)) in
-    number_packed words width (length xs) i inside ∙ h.each i (omega arith))
+    packed_at words width (length xs) i inside ∙ h.each i (omega arith))
 
 -- ---- siblings
 

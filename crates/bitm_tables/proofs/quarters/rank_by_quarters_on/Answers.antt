@@ -1,7 +1,6 @@
--- No bits have no ones, and of others the last one is looked at.
-use Rattle.std.proofs.Common.{arith}
-use Rattle.bitm_tables.proofs.lemmas.RankLemmas.{rank_of_none}
+-- The tables are those of the words.
+use Rattle.bitm_tables.proofs.lemmas.LengthLemmas.{sizes_of}
 use Rattle.bitm_tables.proofs.quarters.rank_by_quarters_on.Goals as goal
 
-pub returns-then-index-eq0-clause-ones : goal.returns-then-index-eq0-clause-ones
-returns-then-index-eq0-clause-ones g c = (rank_of_none _ c.args.index (omega arith)).1
+pub total_rank_by_quarters_on-requires : goal.total_rank_by_quarters_on-requires
+total_rank_by_quarters_on-requires g c = sizes_of _ c.requires.indexed.tables c.requires.indexed.short

@@ -1,12 +1,11 @@
--- Of two 1 bits that of the greater rank stands behind.
+-- Of two 1 bits the one of the greater rank stands behind.
 use Rattle.std.proofs.Common.{ℕ, ◌+◌, ◌-◌, ◌<◌, ◌≡◌, true, List, Bool, ⊎_elim, subst, arith}
 use Rattle.std.proofs.lemmas.Bool.{cases_lt}
 use Rattle.bitm.proofs.BitLaws.{bits_are_counted, counts_grow}
 use Rattle.bitm.proofs.Callers.{ones_are_bits}
 use Rattle.bitm.specs.Count.{Picks}
-use Rattle.bitm.specs.Tables.{bits_in, Lists}
+use Rattle.bitm.specs.Tables.{bits_in, HasTables, Lists}
 use Rattle.example_callers.proofs.selection.gap_by.Goals as goal
-use Rattle.example_callers.proofs.selection.gap_by.Goals.{After-one_on-next}
 
 pub overflow_add-rank : goal.overflow_add-rank
 overflow_add-rank g c =
@@ -17,27 +16,37 @@ behind : (b : List Bool) (r p q : ℕ) → Picks b true r p → Picks b true (r 
 behind b r p q one next =
     ⊎_elim (λ order. order) (λ late. absurd (omega (arith, counts_grow b true q p late, one.before, next.before))) (cases_lt p q)
 
--- the first selection left the words as they were
-next : (g : _) (c : After-one_on-next g)
-    → Picks (bits_in (g.T.TableSource.lists c.args.source.now)) true (c.args.rank + 1) c.one_on-next.result
-next g c =
-    let P : Lists → Type 0 = λ ls. Picks (bits_in ls) true (c.args.rank + 1) c.one_on-next.result in
-    subst P c.one_on-one.ensures.reads.same c.one_on-next.ensures.place
+-- the first search left the lists as they were
+then : (finds : Lists → Type 0) (old new : Lists) (r q : ℕ) → new ≡ old → (HasTables new → finds new → Picks (bits_in new) true r q)
+    → HasTables old → finds old → Picks (bits_in old) true r q
+then finds old new r q same = let P : Lists → Type 0 = λ ls. HasTables ls → finds ls → Picks (bits_in ls) true r q in subst P same
 
-order : (g : _) (c : After-one_on-next g) → c.one_on-one.result < c.one_on-next.result
-order g c =
-    behind (bits_in (g.T.TableSource.lists c.args.source.now)) c.args.rank c.one_on-one.result c.one_on-next.result
-    c.one_on-one.ensures.place (next g c)
+order : (finds : Lists → Type 0) (old new : Lists) (r p q : ℕ) → new ≡ old → HasTables old → finds old
+    → (HasTables old → finds old → Picks (bits_in old) true r p) → (HasTables new → finds new → Picks (bits_in new) true (r + 1) q) → p < q
+order finds old new r p q same h f one next = behind (bits_in old) r p q (one h f) (then finds old new (r + 1) q same next h f)
 
 pub overflow_sub-result : goal.overflow_sub-result
-overflow_sub-result g c = omega (arith, order g (goal.at.overflow_sub-result g c).After-one_on-next)
+overflow_sub-result g c =
+    let finds = g.F.Finds.finds c.args.finder.now in
+    omega (
+      arith,
+      order finds _ _ c.args.rank _ _ c.in-Found.ensures.reads.same c.requires.indexed.tables c.requires.finds c.in-Found.ensures.answer c.in-Found-one.ensures.answer,
+    )
 
 pub overflow_sub-result-2 : goal.overflow_sub-result-2
-overflow_sub-result-2 g c = omega (arith, order g (goal.at.overflow_sub-result-2 g c).After-one_on-next)
+overflow_sub-result-2 g c =
+    let finds = g.F.Finds.finds c.args.finder.now in
+    omega (
+      arith,
+      order finds _ _ c.args.rank _ _ c.in-Found.ensures.reads.same c.requires.indexed.tables c.requires.finds c.in-Found.ensures.answer c.in-Found-one.ensures.answer,
+    )
 
 pub returns-clause-gap : goal.returns-clause-gap
 returns-clause-gap g c =
-    let here = (goal.at.returns-clause-gap g c).After-one_on-next in
-    let P : ℕ → Type 0 = λ q. Picks (bits_in (g.T.TableSource.lists c.args.source.now)) true (c.args.rank + 1) q in
-    let at : c.one_on-next.result ≡ c.one_on-one.result + 1 + (c.one_on-next.result - c.one_on-one.result - 1) = omega (arith, order g here) in
-    (c.one_on-one.result, c.one_on-one.ensures.place, subst P at (next g here))
+    let lists = g.T.TableSource.lists c.args.source.now in
+    let finds = g.F.Finds.finds c.args.finder.now in
+    let one = c.in-Found.ensures.answer c.requires.indexed.tables c.requires.finds in
+    let next = then finds _ _ _ _ c.in-Found.ensures.reads.same c.in-Found-one.ensures.answer c.requires.indexed.tables c.requires.finds in
+    let less = behind (bits_in lists) c.args.rank _ _ one next in
+    let at : c.in-Found-one.next ≡ c.in-Found.one + 1 + (c.in-Found-one.next - c.in-Found.one - 1) = omega (arith, less) in
+    (c.in-Found.one, one, subst (λ (q : ℕ). Picks (bits_in lists) true (c.args.rank + 1) q) at next)

@@ -8,8 +8,8 @@ use Rattle.lent_levels.specs.Quarters.{CountsTo}
 use Rattle.lent_levels.proofs.QuarterLemmas.{quarters-each, quarters-of}
 use Rattle.lent_levels.proofs.quarters.are_quarters.Goals as goal
 
-pub returns-then-quarters-div_ceil : goal.returns-then-quarters-div_ceil
-returns-then-quarters-div_ceil g c = (
+pub returns-then-quarters-div_ceil-clause-answer : goal.returns-then-quarters-div_ceil-clause-answer
+returns-then-quarters-div_ceil-clause-answer g c = (
   search rules,
   λ h.
       let words = (g.T.TableSource.lists c.args.source.now).words in
@@ -24,8 +24,8 @@ returns-then-quarters-div_ceil g c = (
       )),
 )
 
-pub returns-then-not-counts_to : goal.returns-then-not-counts_to
-returns-then-not-counts_to g c =
+pub returns-then-not-counts_to-clause-answer : goal.returns-then-not-counts_to-clause-answer
+returns-then-not-counts_to-clause-answer g c =
     let k = c.loop-quarter.quarter in (
       search rules,
       λ h. c.if-not-counts_to.ensures.answer.1
@@ -34,8 +34,8 @@ returns-then-not-counts_to g c =
           (omega (arith, c.loop-quarter-test.true, c.div_ceil-quarter-end.ensures, c.words_len-words.ensures)))),
     )
 
-pub returns : goal.returns
-returns g c = (
+pub returns-clause-answer : goal.returns-clause-answer
+returns-clause-answer g c = (
   λ _. quarters-of (g.T.TableSource.lists c.args.source.now).words c.args.quarters.now
       (omega (arith, c.if-quarters-div_ceil.false, c.div_ceil.ensures, c.words_len-words.ensures))
       (λ k less. c.loop-quarter.invariant.right k

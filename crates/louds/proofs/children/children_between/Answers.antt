@@ -1,8 +1,27 @@
--- The 0 bit after a node's 1 bits stands behind that before them, by the children of the node.
-use Rattle.std.proofs.Common.{arith}
-use Rattle.louds.proofs.lemmas.TreeLemmas.{zero_place_more}
+-- The children of a node are after it, the first not after the last, and all of them nodes.
+use Rattle.std.proofs.Common.{◌+◌, ◌<◌, ◌≤◌, length, take, ⊎_elim, arith}
+use Rattle.std.proofs.lemmas.Bool.{cases_lt}
+use Rattle.std.specs.List.{sum}
+use Rattle.louds.proofs.lemmas.TreeLemmas.{sum_part, zero_place_more}
 use Rattle.louds.proofs.children.children_between.Goals as goal
 
-pub returns-then-end-start-clause-answer : goal.returns-then-end-start-clause-answer
-returns-then-end-start-clause-answer c = λ d len _ from to.
-    omega (arith, c.if-end-start.true, from, to, zero_place_more d c.args.node (omega (arith, len, c.requires)))
+pub returns-else-node-first-clause-answer : goal.returns-else-node-first-clause-answer
+returns-else-node-first-clause-answer c = λ d len tree from to.
+    let v = c.args.node in
+    let inside : v < length d = omega (arith, len, c.requires) in
+    let more = zero_place_more d v inside in
+    let all = sum_part d (v + 1) in
+    let before : v ≤ sum (take v d) = ⊎_elim (λ some. tree.parents v some inside) (λ none. omega (arith, none)) (cases_lt 0 v) in
+    omega (
+      arith,
+      c.else-node-first.either,
+      from,
+      to,
+      more,
+      all,
+      before,
+      tree.count,
+      len,
+      c.ranges.start.fits,
+      c.ranges.end.fits,
+    )

@@ -25,7 +25,9 @@ returns-then-not-fits c = λ lists w.
       );
     }
 
-counted : (c : After-difference) (lists : Lists) → AreBothOnTheWay c.args.self.now lists c.args.self.now.width c.args.number 0 c.args.end c.args.first c.args.last
+counted : (c : After-difference) (lists : Lists)
+    → (c.args.number < 2 ^ c.args.self.now.width
+    → AreBothOnTheWay c.args.self.now lists c.args.self.now.width c.args.number 0 c.args.end c.args.first c.args.last)
     → IsMatrix c.args.self.now lists → c.difference.result ≡ Some (count_before (numbers_in c.args.self.now lists) c.args.number c.args.end)
 counted c lists w h =
     let l = c.args.self.now in
@@ -36,7 +38,7 @@ counted c lists w h =
     let fit : x < 2 ^ l.width = subst P c.width.ensures.width (c.fits.ensures.0 c.if-not-fits.false) in
     let inside : i ≤ length xs = omega (arith, c.if-end-len.false, c.len.ensures.len, h.numbers.count) in
     c.difference.ensures.answer (count_before xs x i)
-    (rank-between xs l.width x i c.args.first c.args.last h.numbers.fit fit inside (w.first h) (w.last h))
+    (rank-between xs l.width x i c.args.first c.args.last h.numbers.fit fit inside ((w fit).first h) ((w fit).last h))
     (few-before xs x i inside)
 
 pub returns-in-Some : goal.returns-in-Some

@@ -1,14 +1,13 @@
--- The 1 bits up to the bit and with it, less the bit and those before the level, are those of the level before it.
-use Rattle.std.proofs.Common.{◌≡◌, ◌+◌, ◌*◌, ◌<◌, length, Some, take, count_by, true, subst, sym, ap, ◌∙◌, arith}
+-- The 1 bits before the bit, less those before the level, are those of the level before it.
+use Rattle.std.proofs.Common.{◌≡◌, ◌+◌, ◌*◌, Some, take, count_by, true, sym, ap, ◌∙◌, arith}
 use Rattle.std.proofs.lemmas.Option.{none-some, same_Some}
 use Rattle.bit_lists.specs.Bits.{item}
 use Rattle.bit_lists.specs.Count.{ones_before}
-use Rattle.bitm_tables.specs.Tables.{bits_in, HasTables, Lists}
+use Rattle.bitm_tables.specs.Tables.{bits_in}
 use Rattle.matrix_levels.specs.Levels.{has_digit, level}
 use Rattle.matrix_levels.specs.Matrix.{digit_place, level_in, numbers_in, IsMatrix}
 use Rattle.matrix_levels.proofs.lemmas.MatrixLemmas.{ones-are}
-use Rattle.lent_levels.specs.Check.{HasQuarters}
-use Rattle.lent_levels.proofs.StepLemmas.{ones-few, ones-with-bit}
+use Rattle.lent_levels.proofs.StepLemmas.{ones-few}
 use Rattle.lent_levels.proofs.levels.LevelsView.total_bit_and_ones_on.Goals as goal
 use Rattle.lent_levels.proofs.levels.LevelsView.total_bit_and_ones_on.Goals.{After-difference}
 
@@ -22,30 +21,25 @@ answer g c h =
     let b = bits_in lists in
     let d = c.args.depth in
     let p = c.args.place in
-    let same = c.bit_on.ensures.reads.same in
-    let v = c.in_ok-digit.digit in
-    let bit : v ≡ item b (d * l.len + p) = c.in_ok-digit.ensures.answer.1 ∙ ap (λ n. item b (d * n + p)) c.len.ensures.len in
-    let through : c.in_ok-through.through ≡ ones_before b (d * l.len + p + 1) =
-    (c.in_ok-through.ensures.answer (subst (λ (s : Lists). HasTables s) (sym same) h.indexed.tables)
-    (subst (λ (s : Lists). HasQuarters l (bits_in s)) (sym same) h.numbers.quarters_are)).1
-    ∙ ap (λ (s : Lists). ones_before (bits_in s) (d * c.len.result + p + 1)) same
-    ∙ ap (λ n. ones_before b (d * n + p + 1)) c.len.ensures.len in
-    let within : d * l.len + p < length b = subst (λ n. d * n + p < length b) c.len.ensures.len c.in_ok-digit.ensures.answer.0 in
-    let ones = count_by (has_digit (digit_place l d) true) (take p (level xs l.width d)) in
-    c.difference.ensures.answer ones
+    let rank : c.in_ok-digit.rank ≡ ones_before b (d * l.len + p) =
+    c.in_ok-digit.ensures.answer h.indexed.tables h.numbers.quarters_are ∙ ap (λ n. ones_before b (d * n + p)) c.len.ensures.len in
+    c.difference.ensures.answer (count_by (has_digit (digit_place l d) true) (take p (level xs l.width d)))
     (omega (
       arith,
-      through,
-      ones-with-bit b (d * l.len + p) v within bit,
+      rank,
       c.ones_before_level.ensures,
       ones-are xs l b h.numbers d p c.requires.depth (omega (arith, c.requires.inside)),
-      c.in_ok-through.ensures.inside,
     ))
     (ones-few xs l b h.numbers d p (omega (arith, c.requires.inside)))
 
 pub returns-in_err-ones-clause-answer : goal.returns-in_err-ones-clause-answer
 returns-in_err-ones-clause-answer g c = λ h.
     absurd (none-some _ (sym c.in_err-ones.was ∙ answer g (goal.at.returns-in_err-ones-clause-answer g c).After-difference h))
+
+pub returns-clause-bit : goal.returns-clause-bit
+returns-clause-bit g c =
+    let b = bits_in (g.T.TableSource.lists c.args.source.now) in
+    c.in_ok-digit.ensures.bit.1 ∙ ap (λ n. item b (c.args.depth * n + c.args.place)) c.len.ensures.len
 
 pub returns-clause-answer : goal.returns-clause-answer
 returns-clause-answer g c = λ h.

@@ -1,27 +1,17 @@
--- Both places move one level on by the number's bit.
-use Rattle.std.proofs.Common.{ℕ, ◌-◌, ap, subst, sym, refl, ◌∙◌}
-use Rattle.std.proofs.lemmas.Option.{same_Some}
-use Rattle.bit_lists.specs.Bits.{digit}
+-- Both places move one level on.
+use Rattle.std.proofs.Common.{◌+◌, subst, sym}
 use Rattle.bitm_tables.specs.Tables.{Lists}
-use Rattle.matrix_levels.specs.Matrix.{level_in, numbers_in, IsMatrix}
-use Rattle.matrix_levels.proofs.lemmas.WalkLemmas.{step-place}
+use Rattle.lent_levels.specs.Walk.{IsPlaceOnTheWay}
 use Rattle.lent_levels.proofs.levels.LevelsView.total_both_moved_on.Goals as goal
 
 pub returns-clause-moved : goal.returns-clause-moved
 returns-clause-moved g c = λ s e w.
-    let T = g.T.TableSource in
     let l = c.args.self.now in
-    let lists = T.lists c.args.source.now in
-    let xs = numbers_in l lists in
     let d = c.args.depth in
-    let same = c.in-Some.ensures.reads.same in
-    let dig = c.digit_of-digit.ensures ∙ ap (λ (k : ℕ). digit c.args.number (k - 1 - d)) c.width.ensures.width in
-    record {
-      first_in = λ _. c.in-Some.ensures.inside;
-      last_in = λ _. c.in-Some-total_next_on.ensures.inside;
-      first = λ h. step-place xs l.width c.args.number d s c.args.first c.in-Some.next c.digit_of-digit.result (level_in l lists d) refl dig (w.first h)
-          (same_Some _ _ (c.in-Some.ensures.answer h));
-      last = λ h. step-place xs l.width c.args.number d e c.args.last c.in-Some-total_next_on.after c.digit_of-digit.result
-          (level_in l (T.lists c.total_next_on.new.source) d) (ap (λ (m : Lists). level_in l m d) same) dig (w.last h)
-          (same_Some _ _ (c.in-Some-total_next_on.ensures.answer (subst (λ (m : Lists). IsMatrix l m) (sym same) h)));
-    }
+    let v = c.args.number in
+    let same = c.total_place_moved_on-next.ensures.reads.same in
+    let first = c.total_place_moved_on-next.ensures.moved s (record { inside = w.first_in; place = w.first }) in
+    let P = λ (m : Lists). IsPlaceOnTheWay l m d v e c.args.last in
+    let Q = λ (m : Lists). IsPlaceOnTheWay l m (d + 1) v e c.total_place_moved_on-after.result in
+    let last = subst Q same (c.total_place_moved_on-after.ensures.moved e (subst P (sym same) (record { inside = w.last_in; place = w.last }))) in
+    record { first_in = first.inside; last_in = last.inside; first = first.place; last = last.place }

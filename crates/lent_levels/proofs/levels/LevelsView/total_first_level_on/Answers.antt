@@ -2,10 +2,10 @@
 use Rattle.std.proofs.Common.{◌≡◌, ℕ, ◌+◌, ◌*◌, ◌<◌, ◌≤◌, get_or, length, subst, sym, ◌∙◌, arith}
 use Rattle.std.proofs.lemmas.List.{length-set}
 use Rattle.bitm_tables.specs.Tables.{bits_in, HasSizes, Lists}
-use Rattle.bitm_tables.specs.Reads.{OnlyReads}
+use Rattle.matrix_levels.specs.Matrix.{OnlyRanks}
 use Rattle.lent_levels.specs.Walk.{IsOnTheWay}
 use Rattle.matrix_levels.proofs.lemmas.ManyLemmas.{done-more}
-use Rattle.lent_levels.proofs.StepLemmas.{reads-more, reads-none}
+use Rattle.matrix_levels.proofs.lemmas.ReadsLemmas.{ranks-more, ranks-none}
 use Rattle.lent_levels.proofs.WalkLemmas.{begins}
 use Rattle.lent_levels.proofs.levels.LevelsView.total_first_level_on.Goals as goal
 
@@ -14,7 +14,7 @@ loop-k-init g c = record {
   places_len = c.requires.places;
   numbers_len = c.requires.numbers;
   done = λ j less. absurd (omega (arith, less));
-  reads = reads-none g.T.TableSource.lists g.T.TableSource.reads c.args.source.now 0 0 (9 * 0);
+  reads = ranks-none c.args.self.now g.T.TableSource.lists g.T.TableSource.reads c.args.source.now;
 }
 
 pub total_moved_on-place-requires-clause-sized : goal.total_moved_on-place-requires-clause-sized
@@ -43,8 +43,8 @@ loop-k-preserved g c =
       places_len = length-set c.loop-k.places k _ ∙ i.places_len;
       numbers_len = length-set c.loop-k.numbers k _ ∙ i.numbers_len;
       done = done-more (P 1) c.loop-k.places c.loop-k.numbers k _ _ within room i.done moved;
-      reads = reads-more T.lists T.reads c.args.source.now c.loop-k.source _ k k (9 * k) 1 1 9 (k + 1) (k + 1) (9 * (k + 1)) i.reads
-          c.total_moved_on-place.ensures.reads (omega arith) (omega arith) (omega arith);
+      reads = ranks-more l T.lists T.reads c.args.source.now c.loop-k.source _ k 1 (k + 1) i.reads c.total_moved_on-place.ensures.reads
+          (omega arith);
     }
 
 pub returns-clause-each : goal.returns-clause-each
@@ -55,4 +55,4 @@ returns-clause-reads g c =
     let T = g.T.TableSource in
     let i = c.loop-k.invariant in
     let all : c.loop-k.k ≡ length c.args.indices.now = omega (arith, c.loop-k-test.false, c.loop-k.auto.k-end, i.places_len) in
-    subst (λ n. OnlyReads T.lists T.reads c.args.source.now c.loop-k.source n n (9 * n)) all i.reads
+    subst (λ n. OnlyRanks c.args.self.now T.lists T.reads c.args.source.now c.loop-k.source n) all i.reads

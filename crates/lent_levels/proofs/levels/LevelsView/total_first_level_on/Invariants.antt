@@ -1,5 +1,5 @@
-use Rattle.std.proofs.Common.{◌≡◌, ℕ, ◌*◌, ◌<◌, length, get_or}
-use Rattle.bitm_tables.specs.Reads.{OnlyReads}
+use Rattle.std.proofs.Common.{◌≡◌, ℕ, ◌<◌, length, get_or}
+use Rattle.matrix_levels.specs.Matrix.{OnlyRanks}
 use Rattle.lent_levels.specs.Walk.{IsOnTheWay}
 use Rattle.lent_levels.proofs.levels.LevelsView.total_first_level_on.Given as goal
 
@@ -11,5 +11,5 @@ invariant-loop-k g l =
       places_len : length l.places ≡ length l.indices;
       numbers_len : length l.numbers ≡ length l.indices;
       done : (j : ℕ) → j < l.k → IsOnTheWay l.self (T.lists l.fn.source) 1 (get_or l.indices j 0) (get_or l.places j 0) (get_or l.numbers j 0);
-      reads : OnlyReads T.lists T.reads l.fn.source l.source l.k l.k (9 * l.k);
+      reads : OnlyRanks l.self T.lists T.reads l.fn.source l.source l.k;
     }

@@ -1,5 +1,5 @@
 use Rattle.std.proofs.Common.{◌≡◌, ℕ, ◌*◌, ◌<◌, ◌≤◌, length, get_or}
-use Rattle.bitm_tables.specs.Reads.{OnlyReads}
+use Rattle.matrix_levels.specs.Matrix.{OnlyRanks}
 use Rattle.lent_levels.specs.Walk.{IsOnTheWay}
 use Rattle.lent_levels.proofs.levels.LevelsView.total_get_many_on.Given as goal
 
@@ -13,5 +13,5 @@ invariant-loop-depth g l =
       places_len : length l.places ≡ n;
       numbers_len : length l.numbers ≡ n;
       each : (j : ℕ) → j < n → IsOnTheWay l.self (T.lists l.fn.source) l.depth (get_or l.indices j 0) (get_or l.places j 0) (get_or l.numbers j 0);
-      reads : OnlyReads T.lists T.reads l.fn.source l.source (l.depth * n) (l.depth * n) (9 * (l.depth * n));
+      reads : OnlyRanks l.self T.lists T.reads l.fn.source l.source (l.depth * n);
     }

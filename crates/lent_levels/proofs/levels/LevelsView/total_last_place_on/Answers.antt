@@ -1,5 +1,6 @@
 -- The numbers that are equal stand side by side after the last level.
 use Rattle.std.proofs.Common.{◌≡◌, ◌+◌, ◌≤◌, length, subst, sym, ap, ◌∙◌, arith}
+use Rattle.std.proofs.lemmas.Option.{same_Some}
 use Rattle.matrix_levels.specs.Levels.{level_place}
 use Rattle.matrix_levels.specs.Matrix.{level_in, numbers_in}
 use Rattle.matrix_levels.specs.Numbers.{PicksItem}
@@ -12,11 +13,11 @@ returns-then-count-k-clause-answer g c = λ h.
     let m = h.numbers in
     let xs = numbers_in l (g.T.TableSource.lists c.args.source.now) in
     let x = c.args.number in
-    let places = c.in-Some.ensures.places h in
+    let stretch = same_Some _ _ (c.in-Some.ensures.stretch h) in
     let all : c.len-len.result ≡ length xs = c.len-len.ensures.len ∙ m.count in
-    let last : c.in-Some.last ≡ level_place xs l.width x l.width (length xs) = places.1 ∙ ap (level_place xs l.width x l.width) all in
+    let last : c.in-Some.last ≡ level_place xs l.width x l.width (length xs) = ap (λ p. p.1) stretch ∙ ap (level_place xs l.width x l.width) all in
     let end : length xs ≤ length xs = omega arith in
-    omega (arith, places.0, last, c.saturating_sub-count.ensures, c.if-count-k.true, rank-is xs l.width x m.fit c.requires.fit (length xs) end)
+    omega (arith, ap (λ p. p.0) stretch, last, c.saturating_sub-count.ensures, c.if-count-k.true, rank-is xs l.width x m.fit c.requires.fit (length xs) end)
 
 pub returns-clause-answer : goal.returns-clause-answer
 returns-clause-answer g c = λ h.
@@ -25,10 +26,11 @@ returns-clause-answer g c = λ h.
     let lists = g.T.TableSource.lists c.args.source.now in
     let xs = numbers_in l lists in
     let x = c.args.number in
-    let places = c.in-Some.ensures.places h in
+    let stretch = same_Some _ _ (c.in-Some.ensures.stretch h) in
     let all : c.len-len.result ≡ length xs = c.len-len.ensures.len ∙ m.count in
-    let last : c.in-Some.last ≡ level_place xs l.width x l.width (length xs) = places.1 ∙ ap (level_place xs l.width x l.width) all in
+    let first = ap (λ p. p.0) stretch in
+    let last : c.in-Some.last ≡ level_place xs l.width x l.width (length xs) = ap (λ p. p.1) stretch ∙ ap (level_place xs l.width x l.width) all in
     let end : length xs ≤ length xs = omega arith in
-    subst (λ p. PicksItem (level_in l lists l.width) x c.args.k (p + c.args.k)) (sym places.0)
+    subst (λ p. PicksItem (level_in l lists l.width) x c.args.k (p + c.args.k)) (sym first)
     (picked-last xs l.width x m.fit c.requires.fit c.args.k
-    (omega (arith, places.0, last, c.saturating_sub-count.ensures, c.if-count-k.false, rank-is xs l.width x m.fit c.requires.fit (length xs) end)))
+    (omega (arith, first, last, c.saturating_sub-count.ensures, c.if-count-k.false, rank-is xs l.width x m.fit c.requires.fit (length xs) end)))

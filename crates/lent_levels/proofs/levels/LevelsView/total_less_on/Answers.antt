@@ -7,9 +7,9 @@ use Rattle.matrix_levels.specs.Matrix.{digit_place, level_in, numbers_in, IsMatr
 use Rattle.matrix_levels.specs.Numbers.{count_less}
 use Rattle.matrix_levels.proofs.lemmas.PrefixLemmas.{prefix-all}
 use Rattle.matrix_levels.proofs.lemmas.RangeLemmas.{less-first, less-last, part-zeros}
+use Rattle.matrix_levels.proofs.lemmas.ReadsLemmas.{ranks-more, ranks-none}
 use Rattle.matrix_levels.proofs.lemmas.WalkLemmas.{digits-first, level_place-first, level_place-range, step-place}
 use Rattle.lent_levels.proofs.RangeLemmas.{less-more, of-digit, parts-within}
-use Rattle.lent_levels.proofs.StepLemmas.{reads-more, reads-none}
 use Rattle.lent_levels.proofs.levels.LevelsView.total_less_on.Goals as goal
 
 pub loop-depth-init : goal.loop-depth-init
@@ -23,7 +23,7 @@ loop-depth-init g c =
       first_is = λ h. level_place-first xs l.width c.args.bound c.args.start;
       last_is = λ h. level_place-first xs l.width c.args.bound c.args.end;
       less = λ h. less-first l.width _ (slice_range xs c.args.start c.args.end) (sym (digits-first c.args.bound l.width c.requires.fit));
-      reads = reads-none g.T.TableSource.lists g.T.TableSource.reads c.args.source.now (2 * 0) (2 * 0) (16 * 0);
+      reads = ranks-none l g.T.TableSource.lists g.T.TableSource.reads c.args.source.now;
     }
 
 pub loop-depth-preserved : goal.loop-depth-preserved
@@ -65,9 +65,7 @@ loop-depth-preserved g c =
           v dig zeros c.with_digit-less.result c.loop-depth.count
           (part-zeros xs l.width d _ _ _ _ _ (level_in l s d) same (i.first_is h) (i.last_is h) (counted h).2)
           c.with_digit-less.ensures (i.less h);
-      reads =
-          reads-more T.lists T.reads c.args.source.now c.loop-depth.source _ (2 * d) (2 * d) (16 * d) 2 2 16 (2 * (d + 1)) (2 * (d + 1)) (16 * (d + 1))
-          i.reads c.in_ok-before.ensures.reads (omega arith) (omega arith) (omega arith);
+      reads = ranks-more l T.lists T.reads c.args.source.now c.loop-depth.source _ (2 * d) 2 (2 * (d + 1)) i.reads c.in_ok-before.ensures.reads (omega arith);
     }
 
 pub returns-clause-answer : goal.returns-clause-answer

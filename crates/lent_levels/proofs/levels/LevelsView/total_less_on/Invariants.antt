@@ -1,7 +1,6 @@
 use Rattle.std.proofs.Common.{◌≡◌, ◌+◌, ◌*◌, ◌-◌, ◌/◌, ◌^◌, ◌≤◌, count_by, slice_range}
-use Rattle.bitm_tables.specs.Reads.{OnlyReads}
 use Rattle.matrix_levels.specs.Levels.{has_lesser_prefix, level_place}
-use Rattle.matrix_levels.specs.Matrix.{IsMatrix, numbers_in}
+use Rattle.matrix_levels.specs.Matrix.{IsMatrix, OnlyRanks, numbers_in}
 use Rattle.lent_levels.proofs.levels.LevelsView.total_less_on.Given as goal
 
 -- the range is inside, and no more are counted or left than it had; in a matrix it has what begins as the bound does, and
@@ -20,5 +19,5 @@ invariant-loop-depth g l =
       last_is : IsMatrix l.self lists → l.last ≡ level_place xs w l.bound l.depth l.end;
       less : IsMatrix l.self lists
           → l.count ≡ count_by (has_lesser_prefix (w - l.depth) (l.bound / 2 ^ (w - l.depth))) (slice_range xs l.start l.end);
-      reads : OnlyReads T.lists T.reads l.fn.source l.source (2 * l.depth) (2 * l.depth) (16 * l.depth);
+      reads : OnlyRanks l.self T.lists T.reads l.fn.source l.source (2 * l.depth);
     }

@@ -5,9 +5,10 @@ use Rattle.matrix_levels.specs.Levels.{partition_place}
 use Rattle.matrix_levels.specs.Matrix.{digit_place, level_in, numbers_in, IsMatrix}
 use Rattle.matrix_levels.proofs.lemmas.PrefixLemmas.{IsPrefixRange-first}
 use Rattle.matrix_levels.proofs.lemmas.RangeLemmas.{IsQuantilePrefix-next, equal-last, less-first, part-zeros, smallest}
+use Rattle.matrix_levels.proofs.lemmas.ReadsLemmas.{ranks-more, ranks-none}
 use Rattle.matrix_levels.proofs.lemmas.WalkLemmas.{place-same}
 use Rattle.lent_levels.proofs.RangeLemmas.{digit-added, left-within, of-digit, parts-within, passed-is}
-use Rattle.lent_levels.proofs.StepLemmas.{digits_more, reads-more, reads-none}
+use Rattle.lent_levels.proofs.StepLemmas.{digits_more}
 use Rattle.lent_levels.proofs.levels.LevelsView.total_smallest_on.Goals as goal
 
 pub loop-depth-init : goal.loop-depth-init
@@ -26,7 +27,7 @@ loop-depth-init g c =
         some = c.requires.rank;
         small = omega arith;
       };
-      reads = reads-none T.lists T.reads c.args.source.now (2 * 0) (2 * 0) (16 * 0);
+      reads = ranks-none l T.lists T.reads c.args.source.now;
     }
 
 pub loop-depth-preserved : goal.loop-depth-preserved
@@ -68,9 +69,7 @@ loop-depth-preserved g c =
           (place-same _ _ _ (level_in l s d) c.loop-depth.first _ same (after h).0)
           (place-same _ _ _ (level_in l s d) c.loop-depth.last _ same (after h).1)
           (passed-is zeros left c.with_digit-passed.result c.with_digit-passed.ensures);
-      reads =
-          reads-more T.lists T.reads c.args.source.now c.loop-depth.source _ (2 * d) (2 * d) (16 * d) 2 2 16 (2 * (d + 1)) (2 * (d + 1)) (16 * (d + 1))
-          i.reads c.in_ok-before.ensures.reads (omega arith) (omega arith) (omega arith);
+      reads = ranks-more l T.lists T.reads c.args.source.now c.loop-depth.source _ (2 * d) 2 (2 * (d + 1)) i.reads c.in_ok-before.ensures.reads (omega arith);
     }
 
 pub overflow_sub-left : goal.overflow_sub-left

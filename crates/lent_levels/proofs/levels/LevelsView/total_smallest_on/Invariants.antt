@@ -1,6 +1,5 @@
 use Rattle.std.proofs.Common.{◌*◌, ◌-◌, ◌^◌, ◌<◌, ◌≤◌, slice_range}
-use Rattle.bitm_tables.specs.Reads.{OnlyReads}
-use Rattle.matrix_levels.specs.Matrix.{IsMatrix, numbers_in}
+use Rattle.matrix_levels.specs.Matrix.{IsMatrix, OnlyRanks, numbers_in}
 use Rattle.matrix_levels.proofs.lemmas.RangeLemmas.{IsQuantilePrefix}
 use Rattle.lent_levels.proofs.levels.LevelsView.total_smallest_on.Given as goal
 
@@ -18,5 +17,5 @@ invariant-loop-depth g l =
       small : l.number < 2 ^ l.depth;
       prefix : IsMatrix l.self lists
           → IsQuantilePrefix xs l.self.width l.depth l.number (slice_range xs l.start l.end) l.first l.last l.left l.k;
-      reads : OnlyReads T.lists T.reads l.fn.source l.source (2 * l.depth) (2 * l.depth) (16 * l.depth);
+      reads : OnlyRanks l.self T.lists T.reads l.fn.source l.source (2 * l.depth);
     }
