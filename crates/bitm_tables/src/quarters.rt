@@ -7,10 +7,10 @@
 //! rank/select queries' (WEA 2008); here the counts within a block are for every two words, and the table takes half
 //! the space.
 ghost use Rattle.std.specs.Prelude.{◌≡◌, ◌+◌, ◌*◌, ◌/◌, ◌^◌, ◌<◌, ◌≤◌, ℕ, List, length, slice_index};
-ghost use Rattle.std.specs.Prelude.{IfOk, IfSome, MatchOption};
+ghost use Rattle.std.specs.Prelude.{IfOk};
 ghost use Rattle.std.specs.Box.{boxed_slice_items};
 ghost use Rattle.bit_lists.specs.Bits.{bits_of, item, IsShort};
-ghost use Rattle.bit_lists.specs.Count.{ones_before, IsRank};
+ghost use Rattle.bit_lists.specs.Count.{ones_before};
 ghost use Rattle.bitm_tables.specs.Quarters.{AreQuartersOf, quarter_count, record_count};
 ghost use Rattle.bitm_tables.specs.Reads.{OnlyReads};
 ghost use Rattle.bitm_tables.specs.Tables.{HasSizes, HasTables, IsIndexed, bits_in};
@@ -132,40 +132,33 @@ fn word_and_ones<T: TableSource>(source: &mut T, number: u64, last: usize) -> (u
 }
 
 /// The number of 1 bits among the first `index` bits of the source's words, where its tables and the quarters are those
-/// of the words; whatever they hold, `None` where there are fewer bits.
+/// of the words; any number otherwise.
 ///
 /// # Conditions
-/// There are fewer than 2^58 words, and the tables have the right lengths. Tables and quarters may hold anything, and
-/// the quarters may be of any length.
+/// There are at least `index` bits, and a number of the quarters for each basic block with one of them. There are fewer
+/// than 2^58 words, and the tables have the right lengths. Tables and quarters may hold anything.
 /// # Cost
 /// At most one upper entry, no lower entry and two words are read, whatever they hold; by its code, and in no clause,
 /// one number of the quarters.
 ///
 /// ```
-/// total_rank_by_quarters_on(&mut source, &quarters, 3);   // of the word 0b1011, its tables and quarters: Some(2)
+/// ones_by_quarters_on(&mut source, &quarters, 3);   // of the word 0b1011, its tables and quarters: 2
 /// ```
 #[inline(always)]
-pub fn total_rank_by_quarters_on<T: TableSource>(
-    source: &mut T,
-    quarters: &[u64],
-    index: usize,
-) -> Option<usize>
-    requires { HasSizes (T.lists source.old) }
-    ensures inside { IfSome result (λ _. index ≤ length (bits_in (T.lists source.old))) }
+pub fn ones_by_quarters_on<T: TableSource>(source: &mut T, quarters: &[u64], index: usize) -> usize
+    requires sized { HasSizes (T.lists source.old) }
+    requires inside { index ≤ length (bits_in (T.lists source.old)) }
+    requires quarters { index ≤ 512 * length quarters.now }
     ensures answer { HasTables (T.lists source.old)
         → AreQuartersOf (bits_in (T.lists source.old)) quarters.now
-        → IsRank (bits_in (T.lists source.old)) index result }
+        → result ≡ ones_before (bits_in (T.lists source.old)) index }
     ensures reads { OnlyReads T.lists T.reads source.old source.new 1 0 2 }
 {
-    // Where no bit counts, this wraps to a number past every position, so one test covers both cases.
-    let last = index.wrapping_sub(1);
-    if last / 64 >= source.words_len() {
-        return if index == 0 { Some(0) } else { None };
+    if index == 0 {
+        return 0;
     }
-    if last / RECORD_BITS >= quarters.len() {
-        return None;
-    }
-    Some(word_and_ones(source, quarters[last / RECORD_BITS], last).1)
+    let last = index - 1;
+    word_and_ones(source, quarters[last / RECORD_BITS], last).1
 }
 
 /// The number of 1 bits among the first `index` bits of the source's words.
@@ -184,45 +177,38 @@ pub fn rank_by_quarters_on<T: TableSource>(source: &mut T, quarters: &[u64], ind
     ensures ones { result ≡ ones_before (bits_in (T.lists source.old)) index }
     ensures reads { OnlyReads T.lists T.reads source.old source.new 1 0 2 }
 {
-    match total_rank_by_quarters_on(source, quarters, index) {
-        Some(ones) => ones,
-        None => unreachable!(),
-    }
+    ones_by_quarters_on(source, quarters, index)
 }
 
 /// The bit at position `place` of the source's words, and the number of 1 bits before it where its tables and the
-/// quarters are those of the words, any number otherwise; whatever they hold, `None` where there is no such bit.
+/// quarters are those of the words, any number otherwise.
 ///
 /// # Conditions
-/// Those of `total_rank_by_quarters_on`.
+/// There is such a bit, and a number of the quarters for its basic block. There are fewer than 2^58 words, and the
+/// tables have the right lengths. Tables and quarters may hold anything.
 /// # Cost
-/// That of `total_rank_by_quarters_on`.
+/// That of `ones_by_quarters_on`.
 ///
 /// ```
-/// total_bit_and_rank_by_quarters_on(&mut source, &quarters, 3);   // of the word 0b1011: Some((true, 2))
+/// bit_and_ones_by_quarters_on(&mut source, &quarters, 3);   // of the word 0b1011: (true, 2)
 /// ```
 #[inline(always)]
-pub fn total_bit_and_rank_by_quarters_on<T: TableSource>(
+pub fn bit_and_ones_by_quarters_on<T: TableSource>(
     source: &mut T,
     quarters: &[u64],
     place: usize,
-) -> Option<(bool, usize)>
-    requires { HasSizes (T.lists source.old) }
-    ensures bit { let b = bits_in (T.lists source.old) in
-        IfSome result (λ r. (place < length b) × (r.0 ≡ item b place)) }
-    ensures answer { let b = bits_in (T.lists source.old) in HasTables (T.lists source.old)
-        → AreQuartersOf b quarters.now
-        → MatchOption result (length b ≤ place) (λ r. r.1 ≡ ones_before b place) }
+) -> (bool, usize)
+    requires sized { HasSizes (T.lists source.old) }
+    requires inside { place < length (bits_in (T.lists source.old)) }
+    requires quarters { place < 512 * length quarters.now }
+    ensures bit { result.0 ≡ item (bits_in (T.lists source.old)) place }
+    ensures answer { HasTables (T.lists source.old)
+        → AreQuartersOf (bits_in (T.lists source.old)) quarters.now
+        → result.1 ≡ ones_before (bits_in (T.lists source.old)) place }
     ensures reads { OnlyReads T.lists T.reads source.old source.new 1 0 2 }
 {
-    if place / 64 >= source.words_len() {
-        return None;
-    }
-    if place / RECORD_BITS >= quarters.len() {
-        return None;
-    }
     let (word, ones) = word_and_ones(source, quarters[place / RECORD_BITS], place);
-    Some(bit_and_ones_before(word, ones, place))
+    bit_and_ones_before(word, ones, place)
 }
 
 /// The bit at position `place` of the source's words, and the number of 1 bits before it.
@@ -244,8 +230,5 @@ pub fn bit_and_rank_by_quarters_on<T: TableSource>(
     ensures ones { result.1 ≡ ones_before (bits_in (T.lists source.old)) place }
     ensures reads { OnlyReads T.lists T.reads source.old source.new 1 0 2 }
 {
-    match total_bit_and_rank_by_quarters_on(source, quarters, place) {
-        Some(both) => both,
-        None => unreachable!(),
-    }
+    bit_and_ones_by_quarters_on(source, quarters, place)
 }

@@ -121,3 +121,12 @@ quarters_sum words quarters h i inside u e w v fits u_is e_is w_is v_is =
       pair_more words (i / 64) w in_words fits w_is,
       word_through words i v in_words v_is,
     )
+
+-- ---- the table's length
+
+enough : (n m : ℕ) → m ≡ div_ceil n 512 → n ≤ 512 * m
+enough n m h = grind arith
+
+-- there is a number for the basic block of each bit
+pub quarters-enough : (b : List Bool) (quarters : List ℕ) → AreQuartersOf b quarters → length b ≤ 512 * length quarters
+quarters-enough b quarters h = enough (length b) (length quarters) h.len
