@@ -9,6 +9,7 @@
 ghost use Rattle.std.specs.Prelude.{◌≡◌, ◌+◌, ◌*◌, ◌/◌, ◌^◌, ◌<◌, ◌≤◌, ℕ, List, length, slice_index};
 ghost use Rattle.std.specs.Prelude.{IfOk};
 ghost use Rattle.std.specs.Box.{boxed_slice_items};
+ghost use Rattle.std.specs.Int.{div_ceil};
 ghost use Rattle.bit_lists.specs.Bits.{bits_of, item, IsShort};
 ghost use Rattle.bit_lists.specs.Count.{ones_before};
 ghost use Rattle.bitm_tables.specs.Quarters.{AreQuartersOf, quarter_count, record_count};
@@ -60,6 +61,27 @@ fn number_of_record<T: TableSource>(source: &mut T, at: usize) -> u64
     let entry = source.lower(at / RECORDS_PER_L2_ENTRY);
     let before = ones_to_entry(entry) + ones_to_record(entry, at % RECORDS_PER_L2_ENTRY);
     before as u64 + (three << 32) + (two << 42) + (one << 52)
+}
+
+/// Writes the quarters of a source's words.
+///
+/// # Conditions
+/// The source's tables are those of its words, which are fewer than 2^58, and there is room for a number for every
+/// eight words.
+/// # Cost
+/// By its code, and in no clause: one lower entry and six words for each basic block.
+///
+/// ```
+/// fill_quarters(&mut source, &mut quarters);   // of 16 words: two numbers
+/// ```
+pub fn fill_quarters<T: TableSource>(source: &mut T, quarters: &mut [u64])
+    requires indexed { IsIndexed (T.lists source.old) }
+    requires room { length quarters.old ≡ div_ceil (length (T.lists source.old).words) 8 }
+    ensures { AreQuartersOf (bits_in (T.lists source.old)) quarters.new }
+{
+    for at in 0..quarters.len() {
+        quarters[at] = number_of_record(source, at);
+    }
 }
 
 /// Builds the quarters of a source's words.

@@ -1,7 +1,8 @@
 -- The numbers of records: the table as it is made, and the ones that it and two words count.
-use Rattle.std.proofs.Common.{◌≡◌, ℕ, zero, suc, ◌+◌, ◌-◌, ◌*◌, ◌/◌, ◌%◌, ◌^◌, ◌<◌, ◌≤◌, Bool, List, length, slice_index, count_ones, ⊎_elim, arith, ap, ◌∙◌, subst, refl}
+use Rattle.std.proofs.Common.{◌≡◌, ℕ, zero, suc, ◌+◌, ◌-◌, ◌*◌, ◌/◌, ◌%◌, ◌^◌, ◌<◌, ◌≤◌, Bool, List, length, slice_index, slice_set, sym, count_ones, ⊎_elim, arith, ap, ◌∙◌, subst, refl}
 use Rattle.std.specs.Int.{div_ceil}
 use Rattle.std.proofs.lemmas.Bool.{cases_lt}
+use Rattle.std.proofs.lemmas.List.{get_or-set_same, get_or-set_other}
 use Rattle.bit_lists.proofs.lemmas.BitsLemmas.{length-bits_of}
 use Rattle.bit_lists.specs.Bits.{bits_of}
 use Rattle.bit_lists.specs.Count.{ones_before}
@@ -20,6 +21,18 @@ Counts b r q e = ones_before b (r / 2 ^ 23 * 2 ^ 32) + record_count e + quarter_
 -- the first n numbers count the quarters of their records
 abbrev pub CountTo : List Bool → List ℕ → ℕ → Type 0
 CountTo b xs n = (r q : ℕ) → r < n → q < 4 → 512 * r + 128 * q < length b → Counts b r q (slice_index xs r)
+
+-- one number more
+pub counted_more : (b : List Bool) (xs : List ℕ) (n e : ℕ) → n < length xs → CountTo b xs n
+    → ((q : ℕ) → q < 4 → 512 * n + 128 * q < length b → Counts b n q e) → CountTo b (slice_set xs n e) (n + 1)
+counted_more b xs n e inside so_far here r q less few begun =
+    ⊎_elim
+    (λ before. subst (λ (m : ℕ). Counts b r q m) (sym (get_or-set_other xs n r e 0 (λ same. omega (arith, before, same)))) (so_far r q before few begun))
+    (λ from. let same : n ≡ r = omega (arith, less, from) in
+    subst (λ (k : ℕ). Counts b k q (slice_index (slice_set xs n e) k)) same
+    (subst (λ (m : ℕ). Counts b n q m) (sym (get_or-set_same xs n e 0 inside))
+    (here q few (subst (λ (k : ℕ). 512 * k + 128 * q < length b) (sym same) begun))))
+    (cases_lt r n)
 
 -- a number of its parts: the ones before the record, and those of three quarters
 pub number_counts : (b : List Bool) (r before x y z : ℕ) → before < 2 ^ 32 → x ≤ 128 → y ≤ 128 → z ≤ 128
