@@ -1730,7 +1730,7 @@ BITM_MUST_USE uint32_t bitm_matrix_size(size_t len, uint32_t width, bool quarter
  * take numbers_len and width, block_len is not what it says, or scratch_len is not 2 * numbers_len; else BITM_WRONG if a
  * number has more bits than the width. What scratch holds is overwritten. Allocates nothing. Numbers, scratch and block
  * may not overlap one another. For each bit of the width two passes over the numbers, then three over the block, and with
- * quarters five ranks for every eight words (evident from the code).
+ * quarters a fourth (evident from the code).
  *
  *     // 4 has 3 bits:
  *     if (bitm_matrix_build(any_order, 6, 2, false, scratch, 12, of_numbers, matrix_len) != BITM_WRONG) return 1; */

@@ -14,6 +14,6 @@ plain v has =
     let l = v.levels in
     let at : ℕ → List ℕ → Bool → MatrixParts =
     λ known starts compact. parts_of (tables_of l.len l.width l.ones l.zeros known starts compact l.quarters) v.lists.words v.lists.upper v.lists.lower in
-    ap (λ k. at k (0 ∷ []) (length l.quarters == 0)) (sym has.known_none)
-    ∙ ap (λ s. at l.known s (length l.quarters == 0)) (sym (none-known l.starts (has.levels.starts_len ∙ ap (λ k. 2 ^ k) has.known_none) has.starts_none))
-    ∙ ap (at l.known l.starts) (sym has.compact_is)
+    ap (λ k. at k (0 ∷ []) (length l.quarters == 0)) (sym has.plain.known_none)
+    ∙ ap (λ s. at l.known s (length l.quarters == 0)) (sym (none-known l.starts (has.levels.starts_len ∙ ap (λ k. 2 ^ k) has.plain.known_none) has.plain.starts_none))
+    ∙ ap (at l.known l.starts) (sym has.plain.compact_is)

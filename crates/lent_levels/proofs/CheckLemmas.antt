@@ -71,6 +71,7 @@ module _ (l m : LevelTables) (s lists : Lists) (same : m ≡ plain l) (kept : s 
         known_most = omega arith;
         starts_len = refl;
         no_quarters = has.no_quarters;
+        all_quarters = has.all_quarters;
       }) room indexed (λ d less. record { ones_are = (counts d less).ones_are; zeros_are = (counts d less).zeros_are }) quarters
       (starts-of-none xs l.width)
 

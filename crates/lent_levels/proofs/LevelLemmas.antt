@@ -1,7 +1,8 @@
 -- The levels of a matrix are as long as calls over any levels require.
-use Rattle.std.proofs.Common.{◌≡◌, ℕ, Option, Some, None, sym, ◌∙◌, subst}
+use Rattle.std.proofs.Common.{◌≡◌, ℕ, Option, Some, None, sym, ◌∙◌, subst, arith}
 use Rattle.std.proofs.lemmas.Option.{none-some, same_Some}
-use Rattle.bitm_tables.specs.Tables.{Lists}
+use Rattle.bitm_tables.specs.Tables.{bits_in, Lists}
+use Rattle.bitm_tables.proofs.lemmas.QuarterLemmas.{quarters-enough}
 use Rattle.bitm_select.proofs.Callers.{sizes_of}
 use Rattle.matrix_levels.specs.Levels.{level_place}
 use Rattle.matrix_levels.specs.Matrix.{numbers_in, IsMatrix, LevelTables}
@@ -21,6 +22,7 @@ matrices_fit l lists h =
         known_most = n.known_most;
         starts_len = n.starts_len;
         no_quarters = n.no_quarters;
+        all_quarters = λ has. omega (arith, quarters-enough (bits_in lists) l.quarters (n.quarters_are has), n.room);
       };
     }
 

@@ -31,6 +31,10 @@ module _ (xs : List ℕ) (l : LevelTables) (b : List Bool) (h : IsMatrixOf xs l 
       let ys = level xs l.width d in
       omega (arith, both-digits (digit_place l d) (take p ys), length-take-le p ys (omega (arith, inside, level-len)))
 
+-- so few numbers have places that fit into a word
+pub len-short : (w n : ℕ) → 1 ≤ w → w * n < 2 ^ 63 → n < 2 ^ 63
+len-short w n some short = grind arith
+
 -- nothing was read, and what two calls read after one another
 module _ {S : Type 0} (lists_of : S → Lists) (reads_of : S → ReadCounts) where
   pub reads-none : (s : S) (u v w : ℕ) → OnlyReads lists_of reads_of s s u v w

@@ -1,5 +1,5 @@
 -- The levels of a matrix in tables that may hold anything.
-use Rattle.std.specs.Prelude.{◌≡◌, ℕ, ◌*◌, ◌^◌, ◌<◌, ◌≤◌, ◌==◌, Bool, true, List, [], ◌∷◌, length}
+use Rattle.std.specs.Prelude.{◌≡◌, ℕ, ◌*◌, ◌^◌, ◌<◌, ◌≤◌, ◌==◌, Bool, true, false, List, [], ◌∷◌, length}
 use Rattle.matrix_levels.specs.Matrix.{LevelTables}
 
 -- a block can hold n numbers of w bits
@@ -30,8 +30,8 @@ levels_with n w ones zeros quarters = tables_of n w ones zeros 0 (0 ∷ []) (len
 abbrev pub levels_of : ℕ → ℕ → List ℕ → List ℕ → LevelTables
 levels_of n w ones zeros = levels_with n w ones zeros []
 
--- the levels are those of numbers that fit into a block, and their tables have an entry for each level, and for each number
--- of so many bits as are known; the entries may be anything, as the quarters may
+-- the levels are those of numbers that fit into a block, their tables have an entry for each level, and for each number of
+-- so many bits as are known, and there are quarters of all bits, or none; entries and quarters may be anything
 pub record HasLevels (levels : LevelTables) : Type 0 where
   pub numbers : AreNumbers levels.len levels.width
   pub ones_len : length levels.ones ≡ levels.width
@@ -39,3 +39,4 @@ pub record HasLevels (levels : LevelTables) : Type 0 where
   pub known_most : levels.known ≤ levels.width
   pub starts_len : length levels.starts ≡ 2 ^ levels.known
   pub no_quarters : levels.compact ≡ true → length levels.quarters ≡ 0
+  pub all_quarters : levels.compact ≡ false → levels.width * levels.len ≤ 512 * length levels.quarters

@@ -32,8 +32,8 @@ pub fn are_numbers(len: usize, width: usize) -> bool
 
 /// The tables of the levels of a matrix: how many 1 bits stand before each level, and how many of its items have a 0
 /// bit; perhaps a table of starts, which says for each number of some of the highest bits, those that are known, where
-/// the numbers that begin with it start after these levels; and perhaps the quarters of the words (`fill_quarters`), by
-/// which ranks read fewer words. They may hold anything.
+/// the numbers that begin with it start after these levels; and perhaps the quarters of the words
+/// (`bitm_tables::quarters::fill_quarters`), by which ranks read fewer words. They may hold anything.
 ///
 /// Contracts see the levels as those of `matrix_levels`.
 ///
@@ -86,8 +86,8 @@ impl<'a> Model for LevelsView<'a> {
 
 impl<'a> LevelsView<'a> {
     /// The tables of the levels of `len` numbers of `width` bits, and the quarters of their words, or an empty slice to
-    /// do without; `None` exactly where a matrix cannot have these numbers (`are_numbers`), or a table has not one
-    /// entry for each level. The quarters may be of any length.
+    /// do without; `None` exactly where a matrix cannot have these numbers (`are_numbers`), a table has not one entry
+    /// for each level, or quarters are missing: every 512 bits need a number, and so does what is left of them.
     ///
     /// ```
     /// LevelsView::over(6, 3, ones, zeros, &[]);   // Some(..) of three words each
@@ -107,6 +107,10 @@ impl<'a> LevelsView<'a> {
             return None;
         }
         if ones.len() != width as usize || zeros.len() != width as usize {
+            return None;
+        }
+        let bits = len * width as usize;
+        if !quarters.is_empty() && quarters.len() < bits.div_ceil(512) {
             return None;
         }
         Some(LevelsView {

@@ -21,7 +21,7 @@
 // - `owned`: the tables of levels, owned
 // - `pairs`: two answers of one walk
 // - `quantiles`: the numbers of a range in order
-// - `quarters`: quarters of the words: written, checked, and ranked by
+// - `quarters`: whether quarters are those of the words
 // - `queries`: a number by its index, and ranks
 // - `ranges`: queries of ranges
 // - `selecting`: the indices of a number
@@ -47,5 +47,5 @@ mod stepping;
 pub use checking::{are_levels, counts_of};
 pub use levels::{LevelsView, are_numbers};
 pub use owned::Levels;
-pub use quarters::{are_quarters, fill_quarters};
+pub use quarters::are_quarters;
 pub use stepping::sum_within;

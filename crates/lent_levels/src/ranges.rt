@@ -37,8 +37,7 @@ impl<'a> LevelsView<'a> {
         requires depth { depth < self.now.width }
         requires order { first ≤ last }
         requires inside { last ≤ self.now.len }
-        ensures inside { IfSome result (λ part. (part.0 ≤ first)
-            × (part.1 + part.2 ≡ last - first)) }
+        ensures inside { IfSome result (λ part. part.1 + part.2 ≡ last - first) }
         ensures answer { let place = digit_place self.now depth in
             let items = level_in self.now (T.lists source.old) depth in
             IsMatrix self.now (T.lists source.old) → IsSomeAnd result (λ part.
@@ -49,8 +48,8 @@ impl<'a> LevelsView<'a> {
             ≡ partition_place place false items last - partition_place place false items first)) }
         ensures reads { OnlyRanks self.now T.lists T.reads source.old source.new 2 }
     {
-        let before = self.total_ones_on(source, depth, first)?;
-        let through = self.total_ones_on(source, depth, last)?;
+        let before = self.level_ones_on(source, depth, first);
+        let through = self.level_ones_on(source, depth, last);
         let ones = difference(before, through, last - first)?;
         Some((before, ones, (last - first) - ones))
     }
@@ -68,7 +67,6 @@ impl<'a> LevelsView<'a> {
     ) -> Option<(usize, usize)>
         requires depth { depth < self.now.width }
         requires inside { first ≤ self.now.len }
-        requires before { before ≤ first }
         ensures inside { IfSome result (λ range. (range.0 + size ≡ range.1)
             × (range.1 ≤ self.now.len)) }
         ensures answer { (xs : List ℕ) → (b : List Bool) → (last : ℕ) → IsMatrixOf xs self.now b

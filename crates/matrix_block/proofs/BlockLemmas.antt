@@ -263,6 +263,10 @@ with-quarters n w ones zeros quarters lists is right =
       };
     }
 
+-- a number for every eight words is one for every 512 bits
+quarters-cover : (b q : ℕ) → q ≡ div_ceil (div_ceil b 64) 8 → b ≤ 512 * q
+quarters-cover b q h = grind arith
+
 -- a block with these parts is that of its numbers
 parts-hold : (xs : List ℕ) (w : ℕ) (old new quarters : List ℕ) → CanHold xs w → HasParts (length xs) w old new quarters → StandsIn xs w old
     → length quarters ≡ quarters_for (length quarters == 0) (words_of (length xs) w)
@@ -291,6 +295,7 @@ parts-hold xs w old new quarters can has parts quarters_len right =
         known_most = omega arith;
         starts_len = refl;
         no_quarters = λ e. eqb-true (length quarters) 0 e;
+        all_quarters = λ e. quarters-cover (w * n) (length quarters) (quarters_len ∙ ap (λ c. quarters_for c (words_of n w)) e);
       };
       words_len = parts.words_len;
       sized = record {
@@ -299,9 +304,7 @@ parts-hold xs w old new quarters can has parts quarters_len right =
         lower_len = omega (arith, parts.lower_len, parts.words_len);
       };
       quarters_len = quarters_len ∙ ap (quarters_for (length quarters == 0)) (sym parts.words_len);
-      known_none = refl;
-      starts_none = refl;
-      compact_is = refl;
+      plain = record { known_none = refl; starts_none = refl; compact_is = refl };
     } in
     record {
       sound = record {

@@ -85,16 +85,20 @@ matrix_in block =
     (levels_with (slice_index block 3) (slice_index block 4) (section_in block 3) (section_in block 4) (quarters_in block))
     (section_in block 0) (section_in block 1) (section_in block 2)
 
--- the parts are as long as those of the numbers, there are no quarters or as many numbers as these take, and no bits are known
--- from a table of starts: nothing else is said of what they hold
+-- no bits are known from a table of starts, and the levels are compact where there are no quarters
+pub record IsPlain (levels : LevelTables) : Type 0 where
+  pub known_none : levels.known ≡ 0
+  pub starts_none : slice_index levels.starts 0 ≡ 0
+  pub compact_is : levels.compact ≡ (length levels.quarters == 0)
+
+-- the parts are as long as those of the numbers, and there are no quarters or as many numbers as these take: nothing else is
+-- said of what they hold
 pub record HasLengths (parts : MatrixParts) : Type 0 where
   pub levels : HasLevels parts.levels
   pub words_len : length parts.lists.words ≡ words_of parts.levels.len parts.levels.width
   pub sized : HasSizes parts.lists
   pub quarters_len : length parts.levels.quarters ≡ quarters_for parts.levels.compact (length parts.lists.words)
-  pub known_none : parts.levels.known ≡ 0
-  pub starts_none : slice_index parts.levels.starts 0 ≡ 0
-  pub compact_is : parts.levels.compact ≡ (length parts.levels.quarters == 0)
+  pub plain : IsPlain parts.levels
 
 -- the block is of the kind of a matrix, and its first five sections are those of one
 pub record HasMatrixSections (block : List ℕ) : Type 0 where

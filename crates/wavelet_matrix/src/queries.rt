@@ -38,12 +38,12 @@ impl<S: SelectForRank101111, S0: Select0ForRank101111> WaveletMatrix<S, S0> {
         }
     }
 
-    /// For each index the number there; they go to `numbers` in the order of the indices, which are overwritten.
+    /// For each index the number there; they go to `numbers` in the order of the indices.
     ///
     /// # Conditions
     /// There are as many `numbers` as `places`, and there is a number at each index.
     /// # Cost
-    /// That of `LevelsView::total_get_list_on`: all go from level to level together.
+    /// That of `LevelsView::total_get_list_on`.
     pub fn get_many(&self, places: &mut [usize], numbers: &mut [u64])
         requires same_length { length numbers.old ≡ length places.old }
         requires inside { All (λ p. p < length self.now.items) places.old }
@@ -90,7 +90,7 @@ impl<S: SelectForRank101111, S0: Select0ForRank101111> WaveletMatrix<S, S0> {
     /// # Conditions
     /// There are as many `numbers` and `ranks` as `places`, and no index is past the end.
     /// # Cost
-    /// That of `LevelsView::total_rank_list_on`: all go from level to level together.
+    /// That of `LevelsView::total_rank_list_on`.
     pub fn rank_many(&self, numbers: &[u64], places: &[usize], ranks: &mut [usize])
         requires numbers { length numbers.now ≡ length places.now }
         requires ranks { length ranks.old ≡ length places.now }

@@ -42,7 +42,7 @@ loop-depth-preserved g c =
     let zeros = c.in_ok-before.zeros in
     let before : d < l.width = omega (arith, c.loop-depth-test.true, c.width-width.ensures.width) in
     let dig : v ≡ digit x (l.width - 1 - d) = c.digit_of-digit.ensures ∙ ap (λ (w : ℕ). digit x (w - 1 - d)) c.width-width.ensures.width in
-    let within = parts-within v c.in_ok-before.ones zeros c.with_digit-size.result c.with_digit-less.result _ c.with_digit-size.ensures c.with_digit-less.ensures part.1 in
+    let within = parts-within v c.in_ok-before.ones zeros c.with_digit-size.result c.with_digit-less.result _ c.with_digit-size.ensures c.with_digit-less.ensures part in
     let same = ap (λ (m : Lists). level_in l m d) i.reads.same in
     let counted = λ (h : IsMatrix l (T.lists c.args.source.now)).
     c.in_ok-before.ensures.answer (subst (λ (m : Lists). IsMatrix l m) (sym i.reads.same) h) in

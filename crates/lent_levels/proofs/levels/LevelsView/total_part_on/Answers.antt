@@ -16,14 +16,14 @@ returns-clause-answer g c = λ h.
     let d = c.args.depth in
     let k = digit_place l d in
     let row = level xs l.width d in
-    let same = c.total_ones_on.ensures.reads.same in
+    let same = c.level_ones_on-before.ensures.reads.same in
     let there = subst (λ (s : Lists). IsMatrix l s) (sym same) h in
-    let before = same_Some _ _ (c.in_ok-before.ensures.answer h) in
+    let before = c.level_ones_on-before.ensures.answer h in
     let through =
-    same_Some _ _ (c.in_ok-through.ensures.answer there)
+    c.level_ones_on-through.ensures.answer there
     ∙ ap (λ (s : Lists). count_by (has_digit k true) (take c.args.last (level_in l s d))) same in
     let all = parts-are xs l b h.numbers d c.args.first c.args.last c.requires.order c.requires.inside in
-    let sum = ones-more xs l b h.numbers d c.args.first c.args.last c.requires.order c.requires.inside c.in_ok-before.before c.in_ok-through.through before through in
+    let sum = ones-more xs l b h.numbers d c.args.first c.args.last c.requires.order c.requires.inside c.level_ones_on-before.result c.level_ones_on-through.result before through in
     let ones = same_Some _ _ (c.in_ok-ones.ensures.answer (partition_place k true row c.args.last - partition_place k true row c.args.first) sum (omega (arith, all))) in
     (before, ones, omega (arith, ones, all))
 
@@ -36,13 +36,13 @@ returns-in_err-ones-clause-answer g c = λ h.
     let d = c.args.depth in
     let k = digit_place l d in
     let row = level xs l.width d in
-    let same = c.total_ones_on.ensures.reads.same in
+    let same = c.level_ones_on-before.ensures.reads.same in
     let there = subst (λ (s : Lists). IsMatrix l s) (sym same) h in
-    let before = same_Some _ _ (c.in_ok-before.ensures.answer h) in
+    let before = c.level_ones_on-before.ensures.answer h in
     let through =
-    same_Some _ _ (c.in_ok-through.ensures.answer there)
+    c.level_ones_on-through.ensures.answer there
     ∙ ap (λ (s : Lists). count_by (has_digit k true) (take c.args.last (level_in l s d))) same in
     let all = parts-are xs l b h.numbers d c.args.first c.args.last c.requires.order c.requires.inside in
-    let sum = ones-more xs l b h.numbers d c.args.first c.args.last c.requires.order c.requires.inside c.in_ok-before.before c.in_ok-through.through before through in
+    let sum = ones-more xs l b h.numbers d c.args.first c.args.last c.requires.order c.requires.inside c.level_ones_on-before.result c.level_ones_on-through.result before through in
     let none = c.in_err-ones.ensures.answer (partition_place k true row c.args.last - partition_place k true row c.args.first) sum (omega (arith, all)) in
     cc none

@@ -46,9 +46,9 @@ loop-depth-preserved g c =
     let v = nat_le zeros left in
     let order : c.loop-depth.first ≤ c.loop-depth.last = omega (arith, i.rank) in
     let before : d < l.width = omega (arith, c.loop-depth-test.true, c.width-depth-end.ensures.width) in
-    let within = parts-within v ones zeros c.with_digit-size.result c.with_digit-passed.result _ c.with_digit-size.ensures c.with_digit-passed.ensures part.1 in
+    let within = parts-within v ones zeros c.with_digit-size.result c.with_digit-passed.result _ c.with_digit-size.ensures c.with_digit-passed.ensures part in
     let rest = left-within ones zeros left c.with_digit-size.result c.with_digit-passed.result c.with_digit-size.ensures c.with_digit-passed.ensures
-    (omega (arith, i.rank, part.1)) in
+    (omega (arith, i.rank, part)) in
     let same = ap (λ (m : Lists). level_in l m d) i.reads.same in
     let counted = λ (h : IsMatrix l (T.lists c.args.source.now)).
     c.in_ok-before.ensures.answer (subst (λ (m : Lists). IsMatrix l m) (sym i.reads.same) h) in
@@ -75,7 +75,7 @@ loop-depth-preserved g c =
 pub overflow_sub-left : goal.overflow_sub-left
 overflow_sub-left g c =
     let rest = left-within c.in_ok-before.ones c.in_ok-before.zeros c.loop-depth.left c.with_digit-size.result c.with_digit-passed.result c.with_digit-size.ensures
-    c.with_digit-passed.ensures (omega (arith, c.loop-depth.invariant.rank, c.in_ok-before.ensures.inside.1)) in
+    c.with_digit-passed.ensures (omega (arith, c.loop-depth.invariant.rank, c.in_ok-before.ensures.inside)) in
     rest.1
 
 pub returns-clause-answer : goal.returns-clause-answer
