@@ -1,77 +1,46 @@
 //! Reads and writes of bytes: the kinds `get57`, `init57`, `set57`, `get25`, `init25` and `set25`.
 use crate::content::State;
 use crate::fault::Fault;
-use crate::found::Found;
+use crate::found::{Found, List};
 use crate::text;
 use crate::text::Base;
 use bitm::{get_bits25, get_bits57, init_bits25, init_bits57, set_bits25, set_bits57};
 use std::alloc::Global;
 
-/// Compares bytes with those that a text writes.
-fn compare<'a>(
-    alloc: Global,
-    call: &'a str,
-    ours: &[u8],
-    theirs: &str,
-    found: &mut Found<'a>,
-) -> Result<(), Fault> {
-    let ours: Vec<u64> = ours.iter().map(|byte| u64::from(*byte)).collect(alloc)?;
-    found.compare_list(alloc, call, Base::Hexadecimal, ours.as_slice(), theirs)
+/// What a read of eight or of four bytes gives.
+fn read(bytes: &[u8], place: usize, is_long: bool) -> Result<u64, Fault> {
+    if is_long && place / 8 + 8 <= bytes.len() {
+        Ok(get_bits57(bytes, place))
+    } else if !is_long && place / 8 + 4 <= bytes.len() {
+        Ok(u64::from(get_bits25(bytes, place)))
+    } else {
+        Err(Fault::Condition)
+    }
 }
 
-/// Compares what a read of eight bytes gives.
-pub fn get57<'a>(state: &State<'a>, line: &'a str, found: &mut Found<'a>) -> Result<(), Fault> {
+/// Compares what a read of eight or of four bytes gives.
+pub fn get<'a>(
+    state: &State<'a>,
+    line: &'a str,
+    is_long: bool,
+    found: &mut Found<'a>,
+) -> Result<(), Fault> {
     let (first_bit, theirs) = text::first_word(line);
-    let place = text::place(first_bit)?;
-    let bytes = state.bytes();
-    if place / 8 + 8 > bytes.len() {
-        return Err(Fault::Condition);
-    }
-    let ours = get_bits57(bytes, place);
+    let ours = read(state.bytes(), text::place(first_bit)?, is_long)?;
     found.compare(first_bit, Base::Hexadecimal, Some(ours), theirs)
 }
 
-/// Compares what a read of four bytes gives.
-pub fn get25<'a>(state: &State<'a>, line: &'a str, found: &mut Found<'a>) -> Result<(), Fault> {
-    let (first_bit, theirs) = text::first_word(line);
-    let place = text::place(first_bit)?;
-    let bytes = state.bytes();
-    if place / 8 + 4 > bytes.len() {
-        return Err(Fault::Condition);
-    }
-    let ours = get_bits25(bytes, place);
-    found.compare(first_bit, Base::Hexadecimal, Some(u64::from(ours)), theirs)
-}
-
-/// A write as a line has it: its text, its first bit, the words that follow that, and the bytes after it.
+/// A write of bytes: of a number to eight or four zero bytes, or of one under a mask over eight or four bytes.
 #[derive(Clone, Copy)]
-struct Write<'a> {
-    text: &'a str,
-    place: usize,
-    numbers: &'a str,
-    theirs: &'a str,
-}
-
-/// The write that a line has.
-fn read_write(line: &str) -> Result<Write<'_>, Fault> {
-    let (text, theirs) = text::halves(line)?;
-    let (first_bit, numbers) = text::first_word(text);
-    Ok(Write {
-        text,
-        place: text::place(first_bit)?,
-        numbers,
-        theirs,
-    })
-}
-
-/// As many zero bytes as a text writes bytes.
-fn zeros(alloc: Global, theirs: &str) -> Result<Vec<u8>, Fault> {
-    let count = text::byte_list(alloc, theirs)?.len();
-    Ok(vec![in alloc; 0u8; count]?)
+pub enum Change {
+    Init57,
+    Init25,
+    Set57,
+    Set25,
 }
 
 /// Writes a number to eight zero bytes.
-fn write_init57(bytes: &mut [u8], place: usize, number: &str) -> Result<(), Fault> {
+fn init57(bytes: &mut [u8], place: usize, number: &str) -> Result<(), Fault> {
     if place / 8 + 8 > bytes.len() {
         return Err(Fault::Condition);
     }
@@ -79,16 +48,8 @@ fn write_init57(bytes: &mut [u8], place: usize, number: &str) -> Result<(), Faul
     Ok(())
 }
 
-/// Compares the bytes after a number was written to eight zero bytes among others.
-pub fn init57<'a>(alloc: Global, line: &'a str, found: &mut Found<'a>) -> Result<(), Fault> {
-    let call = read_write(line)?;
-    let mut ours = zeros(alloc, call.theirs)?;
-    write_init57(ours.as_mut_slice(), call.place, call.numbers)?;
-    compare(alloc, call.text, ours.as_slice(), call.theirs, found)
-}
-
 /// Writes a number to four zero bytes.
-fn write_init25(bytes: &mut [u8], place: usize, number: &str) -> Result<(), Fault> {
+fn init25(bytes: &mut [u8], place: usize, number: &str) -> Result<(), Fault> {
     if place / 8 + 4 > bytes.len() {
         return Err(Fault::Condition);
     }
@@ -96,16 +57,8 @@ fn write_init25(bytes: &mut [u8], place: usize, number: &str) -> Result<(), Faul
     Ok(())
 }
 
-/// Compares the bytes after a number was written to four zero bytes among others.
-pub fn init25<'a>(alloc: Global, line: &'a str, found: &mut Found<'a>) -> Result<(), Fault> {
-    let call = read_write(line)?;
-    let mut ours = zeros(alloc, call.theirs)?;
-    write_init25(ours.as_mut_slice(), call.place, call.numbers)?;
-    compare(alloc, call.text, ours.as_slice(), call.theirs, found)
-}
-
 /// Puts a number over eight bytes under a mask.
-fn write_set57(bytes: &mut [u8], place: usize, numbers: &str) -> Result<(), Fault> {
+fn set57(bytes: &mut [u8], place: usize, numbers: &str) -> Result<(), Fault> {
     if place / 8 + 8 > bytes.len() {
         return Err(Fault::Condition);
     }
@@ -116,21 +69,8 @@ fn write_set57(bytes: &mut [u8], place: usize, numbers: &str) -> Result<(), Faul
     Ok(())
 }
 
-/// Compares the bytes after a number was put over eight of them.
-pub fn set57<'a>(
-    alloc: Global,
-    state: &State<'a>,
-    line: &'a str,
-    found: &mut Found<'a>,
-) -> Result<(), Fault> {
-    let call = read_write(line)?;
-    let mut ours = Vec::from_slice(alloc, state.bytes())?;
-    write_set57(ours.as_mut_slice(), call.place, call.numbers)?;
-    compare(alloc, call.text, ours.as_slice(), call.theirs, found)
-}
-
 /// Puts a number over four bytes under a mask.
-fn write_set25(bytes: &mut [u8], place: usize, numbers: &str) -> Result<(), Fault> {
+fn set25(bytes: &mut [u8], place: usize, numbers: &str) -> Result<(), Fault> {
     if place / 8 + 4 > bytes.len() {
         return Err(Fault::Condition);
     }
@@ -140,15 +80,43 @@ fn write_set25(bytes: &mut [u8], place: usize, numbers: &str) -> Result<(), Faul
     Ok(())
 }
 
-/// Compares the bytes after a number was put over four of them.
-pub fn set25<'a>(
+/// The bytes that a write is to: as many zero bytes as a text writes bytes, or the bytes of a line before.
+fn begin(alloc: Global, state: &State<'_>, change: Change, theirs: &str) -> Result<Vec<u8>, Fault> {
+    if matches!(change, Change::Set57 | Change::Set25) {
+        return Ok(Vec::from_slice(alloc, state.bytes())?);
+    }
+    let count = text::byte_list(alloc, theirs)?.len();
+    Ok(vec![in alloc; 0u8; count]?)
+}
+
+/// Makes a write of the numbers of a line.
+fn write(change: Change, bytes: &mut [u8], place: usize, numbers: &str) -> Result<(), Fault> {
+    match change {
+        Change::Init57 => init57(bytes, place, numbers),
+        Change::Init25 => init25(bytes, place, numbers),
+        Change::Set57 => set57(bytes, place, numbers),
+        Change::Set25 => set25(bytes, place, numbers),
+    }
+}
+
+/// Compares the bytes after a write.
+pub fn compare<'a>(
     alloc: Global,
     state: &State<'a>,
     line: &'a str,
+    change: Change,
     found: &mut Found<'a>,
 ) -> Result<(), Fault> {
-    let call = read_write(line)?;
-    let mut ours = Vec::from_slice(alloc, state.bytes())?;
-    write_set25(ours.as_mut_slice(), call.place, call.numbers)?;
-    compare(alloc, call.text, ours.as_slice(), call.theirs, found)
+    let (text, theirs) = text::parts(line, " /")?;
+    let (first_bit, numbers) = text::first_word(text);
+    let place = text::place(first_bit)?;
+    let mut ours = begin(alloc, state, change, theirs)?;
+    write(change, ours.as_mut_slice(), place, numbers)?;
+    found.compare_list(
+        alloc,
+        text,
+        Base::Hexadecimal,
+        List::Bytes(ours.as_slice()),
+        theirs,
+    )
 }

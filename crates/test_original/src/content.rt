@@ -8,14 +8,6 @@ use crate::text;
 use crate::text::Base;
 use std::alloc::Global;
 
-/// Words under a name, and the number of their 1 bits, once a line has it.
-#[derive(Drop)]
-struct Content<'a> {
-    name: &'a str,
-    words: Vec<u64>,
-    ones: Option<u64>,
-}
-
 /// The number of bits, and how many of them are 1 bits, or 0 bits.
 #[derive(Clone, Copy)]
 pub struct Totals {
@@ -25,27 +17,35 @@ pub struct Totals {
     pub of_ones: bool,
 }
 
-/// A call as a line writes it: its text, the words that it is on, its arguments, and its outcome.
-#[derive(Clone, Copy)]
-pub struct Call<'s, 'a> {
-    pub text: &'a str,
-    pub words: &'s [u64],
-    pub arguments: &'a str,
-    pub theirs: &'a str,
+impl Totals {
+    /// The total where the position is the exact length.
+    pub fn at(self, place: usize) -> Option<u64> {
+        if place == self.len {
+            Some(self.items)
+        } else {
+            None
+        }
+    }
 }
 
 /// What the lines read so far leave to the next ones.
 #[derive(Drop)]
 pub struct State<'a> {
-    content: Option<Content<'a>>,
+    /// What the words are called; `None` where there are none.
+    name: Option<&'a str>,
+    words: Vec<u64>,
+    /// The number of the words' 1 bits, once a line has it.
+    ones: Option<u64>,
     bytes: Vec<u8>,
 }
 
 impl<'a> State<'a> {
-    /// No content and no bytes.
+    /// No words and no bytes.
     pub fn new(alloc: Global) -> State<'a> {
         State {
-            content: None,
+            name: None,
+            words: Vec::new(alloc),
+            ones: None,
             bytes: Vec::new(alloc),
         }
     }
@@ -57,48 +57,36 @@ impl<'a> State<'a> {
         line: &'a str,
         found: &mut Found<'a>,
     ) -> Result<(), Fault> {
-        self.content = None;
+        self.name = None;
+        self.ones = None;
         let (name, items) = text::first_word(line);
         let (count, items) = text::first_word(items);
-        let words = text::list(alloc, items, Base::Hexadecimal)?;
-        found.compare(name, Base::Decimal, Some(words.len() as u64), count)?;
-        self.content = Some(Content {
-            name,
-            words,
-            ones: None,
-        });
+        self.words = text::list(alloc, items, Base::Hexadecimal)?;
+        found.compare(name, Base::Decimal, Some(self.words.len() as u64), count)?;
+        self.name = Some(name);
         Ok(())
     }
 
     /// Takes the number of 1 bits of a line, which has to name the words.
     pub fn set_ones(&mut self, line: &'a str) -> Result<(), Fault> {
         let (_, total) = self.content(line)?;
-        let ones = text::number(total, Base::Decimal)?;
-        if let Some(content) = &mut self.content {
-            content.ones = Some(ones);
-        }
+        self.ones = Some(text::number(total, Base::Decimal)?);
         Ok(())
     }
 
-    /// The number of bits, and the number of 1 bits that a line says.
-    pub fn ones(&self) -> Result<Totals, Fault> {
-        match &self.content {
-            Some(content) => Ok(Totals {
-                len: content.words.len().checked_mul(64).ok_or(Fault::Condition)?,
-                items: content.ones.ok_or(Fault::NoTotal)?,
-                of_ones: true,
-            }),
-            None => Err(Fault::OtherContent),
-        }
-    }
-
-    /// The number of bits, and how many of them are 0 bits.
-    pub fn zeros(&self) -> Result<Totals, Fault> {
-        let Totals { len, items, .. } = self.ones()?;
+    /// The number of bits, and how many of them are 1 bits, which a line has to have said, or 0 bits.
+    pub fn totals(&self, of_ones: bool) -> Result<Totals, Fault> {
+        let len = self.words.len().checked_mul(64).ok_or(Fault::Condition)?;
+        let ones = self.ones.ok_or(Fault::NoTotal)?;
+        let zeros = (len as u64).checked_sub(ones);
         Ok(Totals {
             len,
-            items: (len as u64).checked_sub(items).ok_or(Fault::Malformed)?,
-            of_ones: false,
+            items: if of_ones {
+                ones
+            } else {
+                zeros.ok_or(Fault::Malformed)?
+            },
+            of_ones,
         })
     }
 
@@ -114,30 +102,16 @@ impl<'a> State<'a> {
         ensures { IfOk result (λ found. IsShort found.0.now) }
     {
         let (name, rest) = text::first_word(line);
-        match &self.content {
-            Some(content) if content.name == name => {
-                if content.words.len() < 1 << 58 {
-                    Ok((content.words.as_slice(), rest))
+        match self.name {
+            Some(known) if known == name => {
+                if self.words.len() < 1 << 58 {
+                    Ok((self.words.as_slice(), rest))
                 } else {
                     Err(Fault::Condition)
                 }
             }
             _ => Err(Fault::OtherContent),
         }
-    }
-
-    /// The call that a line writes before its slash, and what came of it after that.
-    pub fn call(&self, line: &'a str) -> Result<Call<'_, 'a>, Fault>
-        ensures { IfOk result (λ call. IsShort call.words.now) }
-    {
-        let (text, theirs) = text::halves(line)?;
-        let (words, arguments) = self.content(text)?;
-        Ok(Call {
-            text,
-            words,
-            arguments,
-            theirs,
-        })
     }
 
     /// The bytes.

@@ -1,14 +1,15 @@
 //! What a line shows: how many answers were compared, and which of them differ.
-use crate::content::Totals;
 use crate::fault::Fault;
 use crate::text;
-use crate::text::{Base, PlacePair};
+use crate::text::Base;
 use std::alloc::Global;
 
-/// The query whose answer differs from that of the original, or nothing where a line could not be replayed, and why it
-/// counts as a difference.
+/// The query whose answer differs from that of the original, or nothing where a line could not be replayed, why it
+/// counts as a difference, and the kind of its line with the line's number, the first being 1.
 #[derive(Clone, Copy)]
 pub struct Difference<'a> {
+    pub line: usize,
+    pub kind: &'a str,
     pub argument: &'a str,
     pub why: &'a str,
 }
@@ -42,9 +43,42 @@ impl Count {
     }
 }
 
+/// A list of numbers.
+#[derive(Clone, Copy)]
+pub enum List<'l> {
+    Words(&'l [u64]),
+    Sizes(&'l [usize]),
+    Samples(&'l [u32]),
+    Bytes(&'l [u8]),
+}
+
+impl<'l> List<'l> {
+    /// How many numbers there are.
+    pub fn len(self) -> usize {
+        match self {
+            List::Words(words) => words.len(),
+            List::Sizes(sizes) => sizes.len(),
+            List::Samples(samples) => samples.len(),
+            List::Bytes(bytes) => bytes.len(),
+        }
+    }
+
+    /// The number at an index.
+    fn get(self, at: usize) -> Option<u64> {
+        match self {
+            List::Words(words) => Some(*words.get(at)?),
+            List::Sizes(sizes) => Some(*sizes.get(at)? as u64),
+            List::Samples(samples) => Some(u64::from(*samples.get(at)?)),
+            List::Bytes(bytes) => Some(u64::from(*bytes.get(at)?)),
+        }
+    }
+}
+
 /// What a line has shown so far.
 #[derive(Drop)]
 pub struct Found<'a> {
+    pub kind: &'a str,
+    line: usize,
     /// The answers that have to be theirs, and faults.
     pub count: Count,
     /// The ranks at the exact length, which have to be totals.
@@ -53,9 +87,11 @@ pub struct Found<'a> {
 }
 
 impl<'a> Found<'a> {
-    /// Nothing yet.
-    pub fn new(alloc: Global) -> Found<'a> {
+    /// Nothing yet of a line of a kind.
+    pub fn new(alloc: Global, kind: &'a str, line: usize) -> Found<'a> {
         Found {
+            kind,
+            line,
             count: Count::NONE,
             at_length: Count::NONE,
             differences: Vec::new(alloc),
@@ -73,11 +109,16 @@ impl<'a> Found<'a> {
 
     /// Keeps a difference where there is memory for it.
     fn keep(&mut self, argument: &'a str, why: &'a str) {
-        let _ = self.differences.push(Difference { argument, why });
+        let _ = self.differences.push(Difference {
+            line: self.line,
+            kind: self.kind,
+            argument,
+            why,
+        });
     }
 
     /// Compares two values of an answer, or of an item of it.
-    fn compare_values(&mut self, argument: &'a str, ours: Option<u64>, theirs: Option<u64>) {
+    pub fn compare_values(&mut self, argument: &'a str, ours: Option<u64>, theirs: Option<u64>) {
         self.count.add_answer(ours != theirs);
         if ours != theirs {
             self.keep(argument, "differs from theirs");
@@ -97,98 +138,33 @@ impl<'a> Found<'a> {
         Ok(())
     }
 
-    /// Compares what a call answers at the argument of each pair with the answer there.
-    pub fn compare_each<F: Fn(&'a str) -> Result<Option<u64>, Fault>>(
+    /// Compares a rank with its answer, or with the total where it is that of the exact length, which has no answer.
+    pub fn compare_rank(
         &mut self,
-        pairs: &'a str,
-        base: Base,
-        call: F,
-    ) -> Result<(), Fault>
-        requires { F.IsAlwaysCallable call }
-    {
-        for pair in pairs.split_ascii_whitespace() {
-            let (argument, theirs) = text::pair(pair)?;
-            let ours = call(argument)?;
-            self.compare(argument, base, ours, theirs)?;
-        }
-        Ok(())
-    }
-
-    /// Compares the answers of a call at the positions of pairs with the answers of the pairs.
-    pub fn compare_places<F: Fn(usize) -> Option<usize>>(
-        &mut self,
-        pairs: &'a str,
-        call: F,
-    ) -> Result<(), Fault>
-        requires { F.IsAlwaysCallable call }
-    {
-        self.compare_each(pairs, Base::Decimal, |argument| {
-            Ok(call(text::place(argument)?).map(|number| number as u64))
-        })
-    }
-
-    /// Compares ranks with the answers of pairs, and with the total of their kind of bit where the pair is that of the
-    /// exact length and has no answer.
-    pub fn compare_ranks<F: Fn(usize) -> Option<usize>>(
-        &mut self,
-        pairs: &'a str,
-        totals: Totals,
-        call: F,
-    ) -> Result<(), Fault>
-        requires { F.IsAlwaysCallable call }
-    {
-        for pair in pairs.split_ascii_whitespace() {
-            let asked = text::place_pair(pair)?;
-            let ours = call(asked.place).map(|number| number as u64);
-            self.compare_rank(asked, totals, ours)?;
-        }
-        Ok(())
-    }
-
-    /// Compares a rank with its answer, or with the total.
-    fn compare_rank(
-        &mut self,
-        asked: PlacePair<'a>,
-        totals: Totals,
-        ours: Option<u64>,
-    ) -> Result<(), Fault> {
-        let PlacePair {
-            argument,
-            place,
-            theirs,
-        } = asked;
-        if place == totals.len && theirs == "-" {
-            self.compare_at_length(argument, ours, totals.items);
-            Ok(())
-        } else {
-            self.compare(argument, Base::Decimal, ours, theirs)
-        }
-    }
-
-    /// Compares a rank at the exact length with the total.
-    fn compare_at_length(&mut self, argument: &'a str, ours: Option<u64>, total: u64) {
-        let differs = ours != Some(total);
-        self.at_length.add_answer(differs);
-        if differs {
-            self.keep(argument, "is not the total");
-        }
-    }
-
-    /// Compares two numbers.
-    pub fn compare_numbers(&mut self, argument: &'a str, ours: u64, theirs: u64) {
-        self.compare_values(argument, Some(ours), Some(theirs));
-    }
-
-    /// Compares a list of sizes with the one that a text writes.
-    pub fn compare_sizes(
-        &mut self,
-        alloc: Global,
         argument: &'a str,
-        ours: &[usize],
+        ours: Option<usize>,
+        total: Option<u64>,
         theirs: &str,
     ) -> Result<(), Fault> {
-        let ours: Vec<u64> = ours.iter().map(|size| *size as u64).collect(alloc)?;
-        self.compare_list(alloc, argument, Base::Decimal, ours.as_slice(), theirs)
+        let ours = wide(ours);
+        if total.is_none() || theirs != "-" {
+            return self.compare(argument, Base::Decimal, ours, theirs);
+        }
+        self.at_length.add_answer(ours != total);
+        if ours != total {
+            self.keep(argument, "is not the total");
+        }
+        Ok(())
+    }
+
+    /// Compares the items of a list at indices with the answers of pairs.
+    pub fn compare_entries(&mut self, pairs: &'a str, list: List<'_>) -> Result<(), Fault> {
+        for pair in pairs.split_ascii_whitespace() {
+            let (argument, theirs) = text::parts(pair, ":")?;
+            let ours = list.get(text::place(argument)?);
+            self.compare(argument, Base::Hexadecimal, ours, theirs)?;
+        }
+        Ok(())
     }
 
     /// Compares a list, item by item, with the one that a text writes: where one is longer, its items differ from
@@ -198,15 +174,19 @@ impl<'a> Found<'a> {
         alloc: Global,
         argument: &'a str,
         base: Base,
-        ours: &[u64],
+        ours: List<'_>,
         theirs: &str,
     ) -> Result<(), Fault> {
         let theirs = text::list(alloc, theirs, base)?;
-        for item in 0..ours.len().max(theirs.len()) {
-            let our_item = ours.get(item).copied();
-            let their_item = theirs.get(item).copied();
-            self.compare_values(argument, our_item, their_item);
+        for at in 0..ours.len().max(theirs.len()) {
+            let their_item = theirs.get(at).copied();
+            self.compare_values(argument, ours.get(at), their_item);
         }
         Ok(())
     }
+}
+
+/// The same number in 64 bits.
+pub fn wide(number: Option<usize>) -> Option<u64> {
+    Some(number? as u64)
 }

@@ -18,7 +18,10 @@ pub fn build<'a, S: SelectForRank101111 + Select0ForRank101111>(
     requires { IsShort words.now }
     ensures { IfOk result (λ made. made.1 ≡ ones_of (bits_of words.now)) }
 {
-    RankSelect101111::build(alloc, words).map_err(|_| Fault::NoMemory)
+    match RankSelect101111::build(alloc, words) {
+        Ok(built) => Ok(built),
+        Err(_) => Err(Fault::NoMemory),
+    }
 }
 
 /// The number of ones that an index over the words counts.

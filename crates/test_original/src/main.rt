@@ -49,15 +49,14 @@
 #![tactic(auto)]
 
 // What is in each file:
-// - `bits`: reads of ranges
 // - `bytes`: reads and writes of bytes
 // - `conditions`: the conditions of our calls, tested when the program runs
 // - `content`: the words and the bytes that the lines are about
 // - `fault`: why a line could not be replayed
-// - `finds`: the nearest bits
 // - `found`: what a line shows
 // - `index`: the index by which tables, selection and samples are replayed
 // - `ranks`: ranks
+// - `reads`: reads of ranges, and the nearest bits
 // - `replay`: replays the lines in order, each by its kind
 // - `report`: what all lines show, a tally for each kind
 // - `samples`: samples
@@ -66,15 +65,14 @@
 // - `text`: the words of a line, and the numbers that they write
 // - `word`: numbers and single words
 // - `writes`: writes of ranges and fragments
-mod bits;
 mod bytes;
 mod conditions;
 mod content;
 mod fault;
-mod finds;
 mod found;
 mod index;
 mod ranks;
+mod reads;
 mod replay;
 mod report;
 mod samples;

@@ -4,9 +4,9 @@ ghost use Rattle.bitm.specs.Bits.{IsShort};
 
 use crate::content::{State, Totals};
 use crate::fault::Fault;
-use crate::found::Found;
-use crate::index;
+use crate::found::{Found, List};
 use crate::text::Base;
+use crate::{index, text};
 use bitm::{BinaryRankSearch, Rank, RankSimple, words};
 use std::alloc::{AllocError, Global};
 use std::convert::AsSlice;
@@ -19,8 +19,10 @@ fn build(alloc: Global, words: &[u64]) -> Result<Option<(RankSimple<&[u64]>, u32
     if words::count_bit_ones(words) >= 1 << 32 {
         return Ok(None);
     }
-    let built = RankSimple::build(alloc, words).map_err(|_| Fault::NoMemory)?;
-    Ok(Some(built))
+    match RankSimple::build(alloc, words) {
+        Ok(built) => Ok(Some(built)),
+        Err(_) => Err(Fault::NoMemory),
+    }
 }
 
 /// The number of ones that a simple rank counts; `None` where its numbers are too narrow for them.
@@ -93,73 +95,48 @@ pub fn simple<'a>(
 ) -> Result<(), Fault> {
     let (words, theirs) = state.content(line)?;
     let ours = simple_table(alloc, words)?;
-    found.compare_list(alloc, line, Base::Decimal, ours.as_slice(), theirs)
+    found.compare_list(
+        alloc,
+        line,
+        Base::Decimal,
+        List::Words(ours.as_slice()),
+        theirs,
+    )
 }
 
-/// Compares ranks by the simple rank, where its numbers are wide enough.
-fn compare_simple<'a>(
-    alloc: Global,
-    words: &[u64],
+/// Compares ranks by an index, that at the exact length with the total.
+fn compare_by<'a, R: Rank>(
+    index: &R,
     pairs: &'a str,
     totals: Totals,
     found: &mut Found<'a>,
-) -> Result<(), Fault>
-    requires { IsShort words.now }
-{
-    let Some((simple, _)) = build(alloc, words)? else {
-        return Ok(());
-    };
-    found.compare_ranks(pairs, totals, |place| {
-        if totals.of_ones {
-            Rank::try_rank(&simple, place)
-        } else {
-            simple.try_rank0(place)
-        }
-    })
-}
-
-/// Compares ranks by the tables of an index.
-fn compare_tables<'a>(
-    alloc: Global,
-    words: &[u64],
-    pairs: &'a str,
-    totals: Totals,
-    found: &mut Found<'a>,
-) -> Result<(), Fault>
-    requires { IsShort words.now }
-{
-    let (index, _) = index::build::<BinaryRankSearch>(alloc, words)?;
-    found.compare_ranks(pairs, totals, |place| {
-        if totals.of_ones {
+) -> Result<(), Fault> {
+    for pair in pairs.split_ascii_whitespace() {
+        let (argument, theirs) = text::parts(pair, ":")?;
+        let place = text::place(argument)?;
+        let ours = if totals.of_ones {
             index.try_rank(place)
         } else {
             index.try_rank0(place)
-        }
-    })
+        };
+        found.compare_rank(argument, ours, totals.at(place), theirs)?;
+    }
+    Ok(())
 }
 
-/// Compares the ones before places and before the end, by the simple rank and by the tables of an index.
+/// Compares the ones or the zeros before places and before the end, by the simple rank and by the tables of an index.
 pub fn rank<'a>(
     alloc: Global,
     state: &State<'a>,
     line: &'a str,
+    of_ones: bool,
     found: &mut Found<'a>,
 ) -> Result<(), Fault> {
     let (words, pairs) = state.content(line)?;
-    let ones = state.ones()?;
-    compare_simple(alloc, words, pairs, ones, found)?;
-    compare_tables(alloc, words, pairs, ones, found)
-}
-
-/// Compares the zeros before places and before the end, by the simple rank and by the tables of an index.
-pub fn rank0<'a>(
-    alloc: Global,
-    state: &State<'a>,
-    line: &'a str,
-    found: &mut Found<'a>,
-) -> Result<(), Fault> {
-    let (words, pairs) = state.content(line)?;
-    let zeros = state.zeros()?;
-    compare_simple(alloc, words, pairs, zeros, found)?;
-    compare_tables(alloc, words, pairs, zeros, found)
+    let totals = state.totals(of_ones)?;
+    if let Some((simple, _)) = build(alloc, words)? {
+        compare_by(&simple, pairs, totals, found)?;
+    }
+    let (tables, _) = index::build::<BinaryRankSearch>(alloc, words)?;
+    compare_by(&tables, pairs, totals, found)
 }

@@ -1,9 +1,12 @@
 //! Replays the lines in order, each by its kind.
+use crate::bytes::Change;
 use crate::content::State;
 use crate::fault::Fault;
 use crate::found::Found;
+use crate::reads::Read;
 use crate::report::Report;
-use crate::{bits, bytes, finds, ranks, samples, selection, tables, text, word, writes};
+use crate::text::Base;
+use crate::{bytes, ranks, reads, samples, selection, tables, text, word, writes};
 use std::alloc::{AllocError, Global};
 
 /// What all lines of a text show.
@@ -14,17 +17,16 @@ pub fn replay<'a>(alloc: Global, text: &'a str) -> Result<Report<'a>, AllocError
         if line.is_empty() || line.starts_with('#') {
             continue;
         }
-        let (kind, rest) = text::first_word(line);
-        let found = found_in(alloc, &mut state, kind, rest);
-        report.add(kind, index, found)?;
+        report.add(found_in(alloc, &mut state, index.saturating_add(1), line))?;
     }
     Ok(report)
 }
 
-/// What a line of a kind shows.
-fn found_in<'a>(alloc: Global, state: &mut State<'a>, kind: &str, line: &'a str) -> Found<'a> {
-    let mut found = Found::new(alloc);
-    if let Err(fault) = replay_line(alloc, state, kind, line, &mut found) {
+/// What a line shows.
+fn found_in<'a>(alloc: Global, state: &mut State<'a>, number: usize, line: &'a str) -> Found<'a> {
+    let (kind, rest) = text::first_word(line);
+    let mut found = Found::new(alloc, kind, number);
+    if let Err(fault) = replay_line(alloc, state, kind, rest, &mut found) {
         found.fails(fault);
     }
     found
@@ -41,15 +43,15 @@ fn replay_line<'a>(
     match kind {
         "ones" => ranks::ones(alloc, state, line, found),
         "simple" => ranks::simple(alloc, state, line, found),
-        "rank" => ranks::rank(alloc, state, line, found),
-        "rank0" => ranks::rank0(alloc, state, line, found),
+        "rank" => ranks::rank(alloc, state, line, true, found),
+        "rank0" => ranks::rank(alloc, state, line, false, found),
         "l1" => tables::l1(alloc, state, line, found),
         "l2" => tables::l2(alloc, state, line, found),
         "l2at" => tables::l2at(alloc, state, line, found),
-        "select" => selection::select(alloc, state, line, found),
-        "select0" => selection::select0(alloc, state, line, found),
-        "samples" => samples::samples(alloc, state, line, found),
-        "samplesat" => samples::samplesat(alloc, state, line, found),
+        "select" => selection::select(alloc, state, line, true, found),
+        "select0" => selection::select(alloc, state, line, false, found),
+        "samples" => samples::samples(alloc, state, line, false, found),
+        "samplesat" => samples::samples(alloc, state, line, true, found),
         _ => replay_content(alloc, state, kind, line, found),
     }
 }
@@ -64,14 +66,14 @@ fn replay_content<'a>(
 ) -> Result<(), Fault> {
     match kind {
         "content" => state.set_content(alloc, line, found),
-        "bits" => bits::bits(state, line, found),
-        "raw" => bits::raw(state, line, found),
-        "find" => finds::find(state, line, found),
-        "rfind" => finds::rfind(state, line, found),
-        "trail" => finds::trail(state, line, found),
-        "set" => writes::set(alloc, state, line, found),
-        "xor" => writes::xor(alloc, state, line, found),
-        "swap" => writes::swap(alloc, state, line, found),
+        "bits" => reads::compare(state, line, Read::Bits, Base::Hexadecimal, found),
+        "raw" => reads::compare(state, line, Read::Raw, Base::Hexadecimal, found),
+        "find" => reads::compare(state, line, Read::First, Base::Decimal, found),
+        "rfind" => reads::compare(state, line, Read::Last, Base::Decimal, found),
+        "trail" => reads::trail(state, line, found),
+        "set" => writes::compare(alloc, state, line, writes::Change::Set, found),
+        "xor" => writes::compare(alloc, state, line, writes::Change::Xor, found),
+        "swap" => writes::compare(alloc, state, line, writes::Change::Swap, found),
         _ => replay_apart(alloc, state, kind, line, found),
     }
 }
@@ -91,12 +93,12 @@ fn replay_apart<'a>(
         "ceil" => word::ceil(line, found),
         "store" => word::store(line, found),
         "bytes" => state.set_bytes(alloc, line),
-        "get57" => bytes::get57(state, line, found),
-        "init57" => bytes::init57(alloc, line, found),
-        "set57" => bytes::set57(alloc, state, line, found),
-        "get25" => bytes::get25(state, line, found),
-        "init25" => bytes::init25(alloc, line, found),
-        "set25" => bytes::set25(alloc, state, line, found),
+        "get57" => bytes::get(state, line, true, found),
+        "get25" => bytes::get(state, line, false, found),
+        "init57" => bytes::compare(alloc, state, line, Change::Init57, found),
+        "init25" => bytes::compare(alloc, state, line, Change::Init25, found),
+        "set57" => bytes::compare(alloc, state, line, Change::Set57, found),
+        "set25" => bytes::compare(alloc, state, line, Change::Set25, found),
         _ => Err(Fault::UnknownKind),
     }
 }

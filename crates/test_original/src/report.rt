@@ -15,10 +15,10 @@ struct Tally<'a> {
 }
 
 impl<'a> Tally<'a> {
-    /// What one line of the kind shows.
-    fn of(kind: &'a str, found: &Found<'a>) -> Tally<'a> {
+    /// What one line shows.
+    fn of(found: &Found<'a>) -> Tally<'a> {
         Tally {
-            kind,
+            kind: found.kind,
             lines: 1,
             count: found.count,
         }
@@ -31,20 +31,12 @@ impl<'a> Tally<'a> {
     }
 }
 
-/// A difference, and the number of its line, the first being 1, with its kind.
-#[derive(Clone, Copy)]
-struct Located<'a> {
-    line: usize,
-    kind: &'a str,
-    difference: Difference<'a>,
-}
-
 /// What all lines show.
 #[derive(Drop)]
 pub struct Report<'a> {
     tallies: Vec<Tally<'a>>,
     at_length: Count,
-    differences: Vec<Located<'a>>,
+    differences: Vec<Difference<'a>>,
 }
 
 impl<'a> Report<'a> {
@@ -57,33 +49,27 @@ impl<'a> Report<'a> {
         }
     }
 
-    /// Adds what a line shows; lines before it are `index`.
-    pub fn add(&mut self, kind: &'a str, index: usize, found: Found<'a>) -> Result<(), AllocError> {
-        self.tally(kind, &found)?;
+    /// Adds what a line shows, of its differences as many as are to be printed.
+    pub fn add(&mut self, found: Found<'a>) -> Result<(), AllocError> {
+        self.tally(&found)?;
         self.at_length.add(found.at_length);
         for difference in found.differences.iter() {
-            self.keep(Located {
-                line: index.saturating_add(1),
-                kind,
-                difference: *difference,
-            })?;
+            if self.differences.len() < MOST_PRINTED {
+                self.differences.push(*difference)?;
+            }
         }
         Ok(())
     }
 
     /// Adds what a line shows to the tally of its kind.
-    fn tally(&mut self, kind: &'a str, found: &Found<'a>) -> Result<(), AllocError> {
-        match self.tallies.iter().position(|tally| tally.kind == kind) {
+    fn tally(&mut self, found: &Found<'a>) -> Result<(), AllocError> {
+        match self
+            .tallies
+            .iter()
+            .position(|tally| tally.kind == found.kind)
+        {
             Some(place) => self.tallies[place].add(found),
-            None => self.tallies.push(Tally::of(kind, found))?,
-        }
-        Ok(())
-    }
-
-    /// Keeps a difference, where it is to be printed.
-    fn keep(&mut self, located: Located<'a>) -> Result<(), AllocError> {
-        if self.differences.len() < MOST_PRINTED {
-            self.differences.push(located)?;
+            None => self.tallies.push(Tally::of(found))?,
         }
         Ok(())
     }
@@ -95,9 +81,13 @@ impl<'a> Report<'a> {
 
     /// Prints the differences, as far as they are kept.
     fn print_differences(&self, rt: &impl Print) -> io::Result<()> {
-        for located in self.differences.iter() {
-            let (line, kind) = (located.line, located.kind);
-            let Difference { argument, why } = located.difference;
+        for difference in self.differences.iter() {
+            let Difference {
+                line,
+                kind,
+                argument,
+                why,
+            } = *difference;
             println!(rt; "line {line}: {kind} {argument}: {why}")?;
         }
         Ok(())

@@ -4,7 +4,7 @@ ghost use Rattle.bitm.specs.Bits.{IsShort};
 
 use crate::content::State;
 use crate::fault::Fault;
-use crate::found::Found;
+use crate::found::{Found, List};
 use crate::text::Base;
 use crate::{index, text};
 use bitm::{
@@ -13,73 +13,59 @@ use bitm::{
 };
 use std::alloc::Global;
 
-/// Samples as a line writes them.
-#[derive(Clone, Copy)]
-enum Claimed<'a> {
-    /// All of them.
-    All(&'a str),
-    /// How many there are, and some of them by their index.
-    Some { count: u64, pairs: &'a str },
-}
-
 /// What a line says of the samples of one kind of bit.
 #[derive(Clone, Copy)]
 struct Claim<'a> {
     text: &'a str,
-    density: &'a str,
     of_ones: bool,
     logarithm: u64,
     starts: &'a str,
-    samples: Claimed<'a>,
+    /// How many samples there are, where only pairs of an index and a sample are given.
+    count: Option<u64>,
+    samples: &'a str,
 }
 
-/// The density, the kind of bit and the logarithm that arguments begin with, and what follows them.
-fn read_density(arguments: &str) -> Result<(&str, bool, u64, &str), Fault> {
-    let (density, rest) = text::first_word(arguments);
-    let (bit, rest) = text::first_word(rest);
-    let of_ones = match bit {
-        "1" => true,
-        "0" => false,
-        _ => return Err(Fault::Malformed),
-    };
+/// What the arguments of a line say from the kind of bit on, with a number of samples or without one.
+fn read_claim<'a>(
+    text: &'a str,
+    arguments: &'a str,
+    samples: &'a str,
+    has_count: bool,
+) -> Result<Claim<'a>, Fault> {
+    let (bit, rest) = text::first_word(arguments);
+    let of_ones = bit == "1";
+    if !of_ones && bit != "0" {
+        return Err(Fault::Malformed);
+    }
     let (logarithm, rest) = text::first_word(rest);
-    Ok((
-        density,
+    let mut claim = Claim {
+        text,
         of_ones,
-        text::number(logarithm, Base::Decimal)?,
-        rest,
-    ))
+        logarithm: text::number(logarithm, Base::Decimal)?,
+        starts: rest,
+        count: None,
+        samples,
+    };
+    if has_count {
+        let (count, starts) = text::first_word(rest);
+        claim.count = Some(text::number(count, Base::Decimal)?);
+        claim.starts = starts;
+    }
+    Ok(claim)
 }
 
 /// Compares samples with those of a line.
 fn compare_samples<'a>(
     alloc: Global,
-    samples: &[u32],
+    samples: List<'_>,
     claim: Claim<'a>,
     found: &mut Found<'a>,
 ) -> Result<(), Fault> {
-    match claim.samples {
-        Claimed::All(theirs) => {
-            let ours: Vec<u64> = samples
-                .iter()
-                .map(|sample| u64::from(*sample))
-                .collect(alloc)?;
-            found.compare_list(
-                alloc,
-                claim.text,
-                Base::Hexadecimal,
-                ours.as_slice(),
-                theirs,
-            )
-        }
-        Claimed::Some { count, pairs } => {
-            found.compare_numbers("number", samples.len() as u64, count);
-            found.compare_each(pairs, Base::Hexadecimal, |argument| {
-                let sample = samples.get(text::place(argument)?);
-                Ok(sample.map(|sample| u64::from(*sample)))
-            })
-        }
-    }
+    let Some(count) = claim.count else {
+        return found.compare_list(alloc, claim.text, Base::Hexadecimal, samples, claim.samples);
+    };
+    found.compare_values("number", Some(samples.len() as u64), Some(count));
+    found.compare_entries(claim.samples, samples)
 }
 
 /// Compares the logarithm of a density, the numbers of samples before each part, and the samples with those of a line.
@@ -90,9 +76,10 @@ fn compare_kept<'a, D: CombinedSamplingDensity>(
     found: &mut Found<'a>,
 ) -> Result<(), Fault> {
     let logarithm = u64::from(kept.items_per_sample_log2());
-    found.compare_numbers("logarithm", logarithm, claim.logarithm);
-    found.compare_sizes(alloc, claim.text, kept.starts(), claim.starts)?;
-    compare_samples(alloc, kept.samples(), claim, found)
+    found.compare_values("logarithm", Some(logarithm), Some(claim.logarithm));
+    let starts = List::Sizes(kept.starts());
+    found.compare_list(alloc, claim.text, Base::Decimal, starts, claim.starts)?;
+    compare_samples(alloc, List::Samples(kept.samples()), claim, found)
 }
 
 /// Compares what a line says with the samples of a density.
@@ -112,16 +99,19 @@ fn compare_at<'a, D: CombinedSamplingDensity>(
     }
 }
 
-/// Compares what a line says with the samples of the density that it names.
-fn compare<'a>(
+/// Compares the logarithm of a density, and all samples or the number of samples and some of them.
+pub fn samples<'a>(
     alloc: Global,
-    words: &[u64],
-    claim: Claim<'a>,
+    state: &State<'a>,
+    line: &'a str,
+    has_count: bool,
     found: &mut Found<'a>,
-) -> Result<(), Fault>
-    requires { IsShort words.now }
-{
-    match claim.density {
+) -> Result<(), Fault> {
+    let (text, theirs) = text::parts(line, " /")?;
+    let (words, arguments) = state.content(text)?;
+    let (density, rest) = text::first_word(arguments);
+    let claim = read_claim(text, rest, theirs, has_count)?;
+    match density {
         "a7" => compare_at::<Adaptive<7>>(alloc, words, claim, found),
         "a13" => compare_at::<Adaptive<13>>(alloc, words, claim, found),
         "c7" => compare_at::<Const<7>>(alloc, words, claim, found),
@@ -130,51 +120,6 @@ fn compare<'a>(
         "c31" => compare_at::<Const<31>>(alloc, words, claim, found),
         _ => Err(Fault::Malformed),
     }
-}
-
-/// Compares the logarithm of a density, and all samples.
-pub fn samples<'a>(
-    alloc: Global,
-    state: &State<'a>,
-    line: &'a str,
-    found: &mut Found<'a>,
-) -> Result<(), Fault> {
-    let call = state.call(line)?;
-    let (density, of_ones, logarithm, starts) = read_density(call.arguments)?;
-    let claim = Claim {
-        text: call.text,
-        density,
-        of_ones,
-        logarithm,
-        starts,
-        samples: Claimed::All(call.theirs),
-    };
-    compare(alloc, call.words, claim, found)
-}
-
-/// Compares the logarithm of a density, the number of samples, and those at some places.
-pub fn samplesat<'a>(
-    alloc: Global,
-    state: &State<'a>,
-    line: &'a str,
-    found: &mut Found<'a>,
-) -> Result<(), Fault> {
-    let call = state.call(line)?;
-    let (density, of_ones, logarithm, rest) = read_density(call.arguments)?;
-    let (count, starts) = text::first_word(rest);
-    let samples = Claimed::Some {
-        count: text::number(count, Base::Decimal)?,
-        pairs: call.theirs,
-    };
-    let claim = Claim {
-        text: call.text,
-        density,
-        of_ones,
-        logarithm,
-        starts,
-        samples,
-    };
-    compare(alloc, call.words, claim, found)
 }
 
 /// The logarithms that are chosen for a share of items, one for each greatest result that the lines
@@ -195,5 +140,11 @@ pub fn ocs<'a>(alloc: Global, line: &'a str, found: &mut Found<'a>) -> Result<()
     let (len, rest) = text::first_word(line);
     let (n, theirs) = text::first_word(rest);
     let ours = chosen(text::place(n)?, text::place(len)?);
-    found.compare_list(alloc, line, Base::Decimal, ours.as_slice(), theirs)
+    found.compare_list(
+        alloc,
+        line,
+        Base::Decimal,
+        List::Words(ours.as_slice()),
+        theirs,
+    )
 }

@@ -3,8 +3,9 @@ ghost use Rattle.bitm.specs.Bits.{IsShort};
 
 use crate::content::State;
 use crate::fault::Fault;
-use crate::found::Found;
-use crate::index;
+use crate::found::{Found, wide};
+use crate::text::Base;
+use crate::{index, text};
 use bitm::{
     AdaptiveCombinedSamplingDensity, BinaryRankSearch, CombinedSampling, Select, Select0,
     Select0ForRank101111, SelectForRank101111,
@@ -25,35 +26,28 @@ fn compare_by<'a, S: SelectForRank101111 + Select0ForRank101111>(
     requires { IsShort words.now }
 {
     let (index, _) = index::build::<S>(alloc, words)?;
-    found.compare_places(pairs, |rank| {
-        if of_ones {
+    for pair in pairs.split_ascii_whitespace() {
+        let (argument, theirs) = text::parts(pair, ":")?;
+        let rank = text::place(argument)?;
+        let ours = if of_ones {
             index.try_select(rank)
         } else {
             index.try_select0(rank)
-        }
-    })
+        };
+        found.compare(argument, Base::Decimal, wide(ours), theirs)?;
+    }
+    Ok(())
 }
 
-/// Compares the positions of 1 bits of ranks, by binary search and by samples.
+/// Compares the positions of 1 bits or 0 bits of ranks, by binary search and by samples.
 pub fn select<'a>(
     alloc: Global,
     state: &State<'a>,
     line: &'a str,
+    of_ones: bool,
     found: &mut Found<'a>,
 ) -> Result<(), Fault> {
     let (words, pairs) = state.content(line)?;
-    compare_by::<BinaryRankSearch>(alloc, words, pairs, true, found)?;
-    compare_by::<Sampled>(alloc, words, pairs, true, found)
-}
-
-/// Compares the positions of 0 bits of ranks, by binary search and by samples.
-pub fn select0<'a>(
-    alloc: Global,
-    state: &State<'a>,
-    line: &'a str,
-    found: &mut Found<'a>,
-) -> Result<(), Fault> {
-    let (words, pairs) = state.content(line)?;
-    compare_by::<BinaryRankSearch>(alloc, words, pairs, false, found)?;
-    compare_by::<Sampled>(alloc, words, pairs, false, found)
+    compare_by::<BinaryRankSearch>(alloc, words, pairs, of_ones, found)?;
+    compare_by::<Sampled>(alloc, words, pairs, of_ones, found)
 }

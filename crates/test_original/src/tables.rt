@@ -1,9 +1,9 @@
 //! The two tables of an index: the kinds `l1`, `l2` and `l2at`.
 use crate::content::State;
 use crate::fault::Fault;
-use crate::found::Found;
+use crate::found::{Found, List};
+use crate::index;
 use crate::text::Base;
-use crate::{index, text};
 use bitm::BinaryRankSearch;
 use std::alloc::Global;
 
@@ -16,7 +16,13 @@ pub fn l1<'a>(
 ) -> Result<(), Fault> {
     let (words, theirs) = state.content(line)?;
     let (index, _) = index::build::<BinaryRankSearch>(alloc, words)?;
-    found.compare_sizes(alloc, line, index.l1ranks(), theirs)
+    found.compare_list(
+        alloc,
+        line,
+        Base::Decimal,
+        List::Sizes(index.l1ranks()),
+        theirs,
+    )
 }
 
 /// Compares the lower table.
@@ -28,7 +34,13 @@ pub fn l2<'a>(
 ) -> Result<(), Fault> {
     let (words, theirs) = state.content(line)?;
     let (index, _) = index::build::<BinaryRankSearch>(alloc, words)?;
-    found.compare_list(alloc, line, Base::Hexadecimal, index.l2ranks(), theirs)
+    found.compare_list(
+        alloc,
+        line,
+        Base::Hexadecimal,
+        List::Words(index.l2ranks()),
+        theirs,
+    )
 }
 
 /// Compares entries of the lower table at their indices.
@@ -40,7 +52,5 @@ pub fn l2at<'a>(
 ) -> Result<(), Fault> {
     let (words, pairs) = state.content(line)?;
     let (index, _) = index::build::<BinaryRankSearch>(alloc, words)?;
-    found.compare_each(pairs, Base::Hexadecimal, |argument| {
-        Ok(index.l2ranks().get(text::place(argument)?).copied())
-    })
+    found.compare_entries(pairs, List::Words(index.l2ranks()))
 }

@@ -14,40 +14,22 @@ pub enum Base {
 /// How many items of a run are believed.
 const MOST_ITEMS: u64 = 1 << 27;
 
+/// What stands before a sign of a text, and what stands after it; `None` where there is no such sign.
+fn cut<'a>(text: &'a str, sign: &'static str) -> Option<(&'a str, &'a str)> {
+    text.split_once(sign)
+}
+
+/// What stands before a sign of a text, and what stands after it.
+pub fn parts<'a>(text: &'a str, sign: &'static str) -> Result<(&'a str, &'a str), Fault> {
+    cut(text, sign).ok_or(Fault::Malformed)
+}
+
 /// The first word of a text, and what follows the space after it.
 pub fn first_word(text: &str) -> (&str, &str) {
-    match text.split_once(' ') {
+    match cut(text, " ") {
         Some(parts) => parts,
         None => (text, ""),
     }
-}
-
-/// What stands before the slash of a line, and what stands after it.
-pub fn halves(text: &str) -> Result<(&str, &str), Fault> {
-    text.split_once(" /").ok_or(Fault::Malformed)
-}
-
-/// The argument and the answer of a pair.
-pub fn pair(text: &str) -> Result<(&str, &str), Fault> {
-    text.split_once(':').ok_or(Fault::Malformed)
-}
-
-/// The argument of a pair, the number that it writes, and the answer.
-#[derive(Clone, Copy)]
-pub struct PlacePair<'a> {
-    pub argument: &'a str,
-    pub place: usize,
-    pub theirs: &'a str,
-}
-
-/// A pair whose argument is a position or an index.
-pub fn place_pair(text: &str) -> Result<PlacePair<'_>, Fault> {
-    let (argument, theirs) = pair(text)?;
-    Ok(PlacePair {
-        argument,
-        place: place(argument)?,
-        theirs,
-    })
 }
 
 /// The number that a word writes.
@@ -56,7 +38,7 @@ pub fn number(text: &str, base: Base) -> Result<u64, Fault> {
         Base::Decimal => u64::from_str_radix(text, 10),
         Base::Hexadecimal => u64::from_str_radix(text, 16),
     };
-    number.map_err(|_| Fault::Malformed)
+    number.ok().ok_or(Fault::Malformed)
 }
 
 /// The number that a word writes, or `None` for `-`.
@@ -86,48 +68,47 @@ pub fn width(text: &str, most: u8) -> Result<u8, Fault>
 
 /// The number of 32 bits that a word writes.
 pub fn short_number(text: &str) -> Result<u32, Fault> {
-    u32::try_from(number(text, Base::Hexadecimal)?).map_err(|_| Fault::Malformed)
+    let number = number(text, Base::Hexadecimal)?;
+    u32::try_from(number).ok().ok_or(Fault::Malformed)
 }
 
-/// A run of items: `first`, and then each greater by `step` than the one before it.
-#[derive(Clone, Copy)]
-struct Run {
-    first: u64,
-    step: u64,
-    count: u64,
-}
-
-/// The run that a word of a list writes: X, X*COUNT or X+STEP*COUNT.
-fn read_run(text: &str, base: Base) -> Result<Run, Fault> {
-    let (item, count) = match text.split_once('*') {
-        Some((item, count)) => (item, number(count, Base::Decimal)?),
-        None => (text, 1),
-    };
-    let (first, step) = match item.split_once('+') {
-        Some((first, step)) => (number(first, base)?, number(step, base)?),
-        None => (number(item, base)?, 0),
-    };
-    if count <= MOST_ITEMS {
-        Ok(Run { first, step, count })
-    } else {
-        Err(Fault::Malformed)
+/// What stands before a sign of a word, and the number after it, or a number for no such sign.
+fn counted<'a>(
+    text: &'a str,
+    sign: &'static str,
+    base: Base,
+    otherwise: u64,
+) -> Result<(&'a str, u64), Fault> {
+    match cut(text, sign) {
+        Some((item, digits)) => Ok((item, number(digits, base)?)),
+        None => Ok((text, otherwise)),
     }
 }
 
-/// Adds the items of a run to a list.
-fn push_run(items: &mut Vec<u64>, run: Run) -> Result<(), Fault> {
-    for index in 0..run.count {
-        let more = run.step.checked_mul(index).ok_or(Fault::Malformed)?;
-        items.push(run.first.checked_add(more).ok_or(Fault::Malformed)?)?;
+/// Adds the items of a run to a list: `first`, and then each greater by `step` than the one before it.
+fn push_run(items: &mut Vec<u64>, first: u64, step: u64, count: u64) -> Result<(), Fault> {
+    if count > MOST_ITEMS {
+        return Err(Fault::Malformed);
+    }
+    for index in 0..count {
+        let more = step.checked_mul(index).ok_or(Fault::Malformed)?;
+        items.push(first.checked_add(more).ok_or(Fault::Malformed)?)?;
     }
     Ok(())
+}
+
+/// Adds what a word of a list writes: X, X*COUNT or X+STEP*COUNT.
+fn push_word(items: &mut Vec<u64>, word: &str, base: Base) -> Result<(), Fault> {
+    let (item, count) = counted(word, "*", Base::Decimal, 1)?;
+    let (first, step) = counted(item, "+", base, 0)?;
+    push_run(items, number(first, base)?, step, count)
 }
 
 /// The items of a list.
 pub fn list(alloc: Global, text: &str, base: Base) -> Result<Vec<u64>, Fault> {
     let mut items = Vec::new(alloc);
     for word in text.split_ascii_whitespace() {
-        push_run(&mut items, read_run(word, base)?)?;
+        push_word(&mut items, word, base)?;
     }
     Ok(items)
 }
@@ -136,7 +117,7 @@ pub fn list(alloc: Global, text: &str, base: Base) -> Result<Vec<u64>, Fault> {
 pub fn byte_list(alloc: Global, text: &str) -> Result<Vec<u8>, Fault> {
     let mut bytes = Vec::new(alloc);
     for item in list(alloc, text, Base::Hexadecimal)?.iter() {
-        bytes.push(u8::try_from(*item).map_err(|_| Fault::Malformed)?)?;
+        bytes.push(u8::try_from(*item).ok().ok_or(Fault::Malformed)?)?;
     }
     Ok(bytes)
 }

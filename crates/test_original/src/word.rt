@@ -1,6 +1,6 @@
 //! Numbers and single words: the kinds `ceil`, `store` and `sel64`.
 use crate::fault::Fault;
-use crate::found::Found;
+use crate::found::{Found, List};
 use crate::text;
 use crate::text::Base;
 use bitm::{bits_to_store, ceiling_div, select64};
@@ -39,5 +39,11 @@ pub fn sel64<'a>(alloc: Global, line: &'a str, found: &mut Found<'a>) -> Result<
     let (word, theirs) = text::first_word(line);
     let n = text::number(word, Base::Hexadecimal)?;
     let ours = places(alloc, n)?;
-    found.compare_list(alloc, word, Base::Decimal, ours.as_slice(), theirs)
+    found.compare_list(
+        alloc,
+        word,
+        Base::Decimal,
+        List::Words(ours.as_slice()),
+        theirs,
+    )
 }

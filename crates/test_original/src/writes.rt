@@ -1,69 +1,99 @@
 //! Writes of ranges and fragments: the kinds `set`, `xor`, `init` and `swap`.
 ghost use Rattle.std.specs.Prelude.{◌≤◌, IfOk};
+ghost use Rattle.bitm.specs.Bits.{IsShort};
 
 use crate::conditions::{fits, is_clear, is_fragment_in_range, is_in_range};
-use crate::content::{Call, State};
+use crate::content::State;
 use crate::fault::Fault;
-use crate::found::Found;
+use crate::found::{Found, List};
 use crate::text;
 use crate::text::Base;
 use bitm::{BitAccessMut, BitVec};
 use std::alloc::Global;
 use std::boxed::BoxedSlice;
 
-/// The arguments of a write.
+/// A write of words.
 #[derive(Clone, Copy)]
-struct Arguments {
-    begin: usize,
-    len: u8,
-    number: u64,
+pub enum Change {
+    Set,
+    Xor,
+    Swap,
 }
 
-/// The arguments that a line writes, with a width of at most `most`.
-fn read_arguments(text: &str, most: u8) -> Result<Arguments, Fault>
-    ensures { IfOk result (λ arguments. arguments.len ≤ most) }
+/// The first bit, the width and the number that a line writes, with a width of at most `most`.
+fn read_arguments(text: &str, most: u8) -> Result<(usize, u8, u64), Fault>
+    ensures { IfOk result (λ arguments. arguments.1 ≤ most) }
 {
     let (begin, rest) = text::first_word(text);
     let (len, number) = text::first_word(rest);
-    Ok(Arguments {
-        begin: text::place(begin)?,
-        len: text::width(len, most)?,
-        number: text::number(number, Base::Hexadecimal)?,
-    })
+    let (begin, len) = (text::place(begin)?, text::width(len, most)?);
+    Ok((begin, len, text::number(number, Base::Hexadecimal)?))
 }
 
-/// Compares the words after a number was written.
-pub fn set<'a>(
+/// Writes a number.
+fn set(words: &mut [u64], arguments: &str) -> Result<(), Fault>
+    requires { IsShort words.now }
+{
+    let (begin, len, number) = read_arguments(arguments, 63)?;
+    if !is_in_range(&*words, begin, len) || !fits(number, len) {
+        return Err(Fault::Condition);
+    }
+    let mut lent = words;
+    lent.set_bits(begin, number, len);
+    Ok(())
+}
+
+/// Negates bits.
+fn xor(words: &mut [u64], arguments: &str) -> Result<(), Fault>
+    requires { IsShort words.now }
+{
+    let (begin, len, number) = read_arguments(arguments, 64)?;
+    if !is_in_range(&*words, begin, len) {
+        return Err(Fault::Condition);
+    }
+    let mut lent = words;
+    lent.xor_bits(begin, number, len);
+    Ok(())
+}
+
+/// Has two fragments change places.
+fn swap(words: &mut [u64], arguments: &str) -> Result<(), Fault>
+    requires { IsShort words.now }
+{
+    let (i, rest) = text::first_word(arguments);
+    let (j, len) = text::first_word(rest);
+    let (i, j, len) = (text::place(i)?, text::place(j)?, text::width(len, 63)?);
+    if !is_fragment_in_range(&*words, i, len) || !is_fragment_in_range(&*words, j, len) {
+        return Err(Fault::Condition);
+    }
+    let mut lent = words;
+    lent.swap_fragments(i, j, len);
+    Ok(())
+}
+
+/// Compares the words after a write to a copy of them.
+pub fn compare<'a>(
     alloc: Global,
     state: &State<'a>,
     line: &'a str,
+    change: Change,
     found: &mut Found<'a>,
 ) -> Result<(), Fault> {
-    let call = state.call(line)?;
-    let Arguments { begin, len, number } = read_arguments(call.arguments, 63)?;
-    if !is_in_range(call.words, begin, len) || !fits(number, len) {
-        return Err(Fault::Condition);
+    let (text, theirs) = text::parts(line, " /")?;
+    let (words, arguments) = state.content(text)?;
+    let mut ours = Vec::from_slice(alloc, words)?;
+    match change {
+        Change::Set => set(ours.as_mut_slice(), arguments)?,
+        Change::Xor => xor(ours.as_mut_slice(), arguments)?,
+        Change::Swap => swap(ours.as_mut_slice(), arguments)?,
     }
-    let mut ours = Vec::from_slice(alloc, call.words)?;
-    ours.as_mut_slice().set_bits(begin, number, len);
-    compare(alloc, call, ours, found)
-}
-
-/// Compares the words after bits were negated.
-pub fn xor<'a>(
-    alloc: Global,
-    state: &State<'a>,
-    line: &'a str,
-    found: &mut Found<'a>,
-) -> Result<(), Fault> {
-    let call = state.call(line)?;
-    let Arguments { begin, len, number } = read_arguments(call.arguments, 64)?;
-    if !is_in_range(call.words, begin, len) {
-        return Err(Fault::Condition);
-    }
-    let mut ours = Vec::from_slice(alloc, call.words)?;
-    ours.as_mut_slice().xor_bits(begin, number, len);
-    compare(alloc, call, ours, found)
+    found.compare_list(
+        alloc,
+        text,
+        Base::Hexadecimal,
+        List::Words(ours.as_slice()),
+        theirs,
+    )
 }
 
 /// As many zero words as a text writes words.
@@ -72,19 +102,9 @@ fn zeros(alloc: Global, theirs: &str) -> Result<BoxedSlice<u64, Global>, Fault> 
     Ok(BoxedSlice::with_zeroed_64bit_segments(alloc, count)?)
 }
 
-/// Compares the words after a number was written to zero words.
-pub fn init<'a>(alloc: Global, line: &'a str, found: &mut Found<'a>) -> Result<(), Fault> {
-    let (call, theirs) = text::halves(line)?;
-    let Arguments { begin, len, number } = read_arguments(call, 64)?;
-    let mut ours = zeros(alloc, theirs)?;
-    init_zeros(ours.as_mut_slice(), begin, number, len)?;
-    found.compare_list(alloc, call, Base::Hexadecimal, ours.as_slice(), theirs)
-}
-
 /// Writes a number to bits that are zeros.
-fn init_zeros(words: &mut [u64], begin: usize, number: u64, len: u8) -> Result<(), Fault>
-    requires { len ≤ 64 }
-{
+fn init_zeros(words: &mut [u64], arguments: &str) -> Result<(), Fault> {
+    let (begin, len, number) = read_arguments(arguments, 64)?;
     let is_short = words.len() < 1 << 58;
     if !is_short || !is_in_range(&*words, begin, len) || !fits(number, len) {
         return Err(Fault::Condition);
@@ -97,56 +117,16 @@ fn init_zeros(words: &mut [u64], begin: usize, number: u64, len: u8) -> Result<(
     Ok(())
 }
 
-/// Two fragments that change places, and their width.
-#[derive(Clone, Copy)]
-struct Fragments {
-    i: usize,
-    j: usize,
-    len: u8,
-}
-
-/// The fragments that a line writes.
-fn read_fragments(text: &str) -> Result<Fragments, Fault>
-    ensures { IfOk result (λ fragments. fragments.len ≤ 63) }
-{
-    let (i, rest) = text::first_word(text);
-    let (j, len) = text::first_word(rest);
-    Ok(Fragments {
-        i: text::place(i)?,
-        j: text::place(j)?,
-        len: text::width(len, 63)?,
-    })
-}
-
-/// Compares words with those that came of a call.
-fn compare<'a>(
-    alloc: Global,
-    call: Call<'_, 'a>,
-    ours: Vec<u64>,
-    found: &mut Found<'a>,
-) -> Result<(), Fault> {
+/// Compares the words after a number was written to zero words.
+pub fn init<'a>(alloc: Global, line: &'a str, found: &mut Found<'a>) -> Result<(), Fault> {
+    let (call, theirs) = text::parts(line, " /")?;
+    let mut ours = zeros(alloc, theirs)?;
+    init_zeros(ours.as_mut_slice(), call)?;
     found.compare_list(
         alloc,
-        call.text,
+        call,
         Base::Hexadecimal,
-        ours.as_slice(),
-        call.theirs,
+        List::Words(ours.as_slice()),
+        theirs,
     )
-}
-
-/// Compares the words after two fragments have changed places.
-pub fn swap<'a>(
-    alloc: Global,
-    state: &State<'a>,
-    line: &'a str,
-    found: &mut Found<'a>,
-) -> Result<(), Fault> {
-    let call = state.call(line)?;
-    let Fragments { i, j, len } = read_fragments(call.arguments)?;
-    if !is_fragment_in_range(call.words, i, len) || !is_fragment_in_range(call.words, j, len) {
-        return Err(Fault::Condition);
-    }
-    let mut ours = Vec::from_slice(alloc, call.words)?;
-    ours.as_mut_slice().swap_fragments(i, j, len);
-    compare(alloc, call, ours, found)
 }
