@@ -58,6 +58,12 @@ PLANTS = {
         "thin", "crates/bitm/src/index.rt", "match self.try_rank(index) {",
         "let _ = count_bit_ones(self.content().as_slice()); match self.try_rank(index) {",
         "bitm/src/index.rt: rank does more or less"),
+    "a second body of a question": (
+        "thin", "crates/elias_fano/src/counted.rt", "found(first_at_least_by(source, &BY_TABLES, low, n, v))", "None",
+        "elias_fano/src/counted.rt: first_at_least_on asks what first_at_least_by of elias_fano does"),
+    "a twin that is gone": (
+        "thin", "scripts/once.py", '("bitm_view", "rank_on")', '("bitm_view", "rank_at")',
+        "LEFT has rank_at of bitm_view"),
     "one more in C++": (
         "thin", "include/bitm/trie.hpp", "return tried(status, out)", "return tried(status, out + 1)",
         "include/bitm/trie.hpp: return"),

@@ -1,0 +1,79 @@
+"""Bodies that stand twice, which scripts/thin looks for.
+
+A question has one body, over memory that may hold anything: `total_get_on`. What answers the same question otherwise,
+`get_on` or `get_by`, is a line over it, or over a body that it calls too. So among the functions of a question, which
+their names say, most call another one. Where one is a `total_`, two that call none are a twin if the crate of one stands
+on the other's. LEFT has those that there are, and why; no other may come, and one that is gone has to go there too."""
+import collections
+import functools
+import re
+
+from checks import below, claim, counts, crates, exporting, files, read
+from functions import functions_of
+
+NAME = re.compile(r"(total_)?(\w+?)((?:_on|_by)*)")
+# By crate and name: what stands beside a `total_`.
+LEFT = {
+    ("bitm_view", "rank_on"): "ranks by ranked_on of lent_tables, which runs total_rank_on",
+    ("bitm_view", "select_on"): "selects by search_on, as total_select_on does",
+    ("louds", "children_on"): "an index finds both ends by its strategies",
+    ("text_block", "longer_on"): "for the check, where the letters are a matrix, and nothing else is known",
+    **{("text_index", name): "is to become a line over that of text_block, which moves down" for name in (
+        "count_on", "extract_on", "locate_on", "longer_on", "position_on", "positions_on", "row_on", "rows_of_on",
+        "rows_with_on", "sample_on")},
+}
+
+
+@functools.cache
+def stands_on(name):
+    """A crate and those below it."""
+    return {name, *below(name)}
+
+
+def libraries():
+    """The files of the libraries, each with its crate."""
+    others = {*exporting(), "bitm_vectors"}
+    for file in files():
+        if it := re.fullmatch(r"crates/(\w+)/src/.*\.rt", file):
+            if it[1] in crates() and it[1] not in others and not re.match("(test|example|tool|program)_", it[1]):
+                yield file, it[1]
+
+
+def questions():
+    """By question: the functions that ask it, each with its crate and its body."""
+    found = collections.defaultdict(list)
+    for file, crate in libraries():
+        for it in functions_of(file, read(file)):
+            total, question, how = NAME.fullmatch(it.own).groups()
+            if it.body() and (total or how):
+                found[question].append((crate, it, "\n".join(it.body())))
+    return found
+
+
+def bodies(asked):
+    """Those functions of a question that call none of it."""
+    names = {it.own for _, it, _ in asked}
+    return [(crate, it) for crate, it, body in asked
+            if not any(re.search(rf"\b{name}\b", body) for name in names - {it.own})]
+
+
+def twins():
+    """Each function beside another body of its question, of which there is a `total_`, where the crate of one stands on
+    the other's."""
+    for asked in questions().values():
+        counts[0] += len(asked)
+        alone = bodies(asked) if any(it.own.startswith("total_") for _, it, _ in asked) else []
+        for crate, it in (one for one in alone if not one[1].own.startswith("total_")):
+            for other, beside in alone:
+                if beside is not it and (crate in stands_on(other) or other in stands_on(crate)):
+                    yield crate, it, other, beside
+
+
+def run_once():
+    """No function stands twice but those of LEFT."""
+    found = set()
+    for crate, it, other, beside in twins():
+        found.add((crate, it.own))
+        claim((crate, it.own) in LEFT, f"{it.file}: {it.own} asks what {beside.own} of {other} does, and calls none of it")
+    for crate, name in LEFT:
+        claim((crate, name) in found, f"scripts/once.py: LEFT has {name} of {crate}, which does not stand twice")
