@@ -1,9 +1,8 @@
 //! Rank and selection over small bit vectors, borrowed and owned, by each strategy. The rows are worked out by hand, so
 //! that they test the definitions of rank and selection.
-use crate::walk::{Sampled, index_over, one_agrees, owned, rank_agrees, zero_agrees};
+use crate::walk::{Sampled, lent, one_agrees, owned, rank_agrees, zero_agrees};
 use bitm::{BinaryRankSearch, Rank, Select, Select0, Select0ForRank101111, SelectForRank101111};
-use std::alloc::{AllocError, Global};
-use std::test::Fail;
+use std::alloc::Global;
 
 /// A query, with its answer.
 type Row = (usize, Option<usize>);
@@ -140,27 +139,36 @@ fn rows_agree<I: Rank + Select + Select0>(index: &I, case: &Case<'_>) -> bool {
     agrees
 }
 
-/// Whether an index over borrowed words does.
-fn lent_agrees<S: SelectForRank101111, S0: Select0ForRank101111>(
-    alloc: Global,
-    case: &Case<'_>,
-) -> Result<bool, AllocError> {
-    let (index, _) = index_over::<S, S0>(alloc, case.words)?;
-    Ok(rows_agree(&index, case))
+/// All cases.
+const CASES: [Case<'static>; 5] = [NO_WORDS, ONE_EMPTY_WORD, ONE_WORD, TWO_WORDS, SIXTY_WORDS];
+
+/// Whether an index over borrowed words of each case does.
+fn lent_agree<S: SelectForRank101111, S0: Select0ForRank101111>(alloc: Global) -> bool {
+    let mut agrees = true;
+    for case in CASES.as_slice() {
+        agrees &= match lent::<S, S0>(alloc, case.words) {
+            Ok((index, _)) => rows_agree(&index, case),
+            Err(_) => false,
+        };
+    }
+    agrees
 }
 
 /// Whether one over words of its own does.
-fn owned_agrees(alloc: Global, case: &Case<'_>) -> Result<bool, AllocError> {
-    let (index, _) = owned(alloc, case.words)?;
-    Ok(rows_agree(&index, case))
+fn owned_agree<S: SelectForRank101111, S0: Select0ForRank101111>(alloc: Global) -> bool {
+    let mut agrees = true;
+    for case in CASES.as_slice() {
+        agrees &= match owned::<S, S0>(alloc, case.words) {
+            Ok((index, _)) => rows_agree(&index, case),
+            Err(_) => false,
+        };
+    }
+    agrees
 }
 
 #[test]
-fn small_contents_are_ranked_and_selected(rt: HostRuntime) -> Result<(), Fail> {
-    for case in [NO_WORDS, ONE_EMPTY_WORD, ONE_WORD, TWO_WORDS, SIXTY_WORDS] {
-        assert!(rt; lent_agrees::<BinaryRankSearch, BinaryRankSearch>(rt.alloc(), &case)?);
-        assert!(rt; lent_agrees::<Sampled, Sampled>(rt.alloc(), &case)?);
-        assert!(rt; owned_agrees(rt.alloc(), &case)?);
-    }
-    Ok(())
+fn small_contents_are_ranked_and_selected(rt: HostRuntime) {
+    assert!(rt; lent_agree::<BinaryRankSearch, BinaryRankSearch>(rt.alloc()));
+    assert!(rt; lent_agree::<Sampled, Sampled>(rt.alloc()));
+    assert!(rt; owned_agree::<BinaryRankSearch, BinaryRankSearch>(rt.alloc()));
 }

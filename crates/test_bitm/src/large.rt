@@ -8,7 +8,7 @@ use bitm::{
 };
 use std::alloc::{AllocError, Global};
 use std::boxed::BoxedSlice;
-use std::process::Abort;
+use std::convert::AsSlice;
 
 type Words = BoxedSlice<u64, Global>;
 
@@ -18,72 +18,69 @@ fn even_ones(alloc: Global) -> Result<Words, AllocError> {
 }
 
 /// Half of the bits before each position are 1 bits, by the calls that answer `None` and by those that do not.
-fn expect_ranks<I: Rank>(rt: &impl Abort, index: &I) {
+fn ranks_agree<I: Rank>(index: &I) -> bool {
+    let mut agrees = true;
     for k in 0..0x4_0000usize {
-        assert!(rt; rank_agrees(index, 256 * k, Some(128 * k)));
+        agrees &= rank_agrees(index, 256 * k, Some(128 * k));
     }
+    agrees
 }
 
 /// Each two places have one bit of each kind, by the calls that answer `None` and by those that do not.
-fn expect_places<I: Select + Select0>(rt: &impl Abort, index: &I) {
+fn places_agree<I: Select + Select0>(index: &I) -> bool {
+    let mut agrees = true;
     for k in 0..0x4_0000usize {
-        assert!(rt; one_agrees(index, 128 * k, Some(256 * k)));
-        assert!(rt; zero_agrees(index, 128 * k, Some(256 * k + 1)));
+        agrees &= one_agrees(index, 128 * k, Some(256 * k));
+        agrees &= zero_agrees(index, 128 * k, Some(256 * k + 1));
     }
+    agrees
 }
 
-/// Queries an index, and compares the number of 1 bits.
-fn expect_all<I: Rank + Select + Select0>(rt: &impl Abort, index: &I, total: usize) {
-    assert!(rt; total == 0x200_0000);
-    expect_ranks(rt, index);
-    expect_places(rt, index);
+/// Whether an index answers so, and the number of 1 bits is half of the bits.
+fn all_agree<I: Rank + Select + Select0>(index: &I, total: usize) -> bool {
+    total == 0x200_0000 && ranks_agree(index) && places_agree(index)
 }
 
-/// Builds an index with these strategies, and queries it.
-fn expect_answers<S: SelectForRank101111, S0: Select0ForRank101111>(
-    rt: &impl Abort,
-    alloc: Global,
-) -> Result<(), AllocError> {
-    let content = even_ones(alloc)?;
+/// Whether an index with these strategies over the words answers so.
+fn index_agrees<S: SelectForRank101111, S0: Select0ForRank101111>(alloc: Global) -> bool {
+    let Ok(content) = even_ones(alloc) else {
+        return false;
+    };
     if content.as_slice().len() >= 2_000_000 {
-        return Err(AllocError);
+        return false;
     }
     match RankSelect101111::<S, S0, Words>::build(alloc, content) {
-        Ok((index, total)) => {
-            expect_all(rt, &index, total);
-            Ok(())
-        }
-        Err(_) => Err(AllocError),
+        Ok((index, total)) => all_agree(&index, total),
+        Err(_) => false,
     }
 }
 
-#[test]
+/// Whether the simple rank over the words does.
 #[tactic(auto, using(bitm::proofs::Callers::few_ones))]
-fn simple_rank_is_half_of_each_even_place(rt: HostRuntime) -> Result<(), AllocError> {
-    let content = even_ones(rt.alloc())?;
+fn simple_agrees(alloc: Global) -> bool {
+    let Ok(content) = even_ones(alloc) else {
+        return false;
+    };
     if content.as_slice().len() >= 2_000_000 {
-        return Err(AllocError);
+        return false;
     }
-    match RankSimple::build(rt.alloc(), content) {
-        Ok((index, total)) => {
-            assert!(rt; total == 0x200_0000);
-            expect_ranks(&rt, &index);
-            Ok(())
-        }
-        Err(_) => Err(AllocError),
+    match RankSimple::build(alloc, content) {
+        Ok((index, total)) => total == 0x200_0000 && ranks_agree(&index),
+        Err(_) => false,
     }
 }
 
 #[test]
-fn rank_is_half_of_each_even_place_and_binary_search_selects_it(
-    rt: HostRuntime,
-) -> Result<(), AllocError> {
-    expect_answers::<BinaryRankSearch, BinaryRankSearch>(&rt, rt.alloc())
+fn simple_rank_is_half_of_each_even_place(rt: HostRuntime) {
+    assert!(rt; simple_agrees(rt.alloc()));
 }
 
 #[test]
-fn rank_is_half_of_each_even_place_and_samples_select_it(
-    rt: HostRuntime,
-) -> Result<(), AllocError> {
-    expect_answers::<Sampled, Sampled>(&rt, rt.alloc())
+fn rank_is_half_of_each_even_place_and_binary_search_selects_it(rt: HostRuntime) {
+    assert!(rt; index_agrees::<BinaryRankSearch, BinaryRankSearch>(rt.alloc()));
+}
+
+#[test]
+fn rank_is_half_of_each_even_place_and_samples_select_it(rt: HostRuntime) {
+    assert!(rt; index_agrees::<Sampled, Sampled>(rt.alloc()));
 }

@@ -2,12 +2,12 @@
 //! in words with their lowest bit alone set, the 1 bit of rank r is at 64 r and the 0 bit of rank r at r + r / 63 + 1,
 //! and there are p / 64, rounded up, 1 bits before position p; in empty words before full words, the 1 bit of rank r is
 //! r after the end of the empty words, and the 0 bit of rank r is at r. Full words at the end mislead a guess.
-use bitm::{BinaryRankSearch, RankSelect101111};
+use crate::walk::{Lent, lent};
+use bitm::{BinaryRankSearch, BitVec, Select0ForRank101111, SelectForRank101111};
 use example_callers::many::{try_rank_many, try_select_many, try_select0_many};
 use std::alloc::{AllocError, Global};
-
-/// An index over borrowed words.
-type Index<'a> = RankSelect101111<BinaryRankSearch, BinaryRankSearch, &'a [u64]>;
+use std::boxed::BoxedSlice;
+use std::convert::AsSlice;
 
 /// The three calls.
 #[derive(Clone, Copy)]
@@ -25,14 +25,20 @@ struct Content {
     rest: usize,
 }
 
+/// Clears the given number of first words.
+fn clear_first(words: &mut [u64], count: usize) {
+    for k in 0..count.min(words.len()) {
+        words[k] = 0;
+    }
+}
+
 impl Content {
     /// Its words.
-    fn words(self, alloc: Global) -> Result<Vec<u64>, AllocError> {
-        let mut words = vec![in alloc; 0u64; self.empty]?;
+    fn words(self, alloc: Global) -> Result<BoxedSlice<u64, Global>, AllocError> {
         let word = if self.empty == 0 { 1 } else { u64::MAX };
-        for _ in 0..self.rest {
-            words.push(word)?;
-        }
+        let len = self.empty.wrapping_add(self.rest);
+        let mut words = BoxedSlice::with_64bit_segments(alloc, word, len)?;
+        clear_first(words.as_mut_slice(), self.empty);
         Ok(words)
     }
 
@@ -66,7 +72,12 @@ impl Content {
 }
 
 /// Makes one of the calls; returns whether each query has an answer.
-fn ask(index: &Index<'_>, call: Call, queries: &[usize], answers: &mut [usize]) -> bool {
+fn ask<S: SelectForRank101111, S0: Select0ForRank101111>(
+    index: &Lent<'_, S, S0>,
+    call: Call,
+    queries: &[usize],
+    answers: &mut [usize],
+) -> bool {
     if queries.len() != answers.len() {
         return false;
     }
@@ -77,20 +88,20 @@ fn ask(index: &Index<'_>, call: Call, queries: &[usize], answers: &mut [usize]) 
     }
 }
 
-/// The given number of queries below the limit, far apart, and one at the limit.
-fn queries_to(alloc: Global, limit: usize, count: usize) -> Result<Vec<usize>, AllocError> {
-    let mut queries = Vec::new(alloc);
-    for k in 0..count {
+/// Writes queries below the limit, far apart, and one at the limit.
+fn write_queries(queries: &mut [usize], limit: usize) {
+    for k in 0..queries.len() {
         let below = k.wrapping_mul(1_000_003) % limit.max(1);
-        queries.push(limit.wrapping_sub(1).wrapping_sub(below))?;
+        queries[k] = limit.wrapping_sub(1).wrapping_sub(below);
     }
-    queries.push(limit)?;
-    Ok(queries)
+    if let Some(last) = queries.last_mut() {
+        *last = limit;
+    }
 }
 
 /// Whether queries are answered rightly, into as many entries.
-fn are_answered(
-    index: &Index<'_>,
+fn are_answered<S: SelectForRank101111, S0: Select0ForRank101111>(
+    index: &Lent<'_, S, S0>,
     content: Content,
     call: Call,
     queries: &[usize],
@@ -104,8 +115,8 @@ fn are_answered(
 }
 
 /// Whether these queries but the last are answered rightly, and whether all are refused together, into as many entries.
-fn all_agree(
-    index: &Index<'_>,
+fn all_agree<S: SelectForRank101111, S0: Select0ForRank101111>(
+    index: &Lent<'_, S, S0>,
     content: Content,
     call: Call,
     queries: &[usize],
@@ -129,64 +140,75 @@ fn all_agree(
     agrees && is_refused && answers.last().copied() == Some(7)
 }
 
-/// Whether the given number of queries below the limit, far apart, are answered rightly, and whether the same queries
-/// and one at the limit are refused together.
-fn agrees(
-    alloc: Global,
-    index: &Index<'_>,
+/// Whether the given number of queries below the limit, far apart and at most 1000, are answered rightly, and whether
+/// the same queries and one at the limit are refused together.
+fn agrees<S: SelectForRank101111, S0: Select0ForRank101111>(
+    index: &Lent<'_, S, S0>,
     content: Content,
     call: Call,
     count: usize,
-) -> Result<bool, AllocError> {
-    let queries = queries_to(alloc, content.limit(call), count)?;
-    let mut answers = vec![in alloc; usize::MAX; queries.len()]?;
-    Ok(all_agree(
-        index,
-        content,
-        call,
-        queries.as_slice(),
-        answers.as_mut_slice(),
-    ))
+) -> bool {
+    let (mut queries, mut answers) = ([0; 1001], [usize::MAX; 1001]);
+    if count > 1000 {
+        return false;
+    }
+    let queries = &mut queries[..count + 1];
+    write_queries(&mut *queries, content.limit(call));
+    all_agree(index, content, call, queries, &mut answers[..count + 1])
 }
 
 /// Whether each of the calls agrees, for no queries up to a thousand.
-fn calls_agree(alloc: Global, index: &Index<'_>, content: Content) -> Result<bool, AllocError> {
+fn calls_agree<S: SelectForRank101111, S0: Select0ForRank101111>(
+    index: &Lent<'_, S, S0>,
+    content: Content,
+) -> bool {
     let mut all = true;
     for count in [0, 1, 16, 17, 33, 1000] {
-        all &= agrees(alloc, index, content, Call::Rank, count)?;
-        all &= agrees(alloc, index, content, Call::Select, count)?;
-        all &= agrees(alloc, index, content, Call::Select0, count)?;
+        all &= agrees(index, content, Call::Rank, count);
+        all &= agrees(index, content, Call::Select, count);
+        all &= agrees(index, content, Call::Select0, count);
     }
-    Ok(all)
+    all
 }
 
 /// The same over an index that is built over these words.
-fn words_agree(alloc: Global, words: &[u64], content: Content) -> Result<bool, AllocError> {
-    if words.len() >= 1_000_000 {
-        return Ok(false);
-    }
-    match Index::build(alloc, words) {
-        Ok((index, _)) => calls_agree(alloc, &index, content),
-        Err(_) => Err(AllocError),
+fn words_agree<S: SelectForRank101111, S0: Select0ForRank101111>(
+    alloc: Global,
+    words: &[u64],
+    content: Content,
+) -> bool {
+    match lent::<S, S0>(alloc, words) {
+        Ok((index, _)) => calls_agree(&index, content),
+        Err(_) => false,
     }
 }
 
 /// The same with the words made for it.
-fn content_agrees(alloc: Global, content: Content) -> Result<bool, AllocError> {
-    let words = content.words(alloc)?;
-    words_agree(alloc, words.as_slice(), content)
+fn content_agrees<S: SelectForRank101111, S0: Select0ForRank101111>(
+    alloc: Global,
+    content: Content,
+) -> bool {
+    match content.words(alloc) {
+        Ok(words) => words_agree::<S, S0>(alloc, words.as_slice(), content),
+        Err(_) => false,
+    }
 }
 
+/// Numbers of empty words, and of the words after them.
+const CONTENTS: [(usize, usize); 5] = [
+    (0, 3),
+    (0, 140_000),
+    (2, 1),
+    (20_000, 500),
+    (139_000, 1_000),
+];
+
 #[test]
-fn many_queries_are_answered(rt: HostRuntime) -> Result<(), AllocError> {
-    for (empty, rest) in [
-        (0, 3),
-        (0, 140_000),
-        (2, 1),
-        (20_000, 500),
-        (139_000, 1_000),
-    ] {
-        assert!(rt; content_agrees(rt.alloc(), Content { empty, rest })?);
+fn many_queries_are_answered(rt: HostRuntime) {
+    let mut agrees = true;
+    for (empty, rest) in CONTENTS {
+        let content = Content { empty, rest };
+        agrees &= content_agrees::<BinaryRankSearch, BinaryRankSearch>(rt.alloc(), content);
     }
-    Ok(())
+    assert!(rt; agrees);
 }

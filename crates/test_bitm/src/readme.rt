@@ -1,6 +1,6 @@
 //! The answers that the README states beside its program; `scripts/documents` compares these rows with its lines.
 use example_callers::readme::ask;
-use std::test::Fail;
+use std::alloc::Global;
 
 /// A position and a rank, and the answers to both queries.
 type Row = (usize, usize, Option<usize>, Option<usize>);
@@ -12,12 +12,17 @@ const ROWS: [Row; 3] = [
     (2049, 0, None, Some(100)),
 ];
 
-#[test]
-fn the_program_of_the_readme_answers_what_the_readme_says(rt: HostRuntime) -> Result<(), Fail> {
-    for (index, rank, ranked, selected) in ROWS {
-        let (by_rank, by_select) = ask(rt.alloc(), index, rank)?;
-        assert!(rt; by_rank == ranked);
-        assert!(rt; by_select == selected);
+/// Whether the program answers a row as it says.
+fn is_answered(alloc: Global, (index, rank, ranked, selected): Row) -> bool {
+    match ask(alloc, index, rank) {
+        Ok((by_rank, by_select)) => by_rank == ranked && by_select == selected,
+        Err(_) => false,
     }
-    Ok(())
+}
+
+#[test]
+fn the_program_of_the_readme_answers_what_the_readme_says(rt: HostRuntime) {
+    for row in ROWS {
+        assert!(rt; is_answered(rt.alloc(), row));
+    }
 }

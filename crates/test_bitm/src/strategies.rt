@@ -1,16 +1,14 @@
 //! The index with strategies and a density that a user wrote: the positions in sixty words that have 1 bits at 0, 2 and
 //! 3, worked out by hand; and which strategy is called, which no clause says.
-use crate::walk::Sampled;
+use crate::walk::{Lent, Sampled, lent};
 use bitm::{
-    BinaryRankSearch, CombinedSampling, RankSelect101111, Select, Select0, Select0ForRank101111,
-    SelectForRank101111,
+    BinaryRankSearch, CombinedSampling, Select, Select0, Select0ForRank101111, SelectForRank101111,
 };
 use example_callers::density::ByLength;
 use example_callers::strategies::guarded::Guarded;
 use example_callers::strategies::listed::Listed;
 use example_callers::strategies::scan::Scan;
-use std::alloc::{AllocError, Global};
-use std::process::Abort;
+use std::alloc::Global;
 
 /// Whether each one, and two first zeros of a word and its last, are selected.
 fn selects_in<I: Select + Select0>(index: &I, word: u16) -> bool {
@@ -35,54 +33,55 @@ fn selects_all<I: Select + Select0>(index: &I) -> bool {
 }
 
 /// Whether each one, and two first zeros of each word and its last, are selected, and none past them.
-fn selects_each<S: SelectForRank101111, S0: Select0ForRank101111>(
-    alloc: Global,
-) -> Result<bool, AllocError> {
-    let words = [0b1101; 60];
-    let built = RankSelect101111::<S, S0, &[u64]>::build(alloc, words.as_slice());
-    let Ok((index, total)) = built else {
-        return Err(AllocError);
-    };
-    Ok(total == 180 && selects_all(&index))
+fn selects_each<S: SelectForRank101111, S0: Select0ForRank101111>(alloc: Global) -> bool {
+    match lent::<S, S0>(alloc, [0b1101; 60].as_slice()) {
+        Ok((index, total)) => total == 180 && selects_all(&index),
+        Err(_) => false,
+    }
 }
 
+/// Selection by the density of a user.
+type Dense = CombinedSampling<ByLength>;
+
 #[test]
-fn an_index_selects_by_strategies_that_a_user_wrote(rt: HostRuntime) -> Result<(), AllocError> {
+fn an_index_selects_by_strategies_that_a_user_wrote(rt: HostRuntime) {
     let alloc = rt.alloc();
     let by = [
-        selects_each::<Scan, Scan>(alloc)?,
-        selects_each::<Listed, Listed>(alloc)?,
-        selects_each::<Guarded<BinaryRankSearch>, Guarded<Sampled>>(alloc)?,
-        selects_each::<CombinedSampling<ByLength>, CombinedSampling<ByLength>>(alloc)?,
+        selects_each::<Scan, Scan>(alloc),
+        selects_each::<Listed, Listed>(alloc),
+        selects_each::<Guarded<BinaryRankSearch>, Guarded<Sampled>>(alloc),
+        selects_each::<Dense, Dense>(alloc),
     ];
     assert!(rt; by == [true; 4]);
-    Ok(())
 }
 
-/// An index whose strategies count their calls.
-type Counting<'a> = RankSelect101111<Guarded<BinaryRankSearch>, Guarded<Sampled>, &'a [u64]>;
+/// Whether an index selects as by hand.
+fn selects_few<I: Select + Select0>(index: &I) -> bool {
+    let mut agrees = true;
+    for (rank, place, rank0, place0) in [(0, 0, 0, 1), (2, 3, 60, 63), (4, 66, 61, 64)] {
+        agrees &= index.try_select(rank) == Some(place);
+        agrees &= index.try_select0(rank0) == Some(place0);
+    }
+    agrees && index.try_select(1) == Some(2)
+}
+
+/// Whether an index whose strategies count their calls selects so, by one call of a strategy each.
+fn counts_calls<S: SelectForRank101111, S0: Select0ForRank101111>(
+    index: &Lent<'_, Guarded<S>, Guarded<S0>>,
+) -> bool {
+    let agrees = selects_few(index);
+    agrees && index.select_support().calls() == 4 && index.select0_support().calls() == 3
+}
+
+/// Whether such an index over two words does.
+fn calls_are_counted<S: SelectForRank101111, S0: Select0ForRank101111>(alloc: Global) -> bool {
+    match lent::<Guarded<S>, Guarded<S0>>(alloc, [0b1101, 0b110].as_slice()) {
+        Ok((index, _)) => counts_calls(&index),
+        Err(_) => false,
+    }
+}
 
 #[test]
-fn an_index_asks_the_strategy_of_its_kind_once_a_call(rt: HostRuntime) -> Result<(), AllocError> {
-    match Counting::build(rt.alloc(), [0b1101, 0b110].as_slice()) {
-        Ok((index, _)) => {
-            expect_calls(&rt, &index);
-            Ok(())
-        }
-        Err(_) => Err(AllocError),
-    }
-}
-
-/// Stops where an answer differs from that by hand, or where there are more or fewer calls.
-fn expect_calls(rt: &impl Abort, index: &Counting<'_>) {
-    for (rank, place, rank0, place0) in [(0, 0, 0, 1), (2, 3, 60, 63), (4, 66, 61, 64)] {
-        let found = (index.try_select(rank), index.try_select0(rank0));
-        assert!(rt; found == (Some(place), Some(place0)));
-    }
-    assert!(rt; index.try_select(1) == Some(2));
-    let calls = (
-        index.select_support().calls(),
-        index.select0_support().calls(),
-    );
-    assert!(rt; calls == (4, 3));
+fn an_index_asks_the_strategy_of_its_kind_once_a_call(rt: HostRuntime) {
+    assert!(rt; calls_are_counted::<BinaryRankSearch, Sampled>(rt.alloc()));
 }

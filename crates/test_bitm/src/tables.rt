@@ -1,19 +1,15 @@
 //! The tables that an index keeps, its size, and ranks of a few contents, worked out by hand. An entry is the ones
 //! before its records 1, 2 and 3, from the bits 54, 43 and 32 on, and below them the ones before the entry in its
 //! part: for 64 ones in the first record of the second entry, after 2048 ones, 64 * (2^54 + 2^43 + 2^32) + 2048.
-use crate::walk::{index_over, owned};
+use crate::walk::{lent, owned};
 use bitm::{
-    ArrayWithRank101111, BinaryRankSearch, BitAccess, BitAccessMut, BitVec, GetSize, Rank,
-    RankSelect101111, Select, Select0, complement_entry,
+    BinaryRankSearch, BitAccess, BitAccessMut, BitVec, GetSize, Rank, RankSelect101111, Select,
+    Select0, Select0ForRank101111, SelectForRank101111, complement_entry,
 };
-use std::alloc::{AllocError, Global};
+use std::alloc::Global;
 use std::boxed::BoxedSlice;
 use std::convert::AsSlice;
 use std::process::Abort;
-use std::test::Fail;
-
-/// An index over borrowed words.
-type Lent<'a> = RankSelect101111<BinaryRankSearch, BinaryRankSearch, &'a [u64]>;
 
 /// Words, and what an index over them keeps: the ones, the upper table and the lower one.
 type Kept<'a> = (&'a [u64], usize, &'a [usize], &'a [u64]);
@@ -39,58 +35,71 @@ const KEPT: [Kept<'static>; 8] = [
     (&[0; 33], 0, &[0], &[0, 0]),
 ];
 
-/// An index over the words, and the number of ones.
-fn lent<'a>(alloc: Global, words: &'a [u64]) -> Result<(Lent<'a>, usize), AllocError> {
-    index_over::<BinaryRankSearch, BinaryRankSearch>(alloc, words)
+/// Whether an index, and the number of 1 bits, are as they should be.
+fn keeps<S: SelectForRank101111, S0: Select0ForRank101111, BV: AsSlice<u64>>(
+    index: &RankSelect101111<S, S0, BV>,
+    ones: usize,
+    (_, total, upper, lower): Kept<'_>,
+) -> bool {
+    ones == total && index.l1ranks() == upper && index.l2ranks() == lower
 }
 
-/// Whether an index over borrowed words has the tables that it should.
-fn lent_keeps(alloc: Global, (words, total, upper, lower): Kept<'_>) -> Result<bool, AllocError> {
-    let (index, ones) = lent(alloc, words)?;
-    Ok((ones, index.l1ranks(), index.l2ranks()) == (total, upper, lower))
-}
-
-/// Whether one over words of its own does.
-fn owned_keeps(alloc: Global, (words, total, upper, lower): Kept<'_>) -> Result<bool, AllocError> {
-    let (index, ones) = owned(alloc, words)?;
-    Ok((ones, index.l1ranks(), index.l2ranks()) == (total, upper, lower))
-}
-
-#[test]
-fn an_index_keeps_the_tables_of_its_words(rt: HostRuntime) -> Result<(), AllocError> {
-    for kept in KEPT {
-        assert!(rt; lent_keeps(rt.alloc(), kept)?);
-        assert!(rt; owned_keeps(rt.alloc(), kept)?);
+/// Whether indexes over borrowed words have the tables that they should.
+fn lent_keep<S: SelectForRank101111, S0: Select0ForRank101111>(alloc: Global) -> bool {
+    let mut agrees = true;
+    for kept in KEPT.as_slice() {
+        agrees &= match lent::<S, S0>(alloc, kept.0) {
+            Ok((index, ones)) => keeps(&index, ones, *kept),
+            Err(_) => false,
+        };
     }
-    Ok(())
+    agrees
 }
 
-/// How many bytes an index over borrowed words takes.
-fn lent_bytes(alloc: Global, words: &[u64]) -> Result<usize, AllocError> {
-    let (index, _) = lent(alloc, words)?;
-    Ok(index.size_bytes_dyn())
-}
-
-/// How many bytes one over words of its own takes.
-fn owned_bytes(alloc: Global, words: &[u64]) -> Result<usize, AllocError> {
-    let (index, _) = owned(alloc, words)?;
-    Ok(index.size_bytes_dyn())
+/// Whether those over words of their own do.
+fn owned_keep<S: SelectForRank101111, S0: Select0ForRank101111>(alloc: Global) -> bool {
+    let mut agrees = true;
+    for kept in KEPT.as_slice() {
+        agrees &= match owned::<S, S0>(alloc, kept.0) {
+            Ok((index, ones)) => keeps(&index, ones, *kept),
+            Err(_) => false,
+        };
+    }
+    agrees
 }
 
 #[test]
-fn one_word_takes_sixteen_bytes_beside_its_own(rt: HostRuntime) -> Result<(), AllocError> {
-    let words = [0b1101];
-    let one = lent_bytes(rt.alloc(), words.as_slice())?;
-    let other = owned_bytes(rt.alloc(), words.as_slice())?;
-    assert!(rt; (one, other) == (16, 24));
-    Ok(())
+fn an_index_keeps_the_tables_of_its_words(rt: HostRuntime) {
+    assert!(rt; lent_keep::<BinaryRankSearch, BinaryRankSearch>(rt.alloc()));
+    assert!(rt; owned_keep::<BinaryRankSearch, BinaryRankSearch>(rt.alloc()));
+}
+
+/// How many bytes indexes over borrowed words, and over words of their own, take.
+fn bytes_of<S: SelectForRank101111 + GetSize, S0: Select0ForRank101111 + GetSize>(
+    alloc: Global,
+    words: &[u64],
+) -> Option<(usize, usize)> {
+    let borrowing = match lent::<S, S0>(alloc, words) {
+        Ok((index, _)) => index.size_bytes_dyn(),
+        Err(_) => return None,
+    };
+    match owned::<S, S0>(alloc, words) {
+        Ok((index, _)) => Some((borrowing, index.size_bytes_dyn())),
+        Err(_) => None,
+    }
+}
+
+#[test]
+fn one_word_takes_sixteen_bytes_beside_its_own(rt: HostRuntime) {
+    let bytes = bytes_of::<BinaryRankSearch, BinaryRankSearch>(rt.alloc(), [0b1101].as_slice());
+    assert!(rt; bytes == Some((16, 24)));
 }
 
 /// Positions in full and empty words.
 const PLACES: [usize; 6] = [0, 511, 512, 2047, 2048, 2111];
 
 /// Whether full words are counted as by hand, up to their end.
-fn counts_full(full: &Lent<'_>) -> bool {
+fn counts_full<I: Rank + Select + Select0>(full: &I) -> bool {
     let mut agrees = full.try_select(2112) == None;
     for place in PLACES {
         agrees &= (full.try_rank(place), full.try_select(place)) == (Some(place), Some(place));
@@ -100,7 +109,7 @@ fn counts_full(full: &Lent<'_>) -> bool {
 }
 
 /// Whether empty words are counted as by hand, up to their end.
-fn counts_empty(empty: &Lent<'_>) -> bool {
+fn counts_empty<I: Rank + Select + Select0>(empty: &I) -> bool {
     let mut agrees = empty.try_select0(2112) == None;
     for place in PLACES {
         agrees &= (empty.try_rank0(place), empty.try_select0(place)) == (Some(place), Some(place));
@@ -109,38 +118,36 @@ fn counts_empty(empty: &Lent<'_>) -> bool {
     agrees
 }
 
-/// Whether an index over full words counts them.
-fn full_agrees(alloc: Global) -> Result<bool, AllocError> {
-    let (full, _) = lent(alloc, [u64::MAX; 33].as_slice())?;
-    Ok(counts_full(&full))
-}
-
-/// Whether one over empty words counts these.
-fn empty_agrees(alloc: Global) -> Result<bool, AllocError> {
-    let (empty, _) = lent(alloc, [0u64; 33].as_slice())?;
-    Ok(counts_empty(&empty))
+/// Whether indexes over full and over empty words count them.
+fn both_agree<S: SelectForRank101111, S0: Select0ForRank101111>(alloc: Global) -> bool {
+    let agrees = match lent::<S, S0>(alloc, [u64::MAX; 33].as_slice()) {
+        Ok((full, _)) => counts_full(&full),
+        Err(_) => false,
+    };
+    agrees
+        && match lent::<S, S0>(alloc, [0; 33].as_slice()) {
+            Ok((empty, _)) => counts_empty(&empty),
+            Err(_) => false,
+        }
 }
 
 #[test]
-fn full_and_empty_words_are_counted_to_the_end(rt: HostRuntime) -> Result<(), AllocError> {
-    assert!(rt; full_agrees(rt.alloc())? && empty_agrees(rt.alloc())?);
-    Ok(())
+fn full_and_empty_words_are_counted_to_the_end(rt: HostRuntime) {
+    assert!(rt; both_agree::<BinaryRankSearch, BinaryRankSearch>(rt.alloc()));
 }
 
-/// The words of 2048 bits, of which one is set.
-fn one_set(alloc: Global) -> Result<BoxedSlice<u64, Global>, Fail> {
-    let mut content = BoxedSlice::with_zeroed_bits(alloc, 2048)?;
-    let mut bits = content.as_mut_slice();
-    bits.set_bit(100);
-    if bits.get_bits(99, 5) == 0b00010 {
-        Ok(content)
-    } else {
-        Err("the bit is not set".into())
+/// Sets one of 2048 bits, and returns whether it is set then.
+fn is_set(words: &mut [u64]) -> bool {
+    if words.len() != 32 {
+        return false;
     }
+    let mut bits = words;
+    bits.set_bit(100);
+    bits.get_bits(99, 5) == 0b00010
 }
 
 /// Whether an index over one bit that is set, and the number of 1 bits, are as by hand.
-fn counts_one(index: &ArrayWithRank101111, ones: usize) -> bool {
+fn counts_one<I: Rank>(index: &I, ones: usize) -> bool {
     let mut agrees = ones == 1;
     for (place, count) in [(100, 0), (101, 1), (999, 1)] {
         agrees &= index.try_rank(place) == Some(count);
@@ -148,12 +155,30 @@ fn counts_one(index: &ArrayWithRank101111, ones: usize) -> bool {
     agrees
 }
 
+/// Whether such an index is, over these words.
+fn one_is_counted<S: SelectForRank101111, S0: Select0ForRank101111>(
+    alloc: Global,
+    words: &[u64],
+) -> bool {
+    match owned::<S, S0>(alloc, words) {
+        Ok((index, ones)) => counts_one(&index, ones),
+        Err(_) => false,
+    }
+}
+
+/// Whether one bit of 2048 can be set, and an index counts it.
+fn set_is_counted<S: SelectForRank101111, S0: Select0ForRank101111>(alloc: Global) -> bool {
+    match BoxedSlice::<u64, Global>::with_zeroed_bits(alloc, 2048) {
+        Ok(mut content) => {
+            is_set(content.as_mut_slice()) && one_is_counted::<S, S0>(alloc, content.as_slice())
+        }
+        Err(_) => false,
+    }
+}
+
 #[test]
-fn one_bit_that_is_set_counts_from_the_next_place_on(rt: HostRuntime) -> Result<(), Fail> {
-    let content = one_set(rt.alloc())?;
-    let (index, ones) = owned(rt.alloc(), content.as_slice())?;
-    assert!(rt; counts_one(&index, ones));
-    Ok(())
+fn one_bit_that_is_set_counts_from_the_next_place_on(rt: HostRuntime) {
+    assert!(rt; set_is_counted::<BinaryRankSearch, BinaryRankSearch>(rt.alloc()));
 }
 
 #[test]

@@ -1,10 +1,12 @@
 //! What the tests share: indexes over words, one walk over their bits, which counts them one by one, and whether what
 //! an index answers agrees with it. The walk stands on a read of one bit and on nothing of the index. Each call says
 //! whether all agrees, and a test asserts it.
+//!
+//! A function that makes an index hands it on by a reference, so that those who compare own nothing: this is proved
+//! far faster.
 use bitm::{
-    AdaptiveCombinedSamplingDensity, ArrayWithRank101111, BinaryRankSearch, BitAccess,
-    CombinedSampling, Rank, RankSelect101111, Select, Select0, Select0ForRank101111,
-    SelectForRank101111,
+    AdaptiveCombinedSamplingDensity, BitAccess, CombinedSampling, Rank, RankSelect101111, Select,
+    Select0, Select0ForRank101111, SelectForRank101111,
 };
 use std::alloc::{AllocError, Global};
 use std::boxed::BoxedSlice;
@@ -13,72 +15,32 @@ use std::convert::AsSlice;
 /// Selection by samples, as the tests use it.
 pub type Sampled = CombinedSampling<AdaptiveCombinedSamplingDensity<13>>;
 
+/// An index over borrowed words.
+pub type Lent<'a, S, S0> = RankSelect101111<S, S0, &'a [u64]>;
+
+/// An index over words of its own.
+pub type Owned<S, S0> = RankSelect101111<S, S0, BoxedSlice<u64, Global>>;
+
 /// More words than any test has.
 const TOO_MANY_WORDS: usize = 1_000_000;
 
-/// What one walk over the bits finds: the positions of each kind, and the number of 1 bits before each position and
-/// before the end.
-#[derive(Drop)]
-struct Found {
-    ones: Vec<usize>,
-    zeros: Vec<usize>,
-    ranks: Vec<usize>,
-}
-
-/// Walks over the bits, one by one.
-fn walk(alloc: Global, words: &[u64]) -> Result<Found, AllocError> {
-    let mut found = Found {
-        ones: Vec::new(alloc),
-        zeros: Vec::new(alloc),
-        ranks: Vec::new(alloc),
-    };
-    for place in 0..usize::MAX {
-        found.ranks.push(found.ones.len())?;
-        let Some(bit) = words.try_get_bit(place) else {
-            break;
-        };
-        if bit {
-            found.ones.push(place)?;
-        } else {
-            found.zeros.push(place)?;
-        }
-    }
-    Ok(found)
-}
-
-/// The words of runs.
-pub fn words_of(alloc: Global, runs: &[(u64, usize)]) -> Result<Vec<u64>, AllocError> {
-    let mut words = Vec::new(alloc);
-    for (word, count) in runs {
-        for _ in 0..*count {
-            words.push(*word)?;
-        }
-    }
-    Ok(words)
-}
-
-/// An index over borrowed words, and the number of 1 bits; refused where there is no memory or there are too many
-/// words.
-pub fn index_over<'a, S: SelectForRank101111, S0: Select0ForRank101111>(
+/// An index over borrowed words, and the number of 1 bits; the words where there is no memory or there are too many of
+/// them.
+pub fn lent<'a, S: SelectForRank101111, S0: Select0ForRank101111>(
     alloc: Global,
     words: &'a [u64],
-) -> Result<(RankSelect101111<S, S0, &'a [u64]>, usize), AllocError> {
+) -> Result<(Lent<'a, S, S0>, usize), &'a [u64]> {
     if words.len() >= TOO_MANY_WORDS {
-        return Err(AllocError);
+        return Err(words);
     }
-    RankSelect101111::build(alloc, words).map_err(|_| AllocError)
+    RankSelect101111::build(alloc, words)
 }
 
-/// An index over words of its own, which are the same, and the number of ones.
-pub fn owned(alloc: Global, words: &[u64]) -> Result<(ArrayWithRank101111, usize), AllocError> {
-    owned_by::<BinaryRankSearch, BinaryRankSearch>(alloc, words)
-}
-
-/// The same with strategies of the caller's choice.
-pub fn owned_by<S: SelectForRank101111, S0: Select0ForRank101111>(
+/// An index over words of its own, which are the same, and the number of 1 bits.
+pub fn owned<S: SelectForRank101111, S0: Select0ForRank101111>(
     alloc: Global,
     words: &[u64],
-) -> Result<(RankSelect101111<S, S0, BoxedSlice<u64, Global>>, usize), AllocError> {
+) -> Result<(Owned<S, S0>, usize), AllocError> {
     let content = BoxedSlice::from_slice(alloc, words)?;
     if content.as_slice().len() >= TOO_MANY_WORDS {
         return Err(AllocError);
@@ -88,7 +50,10 @@ pub fn owned_by<S: SelectForRank101111, S0: Select0ForRank101111>(
 
 /// Whether the calls of rank at one place give the ones before it.
 pub fn rank_agrees<I: Rank>(index: &I, place: usize, ones: Option<usize>) -> bool {
-    let zeros = ones.map(|count| place.wrapping_sub(count));
+    let zeros = match ones {
+        Some(count) => Some(place.wrapping_sub(count)),
+        None => None,
+    };
     let tried = (index.try_rank(place), index.try_rank0(place)) == (ones, zeros);
     if !tried || index.try_rank(place).is_none() {
         return tried;
@@ -123,53 +88,81 @@ pub fn zero_agrees<I: Select0>(index: &I, rank: usize, place: Option<usize>) -> 
     found == place && plain == (place, place)
 }
 
-/// Whether all calls agree at every place and rank, to two past the end and at the greatest number.
-fn all_found<I: Rank + Select + Select0>(index: &I, found: &Found) -> bool {
-    for asked in (0..found.ranks.len().saturating_add(2)).chain([usize::MAX]) {
-        let agrees = rank_agrees(index, asked, found.ranks.get(asked).copied())
-            && one_agrees(index, asked, found.ones.get(asked).copied())
-            && zero_agrees(index, asked, found.zeros.get(asked).copied());
-        if !agrees {
-            return false;
+/// Whether no call answers from these numbers of bits on, to two past the length and at the greatest number.
+fn ends_agree<I: Rank + Select + Select0>(index: &I, ones: usize, zeros: usize) -> bool {
+    let len = ones.saturating_add(zeros);
+    let mut agrees = true;
+    for k in 0..len.saturating_add(4) {
+        let asked = if k < len.saturating_add(3) {
+            k
+        } else {
+            usize::MAX
+        };
+        agrees &= asked <= len || rank_agrees(index, asked, None);
+        agrees &= asked < ones || one_agrees(index, asked, None);
+        agrees &= asked < zeros || zero_agrees(index, asked, None);
+    }
+    agrees
+}
+
+/// Whether all calls agree with a walk over the bits at every position and rank, to two past the end and at the
+/// greatest number; with the number of 1 bits that it finds.
+fn walk_agrees<I: Rank + Select + Select0>(index: &I, words: &[u64]) -> (bool, usize) {
+    let (mut ones, mut zeros) = (0usize, 0usize);
+    let mut agrees = true;
+    for place in 0..usize::MAX {
+        agrees &= rank_agrees(index, place, Some(ones));
+        match words.try_get_bit(place) {
+            Some(true) => {
+                agrees &= one_agrees(index, ones, Some(place));
+                ones = ones.wrapping_add(1);
+            }
+            Some(false) => {
+                agrees &= zero_agrees(index, zeros, Some(place));
+                zeros = zeros.wrapping_add(1);
+            }
+            None => break,
         }
     }
-    true
+    (agrees && ends_agree(index, ones, zeros), ones)
 }
 
 /// Whether all answers over borrowed words, and the number of 1 bits, are those of a walk.
 pub fn all_agree<S: SelectForRank101111, S0: Select0ForRank101111>(
     alloc: Global,
     words: &[u64],
-) -> Result<bool, AllocError> {
-    let found = walk(alloc, words)?;
-    let (index, total) = index_over::<S, S0>(alloc, words)?;
-    Ok(total == found.ones.len() && all_found(&index, &found))
+) -> bool {
+    match lent::<S, S0>(alloc, words) {
+        Ok((index, total)) => walk_agrees(&index, words) == (true, total),
+        Err(_) => false,
+    }
 }
 
-/// Whether all answers over the given number of words agree: all 0 bits, all 1 bits, and with the last bit alone set.
+/// Whether all answers over the given number of words, at most 60, agree: all 0 bits, all 1 bits, and with the last bit
+/// alone set.
 fn forms_agree<S: SelectForRank101111, S0: Select0ForRank101111>(
     alloc: Global,
     len: usize,
-) -> Result<bool, AllocError> {
-    let runs = [(0, len), (u64::MAX, len)];
-    for run in runs {
-        let words = words_of(alloc, &[run])?;
-        if !all_agree::<S, S0>(alloc, words.as_slice())? {
-            return Ok(false);
-        }
+) -> bool {
+    let mut last = [0; 60];
+    if len > 60 {
+        return false;
     }
-    let last = words_of(alloc, &[(0, len.saturating_sub(1)), (1 << 63, len.min(1))])?;
-    all_agree::<S, S0>(alloc, last.as_slice())
+    if len > 0 {
+        last[len - 1] = 1 << 63;
+    }
+    let mut agrees = true;
+    for words in [&[0; 60][..len], &[u64::MAX; 60][..len], &last[..len]] {
+        agrees &= all_agree::<S, S0>(alloc, words);
+    }
+    agrees
 }
 
 /// Whether all answers over each of these forms agree, of no words up to 60.
-pub fn borders_agree<S: SelectForRank101111, S0: Select0ForRank101111>(
-    alloc: Global,
-) -> Result<bool, AllocError> {
+pub fn borders_agree<S: SelectForRank101111, S0: Select0ForRank101111>(alloc: Global) -> bool {
+    let mut agrees = true;
     for len in [0, 1, 9, 32, 33, 60] {
-        if !forms_agree::<S, S0>(alloc, len)? {
-            return Ok(false);
-        }
+        agrees &= forms_agree::<S, S0>(alloc, len);
     }
-    Ok(true)
+    agrees
 }

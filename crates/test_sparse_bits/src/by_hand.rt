@@ -1,14 +1,38 @@
 //! Answers, sizes and errors that are worked out by hand.
-use bitm::{Access, BitAccess, GetSize, HasBits, Rank, Select, Select0, ranges};
-use sparse_bits::{BinarySparseBits, SampledSparseBits, SparseError};
-use std::process::Abort;
-use std::test::Fail;
+//!
+//! A function that makes bits hands them on by a reference, so that those who compare own nothing: this is proved far
+//! faster.
+use crate::walks::Sampled;
+use bitm::{
+    Access, BinaryRankSearch, BitVec, GetSize, HasBits, Rank, Select, Select0,
+    Select0ForRank101111, SelectForRank101111, ranges,
+};
+use sparse_bits::{BinarySparseBits, SampledSparseBits, SparseBits, SparseError};
+use std::alloc::Global;
+use std::boxed::BoxedSlice;
+use std::convert::AsSlice;
 
-/// Stops where 1 bits at 3, 100, 101 and 4000, of 5000 bits, are ranked or read otherwise than by hand.
-fn expect_ranks<I: Access>(rt: &impl Abort, bits: &I) {
-    assert!(rt; bits.len() == 5000);
-    let ranks = [
-        (0usize, Some(0usize)),
+/// A query, with its answer.
+type Row = (usize, Option<usize>);
+
+/// Positions of 1 bits among `len` bits, with rows of `try_rank`, of `try_get_bit`, of `try_select` and of
+/// `try_select0`.
+#[derive(Clone, Copy)]
+struct Case<'a> {
+    positions: &'a [u64],
+    len: usize,
+    ranks: &'a [Row],
+    read: &'a [(usize, Option<bool>)],
+    ones: &'a [Row],
+    zeros: &'a [Row],
+}
+
+/// Four 1 bits of 5000.
+const FEW: Case<'static> = Case {
+    positions: &[3, 100, 101, 4000],
+    len: 5000,
+    ranks: &[
+        (0, Some(0)),
         (3, Some(0)),
         (4, Some(1)),
         (101, Some(2)),
@@ -17,39 +41,25 @@ fn expect_ranks<I: Access>(rt: &impl Abort, bits: &I) {
         (5000, Some(4)),
         (5001, None),
         (usize::MAX, None),
-    ];
-    for (index, rank) in ranks {
-        assert!(rt; bits.try_rank(index) == rank);
-        assert!(rt; bits.try_rank0(index) == rank.map(|ones| index.wrapping_sub(ones)));
-    }
-    let read = [
-        (3usize, Some(true)),
+    ],
+    read: &[
+        (3, Some(true)),
         (4, Some(false)),
         (100, Some(true)),
         (4999, Some(false)),
         (5000, None),
         (usize::MAX, None),
-    ];
-    for (place, bit) in read {
-        assert!(rt; bits.try_get_bit(place) == bit);
-    }
-}
-
-/// Stops where these bits are selected otherwise than by hand.
-fn expect_selections<I: Select + Select0>(rt: &impl Abort, bits: &I) {
-    let ones = [
-        (0usize, Some(3usize)),
+    ],
+    ones: &[
+        (0, Some(3)),
         (1, Some(100)),
         (2, Some(101)),
         (3, Some(4000)),
         (4, None),
         (usize::MAX, None),
-    ];
-    for (rank, place) in ones {
-        assert!(rt; bits.try_select(rank) == place);
-    }
-    let zeros = [
-        (0usize, Some(0usize)),
+    ],
+    zeros: &[
+        (0, Some(0)),
         (2, Some(2)),
         (3, Some(4)),
         (98, Some(99)),
@@ -59,131 +69,280 @@ fn expect_selections<I: Select + Select0>(rt: &impl Abort, bits: &I) {
         (4995, Some(4999)),
         (4996, None),
         (usize::MAX, None),
-    ];
-    for (rank, place) in zeros {
-        assert!(rt; bits.try_select0(rank) == place);
+    ],
+};
+
+/// The first and the last one of as many bits as there can be.
+const LONGEST: Case<'static> = Case {
+    positions: &[0, u64::MAX - 1],
+    len: usize::MAX,
+    ranks: &[(usize::MAX, Some(2)), (usize::MAX - 1, Some(1))],
+    read: &[(usize::MAX - 1, Some(true)), (usize::MAX, None)],
+    ones: &[(1, Some(usize::MAX - 1)), (2, None)],
+    zeros: &[
+        (0, Some(1)),
+        (usize::MAX - 3, Some(usize::MAX - 2)),
+        (usize::MAX - 2, None),
+    ],
+};
+
+/// No bits.
+const NONE: Case<'static> = Case {
+    positions: &[],
+    len: 0,
+    ranks: &[(0, Some(0)), (1, None)],
+    read: &[],
+    ones: &[(0, None)],
+    zeros: &[(0, None)],
+};
+
+/// Whether both ranks of an index, and the bits that are read, are those of the rows.
+fn ranks_agree<I: Access>(bits: &I, case: &Case<'_>) -> bool {
+    let mut agrees = bits.len() == case.len;
+    for (index, ones) in case.ranks {
+        let zeros = match ones {
+            Some(count) => Some(index.wrapping_sub(*count)),
+            None => None,
+        };
+        agrees &= bits.try_rank(*index) == *ones && bits.try_rank0(*index) == zeros;
+    }
+    for (place, bit) in case.read {
+        agrees &= bits.try_get_bit(*place) == *bit;
+    }
+    agrees
+}
+
+/// Whether selections of both kinds are those of the rows.
+fn selections_agree<I: Select + Select0>(bits: &I, case: &Case<'_>) -> bool {
+    let mut agrees = true;
+    for (rank, place) in case.ones {
+        agrees &= bits.try_select(*rank) == *place;
+    }
+    for (rank, place) in case.zeros {
+        agrees &= bits.try_select0(*rank) == *place;
+    }
+    agrees
+}
+
+/// Whether a copy of the bits has the same ranks, and reads the same bits.
+fn copy_agrees<S: SelectForRank101111, S0: Select0ForRank101111>(
+    alloc: Global,
+    bits: &SparseBits<S, S0>,
+    case: &Case<'_>,
+) -> bool {
+    match bits.try_clone(alloc) {
+        Ok(copy) => ranks_agree(&copy, case),
+        Err(_) => false,
     }
 }
 
-/// Stops where the nearest bits of a position are others than by hand.
-fn expect_nearest<I: Rank + Select + Select0>(rt: &impl Abort, bits: &I) {
+/// Whether the bits of a case, and a copy of them, answer what its rows say.
+fn case_agrees<S: SelectForRank101111, S0: Select0ForRank101111>(
+    alloc: Global,
+    case: &Case<'_>,
+) -> bool {
+    match SparseBits::<S, S0>::build(alloc, case.positions, case.len) {
+        Ok(bits) => {
+            ranks_agree(&bits, case)
+                && selections_agree(&bits, case)
+                && copy_agrees(alloc, &bits, case)
+        }
+        Err(_) => false,
+    }
+}
+
+/// Whether the nearest 1 bits and 0 bits of a position are those by hand, among the four 1 bits of 5000.
+fn nearest_agree<I: Rank + Select + Select0>(bits: &I) -> bool {
     if bits.len() < 5000 {
-        return;
+        return false;
     }
-    assert!(rt; ranges::next_one(bits, 4) == Some(100) && ranges::next_one(bits, 4001) == None);
-    assert!(rt; ranges::next_zero(bits, 100) == Some(102) && ranges::next_zero(bits, 5000) == None);
-    assert!(rt; ranges::previous_one(bits, 99) == Some(3) && ranges::previous_one(bits, 2) == None);
-    assert!(rt; ranges::previous_zero(bits, 101) == Some(99));
-    assert!(rt;
-        ranges::ones_between(bits, 4, 4000) == 2 && ranges::zeros_between(bits, 99, 103) == 2
-    );
-    assert!(rt;
-        ranges::select_from(bits, 4, 2) == Some(4000) && ranges::select0_from(bits, 3, 0) == Some(4)
-    );
+    let mut agrees = ranges::next_one(bits, 4) == Some(100);
+    agrees &= ranges::next_one(bits, 4001) == None;
+    agrees &= ranges::next_zero(bits, 100) == Some(102);
+    agrees &= ranges::next_zero(bits, 5000) == None;
+    agrees &= ranges::previous_one(bits, 99) == Some(3);
+    agrees &= ranges::previous_one(bits, 2) == None;
+    agrees && ranges::previous_zero(bits, 101) == Some(99)
+}
+
+/// Whether what is counted in a range, or selected from a position on, is so by hand.
+fn ranges_agree<I: Rank + Select + Select0>(bits: &I) -> bool {
+    if bits.len() < 5000 {
+        return false;
+    }
+    let mut agrees = ranges::ones_between(bits, 4, 4000) == 2;
+    agrees &= ranges::zeros_between(bits, 99, 103) == 2;
+    agrees &= ranges::select_from(bits, 4, 2) == Some(4000);
+    agrees && ranges::select0_from(bits, 3, 0) == Some(4)
+}
+
+/// Whether the bits have as many of each kind as by hand.
+fn counts_agree<S: SelectForRank101111, S0: Select0ForRank101111>(
+    bits: &SparseBits<S, S0>,
+) -> bool {
+    let agrees = bits.count_bit_ones() == 4 && bits.count_bit_zeros() == 4996;
+    agrees && bits.positions().len() == 4
+}
+
+/// Whether the four 1 bits of 5000 are counted and found so.
+fn few_agree<S: SelectForRank101111, S0: Select0ForRank101111>(alloc: Global) -> bool {
+    match SparseBits::<S, S0>::build(alloc, FEW.positions, FEW.len) {
+        Ok(bits) => nearest_agree(&bits) && ranges_agree(&bits) && counts_agree(&bits),
+        Err(_) => false,
+    }
 }
 
 #[test]
-fn few_ones_are_ranked_and_selected_as_by_hand(rt: HostRuntime) -> Result<(), Fail> {
-    let positions = [3u64, 100, 101, 4000];
-    let sampled = SampledSparseBits::build(rt.alloc(), positions.as_slice(), 5000)?;
-    let binary = BinarySparseBits::build(rt.alloc(), positions.as_slice(), 5000)?;
-    expect_ranks(&rt, &sampled);
-    expect_ranks(&rt, &binary);
-    expect_selections(&rt, &sampled);
-    expect_selections(&rt, &binary);
-    expect_nearest(&rt, &sampled);
-    expect_nearest(&rt, &binary);
-    assert!(rt; sampled.count_bit_ones() == 4 && sampled.count_bit_zeros() == 4996);
-    assert!(rt; sampled.positions().len() == 4);
-    let copy = sampled.try_clone(rt.alloc())?;
-    expect_ranks(&rt, &copy);
-    Ok(())
+fn few_ones_are_ranked_and_selected_as_by_hand(rt: HostRuntime) {
+    let alloc = rt.alloc();
+    let sampled = case_agrees::<Sampled, Sampled>(alloc, &FEW);
+    let binary = case_agrees::<BinaryRankSearch, BinaryRankSearch>(alloc, &FEW);
+    assert!(rt; sampled && binary);
+    let sampled = few_agree::<Sampled, Sampled>(alloc);
+    let binary = few_agree::<BinaryRankSearch, BinaryRankSearch>(alloc);
+    assert!(rt; sampled && binary);
 }
 
 #[test]
-fn the_ends_of_the_longest_bits_are_ranked_and_selected(rt: HostRuntime) -> Result<(), Fail> {
-    let positions = [0u64, u64::MAX - 1];
-    let bits = SampledSparseBits::build(rt.alloc(), positions.as_slice(), usize::MAX)?;
-    assert!(rt; bits.try_rank(usize::MAX) == Some(2) && bits.try_rank(usize::MAX - 1) == Some(1));
-    assert!(rt; bits.try_select(1) == Some(usize::MAX - 1) && bits.try_select(2) == None);
-    assert!(rt; bits.try_select0(0) == Some(1));
-    assert!(rt; bits.try_select0(usize::MAX - 3) == Some(usize::MAX - 2));
-    assert!(rt; bits.try_select0(usize::MAX - 2) == None);
-    assert!(rt;
-        bits.try_get_bit(usize::MAX - 1) == Some(true) && bits.try_get_bit(usize::MAX) == None
-    );
-    let none = SampledSparseBits::build(rt.alloc(), [].as_slice(), 0)?;
-    assert!(rt; none.try_rank(0) == Some(0) && none.try_rank(1) == None);
-    assert!(rt; none.try_select(0) == None && none.try_select0(0) == None);
-    Ok(())
+fn the_ends_of_the_longest_bits_are_ranked_and_selected(rt: HostRuntime) {
+    assert!(rt; case_agrees::<Sampled, Sampled>(rt.alloc(), &LONGEST));
+    assert!(rt; case_agrees::<Sampled, Sampled>(rt.alloc(), &NONE));
+}
+
+/// Writes multiples of a number, from 0 on.
+fn write_multiples(positions: &mut [u64], apart: u64) {
+    for i in 0..positions.len() {
+        positions[i] = (i as u64).wrapping_mul(apart);
+    }
+}
+
+/// How many bytes sparse bits take; `None` where they are refused.
+fn bytes_of<S: SelectForRank101111 + GetSize, S0: Select0ForRank101111 + GetSize>(
+    alloc: Global,
+    positions: &[u64],
+    len: usize,
+) -> Option<usize> {
+    match SparseBits::<S, S0>::build(alloc, positions, len) {
+        Ok(bits) => Some(bits.size_bytes_dyn()),
+        Err(_) => None,
+    }
+}
+
+/// How many bytes they take with the given number of 1 bits, the given number of bits apart.
+fn bytes_apart<S: SelectForRank101111 + GetSize, S0: Select0ForRank101111 + GetSize>(
+    alloc: Global,
+    count: usize,
+    apart: u64,
+) -> Option<usize> {
+    match BoxedSlice::<u64, Global>::with_64bit_segments(alloc, 0, count) {
+        Ok(mut positions) => {
+            write_multiples(positions.as_mut_slice(), apart);
+            let len = (count as u64).wrapping_mul(apart) as usize;
+            bytes_of::<S, S0>(alloc, positions.as_slice(), len)
+        }
+        Err(_) => None,
+    }
+}
+
+/// How many bytes the bits of a full word take.
+fn bytes_of_full(alloc: Global) -> Option<usize> {
+    match BinarySparseBits::build_from_words(alloc, [u64::MAX].as_slice()) {
+        Ok(bits) => Some(bits.size_bytes_dyn()),
+        Err(_) => None,
+    }
 }
 
 #[test]
-fn sizes_are_those_of_the_published_formula(rt: HostRuntime) -> Result<(), Fail> {
+fn sizes_are_those_of_the_published_formula(rt: HostRuntime) {
     // 1000 1 bits, 1000 apart: 999000 / 1000 has 10 binary digits, so 9 low bits each, 141 words; 1000 + 1951 + 1 upper
     // bits, 47 words, of which the index has 1 upper and 2 lower blocks.
-    let mut positions = Vec::new(rt.alloc());
-    for i in 0..1000u64 {
-        positions.push(i * 1000)?;
-    }
-    let bits = BinarySparseBits::build(rt.alloc(), positions.as_slice(), 1_000_000)?;
-    assert!(rt; bits.size_bytes_dyn() == 8 * (141 + 47 + 1 + 2));
+    let bytes = bytes_apart::<BinaryRankSearch, BinaryRankSearch>(rt.alloc(), 1000, 1000);
     // 64 1 bits of 64: no low bits, 64 + 63 + 1 upper bits, 2 words, 1 upper and 1 lower block
-    let all = BinarySparseBits::build_from_words(rt.alloc(), [u64::MAX].as_slice())?;
-    assert!(rt; all.size_bytes_dyn() == 8 * (2 + 1 + 1));
-    Ok(())
+    let full = bytes_of_full(rt.alloc());
+    assert!(rt; bytes == Some(8 * (141 + 47 + 1 + 2)) && full == Some(8 * (2 + 1 + 1)));
+}
+
+/// How many 1 bits there are, how far apart, and the bytes of an `sd_vector<>` (`size_in_bytes` of sdsl 2.1.1).
+const OF_SDSL: [(usize, u64, usize); 5] = [
+    (1000, 1000, 1798),
+    (100_000, 10, 82_357),
+    (100_000, 1000, 169_845),
+    (1_000_000, 100, 1_201_273),
+    (1_000_000, 4294, 1_826_713),
+];
+
+/// Whether sparse bits of each row take at most the bytes of sdsl.
+fn are_at_most_of_sdsl<S: SelectForRank101111 + GetSize, S0: Select0ForRank101111 + GetSize>(
+    alloc: Global,
+) -> bool {
+    let mut agrees = true;
+    for (count, apart, most) in OF_SDSL.as_slice() {
+        agrees &= match bytes_apart::<S, S0>(alloc, *count, *apart) {
+            Some(bytes) => bytes <= *most,
+            None => false,
+        };
+    }
+    agrees
 }
 
 #[test]
-fn sizes_are_at_most_those_of_sdsl(rt: HostRuntime) -> Result<(), Fail> {
-    // how many 1 bits there are, how far apart, and the bytes of an `sd_vector<>` (`size_in_bytes` of sdsl 2.1.1)
-    let rows = [
-        (1000u64, 1000u64, 1798usize),
-        (100_000, 10, 82_357),
-        (100_000, 1000, 169_845),
-        (1_000_000, 100, 1_201_273),
-        (1_000_000, 4294, 1_826_713),
-    ];
-    for (count, apart, bytes) in rows {
-        let mut positions = Vec::new(rt.alloc());
-        for i in 0..count {
-            positions.push(i.wrapping_mul(apart))?;
-        }
-        let len = count.wrapping_mul(apart) as usize;
-        let bits = SampledSparseBits::build(rt.alloc(), positions.as_slice(), len)?;
-        assert!(rt; bits.size_bytes_dyn() <= bytes);
+fn sizes_are_at_most_those_of_sdsl(rt: HostRuntime) {
+    assert!(rt; are_at_most_of_sdsl::<Sampled, Sampled>(rt.alloc()));
+}
+
+/// Positions and lengths that are refused, and why.
+const REFUSED: [([u64; 3], usize, SparseError); 6] = [
+    ([3, 3, 4], 10, SparseError::NotRising),
+    ([3, 5, 4], 10, SparseError::NotRising),
+    ([3, 5, 4], 2, SparseError::NotRising),
+    ([3, 4, 10], 10, SparseError::PastEnd),
+    ([3, 4, u64::MAX], usize::MAX, SparseError::PastEnd),
+    ([0, 1, 2], 0, SparseError::PastEnd),
+];
+
+/// Why positions are refused; `None` where they are not.
+fn refused(alloc: Global, positions: &[u64], len: usize) -> Option<SparseError> {
+    match SampledSparseBits::build(alloc, positions, len) {
+        Ok(_) => None,
+        Err(error) => Some(error),
     }
-    Ok(())
+}
+
+/// Whether each row is refused as it says.
+fn are_refused(alloc: Global) -> bool {
+    let mut agrees = true;
+    for (positions, len, error) in REFUSED.as_slice() {
+        agrees &= refused(alloc, positions.as_slice(), *len) == Some(*error);
+    }
+    agrees
+}
+
+/// The errors, and what they print.
+const TEXTS: [(SparseError, &str); 4] = [
+    (SparseError::TooLong, "there are 2^56 1 bits or more"),
+    (
+        SparseError::NotRising,
+        "a position is not greater than the one before it",
+    ),
+    (
+        SparseError::PastEnd,
+        "a position is not less than the number of bits",
+    ),
+    (SparseError::OutOfMemory, "no memory"),
+];
+
+/// Whether an error prints this text.
+fn says(alloc: Global, error: SparseError, text: &str) -> bool {
+    match format!(in alloc; "{error}") {
+        Ok(made) => made.as_str() == text,
+        Err(_) => false,
+    }
 }
 
 #[test]
-fn errors_are_told_apart_and_print_why(rt: HostRuntime) -> Result<(), Fail> {
-    let refused = [
-        ([3u64, 3, 4], 10usize, SparseError::NotRising),
-        ([3, 5, 4], 10, SparseError::NotRising),
-        ([3, 5, 4], 2, SparseError::NotRising),
-        ([3, 4, 10], 10, SparseError::PastEnd),
-        ([3, 4, u64::MAX], usize::MAX, SparseError::PastEnd),
-        ([0, 1, 2], 0, SparseError::PastEnd),
-    ];
-    for (positions, len, error) in refused {
-        let made = SampledSparseBits::build(rt.alloc(), positions.as_slice(), len);
-        assert!(rt; made.err() == Some(error));
+fn errors_are_told_apart_and_print_why(rt: HostRuntime) {
+    assert!(rt; are_refused(rt.alloc()));
+    for (error, text) in TEXTS {
+        assert!(rt; says(rt.alloc(), error, text));
     }
-    let texts = [
-        (SparseError::TooLong, "there are 2^56 1 bits or more"),
-        (
-            SparseError::NotRising,
-            "a position is not greater than the one before it",
-        ),
-        (
-            SparseError::PastEnd,
-            "a position is not less than the number of bits",
-        ),
-        (SparseError::OutOfMemory, "no memory"),
-    ];
-    for (error, text) in texts {
-        assert!(rt; format!(in rt.alloc(); "{error}")?.as_str() == text);
-    }
-    Ok(())
 }
