@@ -2609,7 +2609,7 @@ BITM_MUST_USE uint32_t bitm_text_len(const struct bitm_text *text, uint64_t *out
 
 /* At how many positions of the text a pattern stands; one of no letters at each position, the end too. A letter or a
  * byte that the text does not have stands nowhere. Reads for each letter of the pattern, and for each bit of the width,
- * at most three upper entries, three lower entries and 27 words.
+ * at most three upper entries, three lower entries and 24 words.
  *
  *     const uint64_t ana[3] = {0, 2, 0}; // of a, b and n
  *     if (bitm_text_count(&text, ana, 3, &value) != BITM_OK || value != 2) return 1; // from 1 and from 3 on */
@@ -2622,7 +2622,8 @@ BITM_MUST_USE uint32_t bitm_text_count_bytes(const struct bitm_text *text, const
  * them, as many as there is room for; and to *written how many these are. Items of out after them stay as they were.
  * Where BITM_WRONG is returned, out may have been written to; *written is as it was. Reads what bitm_text_count reads;
  * and for each position, with n for the step or, if it is less, the text's length and 1, what bitm_text_extract reads for
- * n letters, and of the marks at most n + 2 upper entries, as many lower entries, nine times as many words, and a sample.
+ * n - 1 letters, and of the marks at most n + 2 upper entries, as many lower entries, eight times as many words, and a
+ * sample.
  * out and written may overlap neither each other nor what the call reads.
  *
  *     uint64_t places[4];
@@ -2636,8 +2637,8 @@ BITM_MUST_USE uint32_t bitm_text_locate_bytes(const struct bitm_text *text, cons
 
 /* Writes the out_len letters of the text from position `from` on. BITM_NONE exactly if the text has fewer, and out is as
  * it was then. Where BITM_WRONG is returned, out may have been written to. BITM_BAD_SIZE for bytes also if letters are
- * numbers that may have more than 8 bits. Reads for each letter, and for at most `step` more, or if that is less the
- * text's length and 1, two upper entries, two lower entries and 18 words for each bit of the width, and at most a sample.
+ * numbers that may have more than 8 bits. Reads for each letter, and for at most `step` - 1 more, or if that is less the
+ * text's length, two upper entries, two lower entries and 16 words for each bit of the width, and at most a sample.
  *
  *     uint8_t nan[3];
  *     if (bitm_text_extract_bytes(&text, 2, nan, 3) != BITM_OK || nan[0] != 'n' || nan[1] != 'a' ||

@@ -17,10 +17,7 @@ LEFT = {
     ("bitm_view", "rank_on"): "ranks by ranked_on of lent_tables, which runs total_rank_on",
     ("bitm_view", "select_on"): "selects by search_on, as total_select_on does",
     ("louds", "children_on"): "an index finds both ends by its strategies",
-    ("text_block", "longer_on"): "for the check, where the letters are a matrix, and nothing else is known",
-    **{("text_index", name): "is to become a line over that of text_block, which moves down" for name in (
-        "count_on", "extract_on", "locate_on", "longer_on", "position_on", "positions_on", "row_on", "rows_of_on",
-        "rows_with_on", "sample_on")},
+    ("text_index", "longer_on"): "for the check, where the letters are a matrix, and nothing else is known",
 }
 
 

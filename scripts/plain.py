@@ -41,7 +41,8 @@ sparse_bits/src/sparse.rt try_rank:rank_in+asked+found try_get_bit:bit_in+asked 
     try_select:select_in+asked+found try_select0:select0_in+asked+found
 sparse_block/src/queries.rt rank:_in+asked get_bit:bit_in+asked select:_in+asked select0:_in+asked
 text_index/src/growing.rt extend:rows_with
-text_index/src/index.rt count locate extract rows_of rows_with position
+text_index/src/index.rt count:total_count_on locate:total_locate_on extract:total_extract_on rows_of:total_rows_of_on
+    rows_with:total_rows_with_on position:total_position_on
 text_index/src/matches.rt matches:rows_of
 trie_block/src/queries.rt total_child_by_label_on:child_by_label_by total_find_on:find_by total_longest_on:longest_by
 wavelet_matrix/src/distinct.rt quantile_and_count:total_quantile_and_count_on
@@ -128,7 +129,7 @@ OTHER_WAYS = {
     },
 }
 SOURCES = re.compile(r"crates/(?!test_|example_|program_|tool_)\w+/src/.*\.rt")
-ON_READS = re.compile(r"ReadsAtMost|OnlyReads|OnlyRanks|OnlySelects|OnlySteps|ReadsLabels|ReadsFragments")
+ON_READS = re.compile(r"ReadsAtMost|OnlyReads|OnlyRanks|OnlySelects|ReadsLabels|ReadsFragments")
 TWINS = ("total_{}_on", "{}_on", "total_{}_by", "{}_by", "{}_counted", "try_{}")
 COUNTED = re.compile(r"_(?:on|by|in|with|counted)$")
 PROBES = re.compile(r"\b(?:probe|own_parts|no_source)\(")
@@ -138,11 +139,11 @@ CALL = re.compile(r"\b([a-z_]\w*)(?:::<[^();]*?>)?\(")
 DEFAULT = re.compile(r"match (.*?) \{\s*Some\((\w+)\) => \2,\s*None => unreachable!\(\),\s*\}", re.S)
 ANSWERED = re.compile(
     r"match (.*?) \{\s*Answer::Found\((?:(\w+)|\((\w+), (\w+)\))\) => "
-    r"(?:Some\(\2\),\s*Answer::Absent => None,\s*Answer::Wrong|\2,\s*_|\3\.\.\4,\s*_) => unreachable!\(\),\s*\}", re.S)
+    r"(?:Some\(\2\),\s*Answer::Absent => None,\s*Answer::Wrong|\2,\s*_|\3\.\.\4,\s*_|\{\}\s*_) => unreachable!\(\),\s*\}", re.S)
 SAMPLED = re.compile(r"if samples\.samples\.is_empty\(\) \{\s*return ([^;]*);\s*\}")
 # Calls that read neither words nor tables.
 HANDED = set("""all_parts as_slice by_ones by_zeros hash into_reads is_one keys l1ranks l2ranks len low_digits new
-    no_reads no_source number own_parts parts probe samples sizes tables tables_have_sizes""".split())
+    no_reads no_source number own_parts parts probe samples sizes step tables tables_have_sizes""".split())
 
 
 def does_one(body, counted, more=None):

@@ -2,9 +2,9 @@
 use Rattle.std.specs.Prelude.{ℕ, ◌≤◌, List, length}
 use Rattle.bitm_tables.specs.declared.answer.Answer.{Answer}
 use Rattle.bitm_abi.specs.Status.{Exported}
-use Rattle.text_block.specs.Answers.{ArePositionsOf, ArePositionsWithin, IsCountOf, IsCountWithin, IsPartOf, IsPartWithin}
-use Rattle.text_block.specs.Block.{parts_of, text_of_parts, HasTextLengths, HoldsIndex, TextParts}
-use Rattle.text_block.specs.Bytes.{byte_width, bytes_of_parts}
+use Rattle.text_index.specs.Answers.{ArePositionsOf, ArePositionsWithin, IsCountOf, IsCountWithin, IsPartOf, IsPartWithin}
+use Rattle.text_block.specs.Block.{parts_of, text_of_parts, HasTextLengths, HoldsIndex, TextParts, bytes_of_parts}
+use Rattle.text_index.specs.Bytes.{byte_width}
 use Rattle.bitm_abi.specs.Matrix.{matrix_parts}
 use Rattle.bitm_block_c.specs.declared.text.Text.{Text}
 

@@ -2,10 +2,12 @@
 ghost use Rattle.std.specs.Prelude.{◌≡◌, ◌≢◌, ◌+◌, ◌^◌, ◌<◌, ◌≤◌, ◌↔◌, ◌⊎◌, [], All, length};
 ghost use Rattle.bitm_block.specs.Layout.{end_of};
 ghost use Rattle.text_build.specs.Made.{scratch_for, IsIndexable, IsMadeBlock};
-ghost use Rattle.text_build.specs.Written.{text_sections, width_of_kinds};
+ghost use Rattle.text_build.specs.Written.{text_sections};
+ghost use Rattle.text_index.specs.Text.{width_of_kinds};
 
 use bitm_abi::{BAD_SIZE, OK, WRONG};
-use text_build::{BuildError, build, size, width_for};
+use text_build::{BuildError, build, size};
+use text_index::width_for;
 
 /// Writes how many words the block of a text of `len` letters below `letters` takes, with a sample each `step` letters,
 /// and how many numbers of 32 bits `bitm_text_build` takes.

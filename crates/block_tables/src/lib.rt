@@ -14,5 +14,5 @@ mod tables;
 
 pub use entries::{as_entries, as_entries_mut};
 pub use sections::{has_tables, table_sections, tables_of};
-pub use source::BlockProbe;
+pub use source::probe;
 pub use tables::{are_tables, fill_tables};

@@ -10,8 +10,7 @@ use Rattle.extended_blocks.specs.Texts.{KeepsText}
 use Rattle.lent_levels.specs.Levels.{levels_of}
 use Rattle.lent_tables.specs.Sizes.{lists_of}
 use Rattle.matrix_block.specs.Block.{MatrixParts}
-use Rattle.text_block.specs.Block.{levels_at, lists_at, matrix_of, parts_in, parts_of, text_of_parts, HasTextLengths, HoldsIndex, IsSoundBlock, IsTextBlock, TextParts}
-use Rattle.text_block.specs.Bytes.{bytes_of_parts}
+use Rattle.text_block.specs.Block.{levels_at, lists_at, matrix_of, parts_in, parts_of, text_of_parts, HasTextLengths, HoldsIndex, IsSoundBlock, IsTextBlock, TextParts, bytes_of_parts}
 use Rattle.text_build.specs.Made.{IsByteBlock, IsMadeBlock}
 use Rattle.text_build.specs.Written.{text_head, IsBlockWith}
 use Rattle.text_index.specs.Samples.{Indexed}

@@ -16,7 +16,8 @@ use crate::queries::{
 use crate::sections::{LOUDS, Lens};
 use bitm_block::Block;
 use bitm_tables::answer::Answer;
-use block_tables::{BlockProbe, are_tables};
+use bitm_tables::source::Probe;
+use block_tables::{are_tables, probe};
 use louds::children::{total_child_on, total_degree_on};
 use std::marker::Model;
 
@@ -195,12 +196,12 @@ impl<'a> LoudsView<'a> {
     /// total_parent_on(&mut tree.probe(), tree.len(), 3);   // Found(2)
     /// ```
     #[inline(always)]
-    pub fn probe(&self) -> BlockProbe<'_>
+    pub fn probe(&self) -> Probe<'_>
         ensures lists { result.lists ≡ self.now.lists }
         ensures lengths { HasLengths self.now }
         ensures reads { result.reads ≡ none_read }
     {
-        BlockProbe::new(self.words, self.upper, self.lower)
+        probe(self.words, self.upper, self.lower)
     }
 
     /// Whether the block holds a tree: then the answers are those of the tree.

@@ -10,7 +10,8 @@ ghost use Rattle.matrix_block.specs.Block.{HasLengths, HasMatrixSections, HoldsM
 use crate::sections::{Lens, MATRIX, QUARTERS};
 use bitm_block::Block;
 use bitm_tables::answer::Answer;
-use block_tables::{BlockProbe, are_tables};
+use bitm_tables::source::Probe;
+use block_tables::{are_tables, probe};
 use lent_levels::{LevelsView, are_levels};
 use std::marker::Model;
 
@@ -241,7 +242,7 @@ impl<'a> MatrixView<'a> {
     /// ```
     #[tactic(auto, using(bitm::proofs::BitLaws::bits_are_counted))]
     #[inline(always)]
-    pub fn parts(&self) -> (&LevelsView<'a>, BlockProbe<'_>)
+    pub fn parts(&self) -> (&LevelsView<'a>, Probe<'_>)
         ensures levels { result.0.now ≡ self.now.levels }
         ensures lists { result.1.lists ≡ self.now.lists }
         ensures lengths { HasLengths self.now }
@@ -249,7 +250,7 @@ impl<'a> MatrixView<'a> {
             ≤ length (bits_in self.now.lists) }
         ensures reads { result.1.reads ≡ none_read }
     {
-        let source = BlockProbe::new(self.words, self.upper, self.lower);
+        let source = probe(self.words, self.upper, self.lower);
         (&self.levels, source)
     }
 

@@ -2,8 +2,7 @@
 use Rattle.std.specs.Prelude.{◌≡◌, ℕ, Bool, true, List, Some}
 use Rattle.bitm_block.specs.Header.{IsVerified}
 use Rattle.program_blocks.specs.Bytes.{words_of_bytes}
-use Rattle.text_block.specs.Block.{parts_in, IsSoundBlock, IsTextBlock}
-use Rattle.text_block.specs.Bytes.{bytes_of_parts}
+use Rattle.text_block.specs.Block.{parts_in, IsSoundBlock, IsTextBlock, bytes_of_parts}
 
 -- the bytes are those of the block of this text's index, as it was written
 pub record IsTextFile (bytes text : List ℕ) : Type 0 where

@@ -6,8 +6,7 @@ ghost use Rattle.program_texts.specs.Answers.{is_found, line_of, AreAnswers, Are
 ghost use Rattle.program_texts.specs.Answers.{WroteCounts, WroteLines, WroteOfFile, WrotePositions};
 ghost use Rattle.program_texts.specs.File.{IsOpened, IsTextFile};
 ghost use Rattle.program_texts.specs.Lines.{bytes_in};
-ghost use Rattle.text_block.specs.Block.{parts_in, HoldsIndex};
-ghost use Rattle.text_block.specs.Bytes.{bytes_of_parts};
+ghost use Rattle.text_block.specs.Block.{parts_in, HoldsIndex, bytes_of_parts};
 
 use crate::command::Asked;
 use crate::failure::Failure;

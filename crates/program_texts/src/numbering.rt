@@ -2,8 +2,7 @@
 ghost use Rattle.std.specs.Prelude.{◌≡◌, ◌<◌, ◌^◌, All, IfOk, IsErrOf, length};
 ghost use Rattle.std.specs.List.Sorted.{IsNonDecreasing, IsStrictlyIncreasing};
 ghost use Rattle.program_texts.specs.Lines.{bytes_in, line_among, AreLinesOf, LinesWith};
-ghost use Rattle.text_block.specs.Block.{HoldsIndex};
-ghost use Rattle.text_block.specs.Bytes.{bytes_of_parts};
+ghost use Rattle.text_block.specs.Block.{HoldsIndex, bytes_of_parts};
 
 use crate::failure::Failure;
 use crate::places::{places, positions};

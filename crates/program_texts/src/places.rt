@@ -3,8 +3,7 @@ ghost use Rattle.std.specs.Prelude.{◌≡◌, ◌+◌, ◌≤◌, All, IfOk, Is
 ghost use Rattle.std.specs.List.Sorted.{IsNonDecreasing, IsStrictlyIncreasing};
 ghost use Rattle.program_texts.specs.Answers.{AreFound, ArePositions};
 ghost use Rattle.program_texts.specs.Lines.{bytes_in, AreFoundOf, ArePlacesOf};
-ghost use Rattle.text_block.specs.Block.{HoldsIndex};
-ghost use Rattle.text_block.specs.Bytes.{bytes_of_parts};
+ghost use Rattle.text_block.specs.Block.{HoldsIndex, bytes_of_parts};
 ghost use Rattle.text_index.specs.Text.{occurrences};
 
 use crate::failure::Failure;

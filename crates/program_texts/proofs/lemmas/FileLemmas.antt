@@ -4,8 +4,8 @@ use Rattle.std.specs.Prelude.{unwrap_or}
 use Rattle.program_blocks.specs.Bytes.{words_of_bytes}
 use Rattle.program_texts.specs.File.{IsOpened, IsTextFile}
 use Rattle.std.proofs.lemmas.List.{length-map}
-use Rattle.text_block.specs.Block.{parts_in, text_of_parts, HoldsIndex, TextParts}
-use Rattle.text_block.specs.Bytes.{byte_of_letter, bytes_of_parts}
+use Rattle.text_block.specs.Block.{parts_in, text_of_parts, HoldsIndex, TextParts, bytes_of_parts}
+use Rattle.text_index.specs.Bytes.{byte_of_letter}
 use Rattle.text_index.proofs.lemmas.PartLemmas.{part-len}
 
 -- the text is as long as the parts say

@@ -1,7 +1,6 @@
 -- What is answered is told by the status.
 use Rattle.std.proofs.Common.{subst, ◌≤◌}
-use Rattle.text_block.specs.Block.{TextParts}
-use Rattle.text_block.specs.Bytes.{bytes_of_parts}
+use Rattle.text_block.specs.Block.{TextParts, bytes_of_parts}
 use Rattle.bitm_block_c.specs.Text.{width_of_bytes}
 use Rattle.bitm_block_c.proofs.TextLemmas.{narrow, part_told}
 use Rattle.bitm_block_c.proofs.text_queries.bitm_text_extract_bytes.Goals as goal

@@ -1,6 +1,6 @@
 -- What is answered is told.
 use Rattle.bitm_abi.proofs.ToldLemmas.{told}
-use Rattle.text_block.specs.Bytes.{bytes_of_parts}
+use Rattle.text_block.specs.Block.{bytes_of_parts}
 use Rattle.bitm_block_c.specs.Text.{ArePositionsIn}
 use Rattle.bitm_block_c.proofs.text_queries.bitm_text_locate_bytes.Goals as goal
 

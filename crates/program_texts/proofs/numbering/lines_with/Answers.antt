@@ -1,7 +1,7 @@
 use Rattle.std.proofs.Common.{◌∙◌, subst, sym}
 use Rattle.std.proofs.lemmas.Map.Keys.{non_decreasing_from_sorted, sorted_from_strictly_increasing}
 use Rattle.std.specs.List.Sorted.{IsNonDecreasing}
-use Rattle.text_block.specs.Bytes.{bytes_of_parts}
+use Rattle.text_block.specs.Block.{bytes_of_parts}
 use Rattle.program_texts.specs.Lines.{bytes_in}
 use Rattle.program_texts.proofs.lemmas.FileLemmas.{text-long}
 use Rattle.program_texts.proofs.lemmas.LineLemmas.{lines-found}

@@ -1,7 +1,6 @@
 use Rattle.std.proofs.Common.{◌≡◌, ◌+◌, ◌≤◌, All, length, map, take}
 use Rattle.program_texts.specs.Lines.{bytes_in}
-use Rattle.text_block.specs.Block.{HoldsIndex}
-use Rattle.text_block.specs.Bytes.{bytes_of_parts}
+use Rattle.text_block.specs.Block.{HoldsIndex, bytes_of_parts}
 use Rattle.text_index.specs.Text.{occurrences}
 use Rattle.program_texts.proofs.places.counts.Given as goal
 

@@ -1,6 +1,6 @@
 use Rattle.std.proofs.Common.{◌≡◌, ◌+◌, ◌≤◌, ◌++◌, All, arith, subst, sym, take, rules}
 use Rattle.std.proofs.lemmas.List.Elements.{All-append}
-use Rattle.text_block.specs.Bytes.{bytes_of_parts}
+use Rattle.text_block.specs.Block.{bytes_of_parts}
 use Rattle.program_texts.proofs.lemmas.FileLemmas.{text-long}
 use Rattle.program_texts.proofs.lemmas.LineLemmas.{bytes-more, places-of-more}
 use Rattle.program_texts.specs.Lines.{bytes_in, AreFoundOf}

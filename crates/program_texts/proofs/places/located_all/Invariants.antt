@@ -1,7 +1,6 @@
 use Rattle.std.proofs.Common.{◌≤◌, All, take}
 use Rattle.program_texts.specs.Lines.{bytes_in, AreFoundOf}
-use Rattle.text_block.specs.Block.{HoldsIndex}
-use Rattle.text_block.specs.Bytes.{bytes_of_parts}
+use Rattle.text_block.specs.Block.{HoldsIndex, bytes_of_parts}
 use Rattle.program_texts.proofs.places.located_all.Given as goal
 
 abbrev pub invariant-loop-pattern : goal.invariant-loop-pattern
