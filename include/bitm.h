@@ -32,8 +32,8 @@
  *   - a call that builds a block compares lengths before it looks at what the lists hold: BITM_BAD_SIZE comes before
  *     BITM_UNSORTED, and that before BITM_WRONG;
  *   - over any tables, stale and hostile ones too, a rank is at most its position and a selection finds a position that
- *     is inside and holds the requested bit; BITM_WRONG says that the tables are not those of the words, but BITM_OK
- *     does not say that they are;
+ *     is inside and holds the requested bit; BITM_WRONG means that the tables do not match the words, but BITM_OK does
+ *     not mean that they do;
  *   - if the tables are those of the words, the answer is that of plain counting, and a query of words and tables never
  *     returns BITM_WRONG. They are if bitm_index_build wrote them or bitm_index_check passes them, as long as neither
  *     words nor tables change afterwards. Samples never change an answer, whatever they hold;
@@ -86,8 +86,8 @@ typedef char bitm_sizes_are_64_bits[sizeof(size_t) == 8 && sizeof(void *) == 8 ?
 #define BITM_VERSION "0.3.0"
 #define BITM_VERSION_NUMBER 300 /* 10000 * major + 100 * minor + patch */
 
-/* Before each call that returns a status: the compiler warns where it is not looked at. Define it as nothing before
- * this file is included if you do not want that. */
+/* Before each call that returns a status: the compiler warns if the status is ignored. Define it as nothing before this
+ * file is included if you do not want that. */
 #ifndef BITM_MUST_USE
 #if defined __GNUC__
 #define BITM_MUST_USE __attribute__((warn_unused_result))
@@ -96,7 +96,7 @@ typedef char bitm_sizes_are_64_bits[sizeof(size_t) == 8 && sizeof(void *) == 8 ?
 #endif
 #endif
 
-/* Before inline functions that are seldom called, and so should not be in the place of their calls. */
+/* Marks inline functions that are rarely called, so that the compiler does not inline them. */
 #if defined __GNUC__
 #define BITM_SELDOM __attribute__((cold))
 #else
@@ -123,10 +123,10 @@ enum bitm_status {
     BITM_OK = 0,       /* the answer was written */
     BITM_NONE = 1,     /* there is no such position, bit, number, node, key or word */
     BITM_BAD_SIZE = 2, /* a length is wrong: see each call; bitm_index_fault, bitm_tree_fault, .. say which one */
-    BITM_WRONG = 3,    /* the tables or samples are not those of the words, the parts not those of a sequence, the
-                        * header or the block is not one, the degrees are those of no tree, the labels are none for a
-                        * tree, a number has more bits than the width, a letter is outside its alphabet, a position is
-                        * bits_len or more, a key does not stand at its number, or two strings are equal */
+    BITM_WRONG = 3,    /* the tables or samples do not match the words, the parts do not form a sequence, the header or
+                        * the block is not one, the degrees do not form a tree, the labels are invalid for a tree, a
+                        * number has more bits than the width, a letter is outside its alphabet, a position is bits_len
+                        * or more, a key does not stand at its number, or two strings are equal */
     BITM_UNSORTED = 4  /* a number is less than the one before it, a position is not greater than the one before it, or
                         * a word does not stand after the one before it */
 };

@@ -1,9 +1,11 @@
-"""Bodies that stand twice, which scripts/thin looks for.
+"""Bodies and names that stand twice, which scripts/thin looks for.
 
 A question has one body, over memory that may hold anything: `total_get_on`. What answers the same question otherwise,
 `get_on` or `get_by`, is a line over it, or over a body that it calls too. So among the functions of a question, which
 their names say, most call another one. Where one is a `total_`, two that call none are a twin if the crate of one stands
-on the other's. LEFT has those that there are, and why; no other may come, and one that is gone has to go there too."""
+on the other's. LEFT has those that there are, and why; no other may come, and one that is gone has to go there too.
+
+A name of a definition stands in one crate. SHARED has the names that stand in several, each for one idea."""
 import collections
 import functools
 import re
@@ -19,6 +21,16 @@ LEFT = {
     ("louds", "children_on"): "an index finds both ends by its strategies",
     ("text_index", "longer_on"): "for the check, where the letters are a matrix, and nothing else is known",
 }
+# The names of definitions that stand in several crates, by the idea of which each is an instance there.
+SHARED = {
+    "a block of a kind": "CanHold IsBlockOf IsSoundBlock StandsIn AreParts HasLengths parts_of sections_of",
+    "why nothing was made": "IsReason",
+    "the text of an error": "build_error_text error_text failure_text",
+    "what a call of C answers":
+        "FindAnswered RankAnswered SelectAnswered NextAnswered PreviousAnswered ChildAnswered",
+    "a command of the program": "command_in IsDone",
+}
+DEFINED = re.compile(r"^(?:abbrev )?pub (?:record |data )?([A-Za-z]\w*)(?: \([^)]*\)| \{[^}]*\})* : ", re.M)
 
 
 @functools.cache
@@ -66,8 +78,22 @@ def twins():
                     yield crate, it, other, beside
 
 
+def look_at_names():
+    """No name of a definition stands in several crates but those of SHARED."""
+    found, shared = collections.defaultdict(set), " ".join(SHARED.values()).split()
+    for file in files():
+        if it := re.fullmatch(r"crates/(?!test_|example_|tool_)(\w+)/specs/.*\.antt", file):
+            for name in DEFINED.findall(read(file)):
+                found[name].add(it[1])
+    for name, where in found.items():
+        claim(len(where) == 1 or name in shared, f"the definition {name} stands in several crates: {sorted(where)}")
+    for name in shared:
+        claim(len(found[name]) > 1, f"scripts/once.py: SHARED has {name}, which does not stand in several crates")
+
+
 def run_once():
-    """No function stands twice but those of LEFT."""
+    """No function stands twice but those of LEFT, and no name of a definition but those of SHARED."""
+    look_at_names()
     found = set()
     for crate, it, other, beside in twins():
         found.add((crate, it.own))

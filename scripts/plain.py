@@ -4,7 +4,7 @@ Such a call is a public function that makes a probe of its tables, or that has a
 `total_find_on`, `find_on`, `find_by` or `find_counted`, with a clause on reads, in its crate or below. It calls its
 twin once, and besides only what hands that its arguments (HANDED): no loop, and no branch but by whether there are
 samples, and in the form of a trait's default, where None is unreachable, or of an owner's call of a body whose answer is
-an `Answer`, where Wrong is. PLAIN has those whose body has another name, or that call one thing more; OTHERS those that
+an `Answer`, where Wrong is, as it is in `right`. PLAIN has those whose body has another name, or that call one thing more; OTHERS those that
 do otherwise, and why."""
 import collections
 import functools
@@ -107,12 +107,12 @@ OTHER_WAYS = {
     },
     "louds/src/node.rt": {
         "ends_after_on(&mut self.probe(), self.len(), node.number, node.place)": "self.is_leaf(node.number)",
-        "match parent_of_by(index,": "self.parent(node.number); match parent_of_by(index,",
+        "parent_of_by(index,": "self.parent(node.number); parent_of_by(index,",
     },
     "louds/src/tree.rt": {
-        "match parent_by(index,": "parent_on(&mut probe, self.len(), node); match parent_by(index,",
+        "parent_by(index,": "parent_on(&mut probe, self.len(), node); parent_by(index,",
         "match is_leaf_by(index,": "self.degree(node); match is_leaf_by(index,",
-        "match child_rank_by(index,": "self.zero(node); match child_rank_by(index,",
+        "child_rank_by(index,": "self.zero(node); child_rank_by(index,",
         "match next_sibling_by(index,":
             "next_sibling_by(index, &mut probe, self.len(), node); match next_sibling_by(index,",
         "match previous_sibling_by(index,": "if node == 0 { return None; } match previous_sibling_by(index,",
@@ -124,8 +124,8 @@ OTHER_WAYS = {
     "wavelet_matrix/src/queries.rt": {
         "match levels.total_nth_by(index,":
             "levels.total_rank_on(&mut probe, number, k); match levels.total_nth_by(index,",
-        "match levels.total_select_by(index,":
-            "levels.total_rank_on(&mut probe, number, k); match levels.total_select_by(index,",
+        "levels.total_select_by(index,":
+            "levels.total_rank_on(&mut probe, number, k); levels.total_select_by(index,",
     },
 }
 SOURCES = re.compile(r"crates/(?!test_|example_|program_|tool_)\w+/src/.*\.rt")
@@ -143,7 +143,7 @@ ANSWERED = re.compile(
 SAMPLED = re.compile(r"if samples\.samples\.is_empty\(\) \{\s*return ([^;]*);\s*\}")
 # Calls that read neither words nor tables.
 HANDED = set("""all_parts as_slice by_ones by_zeros hash into_reads is_one keys l1ranks l2ranks len low_digits new
-    no_reads no_source number own_parts parts probe samples sizes step tables tables_have_sizes""".split())
+    no_reads no_source number own_parts parts probe right samples sizes step tables tables_have_sizes""".split())
 
 
 def does_one(body, counted, more=None):

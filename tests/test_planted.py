@@ -196,10 +196,13 @@ PLANTS = {
     "a role of a caller's own": (
         "numbers", "docs/FORMAT.md", "0x687361686d746962", "0x687361686d746963", "no code has the number 0x687361686d746963"),
     "a status that is excluded": (
-        "promises", "include/bitm.promises", "never NONE: IsCountWithin", "never WRONG: IsCountWithin",
-        "IsCountWithin does not exclude WRONG"),
+        "promises", "include/bitm.promises", "never NONE: AreOccurrencesWithin",
+        "never WRONG: AreOccurrencesWithin", "AreOccurrencesWithin does not exclude WRONG"),
     "a lemma that nothing cites": (
         "thin", "crates/bit_lists/proofs/lemmas/BesideLemmas.antt", "pub number_at-word :", "uncited_lemma : ℕ\n\npub number_at-word :", "nothing cites the lemma uncited_lemma"),
+    "a name of two definitions": (
+        "thin", "crates/sparse_bits/specs/Answers.antt", "abbrev pub IsBitOf :", "abbrev pub IsRanked :",
+        "the definition IsRanked stands in several crates"),
     "a length compared before a call": (
         "thin", "include/bitm/index.hpp", "        return try_near(bitm_index_select, true, rank);",
         "        if (rank >= size()) return maybe_position();\n        return try_near(bitm_index_select, true, rank);",

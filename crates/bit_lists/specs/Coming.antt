@@ -7,9 +7,9 @@ use Rattle.bit_lists.specs.Bits.{low_digits, bits_of}
 use Rattle.bit_lists.specs.Count.{places, as_bit}
 
 -- a word in which the bits of the kind are ones
-abbrev pub word_of : ℕ → ℕ → ℕ
-word_of zero w = bit_not w64 w
-word_of (suc n) w = w
+abbrev pub word_of_kind : ℕ → ℕ → ℕ
+word_of_kind zero w = bit_not w64 w
+word_of_kind (suc n) w = w
 
 -- the places of a kind that are still to come: of the ones left in the current word, whose first place is known, and of
 -- the words after it

@@ -1,6 +1,7 @@
 pub mod Bits
 pub mod Coming
 pub mod Count
+pub mod Kept
 pub mod Laws
 pub mod Number
 pub mod StretchLaws

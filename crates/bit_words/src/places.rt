@@ -3,7 +3,7 @@ ghost use Rattle.std.specs.Prelude.{◌≡◌, ℕ, ◌+◌, ◌*◌, ◌^◌, �
 ghost use Rattle.std.specs.Iterator.{YieldsFirst, item_count, UpTo, at_most};
 ghost use Rattle.std.specs.Iterator.SizeHint.{IsWithinCount};
 ghost use Rattle.bit_lists.specs.Bits.{bits_of, IsShort};
-ghost use Rattle.bit_lists.specs.Coming.{word_of, coming};
+ghost use Rattle.bit_lists.specs.Coming.{coming, word_of_kind};
 ghost use Rattle.bit_lists.specs.Count.{count_before, places, as_bit};
 
 use crate::masks::n_lowest_bits;
@@ -40,7 +40,7 @@ impl<'a, const BIT: u8> Model for BitBIterator<'a, BIT> {
 // The word with ones for the bits of this kind.
 #[inline(always)]
 fn word_of<const BIT: u8>(word: u64) -> u64
-    ensures { result ≡ word_of BIT word }
+    ensures { result ≡ word_of_kind BIT word }
 {
     if BIT == 0 { !word } else { word }
 }

@@ -14,7 +14,7 @@ use Rattle.hash_levels.specs.Numbers.{number_in}
 use Rattle.hash_levels.specs.Places.{place_by, place_in}
 use Rattle.perfect_hash.specs.Asking.{IsBelow, IsNumbered}
 use Rattle.perfect_hash.specs.Listed.{IsNumberTold, IsTotal}
-use Rattle.bitm_abi.specs.Hash.{fall_of, number_of, HashParts, IsHashNumber, IsHashOf}
+use Rattle.bitm_abi.specs.Hash.{fall_of, hash_number, HashLists, IsHashNumber, IsHashOf}
 
 -- where hashes fall without seeds, and with some
 pub falls_plain : (seeds : List ℕ) → length seeds ≡ 0 → fall_of seeds ≡ (λ _. place_in)
@@ -36,7 +36,7 @@ coded limit (Found p) most below = selected_place p (omega (arith, below, most))
 coded limit Absent most below = refl
 coded limit Wrong most below = refl
 
-module _ (h : HashParts) (by : ℕ → ℕ → ℕ → ℕ → ℕ) (same : fall_of h.seeds ≡ by) (lists : Lists) (are : lists ≡ h.lists) (hash : ℕ) where
+module _ (h : HashLists) (by : ℕ → ℕ → ℕ → ℕ → ℕ) (same : fall_of h.seeds ≡ by) (lists : Lists) (are : lists ≡ h.lists) (hash : ℕ) where
   -- where it is sought below some limit
   below_limit : (limit : ℕ) (answer : Answer ℕ) → limit ≤ h.keys → (IsHashOf h → ones_of (bits_in h.lists) ≤ limit)
       → IsTotal by h.sizes limit lists hash answer → IsHashNumber h hash answer

@@ -3,7 +3,7 @@ use Rattle.std.proofs.Common.{◌≡◌, ℕ, zero, suc, ◌+◌, ◌-◌, ◌*�
 use Rattle.std.proofs.Math.Nat.{div-le_self, mul-le-mul_left}
 use Rattle.bitm_strategies.specs.Density.{clamped_log}
 use Rattle.bitm_view.specs.Block.{sample_room}
-use Rattle.bitm_abi.specs.Stored.{IsAlike, IsBounded, IsIndex, IsLaidOut, IsSequence, LiesWithin}
+use Rattle.bitm_abi.specs.Stored.{IsAlike, IsBoundedHeader, IsIndexHeader, IsLaidOut, IsSequenceHeader, LiesWithin}
 use Rattle.bitm_abi.specs.declared.layout.Span.{Span}
 use Rattle.bitm_abi.specs.declared.layout.Stored.{Stored}
 
@@ -17,7 +17,7 @@ room_few words zero = omega arith
 room_few words (suc log) = omega (arith, div-le_self words (2 ^ (clamped_log (suc log) - 6)))
 
 -- neither an index nor a sequence has a part that is too long
-pub bounded : (h : Stored) → IsIndex h ⊎ IsSequence h → IsBounded h
+pub bounded : (h : Stored) → IsIndexHeader h ⊎ IsSequenceHeader h → IsBoundedHeader h
 bounded h (inl i) =
     let short : h.words.len < 2 ^ 58 = omega (arith, i.short, i.words) in
     record {

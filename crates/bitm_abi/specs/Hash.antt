@@ -12,7 +12,7 @@ use Rattle.bitm_abi.specs.declared.hash.Hash.{Hash}
 use Rattle.bitm_abi.specs.declared.hash.SeededHash.{SeededHash}
 
 -- the words of all levels and their tables, the words of each level, the number of keys, and the seeds
-pub record HashParts : Type 0 where
+pub record HashLists : Type 0 where
   pub lists : Lists
   pub sizes : List ℕ
   pub keys : ℕ
@@ -21,14 +21,14 @@ pub record HashParts : Type 0 where
 abbrev pub hash_lists : Hash → Lists
 hash_lists h = lists_of h.index.words.now h.index.upper.now h.index.lower.now
 
-abbrev pub parts_of : Hash → HashParts
+abbrev pub parts_of : Hash → HashLists
 parts_of h = record { lists = hash_lists h; sizes = h.sizes.now; keys = h.keys; seeds = [] }
 
-abbrev pub seeded_parts : SeededHash → HashParts
+abbrev pub seeded_parts : SeededHash → HashLists
 seeded_parts h = record { lists = hash_lists h.hash; sizes = h.hash.sizes.now; keys = h.hash.keys; seeds = h.seeds.now }
 
 -- the lengths are those of a hash: a seed for each word, or none
-pub record CanBeHash (h : HashParts) : Type 0 where
+pub record CanBeHash (h : HashLists) : Type 0 where
   pub tables : HasSizes h.lists
   pub few : length h.sizes ≤ 256
   pub seeds : (length h.seeds ≡ 0) ⊎ (length h.seeds ≡ length h.lists.words)
@@ -39,16 +39,16 @@ fall_of [] = λ _. place_in
 fall_of (seed ∷ seeds) = place_by (seed ∷ seeds)
 
 -- the number of a hash in these levels
-abbrev pub number_of : HashParts → ℕ → Option ℕ
-number_of h = number_in (fall_in (fall_of h.seeds) h.sizes) h.sizes (bits_in h.lists)
+abbrev pub hash_number : HashLists → ℕ → Option ℕ
+hash_number h = number_in (fall_in (fall_of h.seeds) h.sizes) h.sizes (bits_in h.lists)
 
 -- these are levels, with at most as many 1 bits as keys, and their tables
-pub record IsHashOf (h : HashParts) : Type 0 where
+pub record IsHashOf (h : HashLists) : Type 0 where
   pub tables : HasTables h.lists
   pub sized : AreSizes h.sizes (bits_in h.lists)
   pub enough : ones_of (bits_in h.lists) ≤ h.keys
 
 -- the number of a hash, below the number of keys; where the parts are those of a hash, it is the right number
-pub record IsHashNumber (h : HashParts) (hash : ℕ) (answer : Answer ℕ) : Type 0 where
+pub record IsHashNumber (h : HashLists) (hash : ℕ) (answer : Answer ℕ) : Type 0 where
   pub below : IsBelow h.keys answer
-  pub counts : IsHashOf h → IsNumbered (number_of h hash) answer
+  pub counts : IsHashOf h → IsNumbered (hash_number h hash) answer

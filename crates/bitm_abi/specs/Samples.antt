@@ -14,5 +14,5 @@ pub record HasNoSamples (s : Samples) : Type 0 where
   pub starts : length s.starts.now ≡ 0
 
 -- an index's samples of one kind of bit
-abbrev pub samples_in : Bool → Index → Samples
-samples_in one index = if one then index.ones else index.zeros
+abbrev pub index_samples : Bool → Index → Samples
+index_samples one index = if one then index.ones else index.zeros

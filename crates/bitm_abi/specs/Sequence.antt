@@ -4,9 +4,9 @@ use Rattle.std.specs.List.{slice_get, Contains}
 use Rattle.bitm_tables.specs.declared.answer.Answer.{Answer}
 use Rattle.bitm_tables.specs.Tables.{HasSizes, Lists}
 use Rattle.bitm_view.specs.Queries.{selected_by}
-use Rattle.lent_tables.specs.Samples.{not_sampled, sampled, Sampled}
+use Rattle.lent_tables.specs.Samples.{not_sampled, sampled, SampleLists}
 use Rattle.lent_tables.specs.Sizes.{lists_of}
-use Rattle.elias_fano.specs.Answers.{IsLast, IsPlaceOf}
+use Rattle.elias_fano.specs.Answers.{IsPlaceOf, IsPredecessorOf}
 use Rattle.elias_fano.specs.LentParts.{parts_of, ArePartsWithTables, HasLengths, LentParts}
 use Rattle.elias_fano.specs.Told.{ClaimAtMost, ClaimLess, IfLast}
 use Rattle.elias_fano_view.specs.declared.lists.ListAnswer.{ListAnswer}
@@ -26,7 +26,7 @@ abbrev pub lent_parts : Sequence → LentParts
 lent_parts sequence = parts_of sequence.len sequence.width sequence.low.now (lists_of sequence.words.now sequence.upper.now sequence.lower.now)
 
 -- an item of a list of samples; no samples, where there is no such item
-abbrev pub sampled_if : Option Samples → Sampled
+abbrev pub sampled_if : Option Samples → SampleLists
 sampled_if (Some s) = sampled (lent_samples s)
 sampled_if None = not_sampled
 
@@ -38,7 +38,7 @@ sampled_parts sequence = record (lent_parts sequence) {
 }
 
 -- the lengths of a sequence are right
-pub record IsSized (sequence : Sequence) : Type 0 where
+pub record IsSequenceSized (sequence : Sequence) : Type 0 where
   pub tables : HasSizes (lent_parts sequence).upper
   pub lengths : HasLengths (lent_parts sequence)
 
@@ -58,7 +58,7 @@ IsListTold WrongLength n status old new = (status ≡ 2) × (new ≡ old)
 pub record FindsLast (value len width : ℕ) (low : List ℕ) (upper : Lists) (answer : Answer ℕ) : Type 0 where
   pub inside : IsPlaceOf len answer
   pub most : IfLast answer (ClaimAtMost len width low upper value)
-  pub counts : (xs : List ℕ) → ArePartsWithTables xs len width low upper → IsLast xs value answer
+  pub counts : (xs : List ℕ) → ArePartsWithTables xs len width low upper → IsPredecessorOf xs value answer
 
 -- the predecessor in a sequence, whatever samples it has
 abbrev pub IsPredecessor : ℕ → LentParts → Answer ℕ → Type 0

@@ -7,16 +7,16 @@ use Rattle.bitm_abi.specs.declared.layout.Stored.{Stored}
 use Rattle.bitm_abi.specs.declared.sequence.SequenceLens.{SequenceLens}
 
 -- the first multiple of 64 from n on
-abbrev pub aligned : ℕ → ℕ
-aligned n = (n + 63) / 64 * 64
+abbrev pub aligned_bytes : ℕ → ℕ
+aligned_bytes n = (n + 63) / 64 * 64
 
 -- a part of the given number of items from there on
 abbrev pub span_from : ℕ → ℕ → Span
-span_from n len = record { at = aligned n; len = len }
+span_from n len = record { at = aligned_bytes n; len = len }
 
 -- the first byte after the items of a part, of the given size each
-abbrev pub end_of : Span → ℕ → ℕ
-end_of span bytes = span.at + span.len * bytes
+abbrev pub end_of_span : Span → ℕ → ℕ
+end_of_span span bytes = span.at + span.len * bytes
 
 -- a checksum with one more number mixed in
 unfoldable pub mixed : ℕ → ℕ → ℕ
@@ -27,8 +27,8 @@ abbrev pub span_mixed : ℕ → Span → ℕ
 span_mixed sum span = mixed (mixed sum span.at) span.len
 
 -- all numbers of a header but the checksum itself
-abbrev pub checksum_of : Stored → ℕ
-checksum_of h =
+abbrev pub header_checksum : Stored → ℕ
+header_checksum h =
     let numbers = mixed (mixed (mixed (mixed (mixed (mixed (mixed 0 h.mark) h.kind) h.len) h.width) h.size) h.ones_log2) h.zeros_log2 in
     let vectors = span_mixed (span_mixed (span_mixed (span_mixed numbers h.words) h.upper) h.lower) h.low in
     span_mixed (span_mixed (span_mixed (span_mixed vectors h.starts) h.starts0) h.samples) h.samples0
@@ -38,15 +38,15 @@ checksum_of h =
 pub record IsLaidOut (h : Stored) : Type 0 where
   pub mark : h.mark ≡ 0x0262_6174_6d74_6962
   pub words : h.words.at ≡ 192
-  pub upper : h.upper ≡ span_from (end_of h.words 8) (div_ceil h.words.len (2 ^ 26))
-  pub lower : h.lower ≡ span_from (end_of h.upper 8) (div_ceil h.words.len 32)
-  pub low : h.low.at ≡ aligned (end_of h.lower 8)
-  pub starts : h.starts ≡ span_from (end_of h.low 8) (starts_of h.ones_log2 h.upper.len)
-  pub starts0 : h.starts0 ≡ span_from (end_of h.starts 8) (starts_of h.zeros_log2 h.upper.len)
-  pub samples : h.samples.at ≡ aligned (end_of h.starts0 8)
-  pub samples0 : h.samples0.at ≡ aligned (end_of h.samples 4)
-  pub size : h.size ≡ aligned (end_of h.samples0 4)
-  pub checksum : h.checksum ≡ checksum_of h
+  pub upper : h.upper ≡ span_from (end_of_span h.words 8) (div_ceil h.words.len (2 ^ 26))
+  pub lower : h.lower ≡ span_from (end_of_span h.upper 8) (div_ceil h.words.len 32)
+  pub low : h.low.at ≡ aligned_bytes (end_of_span h.lower 8)
+  pub starts : h.starts ≡ span_from (end_of_span h.low 8) (starts_of h.ones_log2 h.upper.len)
+  pub starts0 : h.starts0 ≡ span_from (end_of_span h.starts 8) (starts_of h.zeros_log2 h.upper.len)
+  pub samples : h.samples.at ≡ aligned_bytes (end_of_span h.starts0 8)
+  pub samples0 : h.samples0.at ≡ aligned_bytes (end_of_span h.samples 4)
+  pub size : h.size ≡ aligned_bytes (end_of_span h.samples0 4)
+  pub checksum : h.checksum ≡ header_checksum h
 
 -- a logarithm and samples of one kind that the given number of words can have, or neither
 pub record HasSampleLens (words log n : ℕ) : Type 0 where
@@ -55,7 +55,7 @@ pub record HasSampleLens (words log n : ℕ) : Type 0 where
   pub room : n ≤ sample_room words log
 
 -- a header with the lengths of an index
-pub record IsIndex (h : Stored) : Type 0 where
+pub record IsIndexHeader (h : Stored) : Type 0 where
   pub kind : h.kind ≡ 1
   pub short : h.len ≤ 2 ^ 64 - 64
   pub width : h.width ≡ 0
@@ -65,7 +65,7 @@ pub record IsIndex (h : Stored) : Type 0 where
   pub zeros : HasSampleLens h.words.len h.zeros_log2 h.samples0.len
 
 -- a header with the lengths of a sequence, which has no samples
-pub record IsSequence (h : Stored) : Type 0 where
+pub record IsSequenceHeader (h : Stored) : Type 0 where
   pub kind : h.kind ≡ 2
   pub short : h.len < 2 ^ 56
   pub width : h.width ≤ 63
@@ -79,10 +79,10 @@ pub record IsSequence (h : Stored) : Type 0 where
 -- the header of an index or a sequence
 pub record IsStored (h : Stored) : Type 0 where
   pub laid_out : IsLaidOut h
-  pub shape : IsIndex h ⊎ IsSequence h
+  pub shape : IsIndexHeader h ⊎ IsSequenceHeader h
 
 -- the parts are so short that each offset fits 64 bits
-pub record IsBounded (h : Stored) : Type 0 where
+pub record IsBoundedHeader (h : Stored) : Type 0 where
   pub words : h.words.len < 2 ^ 58
   pub low : h.low.len ≤ 2 ^ 58
   pub samples : h.samples.len ≤ 2 ^ 58
@@ -103,14 +103,14 @@ pub record IsAlike (h k : Stored) : Type 0 where
 -- the parts follow one another after the header, and the last ends within the given number of bytes
 pub record LiesWithin (h : Stored) (bytes : ℕ) : Type 0 where
   pub words : 192 ≤ h.words.at
-  pub upper : end_of h.words 8 ≤ h.upper.at
-  pub lower : end_of h.upper 8 ≤ h.lower.at
-  pub low : end_of h.lower 8 ≤ h.low.at
-  pub starts : end_of h.low 8 ≤ h.starts.at
-  pub starts0 : end_of h.starts 8 ≤ h.starts0.at
-  pub samples : end_of h.starts0 8 ≤ h.samples.at
-  pub samples0 : end_of h.samples 4 ≤ h.samples0.at
-  pub end : end_of h.samples0 4 ≤ bytes
+  pub upper : end_of_span h.words 8 ≤ h.upper.at
+  pub lower : end_of_span h.upper 8 ≤ h.lower.at
+  pub low : end_of_span h.lower 8 ≤ h.low.at
+  pub starts : end_of_span h.low 8 ≤ h.starts.at
+  pub starts0 : end_of_span h.starts 8 ≤ h.starts0.at
+  pub samples : end_of_span h.starts0 8 ≤ h.samples.at
+  pub samples0 : end_of_span h.samples 4 ≤ h.samples0.at
+  pub end : end_of_span h.samples0 4 ≤ bytes
 
 -- the part that two numbers of a list describe
 abbrev pub span_in : List ℕ → ℕ → Span
@@ -144,7 +144,7 @@ pub record IsHeaded (file : List ℕ) : Type 0 where
   pub whole : (header_in file).size ≤ 8 * length file
 
 -- an index of the given number of bits, with the given numbers of samples of 1 bits and of 0 bits and their logarithms
-pub record IsIndexOf (bits log n log0 n0 : ℕ) (h : Stored) : Type 0 where
+pub record IsIndexHeaderOf (bits log n log0 n0 : ℕ) (h : Stored) : Type 0 where
   pub kind : h.kind ≡ 1
   pub len : h.len ≡ bits
   pub width : h.width ≡ 0

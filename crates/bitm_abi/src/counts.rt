@@ -1,6 +1,6 @@
 //! How a list of answers is reported: by a status, and by the number of its codes.
 ghost use Rattle.std.specs.Prelude.{◌≡◌, ◌≢◌, ◌-◌, ◌^◌, ◌↔◌, IsTrue};
-ghost use Rattle.bitm_abi.specs.Lists.{AreCounted};
+ghost use Rattle.bitm_abi.specs.Lists.{AreAnswersCounted};
 ghost use Rattle.bitm_abi.specs.Status.{IsFoundBelow};
 ghost use Rattle.bitm_view.specs.Queries.{selected_by};
 
@@ -20,7 +20,7 @@ pub struct ListCounts {
 
 /// Counts the codes of a list of answers in one pass.
 fn codes_in(answers: &[usize]) -> ListCounts
-    ensures { AreCounted answers.now result }
+    ensures { AreAnswersCounted answers.now result }
 {
     let mut missing = 0;
     let mut wrong = 0;
@@ -36,7 +36,7 @@ fn codes_in(answers: &[usize]) -> ListCounts
 pub fn report_list(is_answered: bool, answers: &[usize], counts: &mut ListCounts) -> u32
     ensures ok { (result ≡ 0) ↔ IsTrue is_answered }
     ensures bad { result ≢ 0 → (result ≡ 2) × (counts.new ≡ counts.old) }
-    ensures counts { result ≡ 0 → AreCounted answers.now counts.new }
+    ensures counts { result ≡ 0 → AreAnswersCounted answers.now counts.new }
 {
     if !is_answered {
         return BAD_SIZE;

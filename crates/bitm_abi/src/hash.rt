@@ -49,9 +49,9 @@ pub struct LentHash<'a> {
 }
 
 impl<'a> Model for LentHash<'a> {
-    ghost use Rattle.bitm_abi.specs.Hash.{CanBeHash, HashParts};
+    ghost use Rattle.bitm_abi.specs.Hash.{CanBeHash, HashLists};
 
-    ghost Value = { HashParts };
+    ghost Value = { HashLists };
 
     ghost view = { λ h. record {
       lists = h.tables;

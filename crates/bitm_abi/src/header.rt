@@ -1,7 +1,8 @@
 //! The header of a file with an index or a sequence: which lengths it can have, and how it is read.
 ghost use Rattle.std.specs.Prelude.{◌≡◌, ◌+◌, ◌*◌, ◌<◌, ◌≤◌, ◌↔◌, ◌⊎◌, IfSome, IsTrue, SomeIff, length};
-ghost use Rattle.bitm_abi.specs.Stored.{header_in, span_in, HasSampleLens, IsBounded, IsHeaded};
-ghost use Rattle.bitm_abi.specs.Stored.{IsIndex, IsIndexOf, IsLaidOut, IsSequence, IsSequenceOf, LiesWithin};
+ghost use Rattle.bitm_abi.specs.Stored.{header_in, span_in, HasSampleLens, IsBoundedHeader, IsHeaded};
+ghost use Rattle.bitm_abi.specs.Stored.{IsIndexHeader, IsIndexHeaderOf, IsLaidOut, IsSequenceHeader, IsSequenceOf};
+ghost use Rattle.bitm_abi.specs.Stored.{LiesWithin};
 
 use crate::layout::{Span, Stored};
 use crate::sequence::SequenceLens;
@@ -25,7 +26,7 @@ impl Stored {
     /// Whether an index can have these lengths.
     #[inline(always)]
     fn is_index(&self) -> bool
-        ensures { IsTrue result ↔ IsIndex self.now }
+        ensures { IsTrue result ↔ IsIndexHeader self.now }
     {
         self.kind == 1
             && self.len <= u64::MAX - 63
@@ -39,7 +40,7 @@ impl Stored {
     /// Whether a sequence can have these lengths.
     #[inline(always)]
     fn is_sequence(&self) -> bool
-        ensures { IsTrue result ↔ IsSequence self.now }
+        ensures { IsTrue result ↔ IsSequenceHeader self.now }
     {
         self.kind == 2
             && self.len < 1 << 56
@@ -55,8 +56,8 @@ impl Stored {
     /// Whether an index or a sequence can have these lengths.
     #[inline(always)]
     pub fn has_shape(&self) -> bool
-        ensures shape { IsTrue result ↔ (IsIndex self.now ⊎ IsSequence self.now) }
-        ensures bounded { IsTrue result → IsBounded self.now }
+        ensures shape { IsTrue result ↔ (IsIndexHeader self.now ⊎ IsSequenceHeader self.now) }
+        ensures bounded { IsTrue result → IsBoundedHeader self.now }
     {
         self.is_index() || self.is_sequence()
     }
@@ -65,7 +66,7 @@ impl Stored {
     #[inline(always)]
     #[tactic(auto, using(crate::proofs::StoredLemmas::moved, crate::proofs::StoredLemmas::same_layout))]
     pub fn is_laid_out(&self) -> bool
-        requires { IsBounded self.now }
+        requires { IsBoundedHeader self.now }
         ensures { IsTrue result ↔ IsLaidOut self.now }
     {
         self.is(&self.laid_out())
@@ -142,7 +143,7 @@ fn items(len: u64) -> Span
 /// The header of an index with the lengths alone.
 #[inline(always)]
 pub fn index_of(len: u64, ones_log2: u32, ones: u64, zeros_log2: u32, zeros: u64) -> Stored
-    ensures { IsIndexOf len ones_log2 ones zeros_log2 zeros result }
+    ensures { IsIndexHeaderOf len ones_log2 ones zeros_log2 zeros result }
 {
     Stored {
         mark: 0,

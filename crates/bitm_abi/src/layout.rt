@@ -1,7 +1,8 @@
 //! Where each part of a stored index or sequence is in its file.
 ghost use Rattle.std.specs.Prelude.{◌≡◌, ◌+◌, ◌*◌, ◌^◌, ◌<◌, ◌≤◌, ◌↔◌, IsTrue};
 ghost use Rattle.bitm_view.specs.Block.{starts_of};
-ghost use Rattle.bitm_abi.specs.Stored.{checksum_of, mixed, span_from, span_mixed, IsAlike, IsBounded, IsLaidOut};
+ghost use Rattle.bitm_abi.specs.Stored.{header_checksum, mixed, span_from, span_mixed, IsAlike, IsBoundedHeader};
+ghost use Rattle.bitm_abi.specs.Stored.{IsLaidOut};
 
 use lent_tables::{lower_len, upper_len};
 
@@ -136,7 +137,7 @@ impl Stored {
     /// The checksum of all numbers before it.
     #[inline(always)]
     fn sum(&self) -> u64
-        ensures { result ≡ checksum_of self.now }
+        ensures { result ≡ header_checksum self.now }
     {
         let sum = mix(mix(mix(mix(0, self.mark), self.kind), self.len), self.width);
         let sum = mix(mix(mix(sum, self.size), self.ones_log2), self.zeros_log2);
@@ -149,7 +150,7 @@ impl Stored {
     /// The header of these lengths with the offset of each part, the size of the file and the checksum.
     #[inline(always)]
     pub fn laid_out(&self) -> Stored
-        requires { IsBounded self.now }
+        requires { IsBoundedHeader self.now }
         ensures laid_out { IsLaidOut result }
         ensures alike { IsAlike result self.now }
     {

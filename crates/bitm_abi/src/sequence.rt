@@ -2,7 +2,7 @@
 ghost use Rattle.std.specs.Prelude.{◌≡◌, SomeIff};
 ghost use Rattle.std.specs.List.{slice_get};
 ghost use Rattle.lent_tables.specs.Samples.{sampled};
-ghost use Rattle.bitm_abi.specs.Sequence.{sampled_if, sampled_parts, IsListTold, IsSized};
+ghost use Rattle.bitm_abi.specs.Sequence.{sampled_if, sampled_parts, IsListTold, IsSequenceSized};
 
 use crate::answer::{BAD_SIZE, NONE, OK, WRONG};
 use crate::samples::Samples;
@@ -49,7 +49,7 @@ impl<'a> Sequence<'a> {
     /// The parts as the library queries them, with their samples; `None` exactly where a length is not right.
     #[inline(always)]
     pub fn lent(&self) -> Option<LentSequence<'a>>
-        ensures { SomeIff result (IsSized self.now) (sampled_parts self.now) }
+        ensures { SomeIff result (IsSequenceSized self.now) (sampled_parts self.now) }
     {
         let upper = Lent::over(self.words, self.upper, self.lower)?;
         if self.width > 63 {

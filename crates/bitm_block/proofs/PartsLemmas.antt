@@ -3,7 +3,7 @@ use Rattle.std.proofs.Common.{◌≡◌, ℕ, zero, suc, ◌+◌, ◌-◌, ◌<�
 use Rattle.std.proofs.Math.Seq.{take-append_seam, drop-append_seam}
 use Rattle.std.proofs.lemmas.List.Sums.{sum_by-cons}
 use Rattle.std.specs.List.{slice_range}
-use Rattle.bitm_block.specs.Header.{begin_in, count_in, entry_in, section_in}
+use Rattle.bitm_block.specs.Header.{begin_in, count_in, section_entry, section_in}
 use Rattle.bitm_block.specs.Layout.{begin_of, head_of, no_section, part_in, room_of, words_of}
 use Rattle.bitm_block.specs.Written.{IsSealed}
 use Rattle.bitm_block.specs.declared.head.Head.{Head}
@@ -68,7 +68,7 @@ module _ (h : Head) (ss : List Section) (old new : List ℕ) (sealed : IsSealed 
   pub count_is : count_in new ≡ length ss
   count_is = sym (sections_len new) ∙ ap length sealed.sections_are
 
-  pub entry_is : (i : ℕ) → i < length ss → entry_in new i ≡ get_or ss i no_section
+  pub entry_is : (i : ℕ) → i < length ss → section_entry new i ≡ get_or ss i no_section
   entry_is i less =
       sym (section_at new i no_section (omega (arith, less, count_is)))
       ∙ ap (λ (l : List Section). get_or l i no_section) sealed.sections_are
@@ -80,5 +80,5 @@ module _ (h : Head) (ss : List Section) (old new : List ℕ) (sealed : IsSealed 
       → section_in new i ≡ part_in ss old i
   section_is i less =
       sealed.kept i less
-      ∙ ap (λ p. slice_range old p (p + words_of (entry_in new i))) (begin_is i)
+      ∙ ap (λ p. slice_range old p (p + words_of (section_entry new i))) (begin_is i)
       ∙ ap (λ (s : Section). slice_range old (begin_of ss i) (begin_of ss i + words_of s)) (entry_is i less)

@@ -6,7 +6,7 @@ use Rattle.std.proofs.lemmas.List.Elements.{All-replicate}
 use Rattle.std.proofs.lemmas.List.FromFn.{fill_by_all}
 use Rattle.std.specs.List.{slice_range}
 use Rattle.bitm_block.specs.Checksum.{checksum_of}
-use Rattle.bitm_block.specs.Header.{begin_in, entry_in, finish_in, head_in, section_in, sections_in, IsBlock, IsEntry, IsKept}
+use Rattle.bitm_block.specs.Header.{begin_in, finish_in, head_in, section_entry, section_in, sections_in, IsBlock, IsEntry, IsKept}
 use Rattle.bitm_block.specs.Layout.{begin_of, end_of, head_of, room_of, words_of, AreShort}
 use Rattle.bitm_block.specs.Written.{block_of, body_of, directory_of, entries_of, IsSealed}
 use Rattle.bitm_block.specs.declared.head.Head.{Head}
@@ -76,7 +76,7 @@ module _ (h : Head) (ss : List Section) (words : List ℕ) (short : AreShort ss)
       let same : 16 + 4 * i + k ≡ 16 + (4 * i + k) = omega arith in
       ap (λ p. slice_index block p) same ∙ in_entries (4 * i + k) (omega (arith, less, few))
 
-  entry_is : (i : ℕ) → i < n → entry_in block i ≡ get_or ss i none
+  entry_is : (i : ℕ) → i < n → section_entry block i ≡ get_or ss i none
   entry_is i less =
       let item = entry_item (head_of n) ss words i none less in
       section_same (get_or ss i none) (slice_index block (16 + 4 * i)) (slice_index block (16 + 4 * i + 2))
@@ -84,7 +84,7 @@ module _ (h : Head) (ss : List Section) (words : List ℕ) (short : AreShort ss)
 
   sections_are : sections_in block ≡ ss
   unfolding sections_in
-  sections_are = sym (fill_by_all (entry_in block) ss n none refl (λ k less. sym (entry_is k less)))
+  sections_are = sym (fill_by_all (section_entry block) ss n none refl (λ k less. sym (entry_is k less)))
 
   begin_is : (i : ℕ) → begin_in block i ≡ begin_of ss i
   begin_is i = ap (λ l. begin_of l i) sections_are

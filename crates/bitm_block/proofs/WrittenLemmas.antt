@@ -4,7 +4,7 @@ use Rattle.std.proofs.lemmas.List.{drop-drop, drop_at, length-replicate, length-
 use Rattle.std.proofs.lemmas.List.Sums.{sum_by-cons}
 use Rattle.bitm_block.specs.Checksum.{checksum_of}
 use Rattle.bitm_block.specs.Layout.{end_of, head_of, room_of, words_of}
-use Rattle.bitm_block.specs.Written.{block_of, body_of, directory_of, entries_of, entry_of, filled, header_of}
+use Rattle.bitm_block.specs.Written.{block_of, body_of, directory_entry, directory_of, entries_of, filled, header_of}
 use Rattle.bitm_block.specs.declared.head.Head.{Head}
 use Rattle.bitm_block.specs.declared.layout.Section.{Section}
 use Rattle.bitm_block.proofs.LayoutLemmas.{words_fit}
@@ -159,11 +159,11 @@ module _ (ss later : List Section) (s : Section) (body front rest : List ℕ) (r
       ∙ take-take (words_of s) room body (omega (arith, all, words_fit s))
 
   pub entries_more : (at next m : ℕ) (entry others : List ℕ) → m ≡ words_of s → next ≡ at + room_of s
-      → entry ≡ entry_of s at (take m front) → others ≡ entries_of next later rest → entry ++ others ≡ entries_of at ss body
+      → entry ≡ directory_entry s at (take m front) → others ≡ entries_of next later rest → entry ++ others ≡ entries_of at ss body
   unfolding entries_of
   entries_more at next m entry others len far entry_is others_is =
-      ap (λ x. x ++ others) (entry_is ∙ ap (entry_of s at) (part_is m len))
-      ∙ ap (λ x. entry_of s at (take (words_of s) body) ++ x)
+      ap (λ x. x ++ others) (entry_is ∙ ap (directory_entry s at) (part_is m len))
+      ∙ ap (λ x. directory_entry s at (take (words_of s) body) ++ x)
       (others_is ∙ ap (λ n. entries_of n later rest) far ∙ ap (entries_of (at + room_of s) later) behind)
       ∙ ap (λ l. entries_of at l body) (sym first)
 

@@ -26,19 +26,19 @@ abbrev pub count_in : List ℕ → ℕ
 count_in block = slice_index block 11
 
 -- section i, as the directory has it
-abbrev pub entry_in : List ℕ → ℕ → Section
-entry_in block i = record { role = slice_index block (16 + 4 * i); count = slice_index block (16 + 4 * i + 2) }
+abbrev pub section_entry : List ℕ → ℕ → Section
+section_entry block i = record { role = slice_index block (16 + 4 * i); count = slice_index block (16 + 4 * i + 2) }
 
 -- the sections, as the directory has them
 unfoldable pub sections_in : List ℕ → List Section
-sections_in block = map (entry_in block) (range_with_len 0 (count_in block))
+sections_in block = map (section_entry block) (range_with_len 0 (count_in block))
 
 -- where section i begins and where its items end
 abbrev pub begin_in : List ℕ → ℕ → ℕ
 begin_in block i = begin_of (sections_in block) i
 
 abbrev pub finish_in : List ℕ → ℕ → ℕ
-finish_in block i = begin_in block i + words_of (entry_in block i)
+finish_in block i = begin_in block i + words_of (section_entry block i)
 
 -- the words of section i
 abbrev pub section_in : List ℕ → ℕ → List ℕ

@@ -16,14 +16,14 @@ body_of [] words = []
 body_of (section ∷ sections) words = filled section words ++ body_of sections (drop (room_of section) words)
 
 -- the entry of a section that begins at word `at` of its block
-abbrev pub entry_of : Section → ℕ → List ℕ → List ℕ
-entry_of section at words = section.role ∷ 8 * at ∷ section.count ∷ checksum_of words ∷ []
+abbrev pub directory_entry : Section → ℕ → List ℕ → List ℕ
+directory_entry section at words = section.role ∷ 8 * at ∷ section.count ∷ checksum_of words ∷ []
 
 -- the entries of sections, which stand one after another in `words`; the first begins at word `at` of their block
 unfoldable pub entries_of : ℕ → List Section → List ℕ → List ℕ
 entries_of at [] words = []
 entries_of at (section ∷ sections) words =
-    entry_of section at (take (words_of section) words) ++ entries_of (at + room_of section) sections (drop (room_of section) words)
+    directory_entry section at (take (words_of section) words) ++ entries_of (at + room_of section) sections (drop (room_of section) words)
 
 -- the directory: the entries, and zeros up to the first section
 abbrev pub directory_of : List Section → List ℕ → List ℕ

@@ -1,7 +1,8 @@
 //! A block whose header and directory are right.
 ghost use Rattle.std.specs.Prelude.{◌≡◌, ◌+◌, ◌*◌, ◌/◌, ◌^◌, ◌<◌, ◌≤◌, ◌↔◌, ℕ, All, IsTrue, length};
 ghost use Rattle.std.specs.Prelude.{IsOk, IfOk, IfErr, IsSome, IfSome, slice_index, slice_range};
-ghost use Rattle.bitm_block.specs.Header.{begin_in, count_in, entry_in, finish_in, head_in, section_in, sections_in};
+ghost use Rattle.bitm_block.specs.Header.{begin_in, count_in, finish_in, head_in, section_entry, section_in};
+ghost use Rattle.bitm_block.specs.Header.{sections_in};
 ghost use Rattle.bitm_block.specs.Header.{IsBlock, IsDirectory, IsEntry, IsHeader, IsReason, IsVerified};
 ghost use Rattle.bitm_block.specs.Layout.{end_of, head_of, room_of, words_of};
 
@@ -62,7 +63,7 @@ fn are_bytes(bytes: u64, words: usize) -> bool
 #[inline(always)]
 pub(crate) fn entry_at(block: &[u64], i: usize) -> Section
     requires { 16 + 4 * i + 4 ≤ length block.now }
-    ensures { result ≡ entry_in block.now i }
+    ensures { result ≡ section_entry block.now i }
 {
     let at = HEADER_WORDS + ENTRY_WORDS * i;
     Section {
@@ -119,8 +120,8 @@ pub(crate) fn begin_at(block: &[u64], i: usize) -> usize
     requires block { IsBlock block.now }
     requires inside { i < count_in block.now }
     ensures begin { result ≡ begin_in block.now i }
-    ensures short { (entry_in block.now i).count < 2 ^ 58 }
-    ensures next { begin_in block.now (i + 1) ≡ begin_in block.now i + room_of (entry_in block.now i) }
+    ensures short { (section_entry block.now i).count < 2 ^ 58 }
+    ensures next { begin_in block.now (i + 1) ≡ begin_in block.now i + room_of (section_entry block.now i) }
     ensures within { begin_in block.now (i + 1) ≤ length block.now }
 {
     (block[HEADER_WORDS + ENTRY_WORDS * i + 1] / 8) as usize
@@ -230,7 +231,7 @@ impl<'a> Block<'a> {
     /// ```
     pub fn entry(&self, i: usize) -> Option<Section>
         ensures some { IsSome result ↔ (i < count_in self.now) }
-        ensures entry { IfSome result (λ section. section ≡ entry_in self.now i) }
+        ensures entry { IfSome result (λ section. section ≡ section_entry self.now i) }
     {
         if i >= self.sections() {
             return None;

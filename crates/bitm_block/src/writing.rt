@@ -2,7 +2,8 @@
 ghost use Rattle.std.specs.Prelude.{◌≡◌, ◌≢◌, ◌+◌, ◌-◌, ◌*◌, ◌^◌, ◌<◌, ◌≤◌, ◌↔◌, ◌++◌, All, IfErr, IfOk};
 ghost use Rattle.std.specs.Prelude.{IsErrOf, drop, length, replicate, sum_by, take};
 ghost use Rattle.bitm_block.specs.Layout.{end_of, head_of, room_of, AreShort};
-ghost use Rattle.bitm_block.specs.Written.{block_of, body_of, directory_of, entries_of, entry_of, header_of, IsSealed};
+ghost use Rattle.bitm_block.specs.Written.{block_of, body_of, directory_entry, directory_of, entries_of, header_of};
+ghost use Rattle.bitm_block.specs.Written.{IsSealed};
 
 use crate::checksum::checksum_of;
 use crate::error::WriteError;
@@ -39,7 +40,7 @@ fn clear_from(words: &mut [u64], first: usize)
 fn write_entry(section: Section, at: usize, words: &[u64], entry: &mut [u64])
     requires long { length entry.old ≡ 4 }
     requires near { at < 2 ^ 61 }
-    ensures { entry.new ≡ entry_of section at words.now }
+    ensures { entry.new ≡ directory_entry section at words.now }
 {
     let fields = [
         section.role,

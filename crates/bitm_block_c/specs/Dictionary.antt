@@ -3,7 +3,7 @@ use Rattle.std.specs.Prelude.{ℕ, List}
 use Rattle.bitm_tables.specs.declared.answer.Answer.{Answer}
 use Rattle.bitm_abi.specs.HashBlock.{hash_parts}
 use Rattle.bitm_abi.specs.Status.{Exported}
-use Rattle.hash_block.specs.Dictionary.{DictionaryParts, HasKeys, IsDictionary, IsFound, IsHeld}
+use Rattle.hash_block.specs.Dictionary.{DictionaryParts, HasKeys, IsDictionaryIn, IsKeyFound, IsKeyHeld}
 use Rattle.hash_block.specs.Numbered.{CanHoldParts}
 use Rattle.bitm_block_c.specs.declared.dictionary.Dictionary.{Dictionary}
 
@@ -22,8 +22,8 @@ pub record IsWritable (parts : DictionaryParts) (block : List ℕ) : Type 0 wher
 -- the number of a key: the key stands there, whatever the parts hold; and where they are those of a dictionary, there is
 -- none exactly for what is no key
 pub record IsKeyNumber (key : ℕ) (parts : DictionaryParts) (answer : Answer ℕ) : Type 0 where
-  pub held : IsHeld parts.keys key answer
-  pub right : IsDictionary parts → IsFound parts.keys key answer
+  pub held : IsKeyHeld parts.keys key answer
+  pub right : IsDictionaryIn parts → IsKeyFound parts.keys key answer
 
 -- the status, and the number before and after the call
 abbrev pub FindAnswered : Dictionary → ℕ → ℕ → ℕ → ℕ → Type 0

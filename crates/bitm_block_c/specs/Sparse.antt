@@ -1,7 +1,7 @@
 -- Sparse bits in a block as C passes them, and what the exported calls answer.
 use Rattle.std.specs.Prelude.{ℕ, ◌+◌, Bool, List, min}
 use Rattle.bitm_tables.specs.declared.answer.Answer.{Answer}
-use Rattle.bitm_abi.specs.Sequence.{lent_parts, sampled_parts, IsSized}
+use Rattle.bitm_abi.specs.Sequence.{lent_parts, sampled_parts, IsSequenceSized}
 use Rattle.bitm_abi.specs.Status.{truth_of, Exported, IsFoundBelow}
 use Rattle.bitm_select.specs.Answers.{IsFoundFrom, IsSelected}
 use Rattle.elias_fano.specs.Answers.{IsPlaceOf}
@@ -78,16 +78,16 @@ Responds query number parts = Finds query number parts.len (λ xs. HoldsOnes xs 
 
 -- the status, and the number before and after the call
 abbrev pub BitAnswered : Sparse → ℕ → ℕ → ℕ → ℕ → Type 0
-BitAnswered sparse position = Exported (IsSized sparse.positions) (IsBit position (sparse_parts sparse))
+BitAnswered sparse position = Exported (IsSequenceSized sparse.positions) (IsBit position (sparse_parts sparse))
 
 abbrev pub RankAnswered : Sparse → Bool → ℕ → ℕ → ℕ → ℕ → Type 0
-RankAnswered sparse one position = Exported (IsSized sparse.positions) (IsRankIn one position (sparse_parts sparse))
+RankAnswered sparse one position = Exported (IsSequenceSized sparse.positions) (IsRankIn one position (sparse_parts sparse))
 
 abbrev pub SelectAnswered : Sparse → Bool → ℕ → ℕ → ℕ → ℕ → Type 0
-SelectAnswered sparse one rank = Exported (IsSized sparse.positions) (IsSelectIn one rank (sparse_parts sparse))
+SelectAnswered sparse one rank = Exported (IsSequenceSized sparse.positions) (IsSelectIn one rank (sparse_parts sparse))
 
 abbrev pub NextAnswered : Sparse → Bool → ℕ → ℕ → ℕ → ℕ → Type 0
-NextAnswered sparse one from = Exported (IsSized sparse.positions) (IsNextIn one from (sparse_parts sparse))
+NextAnswered sparse one from = Exported (IsSequenceSized sparse.positions) (IsNextIn one from (sparse_parts sparse))
 
 abbrev pub PreviousAnswered : Sparse → Bool → ℕ → ℕ → ℕ → ℕ → Type 0
-PreviousAnswered sparse one from = Exported (IsSized sparse.positions) (IsPreviousIn one from (sparse_parts sparse))
+PreviousAnswered sparse one from = Exported (IsSequenceSized sparse.positions) (IsPreviousIn one from (sparse_parts sparse))

@@ -2,7 +2,7 @@
 use Rattle.std.specs.Prelude.{ℕ, ◌≤◌, List, length}
 use Rattle.bitm_tables.specs.declared.answer.Answer.{Answer}
 use Rattle.bitm_abi.specs.Status.{Exported}
-use Rattle.text_index.specs.Answers.{ArePositionsOf, ArePositionsWithin, IsCountOf, IsCountWithin, IsPartOf, IsPartWithin}
+use Rattle.text_index.specs.Answers.{AreLettersFrom, AreOccurrencesOf, AreOccurrencesWithin, ArePositionsOf, ArePositionsWithin, IsPartWithin}
 use Rattle.text_block.specs.Block.{parts_of, text_of_parts, HasTextLengths, HoldsIndex, TextParts, bytes_of_parts}
 use Rattle.text_index.specs.Bytes.{byte_width}
 use Rattle.bitm_abi.specs.Matrix.{matrix_parts}
@@ -20,8 +20,8 @@ text_parts text =
 -- at how many positions a pattern stands: at no more than there are, whatever the parts hold, and it is the number of those
 -- of the text, its letters or its bytes, where they hold an index
 pub record IsCountIn (text_of : TextParts → List ℕ) (pattern : List ℕ) (parts : TextParts) (answer : Answer ℕ) : Type 0 where
-  pub inside : IsCountWithin parts.tables.letters.len answer
-  pub right : HoldsIndex parts → IsCountOf (text_of parts) pattern answer
+  pub inside : AreOccurrencesWithin parts.tables.letters.len answer
+  pub right : HoldsIndex parts → AreOccurrencesOf (text_of parts) pattern answer
 
 -- the positions that were written to a list, likewise: each is one of the text, or its end
 pub record ArePositionsIn (text_of : TextParts → List ℕ) (pattern : List ℕ) (from : ℕ) (old new : List ℕ) (parts : TextParts) (answer : Answer ℕ) : Type 0 where
@@ -31,7 +31,7 @@ pub record ArePositionsIn (text_of : TextParts → List ℕ) (pattern : List ℕ
 -- the letters or bytes that were written to a list, likewise: one has no more bits than the width
 pub record IsPartIn (text_of : TextParts → List ℕ) (width_of : TextParts → ℕ) (from : ℕ) (out : List ℕ) (parts : TextParts) (answer : Answer ℕ) : Type 0 where
   pub inside : IsPartWithin parts.tables.letters.len (width_of parts) from out answer
-  pub right : HoldsIndex parts → IsPartOf (text_of parts) from out answer
+  pub right : HoldsIndex parts → AreLettersFrom (text_of parts) from out answer
 
 -- how many bits a letter and a byte of the text have
 abbrev pub letter_width : TextParts → ℕ
@@ -46,8 +46,8 @@ pub record HasBytes (parts : TextParts) : Type 0 where
   pub narrow : width_of_bytes parts ≤ 8
 
 -- the status, and the number before and after the call
-abbrev pub CountAnswered : Text → List ℕ → ℕ → ℕ → ℕ → Type 0
-CountAnswered text pattern = Exported (HasTextLengths (text_parts text)) (IsCountIn text_of_parts pattern (text_parts text))
+abbrev pub TextCountAnswered : Text → List ℕ → ℕ → ℕ → ℕ → Type 0
+TextCountAnswered text pattern = Exported (HasTextLengths (text_parts text)) (IsCountIn text_of_parts pattern (text_parts text))
 
 abbrev pub CountOfBytesAnswered : Text → List ℕ → ℕ → ℕ → ℕ → Type 0
 CountOfBytesAnswered text pattern = Exported (HasTextLengths (text_parts text)) (IsCountIn bytes_of_parts pattern (text_parts text))

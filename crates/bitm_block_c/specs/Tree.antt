@@ -7,7 +7,7 @@ use Rattle.bitm_abi.specs.declared.tree.Tree.{Tree}
 use Rattle.louds.specs.Counted.{degrees_in, IsLouds}
 use Rattle.louds.specs.Answers.{IsChildRankOf, IsChildRankWithin, IsLeafOf, IsLeafWithin, IsNextSiblingOf, IsNextSiblingWithin, IsPreviousSiblingOf, IsPreviousSiblingWithin}
 use Rattle.louds_block.specs.Block.{HasLengths, TreeParts}
-pub use Rattle.louds_block.specs.Told.{IsChild, IsDegree, IsParent}
+pub use Rattle.louds_block.specs.Told.{IsChildAnswer, IsDegree, IsParent}
 use Rattle.bitm_block_c.specs.declared.lists.Asked.{Asked}
 use Rattle.bitm_block_c.specs.declared.lists.Asked.TheVariants.{Parent, Degree}
 
@@ -21,7 +21,7 @@ pub record IsLeaf (node : ℕ) (parts : TreeParts) (answer : Answer ℕ) : Type 
   pub right : IsLouds parts.len parts.lists → IsLeafOf (degrees_in parts.len parts.lists) node (truth_of answer)
 
 -- the siblings of a node, likewise: the node after it and the node before it
-pub record IsNextSibling (node : ℕ) (parts : TreeParts) (answer : Answer ℕ) : Type 0 where
+pub record IsNextSiblingAnswer (node : ℕ) (parts : TreeParts) (answer : Answer ℕ) : Type 0 where
   pub inside : IsNextSiblingWithin parts.len node answer
   pub right : IsLouds parts.len parts.lists → IsNextSiblingOf (degrees_in parts.len parts.lists) node answer
 
@@ -35,16 +35,16 @@ pub record IsChildRank (node : ℕ) (parts : TreeParts) (answer : Answer ℕ) : 
   pub right : IsLouds parts.len parts.lists → IsChildRankOf (degrees_in parts.len parts.lists) node answer
 
 -- the answer to a query of a node
-abbrev pub Answers : Asked → ℕ → TreeParts → Answer ℕ → Type 0
-Answers Parent = IsParent
-Answers Degree = IsDegree
+abbrev pub IsTreeAnswer : Asked → ℕ → TreeParts → Answer ℕ → Type 0
+IsTreeAnswer Parent = IsParent
+IsTreeAnswer Degree = IsDegree
 
 -- the status, and the number before and after the call
 abbrev pub ParentAnswered : Tree → ℕ → ℕ → ℕ → ℕ → Type 0
 ParentAnswered tree node = Exported (HasLengths (tree_parts tree)) (IsParent node (tree_parts tree))
 
 abbrev pub ChildAnswered : Tree → ℕ → ℕ → ℕ → ℕ → ℕ → Type 0
-ChildAnswered tree node k = Exported (HasLengths (tree_parts tree)) (IsChild node k (tree_parts tree))
+ChildAnswered tree node k = Exported (HasLengths (tree_parts tree)) (IsChildAnswer node k (tree_parts tree))
 
 abbrev pub DegreeAnswered : Tree → ℕ → ℕ → ℕ → ℕ → Type 0
 DegreeAnswered tree node = Exported (HasLengths (tree_parts tree)) (IsDegree node (tree_parts tree))
@@ -53,7 +53,7 @@ abbrev pub LeafAnswered : Tree → ℕ → ℕ → ℕ → ℕ → Type 0
 LeafAnswered tree node = Exported (HasLengths (tree_parts tree)) (IsLeaf node (tree_parts tree))
 
 abbrev pub NextSiblingAnswered : Tree → ℕ → ℕ → ℕ → ℕ → Type 0
-NextSiblingAnswered tree node = Exported (HasLengths (tree_parts tree)) (IsNextSibling node (tree_parts tree))
+NextSiblingAnswered tree node = Exported (HasLengths (tree_parts tree)) (IsNextSiblingAnswer node (tree_parts tree))
 
 abbrev pub PreviousSiblingAnswered : Tree → ℕ → ℕ → ℕ → ℕ → Type 0
 PreviousSiblingAnswered tree node = Exported (HasLengths (tree_parts tree)) (IsPreviousSibling node (tree_parts tree))

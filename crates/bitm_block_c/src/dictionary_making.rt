@@ -2,7 +2,7 @@
 ghost use Rattle.std.specs.Prelude.{◌≡◌, ◌≢◌, ◌↔◌, ◌⊎◌};
 ghost use Rattle.bitm_block.specs.Layout.{end_of};
 ghost use Rattle.hash_block.specs.Dictionary.{dictionary_in, dictionary_sections, number_of_key, AreFewKeys};
-ghost use Rattle.hash_block.specs.Dictionary.{IsDictionary, IsDictionaryBlock, IsDictionaryOf, IsSoundDictionary};
+ghost use Rattle.hash_block.specs.Dictionary.{IsDictionaryBlock, IsDictionaryIn, IsDictionaryOf, IsSoundDictionary};
 ghost use Rattle.bitm_block_c.specs.Dictionary.{dictionary_parts, IsWritable};
 
 use crate::dictionary::Dictionary;
@@ -35,9 +35,9 @@ pub extern "C" fn bitm_dictionary_size(
 #[unsafe(no_mangle)]
 pub extern "C" fn bitm_dictionary_build(dictionary: &Dictionary<'_>, block: &mut [u64]) -> u32
     ensures ok { (result ≡ 0) ↔ IsWritable (dictionary_parts dictionary.now) block.old
-        × IsDictionary (dictionary_parts dictionary.now) }
+        × IsDictionaryIn (dictionary_parts dictionary.now) }
     ensures wrong { (result ≡ 3) ↔ IsWritable (dictionary_parts dictionary.now) block.old
-        × (¬ (IsDictionary (dictionary_parts dictionary.now))) }
+        × (¬ (IsDictionaryIn (dictionary_parts dictionary.now))) }
     ensures status { (result ≡ 0) ⊎ (result ≡ 2) ⊎ (result ≡ 3) }
     ensures block { result ≡ 0 → IsDictionaryOf
         (number_of_key (dictionary_parts dictionary.now).hash) dictionary.now.keys.now block.new }

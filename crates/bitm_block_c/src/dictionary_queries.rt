@@ -1,6 +1,6 @@
 //! Whether numbers are keys of a dictionary in a block, and which number each key has.
 ghost use Rattle.std.specs.Prelude.{◌≡◌, ◌≢◌, ◌-◌, ◌^◌, ◌<◌, ◌↔◌, ℕ, length, slice_index};
-ghost use Rattle.bitm_abi.specs.Lists.{AreCounted};
+ghost use Rattle.bitm_abi.specs.Lists.{AreAnswersCounted};
 ghost use Rattle.bitm_view.specs.Queries.{selected_by};
 ghost use Rattle.hash_block.specs.Dictionary.{HasKeys};
 ghost use Rattle.bitm_block_c.specs.Dictionary.{dictionary_parts, FindAnswered, IsKeyNumber};
@@ -59,7 +59,7 @@ pub extern "C" fn bitm_dictionary_find_list(
     ensures kept { result ≢ 0 → (result ≡ 2) × (out.new ≡ out.old) × (counts.new ≡ counts.old) }
     ensures numbers { result ≡ 0 → (j : ℕ) → j < length keys.now → IsKeyNumber
         (slice_index keys.now j) (dictionary_parts dictionary.now) (selected_by (slice_index out.new j)) }
-    ensures counts { result ≡ 0 → AreCounted out.new counts.new }
+    ensures counts { result ≡ 0 → AreAnswersCounted out.new counts.new }
 {
     let Some(view) = dictionary.view() else {
         return BAD_SIZE;

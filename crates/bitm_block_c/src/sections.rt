@@ -3,7 +3,7 @@
 ghost use Rattle.std.specs.Prelude.{◌≡◌, ◌≢◌, ◌<◌, ◌≤◌, ◌↔◌, ◌⊎◌};
 ghost use Rattle.bitm_block.specs.Header.{count_in, IsBlock, IsVerified};
 ghost use Rattle.bitm_block.specs.Layout.{end_of};
-ghost use Rattle.block_sections.specs.Extended.{sections_with, CanExtend, HasRoom, IsExtended};
+ghost use Rattle.block_sections.specs.Extended.{extended_sections, CanExtend, HasSectionRoom, IsExtended};
 ghost use Rattle.block_tables.specs.Sections.{section_of};
 ghost use Rattle.bitm_block_c.specs.Section.{IsSectionAt};
 
@@ -35,7 +35,7 @@ pub extern "C" fn bitm_block_extended_size(
     ensures wrong { (result ≡ 3) ↔ (¬ (IsBlock block.now)) }
     ensures status { (result ≡ 0) ⊎ (result ≡ 2) ⊎ (result ≡ 3) }
     ensures size { result ≡ 0
-        → out.new ≡ end_of (sections_with block.now (section_of role count)) }
+        → out.new ≡ end_of (extended_sections block.now (section_of role count)) }
     ensures kept { result ≢ 0 → out.new ≡ out.old }
 {
     if Block::open(block).is_err() {
@@ -60,9 +60,9 @@ pub extern "C" fn bitm_block_extend(
     to: &mut [u64],
 ) -> u32
     ensures ok { (result ≡ 0)
-        ↔ (HasRoom block.now (section_of role count) words.now to.old × IsVerified block.now) }
+        ↔ (HasSectionRoom block.now (section_of role count) words.now to.old × IsVerified block.now) }
     ensures wrong { (result ≡ 3) ↔ ((¬ (IsBlock block.now))
-        ⊎ (HasRoom block.now (section_of role count) words.now to.old
+        ⊎ (HasSectionRoom block.now (section_of role count) words.now to.old
         × (¬ (IsVerified block.now)))) }
     ensures status { (result ≡ 0) ⊎ (result ≡ 2) ⊎ (result ≡ 3) }
     ensures extended { result ≡ 0

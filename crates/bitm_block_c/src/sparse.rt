@@ -1,6 +1,6 @@
 //! Sparse bits in a block as C passes them, and as the library queries them.
 ghost use Rattle.std.specs.Prelude.{SomeIff};
-ghost use Rattle.bitm_abi.specs.Sequence.{IsSized};
+ghost use Rattle.bitm_abi.specs.Sequence.{IsSequenceSized};
 ghost use Rattle.bitm_block_c.specs.Sparse.{sampled_sparse};
 
 use bitm_abi::Sequence;
@@ -23,7 +23,7 @@ impl<'a> Sparse<'a> {
     /// sequence is not right.
     #[inline(always)]
     pub(crate) fn view(&self) -> Option<SparseView<'a>>
-        ensures { SomeIff result (IsSized self.now.positions) (sampled_sparse self.now) }
+        ensures { SomeIff result (IsSequenceSized self.now.positions) (sampled_sparse self.now) }
     {
         let positions = self.positions.lent()?;
         Some(SparseView::over(positions, self.bits_len))

@@ -1,7 +1,7 @@
 //! Lists of queries of sparse bits in a block.
 ghost use Rattle.std.specs.Prelude.{◌≡◌, ◌≢◌, ◌-◌, ◌^◌, ◌<◌, ◌↔◌, ℕ, length, slice_index};
-ghost use Rattle.bitm_abi.specs.Lists.{AreCounted};
-ghost use Rattle.bitm_abi.specs.Sequence.{IsSized};
+ghost use Rattle.bitm_abi.specs.Lists.{AreAnswersCounted};
+ghost use Rattle.bitm_abi.specs.Sequence.{IsSequenceSized};
 ghost use Rattle.bitm_view.specs.Queries.{selected_by};
 ghost use Rattle.bitm_block_c.specs.Sparse.{sparse_parts, IsBit, IsRankIn, IsSelectIn, Responds};
 
@@ -55,12 +55,12 @@ fn respond_list(
     out: &mut [usize],
     counts: &mut ListCounts,
 ) -> u32
-    ensures ok { (result ≡ 0) ↔ IsSized sparse.now.positions
+    ensures ok { (result ≡ 0) ↔ IsSequenceSized sparse.now.positions
         × (sparse.now.bits_len < 2 ^ 64 - 2) × (length out.old ≡ length numbers.now) }
     ensures kept { result ≢ 0 → (result ≡ 2) × (out.new ≡ out.old) × (counts.new ≡ counts.old) }
     ensures answers { result ≡ 0 → (j : ℕ) → j < length numbers.now → Responds query
         (slice_index numbers.now j) (sparse_parts sparse.now) (selected_by (slice_index out.new j)) }
-    ensures counts { result ≡ 0 → AreCounted out.new counts.new }
+    ensures counts { result ≡ 0 → AreAnswersCounted out.new counts.new }
 {
     let Some(view) = sparse.view() else {
         return BAD_SIZE;
@@ -81,12 +81,12 @@ pub extern "C" fn bitm_sparse_get_list(
     out: &mut [usize],
     counts: &mut ListCounts,
 ) -> u32
-    ensures ok { (result ≡ 0) ↔ IsSized sparse.now.positions
+    ensures ok { (result ≡ 0) ↔ IsSequenceSized sparse.now.positions
         × (sparse.now.bits_len < 2 ^ 64 - 2) × (length out.old ≡ length positions.now) }
     ensures kept { result ≢ 0 → (result ≡ 2) × (out.new ≡ out.old) × (counts.new ≡ counts.old) }
     ensures bits { result ≡ 0 → (j : ℕ) → j < length positions.now → IsBit
         (slice_index positions.now j) (sparse_parts sparse.now) (selected_by (slice_index out.new j)) }
-    ensures counts { result ≡ 0 → AreCounted out.new counts.new }
+    ensures counts { result ≡ 0 → AreAnswersCounted out.new counts.new }
 {
     respond_list(sparse, Query::Bit, positions, out, counts)
 }
@@ -100,12 +100,12 @@ pub extern "C" fn bitm_sparse_rank_list(
     out: &mut [usize],
     counts: &mut ListCounts,
 ) -> u32
-    ensures ok { (result ≡ 0) ↔ IsSized sparse.now.positions
+    ensures ok { (result ≡ 0) ↔ IsSequenceSized sparse.now.positions
         × (sparse.now.bits_len < 2 ^ 64 - 2) × (length out.old ≡ length positions.now) }
     ensures kept { result ≢ 0 → (result ≡ 2) × (out.new ≡ out.old) × (counts.new ≡ counts.old) }
     ensures ranks { result ≡ 0 → (j : ℕ) → j < length positions.now → IsRankIn one
         (slice_index positions.now j) (sparse_parts sparse.now) (selected_by (slice_index out.new j)) }
-    ensures counts { result ≡ 0 → AreCounted out.new counts.new }
+    ensures counts { result ≡ 0 → AreAnswersCounted out.new counts.new }
 {
     respond_list(sparse, Query::Rank(one), positions, out, counts)
 }
@@ -119,12 +119,12 @@ pub extern "C" fn bitm_sparse_select_list(
     out: &mut [usize],
     counts: &mut ListCounts,
 ) -> u32
-    ensures ok { (result ≡ 0) ↔ IsSized sparse.now.positions
+    ensures ok { (result ≡ 0) ↔ IsSequenceSized sparse.now.positions
         × (sparse.now.bits_len < 2 ^ 64 - 2) × (length out.old ≡ length ranks.now) }
     ensures kept { result ≢ 0 → (result ≡ 2) × (out.new ≡ out.old) × (counts.new ≡ counts.old) }
     ensures positions { result ≡ 0 → (j : ℕ) → j < length ranks.now → IsSelectIn one
         (slice_index ranks.now j) (sparse_parts sparse.now) (selected_by (slice_index out.new j)) }
-    ensures counts { result ≡ 0 → AreCounted out.new counts.new }
+    ensures counts { result ≡ 0 → AreAnswersCounted out.new counts.new }
 {
     respond_list(sparse, Query::Select(one), ranks, out, counts)
 }

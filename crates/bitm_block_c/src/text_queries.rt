@@ -1,6 +1,6 @@
 //! Queries of a text in a block, over letters and over bytes.
 ghost use Rattle.std.specs.Prelude.{◌≡◌, ◌≢◌, ◌⊎◌, length};
-ghost use Rattle.bitm_block_c.specs.Text.{BytesAnswered, CountAnswered, CountOfBytesAnswered, PartAnswered};
+ghost use Rattle.bitm_block_c.specs.Text.{BytesAnswered, CountOfBytesAnswered, PartAnswered, TextCountAnswered};
 ghost use Rattle.bitm_block_c.specs.Text.{PositionsAnswered, PositionsOfBytesAnswered};
 
 use crate::text::Text;
@@ -9,7 +9,7 @@ use bitm_abi::{BAD_SIZE, report};
 /// At how many positions of the text a pattern stands.
 #[unsafe(no_mangle)]
 pub extern "C" fn bitm_text_count(text: &Text<'_>, pattern: &[u64], out: &mut usize) -> u32
-    ensures { CountAnswered text.now pattern.now result out.old out.new }
+    ensures { TextCountAnswered text.now pattern.now result out.old out.new }
 {
     match text.view() {
         Some(view) => report(view.count(pattern), out),

@@ -3,20 +3,20 @@ use Rattle.std.specs.Prelude.{◌≡◌, ◌≢◌, ℕ, ◌≤◌, ◌↔◌, �
 use Rattle.std.specs.List.{Contains}
 use Rattle.elias_fano.specs.LentParts.{Holds}
 use Rattle.elias_fano.specs.Told.{TellsLess}
-use Rattle.bitm_abi.specs.Sequence.{lent_parts, IsPredecessor, IsSized}
+use Rattle.bitm_abi.specs.Sequence.{lent_parts, IsPredecessor, IsSequenceSized}
 use Rattle.bitm_abi.specs.Status.{Exported}
 use Rattle.bitm_abi.specs.declared.sequence.Sequence.{Sequence}
 
 abbrev pub LastAnswered : Sequence → ℕ → ℕ → ℕ → ℕ → Type 0
-LastAnswered sequence value = Exported (IsSized sequence) (IsPredecessor value (lent_parts sequence))
+LastAnswered sequence value = Exported (IsSequenceSized sequence) (IsPredecessor value (lent_parts sequence))
 
 -- whether value is one of the numbers: the status, and the answer before and after the call; whatever the parts hold,
 -- they claim how many numbers are less, and the answer is 0 where that is all of them
 pub record ContainsAnswered (sequence : Sequence) (value status old new : ℕ) : Type 0 where
   pub kept : status ≢ 0 → new ≡ old
-  pub bad : ¬ (IsSized sequence) → status ≡ 2
-  pub good : IsSized sequence → (status ≡ 0) ⊎ (status ≡ 3)
+  pub bad : ¬ (IsSequenceSized sequence) → status ≡ 2
+  pub good : IsSequenceSized sequence → (status ≡ 0) ⊎ (status ≡ 3)
   pub truth : status ≡ 0 → new ≤ 1
   pub less : status ≡ 0 → (p : ℕ) × TellsLess (lent_parts sequence) value p × (p ≡ sequence.len → new ≡ 0)
-  pub told : IsSized sequence → (xs : List ℕ) → Holds xs (lent_parts sequence) → status ≡ 0
+  pub told : IsSequenceSized sequence → (xs : List ℕ) → Holds xs (lent_parts sequence) → status ≡ 0
   pub right : (xs : List ℕ) → Holds xs (lent_parts sequence) → status ≡ 0 → (new ≡ 1) ↔ Contains xs value

@@ -1,11 +1,11 @@
 -- What the exported calls on sequences answer: a status, and a number written where the caller says.
 use Rattle.std.specs.Prelude.{ℕ, List}
 use Rattle.elias_fano.specs.LentParts.{ArePartsWithTables, LentParts}
-use Rattle.elias_fano.specs.Answers.{IsFirst, IsItem, IsOfPlace, IsPlaceOf}
+use Rattle.elias_fano.specs.Answers.{IsItem, IsOfPlace, IsPlaceOf, IsSuccessorOf}
 use Rattle.elias_fano.specs.Told.{ClaimLess, IfPlace}
 use Rattle.bitm_tables.specs.Tables.{Lists}
 use Rattle.bitm_tables.specs.declared.answer.Answer.{Answer}
-use Rattle.bitm_abi.specs.Sequence.{lent_parts, IsSized}
+use Rattle.bitm_abi.specs.Sequence.{lent_parts, IsSequenceSized}
 use Rattle.bitm_abi.specs.Status.{Exported}
 use Rattle.bitm_abi.specs.declared.sequence.Sequence.{Sequence}
 
@@ -22,18 +22,18 @@ abbrev pub IsNumber : ℕ → LentParts → Answer ℕ → Type 0
 IsNumber index parts = FindsItem index parts.len parts.width parts.low parts.upper
 
 abbrev pub ItemAnswered : Sequence → ℕ → ℕ → ℕ → ℕ → Type 0
-ItemAnswered sequence index = Exported (IsSized sequence) (IsNumber index (lent_parts sequence))
+ItemAnswered sequence index = Exported (IsSequenceSized sequence) (IsNumber index (lent_parts sequence))
 
 -- the successor of value: the index of the first number that is at least value; whatever four parts hold, they claim
 -- that all numbers before that index are less, or all numbers where the answer is that there is none
 pub record FindsFirst (value len width : ℕ) (low : List ℕ) (upper : Lists) (answer : Answer ℕ) : Type 0 where
   pub inside : IsPlaceOf len answer
   pub less : IfPlace len answer (ClaimLess len width low upper value)
-  pub counts : (xs : List ℕ) → ArePartsWithTables xs len width low upper → IsFirst xs value answer
+  pub counts : (xs : List ℕ) → ArePartsWithTables xs len width low upper → IsSuccessorOf xs value answer
 
 -- the successor in a sequence, whatever samples it has
 abbrev pub IsSuccessor : ℕ → LentParts → Answer ℕ → Type 0
 IsSuccessor value parts = FindsFirst value parts.len parts.width parts.low parts.upper
 
 abbrev pub PlaceAnswered : Sequence → ℕ → ℕ → ℕ → ℕ → Type 0
-PlaceAnswered sequence value = Exported (IsSized sequence) (IsSuccessor value (lent_parts sequence))
+PlaceAnswered sequence value = Exported (IsSequenceSized sequence) (IsSuccessor value (lent_parts sequence))

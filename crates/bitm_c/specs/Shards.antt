@@ -5,7 +5,7 @@ use Rattle.bitm_select.specs.Answers.{IsFoundFrom, IsSelected}
 use Rattle.lent_tables.specs.Nearest.{IsNext, IsPrevious}
 use Rattle.lent_tables.specs.Ranks.{IsCountWithin, IsRanked}
 use Rattle.sharded_index.specs.Joined.{joined, kind_of}
-use Rattle.sharded_index.specs.Prefixes.{claimed_in_all, ArePrefixes, HasLengths, IsClaimedBy, IsPlaced, Prefixes as Counts}
+use Rattle.sharded_index.specs.Prefixes.{claimed_in_all, ArePrefixes, HasLengths, IsClaimedBy, IsShardFound, Prefixes as Counts}
 use Rattle.sharded_index.specs.Shards.{IfFoundHasBit, IsOfRank}
 use Rattle.sharded_index.specs.declared.counts.Kind.{Kind}
 use Rattle.sharded_index.specs.declared.counts.Kind.TheVariants.{Positions}
@@ -46,7 +46,7 @@ pub record HasTellableShards (shards : Shards) : Type 0 where
 -- of the shard that holds a number: what the prefix counts claim; where they are those of some bits, it is so
 pub record FindsShard (of : Kind) (counts : Counts) (number : ℕ) (answer : Answer Place) : Type 0 where
   pub claimed : IsClaimedBy of counts number answer
-  pub right : (bs : List (List Bool)) → ArePrefixes bs counts → IsPlaced of bs number answer
+  pub right : (bs : List (List Bool)) → ArePrefixes bs counts → IsShardFound of bs number answer
 
 -- the same for a number of C, which may stand for no kind
 abbrev pub FindAnswered : Option Kind → Counts → ℕ → ℕ → ShardPlace → ShardPlace → Type 0

@@ -1,8 +1,8 @@
 //! Whole stored indexes: how large they are, and the call that writes all their parts.
 ghost use Rattle.std.specs.Prelude.{◌≡◌, ◌≢◌, ◌+◌, ◌*◌, ◌↔◌};
 ghost use Rattle.std.specs.Int.{div_ceil};
-ghost use Rattle.bitm_view.specs.Block.{sample_room, zeros_from, HasBlockRoom, IsBlock};
-ghost use Rattle.bitm_abi.specs.Stored.{HasIndexLens, IsIndexOf, IsLog, IsStored};
+ghost use Rattle.bitm_view.specs.Block.{sample_room, zeros_from, HasBlockRoom, IsIndexBlock};
+ghost use Rattle.bitm_abi.specs.Stored.{HasIndexLens, IsIndexHeaderOf, IsLog, IsStored};
 
 use crate::sampled::bitm_index_samples_len;
 use crate::stored::bitm_stored_index;
@@ -20,7 +20,7 @@ pub extern "C" fn bitm_stored_index_room(
     ensures ok { let words = div_ceil bits_len 64 in (result ≡ 0) ↔ HasIndexLens bits_len ones_log2
         (sample_room words ones_log2) zeros_log2 (sample_room words zeros_log2) }
     ensures header { let words = div_ceil bits_len 64 in result ≡ 0 → IsStored out.new
-        × IsIndexOf bits_len ones_log2 (sample_room words ones_log2) zeros_log2
+        × IsIndexHeaderOf bits_len ones_log2 (sample_room words ones_log2) zeros_log2
         (sample_room words zeros_log2) out.new }
     ensures kept { result ≢ 0 → (result ≡ 2) × (out.new ≡ out.old) }
 {
@@ -48,9 +48,9 @@ pub extern "C" fn bitm_stored_build(
 ) -> u32
     ensures ok { (result ≡ 0) ↔ (IsLog ones_log2 × IsLog zeros_log2 × HasBlockRoom words.now bits_len
         ones_log2 zeros_log2 to.old upper.old lower.old starts.old starts0.old samples.old) }
-    ensures header { result ≡ 0 → IsStored out.new × IsIndexOf bits_len ones_log2 out.new.samples.len
+    ensures header { result ≡ 0 → IsStored out.new × IsIndexHeaderOf bits_len ones_log2 out.new.samples.len
         zeros_log2 out.new.samples0.len out.new }
-    ensures block { result ≡ 0 → IsBlock words.now bits_len ones_log2 zeros_log2 to.new upper.new
+    ensures block { result ≡ 0 → IsIndexBlock words.now bits_len ones_log2 zeros_log2 to.new upper.new
         lower.new starts.new starts0.new samples.new out.new.samples.len out.new.samples0.len }
     ensures place { result ≡ 0 → out.new.samples0.at
         ≡ out.new.samples.at + 4 * zeros_from out.new.samples.len }

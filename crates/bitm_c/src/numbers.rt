@@ -2,9 +2,10 @@
 //! order.
 ghost use Rattle.std.specs.Prelude.{◌≡◌, ◌≢◌, ◌-◌, ◌≤◌, ◌↔◌, ◌⊎◌, ℕ, List, length, min};
 ghost use Rattle.elias_fano.specs.LentParts.{Holds};
-ghost use Rattle.elias_fano_view.specs.Lists.{AreItemsFrom, IsKeptFrom};
+ghost use Rattle.bit_lists.specs.Kept.{IsKeptFrom};
+ghost use Rattle.elias_fano_view.specs.Lists.{AreItemsFrom};
 ghost use Rattle.bitm_c.specs.Numbers.{ContainsAnswered, LastAnswered};
-ghost use Rattle.bitm_abi.specs.Sequence.{lent_parts, IsSized};
+ghost use Rattle.bitm_abi.specs.Sequence.{lent_parts, IsSequenceSized};
 
 use bitm_abi::{BAD_SIZE, OK, Sequence, WRONG, report};
 
@@ -49,7 +50,7 @@ pub extern "C" fn bitm_sequence_items(
     out: &mut [u64],
     written: &mut usize,
 ) -> u32
-    ensures bad { (result ≡ 2) ↔ ¬ (IsSized sequence.now) }
+    ensures bad { (result ≡ 2) ↔ ¬ (IsSequenceSized sequence.now) }
     ensures full { result ≢ 2
         → (result ≡ 0) ↔ written.new ≡ min (length out.old) (sequence.now.len - from) }
     ensures status { (result ≡ 0) ⊎ (result ≡ 2) ⊎ (result ≡ 3) }

@@ -5,7 +5,7 @@ ghost use Rattle.bitm_view.specs.Cut.{bits_of_cut, IsSizedCut};
 ghost use Rattle.bitm_view.specs.Queries.{ranked_by, selected_by, RanksIn, SelectsIn};
 ghost use Rattle.bitm_c.specs.Queries.{PlacesWritten};
 ghost use Rattle.bitm_abi.specs.Index.{cut_of};
-ghost use Rattle.bitm_abi.specs.Lists.{AreCounted};
+ghost use Rattle.bitm_abi.specs.Lists.{AreAnswersCounted};
 
 use bitm_abi::{BAD_SIZE, Index, ListCounts, OK, report_list};
 
@@ -24,7 +24,7 @@ pub extern "C" fn bitm_index_rank_list(
     ensures ranks { result ≡ 0 → (j : ℕ) → j < length positions.now
         → RanksIn one (cut_of index.now) (slice_index positions.now j)
         (ranked_by (slice_index out.new j)) }
-    ensures counts { result ≡ 0 → AreCounted out.new counts.new }
+    ensures counts { result ≡ 0 → AreAnswersCounted out.new counts.new }
 {
     let Some(view) = index.view() else {
         return BAD_SIZE;
@@ -52,7 +52,7 @@ pub extern "C" fn bitm_index_select_list(
     ensures selects { result ≡ 0 → (j : ℕ) → j < length ranks.now
         → SelectsIn one (cut_of index.now) (slice_index ranks.now j)
         (selected_by (slice_index out.new j)) }
-    ensures counts { result ≡ 0 → AreCounted out.new counts.new }
+    ensures counts { result ≡ 0 → AreAnswersCounted out.new counts.new }
 {
     let Some(view) = index.view() else {
         return BAD_SIZE;

@@ -2,10 +2,10 @@
 ghost use Rattle.std.specs.Prelude.{◌≡◌, ◌≢◌, ◌≤◌, ◌↔◌, ◌⊎◌, ℕ, length, slice_index, take};
 ghost use Rattle.bitm_strategies.specs.Density.{clamped_log};
 ghost use Rattle.bitm_tables.specs.Tables.{HasTables, bits_in};
-ghost use Rattle.lent_tables.specs.Samples.{AreSamples, AreSamplesOf, HasRoom, enough_samples};
+ghost use Rattle.lent_tables.specs.Samples.{AreSamples, AreSamplesOf, HasSampleRoom, enough_samples};
 ghost use Rattle.bitm_view.specs.Cut.{IsSizedCut};
 ghost use Rattle.bitm_abi.specs.Index.{cut_of};
-ghost use Rattle.bitm_abi.specs.Samples.{lent_samples, samples_in};
+ghost use Rattle.bitm_abi.specs.Samples.{index_samples, lent_samples};
 
 use bitm_abi::{BAD_SIZE, Index, OK, WRONG, narrow_log2};
 
@@ -29,7 +29,7 @@ pub extern "C" fn bitm_index_build_samples(
     used: &mut usize,
 ) -> u32
     ensures ok { (result ≡ 0) ↔ IsSizedCut (cut_of index.now)
-        × HasRoom (cut_of index.now).lists log2 samples.old starts.old }
+        × HasSampleRoom (cut_of index.now).lists log2 samples.old starts.old }
     ensures fits { result ≡ 0 → used.new ≤ length samples.old }
     ensures made { result ≡ 0 → HasTables (cut_of index.now).lists → AreSamples
         (bits_in (cut_of index.now).lists) one (clamped_log log2)
@@ -64,7 +64,7 @@ pub extern "C" fn bitm_index_build_samples(
 pub extern "C" fn bitm_index_check_samples(index: &Index<'_>, one: bool) -> u32
     ensures ok { IsSizedCut (cut_of index.now) → HasTables (cut_of index.now).lists
         → (result ≡ 0) ↔ AreSamplesOf (bits_in (cut_of index.now).lists) one
-        (lent_samples (samples_in one index.now)) }
+        (lent_samples (index_samples one index.now)) }
     ensures bad { (result ≡ 2) ↔ ¬ (IsSizedCut (cut_of index.now)) }
     ensures status { (result ≡ 0) ⊎ (result ≡ 2) ⊎ (result ≡ 3) }
 {

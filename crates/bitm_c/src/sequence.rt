@@ -4,11 +4,12 @@ ghost use Rattle.lent_tables.specs.Sizes.{lists_of};
 ghost use Rattle.elias_fano.specs.Parts.{width_of};
 ghost use Rattle.elias_fano.specs.Sequence.{HasFall};
 ghost use Rattle.elias_fano.specs.LentParts.{parts_of, AreParts, Holds};
-ghost use Rattle.elias_fano_view.specs.Lists.{AreItems, IsKeptFrom};
-ghost use Rattle.elias_fano_view.specs.Sizes.{sizes_of, HasRoom, IsLargest};
+ghost use Rattle.bit_lists.specs.Kept.{IsKeptFrom};
+ghost use Rattle.elias_fano_view.specs.Lists.{AreItems};
+ghost use Rattle.elias_fano_view.specs.Sizes.{sizes_of, HasPartRoom, IsLargest};
 ghost use Rattle.bitm_c.specs.Sequence.{ItemAnswered, PlaceAnswered};
 ghost use Rattle.bitm_abi.specs.Lists.{IsStopped};
-ghost use Rattle.bitm_abi.specs.Sequence.{lent_parts, sizes_in_c, IsSized};
+ghost use Rattle.bitm_abi.specs.Sequence.{lent_parts, sizes_in_c, IsSequenceSized};
 
 use bitm_abi::{BAD_SIZE, OK, Sequence, SequenceLens, UNSORTED, WRONG, report, tell_list};
 use elias_fano_view::{BuildError, Sizes, build};
@@ -45,10 +46,10 @@ pub extern "C" fn bitm_sequence_build(
     lower: &mut [u64],
     width: &mut u64,
 ) -> u32
-    ensures ok { (result ≡ 0) → HasRoom items.now low.old words.old upper.old lower.old }
-    ensures bad { (result ≡ 2) ↔ ¬ (HasRoom items.now low.old words.old upper.old lower.old) }
+    ensures ok { (result ≡ 0) → HasPartRoom items.now low.old words.old upper.old lower.old }
+    ensures bad { (result ≡ 2) ↔ ¬ (HasPartRoom items.now low.old words.old upper.old lower.old) }
     ensures unsorted { (result ≡ 4)
-        ↔ (HasRoom items.now low.old words.old upper.old lower.old × HasFall items.now) }
+        ↔ (HasPartRoom items.now low.old words.old upper.old lower.old × HasFall items.now) }
     ensures status { result ≢ 0 → (result ≡ 2) ⊎ (result ≡ 4) }
     ensures width { result ≡ 0 → width.new ≡ width_of items.now }
     ensures parts { result ≡ 0 → Holds items.now
@@ -70,8 +71,8 @@ pub extern "C" fn bitm_sequence_build(
 /// more for the numbers.
 #[unsafe(no_mangle)]
 pub extern "C" fn bitm_sequence_check(sequence: &Sequence<'_>) -> u32
-    ensures ok { (result ≡ 0) ↔ (IsSized sequence.now × AreParts (lent_parts sequence.now)) }
-    ensures bad { (result ≡ 2) ↔ ¬ (IsSized sequence.now) }
+    ensures ok { (result ≡ 0) ↔ (IsSequenceSized sequence.now × AreParts (lent_parts sequence.now)) }
+    ensures bad { (result ≡ 2) ↔ ¬ (IsSequenceSized sequence.now) }
     ensures status { (result ≡ 0) ⊎ (result ≡ 2) ⊎ (result ≡ 3) }
 {
     match sequence.lent() {
@@ -116,7 +117,7 @@ pub extern "C" fn bitm_sequence_get_list(
     written: &mut usize,
 ) -> u32
     ensures bad { (result ≡ 2)
-        ↔ ¬ (IsSized sequence.now × (length out.old ≡ length indices.now)) }
+        ↔ ¬ (IsSequenceSized sequence.now × (length out.old ≡ length indices.now)) }
     ensures kept { result ≡ 2 → (out.new ≡ out.old) × (written.new ≡ written.old) }
     ensures stopped { result ≢ 2
         → IsStopped sequence.now.len indices.now written.new result }

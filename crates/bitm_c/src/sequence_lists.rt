@@ -1,8 +1,8 @@
 //! Lists of queries of a sequence. Each answer is that of the single call, by the codes of lists.
 ghost use Rattle.std.specs.Prelude.{◌≡◌, ◌≢◌, ◌<◌, ◌-◌, ◌↔◌, ℕ, length, slice_index};
 ghost use Rattle.elias_fano_view.specs.Lists.{PlaceTold};
-ghost use Rattle.bitm_abi.specs.Lists.{AreCounted};
-ghost use Rattle.bitm_abi.specs.Sequence.{lent_parts, sought_by, IsContained, IsPredecessor, IsSized};
+ghost use Rattle.bitm_abi.specs.Lists.{AreAnswersCounted};
+ghost use Rattle.bitm_abi.specs.Sequence.{lent_parts, sought_by, IsContained, IsPredecessor, IsSequenceSized};
 
 use bitm_abi::{BAD_SIZE, ListCounts, Sequence, contains_list, last_at_most_list, report_list};
 
@@ -15,12 +15,12 @@ pub extern "C" fn bitm_sequence_first_at_least_list(
     out: &mut [usize],
     counts: &mut ListCounts,
 ) -> u32
-    ensures ok { (result ≡ 0) ↔ IsSized sequence.now × (length out.old ≡ length values.now) }
+    ensures ok { (result ≡ 0) ↔ IsSequenceSized sequence.now × (length out.old ≡ length values.now) }
     ensures unchanged { result ≢ 0 → (result ≡ 2) × (out.new ≡ out.old)
         × (counts.new ≡ counts.old) }
     ensures successors { result ≡ 0 → (j : ℕ) → j < length values.now
         → PlaceTold (lent_parts sequence.now) (slice_index values.now j) (slice_index out.new j) }
-    ensures counts { result ≡ 0 → AreCounted out.new counts.new }
+    ensures counts { result ≡ 0 → AreAnswersCounted out.new counts.new }
 {
     let Some(lent) = sequence.lent() else {
         return BAD_SIZE;
@@ -38,13 +38,13 @@ pub extern "C" fn bitm_sequence_last_at_most_list(
     out: &mut [usize],
     counts: &mut ListCounts,
 ) -> u32
-    ensures ok { (result ≡ 0) ↔ IsSized sequence.now × (length out.old ≡ length values.now) }
+    ensures ok { (result ≡ 0) ↔ IsSequenceSized sequence.now × (length out.old ≡ length values.now) }
     ensures unchanged { result ≢ 0 → (result ≡ 2) × (out.new ≡ out.old)
         × (counts.new ≡ counts.old) }
     ensures predecessors { result ≡ 0 → (j : ℕ) → j < length values.now
         → IsPredecessor (slice_index values.now j) (lent_parts sequence.now)
         (sought_by (slice_index out.new j)) }
-    ensures counts { result ≡ 0 → AreCounted out.new counts.new }
+    ensures counts { result ≡ 0 → AreAnswersCounted out.new counts.new }
 {
     let Some(lent) = sequence.lent() else {
         return BAD_SIZE;
@@ -61,12 +61,12 @@ pub extern "C" fn bitm_sequence_contains_list(
     out: &mut [usize],
     counts: &mut ListCounts,
 ) -> u32
-    ensures ok { (result ≡ 0) ↔ IsSized sequence.now × (length out.old ≡ length values.now) }
+    ensures ok { (result ≡ 0) ↔ IsSequenceSized sequence.now × (length out.old ≡ length values.now) }
     ensures unchanged { result ≢ 0 → (result ≡ 2) × (out.new ≡ out.old)
         × (counts.new ≡ counts.old) }
     ensures contained { result ≡ 0 → (j : ℕ) → j < length values.now
         → IsContained (slice_index values.now j) (lent_parts sequence.now) (slice_index out.new j) }
-    ensures counts { result ≡ 0 → AreCounted out.new counts.new }
+    ensures counts { result ≡ 0 → AreAnswersCounted out.new counts.new }
 {
     let Some(lent) = sequence.lent() else {
         return BAD_SIZE;

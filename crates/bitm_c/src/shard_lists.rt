@@ -2,7 +2,7 @@
 ghost use Rattle.std.specs.Prelude.{◌≡◌, ◌≢◌, ◌<◌, ◌↔◌, ℕ, length, slice_index};
 ghost use Rattle.bitm_view.specs.Queries.{ranked_by, selected_by};
 ghost use Rattle.bitm_c.specs.Shards.{HasTellableShards, RanksJoined, SelectsJoined};
-ghost use Rattle.bitm_abi.specs.Lists.{AreCounted};
+ghost use Rattle.bitm_abi.specs.Lists.{AreAnswersCounted};
 
 use bitm_abi::{BAD_SIZE, ListCounts, Shards, report_list};
 
@@ -21,7 +21,7 @@ pub extern "C" fn bitm_shards_rank_list(
     ensures kept { result ≢ 0 → (result ≡ 2) × (out.new ≡ out.old) × (counts.new ≡ counts.old) }
     ensures ranks { result ≡ 0 → (j : ℕ) → j < length positions.now → RanksJoined one shards.now
         (slice_index positions.now j) (ranked_by (slice_index out.new j)) }
-    ensures counts { result ≡ 0 → AreCounted out.new counts.new }
+    ensures counts { result ≡ 0 → AreAnswersCounted out.new counts.new }
 {
     let Some(index) = shards.index() else {
         return BAD_SIZE;
@@ -44,7 +44,7 @@ pub extern "C" fn bitm_shards_select_list(
     ensures kept { result ≢ 0 → (result ≡ 2) × (out.new ≡ out.old) × (counts.new ≡ counts.old) }
     ensures selects { result ≡ 0 → (j : ℕ) → j < length ranks.now → SelectsJoined one shards.now
         (slice_index ranks.now j) (selected_by (slice_index out.new j)) }
-    ensures counts { result ≡ 0 → AreCounted out.new counts.new }
+    ensures counts { result ≡ 0 → AreAnswersCounted out.new counts.new }
 {
     let Some(index) = shards.index() else {
         return BAD_SIZE;

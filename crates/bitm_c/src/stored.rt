@@ -1,6 +1,7 @@
 //! The header of a file with an index or a sequence: which parts it has, and where each of them is.
 ghost use Rattle.std.specs.Prelude.{◌≡◌, ◌≢◌, ◌*◌, ◌<◌, ◌↔◌, length};
-ghost use Rattle.bitm_abi.specs.Stored.{header_in, HasIndexLens, HasSequenceLens, IsHeaded, IsIndexOf, IsSequenceOf};
+ghost use Rattle.bitm_abi.specs.Stored.{header_in, HasIndexLens, HasSequenceLens, IsHeaded, IsIndexHeaderOf};
+ghost use Rattle.bitm_abi.specs.Stored.{IsSequenceOf};
 ghost use Rattle.bitm_abi.specs.Stored.{IsStored, LiesWithin};
 
 use bitm_abi::{BAD_SIZE, OK, SequenceLens, Stored, WRONG, header_of, index_of, sequence_of};
@@ -19,7 +20,7 @@ pub extern "C" fn bitm_stored_index(
 ) -> u32
     ensures ok { (result ≡ 0) ↔ HasIndexLens bits_len ones_log2 ones_len zeros_log2 zeros_len }
     ensures header { result ≡ 0 → IsStored out.new
-        × IsIndexOf bits_len ones_log2 ones_len zeros_log2 zeros_len out.new }
+        × IsIndexHeaderOf bits_len ones_log2 ones_len zeros_log2 zeros_len out.new }
     ensures kept { result ≢ 0 → (result ≡ 2) × (out.new ≡ out.old) }
 {
     let lens = index_of(bits_len, ones_log2, ones_len, zeros_log2, zeros_len);

@@ -15,9 +15,9 @@ use Rattle.perfect_hash.specs.Dictionary.{print_at}
 use Rattle.bitm_select.specs.Answers.{place_in}
 use Rattle.bitm_tables.specs.declared.answer.Answer.{Answer}
 use Rattle.bitm_tables.specs.declared.answer.Answer.TheVariants.{Found, Absent, Wrong}
-use Rattle.bitm_abi.specs.Hash.{number_of, HashParts, IsHashNumber, IsHashOf}
+use Rattle.bitm_abi.specs.Hash.{hash_number, HashLists, IsHashNumber, IsHashOf}
 use Rattle.perfect_hash.specs.Asking.{IsNumbered}
-use Rattle.bitm_hash_c.specs.Prints.{key_number, AreKept, AreSet, AreWritten, HasPrint, HaveNumber, HaveRoom, IsPrint, SetsPrint, WritesPrint}
+use Rattle.bitm_hash_c.specs.Prints.{number_of_key_in, ArePrintsKept, ArePrintsWritten, AreSet, HasPrint, HaveNumber, HaveRoom, IsPrint, SetsPrint, WritesPrint}
 
 -- all bits of words
 pub whole : (words : List ℕ) → first_bits words (64 * length words) ≡ bits_of words
@@ -74,7 +74,7 @@ module _ (of_key : ℕ → Option ℕ) (key_prints : List ℕ) (width m : ℕ) (
   own false e n here room =
       absurd ((subst (λ (o : Option ℕ). MatchOption o ⊤ (λ k. ¬ HasPrint old width k)) here (one.kept e).1) (there n room))
 
-  pub written_more : AreWritten of_key key_prints old width m → AreWritten of_key key_prints new width (m + 1)
+  pub written_more : ArePrintsWritten of_key key_prints old width m → ArePrintsWritten of_key key_prints new width (m + 1)
   written_more before j n below is_n last room =
       elim (cases_lt j m) [
         | inl less ↦
@@ -86,7 +86,7 @@ module _ (of_key : ℕ → Option ℕ) (key_prints : List ℕ) (width m : ℕ) (
             ∙ ap (λ i. slice_index key_prints i % 2 ^ width) (sym e)
       ]
 
-  pub kept_more : (first : List ℕ) → AreKept of_key first old width m → AreKept of_key first new width (m + 1)
+  pub kept_more : (first : List ℕ) → ArePrintsKept of_key first old width m → ArePrintsKept of_key first new width (m + 1)
   kept_more first before n none room =
       beside is (refl {A = Bool}) n (λ e. none (m, omega arith, omega arith, e))
       ∙ before n (λ h. none (h.0, h.1, omega (arith, h.2), h.3)) (there n room)
@@ -123,11 +123,11 @@ module _ (f g : ℕ → Option ℕ) (m : ℕ) (same : (j : ℕ) → j < m → f 
   have_on : (j n : ℕ) → HaveNumber f j m n → HaveNumber g j m n
   have_on j n h = (h.0, h.1, h.2, sym (same h.0 h.2) ∙ h.3)
 
-  pub written_alike : (key_prints prints : List ℕ) (width : ℕ) → AreWritten f key_prints prints width m → AreWritten g key_prints prints width m
+  pub written_alike : (key_prints prints : List ℕ) (width : ℕ) → ArePrintsWritten f key_prints prints width m → ArePrintsWritten g key_prints prints width m
   written_alike key_prints prints width before j n below is last room =
       before j n below (same j below ∙ is) (λ h. last (have_on (j + 1) n h)) room
 
-  pub kept_alike : (old new : List ℕ) (width : ℕ) → AreKept f old new width m → AreKept g old new width m
+  pub kept_alike : (old new : List ℕ) (width : ℕ) → ArePrintsKept f old new width m → ArePrintsKept g old new width m
   kept_alike old new width before n none room = before n (λ h. none (have_on 0 n h)) room
 
   pub room_alike : (prints : List ℕ) (width : ℕ) → HaveRoom f prints width m → HaveRoom g prints width m
@@ -150,7 +150,7 @@ more_old : (f : ℕ → Answer ℕ) (m : ℕ) (a : Answer ℕ) (j : ℕ) → j <
 more_old f m a j less = ap (λ (e : Bool). if e then a else f j) (ne_eqb j m (λ e. omega (arith, e, less)))
 
 -- one more key is set
-pub set_more : (h : HashParts) (hashes key_prints first old new : List ℕ) (width m : ℕ) (all is : Bool) → length old ≡ length first
+pub set_more : (h : HashLists) (hashes key_prints first old new : List ℕ) (width m : ℕ) (all is : Bool) → length old ≡ length first
     → AreSet h hashes key_prints first old width m (all ≡ true)
     → SetsPrint h (slice_index hashes m) width (slice_index key_prints m) old new is
     → AreSet h hashes key_prints first new width (m + 1) ((all && is) ≡ true)
@@ -179,35 +179,35 @@ set_more h hashes key_prints first old new width m all is same before one =
     }
 
 -- where the parts are those of a hash, the answers are the numbers
-module _ (h : HashParts) (hashes key_prints old new : List ℕ) (width m : ℕ) (good : Type 0) (is : AreSet h hashes key_prints old new width m good)
+module _ (h : HashLists) (hashes key_prints old new : List ℕ) (width m : ℕ) (good : Type 0) (is : AreSet h hashes key_prints old new width m good)
     (right : IsHashOf h) where
   by_number : (o : Option ℕ) (a : Answer ℕ) → IsNumbered o a → place_in a ≡ o
   by_number o (Found n) e = sym e
   by_number o Absent e = sym e
   by_number o Wrong e = absurd e
 
-  are_numbers : (j : ℕ) → j < m → place_in (is.answer j) ≡ key_number h hashes j
-  are_numbers j below = by_number (key_number h hashes j) (is.answer j) ((is.hashed j below).counts right)
+  are_numbers : (j : ℕ) → j < m → place_in (is.answer j) ≡ number_of_key_in h hashes j
+  are_numbers j below = by_number (number_of_key_in h hashes j) (is.answer j) ((is.hashed j below).counts right)
 
-  pub set_written : AreWritten (key_number h hashes) key_prints new width m
-  set_written = written_alike (λ j. place_in (is.answer j)) (key_number h hashes) m are_numbers key_prints new width is.written
+  pub set_written : ArePrintsWritten (number_of_key_in h hashes) key_prints new width m
+  set_written = written_alike (λ j. place_in (is.answer j)) (number_of_key_in h hashes) m are_numbers key_prints new width is.written
 
-  pub set_kept : AreKept (key_number h hashes) old new width m
-  set_kept = kept_alike (λ j. place_in (is.answer j)) (key_number h hashes) m are_numbers old new width is.kept
+  pub set_kept : ArePrintsKept (number_of_key_in h hashes) old new width m
+  set_kept = kept_alike (λ j. place_in (is.answer j)) (number_of_key_in h hashes) m are_numbers old new width is.kept
 
-  pub set_room : good ↔ HaveRoom (key_number h hashes) old width m
+  pub set_room : good ↔ HaveRoom (number_of_key_in h hashes) old width m
   set_room = (
-    λ done. room_alike (λ j. place_in (is.answer j)) (key_number h hashes) m are_numbers old width (is.room.0 done),
-    λ room. is.room.1 (room_back (λ j. place_in (is.answer j)) (key_number h hashes) m are_numbers old width room),
+    λ done. room_alike (λ j. place_in (is.answer j)) (number_of_key_in h hashes) m are_numbers old width (is.room.0 done),
+    λ room. is.room.1 (room_back (λ j. place_in (is.answer j)) (number_of_key_in h hashes) m are_numbers old width room),
   )
 
 -- and the status says whether each key has a number, and room for its fingerprint
-pub set_status : (h lent : HashParts) → lent ≡ h → (hashes key_prints old new : List ℕ) (width m : ℕ) (all : Bool) (status : ℕ)
+pub set_status : (h lent : HashLists) → lent ≡ h → (hashes key_prints old new : List ℕ) (width m : ℕ) (all : Bool) (status : ℕ)
     → (all ≡ true → status ≡ 0) → (status ≡ 0 → all ≡ true)
     → AreSet lent hashes key_prints old new width m (all ≡ true) → AreSet h hashes key_prints old new width m (status ≡ 0)
 set_status h lent same hashes key_prints old new width m all status good back is =
     let here : AreSet h hashes key_prints old new width m (all ≡ true) =
-    subst (λ (l : HashParts). AreSet l hashes key_prints old new width m (all ≡ true)) same is in
+    subst (λ (l : HashLists). AreSet l hashes key_prints old new width m (all ≡ true)) same is in
     record {
       answer = here.answer;
       hashed = here.hashed;

@@ -1,7 +1,7 @@
 -- What the exported calls of perfect hashes answer.
 use Rattle.std.specs.Prelude.{◌≡◌, ℕ, ◌^◌, ◌<◌, ◌≤◌, List, length}
 use Rattle.hash_levels.specs.declared.in_place.Made.{Made}
-use Rattle.bitm_abi.specs.Hash.{CanBeHash, HashParts, IsHashNumber}
+use Rattle.bitm_abi.specs.Hash.{CanBeHash, HashLists, IsHashNumber}
 use Rattle.bitm_abi.specs.Status.{Exported}
 
 -- there are words for a level, fewer than 2^58, and as many beside them
@@ -17,5 +17,5 @@ abbrev pub made_of : ℕ → ℕ → ℕ → Made
 made_of levels words left = record { levels = levels; words = words; left = left }
 
 -- the number of a hash: the status, and the number before and after the call
-abbrev pub HashAnswered : HashParts → ℕ → ℕ → ℕ → ℕ → Type 0
+abbrev pub HashAnswered : HashLists → ℕ → ℕ → ℕ → ℕ → Type 0
 HashAnswered h hash = Exported (CanBeHash h) (IsHashNumber h hash)

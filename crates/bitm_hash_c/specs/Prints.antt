@@ -7,14 +7,14 @@ use Rattle.bitm_tables.specs.declared.answer.Answer.{Answer}
 use Rattle.bitm_tables.specs.declared.answer.Answer.TheVariants.{Found, Absent, Wrong}
 use Rattle.perfect_hash.specs.Dictionary.{print_at}
 use Rattle.bitm_abi.specs.Status.{Exported}
-use Rattle.bitm_abi.specs.Hash.{number_of, CanBeHash, HashParts, IsHashNumber}
+use Rattle.bitm_abi.specs.Hash.{hash_number, CanBeHash, HashLists, IsHashNumber}
 
 -- the lengths that fingerprints have
 abbrev pub ArePrintsSized : List ℕ → ℕ → Type 0
 ArePrintsSized prints width = (length prints < 2 ^ 58) × (width ≤ 64)
 
 -- the lengths that a look-up takes
-abbrev pub CanBeFound : HashParts → List ℕ → ℕ → Type 0
+abbrev pub CanBeFound : HashLists → List ℕ → ℕ → Type 0
 CanBeFound h prints width = ArePrintsSized prints width × CanBeHash h
 
 -- there is room for fingerprint n, of width bits
@@ -35,31 +35,31 @@ IsChecked prints width print Absent answer = answer ≡ Absent
 IsChecked prints width print Wrong answer = answer ≡ Wrong
 
 -- what is answered of a key, by its hash and its fingerprint
-pub record IsKey (h : HashParts) (prints : List ℕ) (width hash print : ℕ) (answer : Answer ℕ) : Type 0 where
+pub record IsKey (h : HashLists) (prints : List ℕ) (width hash print : ℕ) (answer : Answer ℕ) : Type 0 where
   pub number : Answer ℕ
   pub hashed : IsHashNumber h hash number
   pub checked : IsChecked prints width print number answer
 
 -- the status, and the number before and after the call
-abbrev pub KeyAnswered : HashParts → List ℕ → ℕ → ℕ → ℕ → ℕ → ℕ → ℕ → Type 0
+abbrev pub KeyAnswered : HashLists → List ℕ → ℕ → ℕ → ℕ → ℕ → ℕ → ℕ → Type 0
 KeyAnswered h prints width hash print = Exported (CanBeFound h prints width) (IsKey h prints width hash print)
 
 -- the number of key j
-abbrev pub key_number : HashParts → List ℕ → ℕ → Option ℕ
-key_number h hashes j = number_of h (slice_index hashes j)
+abbrev pub number_of_key_in : HashLists → List ℕ → ℕ → Option ℕ
+number_of_key_in h hashes j = hash_number h (slice_index hashes j)
 
 -- one of the keys from key j to before key m has this number
 abbrev pub HaveNumber : (ℕ → Option ℕ) → ℕ → ℕ → ℕ → Type 0
 HaveNumber number j m n = (i : ℕ) × (j ≤ i) × (i < m) × (number i ≡ Some n)
 
 -- of the first m keys, each number has the fingerprint of the last key with that number
-abbrev pub AreWritten : (ℕ → Option ℕ) → List ℕ → List ℕ → ℕ → ℕ → Type 0
-AreWritten number key_prints prints width m = (j n : ℕ) → j < m → number j ≡ Some n
+abbrev pub ArePrintsWritten : (ℕ → Option ℕ) → List ℕ → List ℕ → ℕ → ℕ → Type 0
+ArePrintsWritten number key_prints prints width m = (j n : ℕ) → j < m → number j ≡ Some n
     → ¬ HaveNumber number (j + 1) m n → HasPrint prints width n → IsPrint prints width n (slice_index key_prints j)
 
 -- a number that none of the first m keys has kept its fingerprint
-abbrev pub AreKept : (ℕ → Option ℕ) → List ℕ → List ℕ → ℕ → ℕ → Type 0
-AreKept number old new width m = (n : ℕ) → ¬ HaveNumber number 0 m n
+abbrev pub ArePrintsKept : (ℕ → Option ℕ) → List ℕ → List ℕ → ℕ → ℕ → Type 0
+ArePrintsKept number old new width m = (n : ℕ) → ¬ HaveNumber number 0 m n
     → HasPrint new width n → print_at new width n ≡ print_at old width n
 
 -- each of the first m keys has a number, and there is room for its fingerprint
@@ -69,11 +69,11 @@ HaveRoom number prints width m = (j : ℕ) → j < m → MatchOption (number j) 
 -- the fingerprints of the first m keys are set, whatever the tables hold: each key has an answer that a look-up of it
 -- may give, and by the numbers in these each fingerprint is written, or kept; it is good where each key has a number,
 -- and room for its fingerprint
-pub record AreSet (h : HashParts) (hashes key_prints old new : List ℕ) (width m : ℕ) (good : Type 0) : Type 0 where
+pub record AreSet (h : HashLists) (hashes key_prints old new : List ℕ) (width m : ℕ) (good : Type 0) : Type 0 where
   pub answer : ℕ → Answer ℕ
   pub hashed : (j : ℕ) → j < m → IsHashNumber h (slice_index hashes j) (answer j)
-  pub written : AreWritten (λ j. place_in (answer j)) key_prints new width m
-  pub kept : AreKept (λ j. place_in (answer j)) old new width m
+  pub written : ArePrintsWritten (λ j. place_in (answer j)) key_prints new width m
+  pub kept : ArePrintsKept (λ j. place_in (answer j)) old new width m
   pub room : good ↔ HaveRoom (λ j. place_in (answer j)) old width m
 
 -- what the write of a key's fingerprint leaves, and whether it was written
@@ -84,7 +84,7 @@ pub record WritesPrint (number : Option ℕ) (width print : ℕ) (old new : List
   pub kept : is ≡ false → (new ≡ old) × MatchOption number ⊤ (λ n. ¬ HasPrint old width n)
 
 -- a key has an answer that a look-up of it may give, by whose number its fingerprint is written
-pub record SetsPrint (h : HashParts) (hash width print : ℕ) (old new : List ℕ) (is : Bool) : Type 0 where
+pub record SetsPrint (h : HashLists) (hash width print : ℕ) (old new : List ℕ) (is : Bool) : Type 0 where
   pub answer : Answer ℕ
   pub hashed : IsHashNumber h hash answer
   pub writes : WritesPrint (place_in answer) width print old new is

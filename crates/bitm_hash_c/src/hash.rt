@@ -10,7 +10,7 @@ ghost use Rattle.hash_levels.specs.Numbers.{AreLevels};
 ghost use Rattle.hash_levels.specs.Places.{place_in, words_for};
 ghost use Rattle.bitm_hash_c.specs.Hash.{made_of, CanBeLevel, HashAnswered};
 ghost use Rattle.bitm_abi.specs.Hash.{parts_of, CanBeHash, IsHashNumber};
-ghost use Rattle.bitm_abi.specs.Lists.{AreCounted};
+ghost use Rattle.bitm_abi.specs.Lists.{AreAnswersCounted};
 
 use bitm_abi::{BAD_SIZE, Hash, ListCounts, OK, report, report_list};
 use hash_levels::{build_in_place, level_len, split_level};
@@ -118,7 +118,7 @@ pub extern "C" fn bitm_hash_get_list(
     ensures numbers { result ≡ 0 → (j : ℕ) → j < length key_hashes.now
         → IsHashNumber (parts_of hash.now) (slice_index key_hashes.now j)
         (ranked_by (slice_index out.new j)) }
-    ensures counts { result ≡ 0 → AreCounted out.new counts.new }
+    ensures counts { result ≡ 0 → AreAnswersCounted out.new counts.new }
 {
     let Some(lent) = hash.view() else {
         return BAD_SIZE;

@@ -5,7 +5,7 @@ ghost use Rattle.bitm_view.specs.Queries.{ranked_by};
 ghost use Rattle.bitm_hash_c.specs.Prints.{CanBeFound, IsChecked, IsKey, KeyAnswered};
 ghost use Rattle.bitm_abi.specs.Hash.{parts_of};
 ghost use Rattle.bitm_tables.specs.declared.answer.Answer.TheVariants.{Found};
-ghost use Rattle.bitm_abi.specs.Lists.{AreCounted};
+ghost use Rattle.bitm_abi.specs.Lists.{AreAnswersCounted};
 
 use crate::prints::{can_be_prints, lowest_bits};
 use bit_slices::fragment_in;
@@ -149,7 +149,7 @@ pub extern "C" fn bitm_hash_find_list(
     ensures numbers { result ≡ 0 → (j : ℕ) → j < length key_hashes.now → IsKey (parts_of hash.now)
         prints.now width (slice_index key_hashes.now j)
         (slice_index key_prints.now j) (ranked_by (slice_index out.new j)) }
-    ensures counts { result ≡ 0 → AreCounted out.new counts.new }
+    ensures counts { result ≡ 0 → AreAnswersCounted out.new counts.new }
 {
     if !can_be_prints(prints, width) || key_prints.len() != key_hashes.len() {
         return BAD_SIZE;

@@ -1,6 +1,6 @@
 //! The fingerprints of keys, each at the number of its key, written into the caller's words.
 ghost use Rattle.std.specs.Prelude.{◌≡◌, ◌≢◌, ℕ, ◌%◌, ◌≤◌, ◌^◌, ◌↔◌, ◌⊎◌, IsTrue, length};
-ghost use Rattle.bitm_hash_c.specs.Prints.{key_number, AreKept, ArePrintsSized, AreSet, AreWritten};
+ghost use Rattle.bitm_hash_c.specs.Prints.{number_of_key_in, ArePrintsKept, ArePrintsSized, ArePrintsWritten, AreSet};
 ghost use Rattle.bitm_hash_c.specs.Prints.{CanBeFound, HaveRoom, SetsPrint};
 ghost use Rattle.bitm_abi.specs.Hash.{parts_of, IsHashOf};
 
@@ -85,13 +85,13 @@ pub extern "C" fn bitm_hash_set_prints(
     ensures set { result ≢ 2 → AreSet (parts_of hash.now) key_hashes.now key_prints.now
         prints.old prints.new width (length key_hashes.now) (result ≡ 0) }
     ensures written { result ≢ 2 → IsHashOf (parts_of hash.now)
-        → AreWritten (key_number (parts_of hash.now) key_hashes.now) key_prints.now
+        → ArePrintsWritten (number_of_key_in (parts_of hash.now) key_hashes.now) key_prints.now
         prints.new width (length key_hashes.now) }
     ensures kept { result ≢ 2 → IsHashOf (parts_of hash.now)
-        → AreKept (key_number (parts_of hash.now) key_hashes.now)
+        → ArePrintsKept (number_of_key_in (parts_of hash.now) key_hashes.now)
         prints.old prints.new width (length key_hashes.now) }
     ensures room { result ≢ 2 → IsHashOf (parts_of hash.now)
-        → (result ≡ 0) ↔ HaveRoom (key_number (parts_of hash.now) key_hashes.now)
+        → (result ≡ 0) ↔ HaveRoom (number_of_key_in (parts_of hash.now) key_hashes.now)
         prints.old width (length key_hashes.now) }
 {
     if !can_be_prints(&*prints, width) || key_prints.len() != key_hashes.len() {

@@ -12,7 +12,7 @@ ghost use Rattle.perfect_hash.specs.Seeded.{seeds_with};
 ghost use Rattle.bitm_hash_c.specs.Hash.{made_of, CanBeSeeded, HashAnswered};
 ghost use Rattle.bitm_hash_c.specs.Prints.{AreSet, CanBeFound, IsKey, KeyAnswered};
 ghost use Rattle.bitm_abi.specs.Hash.{seeded_parts, CanBeHash, IsHashNumber};
-ghost use Rattle.bitm_abi.specs.Lists.{AreCounted};
+ghost use Rattle.bitm_abi.specs.Lists.{AreAnswersCounted};
 
 use crate::keys::{checked_answer, find_each};
 use crate::prints::{can_be_prints, write_each};
@@ -95,7 +95,7 @@ pub extern "C" fn bitm_hash_get_list_seeded(
     ensures numbers { result ≡ 0 → (j : ℕ) → j < length key_hashes.now
         → IsHashNumber (seeded_parts hash.now) (slice_index key_hashes.now j)
         (ranked_by (slice_index out.new j)) }
-    ensures counts { result ≡ 0 → AreCounted out.new counts.new }
+    ensures counts { result ≡ 0 → AreAnswersCounted out.new counts.new }
 {
     let Some(lent) = hash.view() else {
         return BAD_SIZE;
@@ -173,7 +173,7 @@ pub extern "C" fn bitm_hash_find_list_seeded(
     ensures numbers { result ≡ 0 → (j : ℕ) → j < length key_hashes.now
         → IsKey (seeded_parts hash.now) prints.now width (slice_index key_hashes.now j)
         (slice_index key_prints.now j) (ranked_by (slice_index out.new j)) }
-    ensures counts { result ≡ 0 → AreCounted out.new counts.new }
+    ensures counts { result ≡ 0 → AreAnswersCounted out.new counts.new }
 {
     if !can_be_prints(prints, width) || key_prints.len() != key_hashes.len() {
         return BAD_SIZE;

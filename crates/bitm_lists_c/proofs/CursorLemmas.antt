@@ -7,9 +7,9 @@ use Rattle.elias_fano.specs.LentParts.{parts_of, parts_with, Holds}
 use Rattle.elias_fano.specs.Low.{unread, Lows}
 use Rattle.postings.specs.Moves.{IfFound, HasMoved, IsAnswered, IsHere, IsMove}
 use Rattle.postings.specs.declared.spot.Spot.{Spot}
-use Rattle.bitm_abi.specs.Sequence.{lent_parts, IsSized}
+use Rattle.bitm_abi.specs.Sequence.{lent_parts, IsSequenceSized}
 use Rattle.bitm_abi.specs.declared.sequence.Sequence.{Sequence}
-use Rattle.bitm_lists_c.specs.Cursor.{items_in, left_in, spot_of, IsRight}
+use Rattle.bitm_lists_c.specs.Cursor.{left_in, sequence_items, spot_of, IsRight}
 use Rattle.bitm_lists_c.specs.declared.cursor.Cursor.{Cursor}
 
 -- the parts as they are read
@@ -20,24 +20,24 @@ held_parts xs s low lists low_is is h =
     (subst (λ (u : Lists). Holds xs (parts_of s.len s.width s.low.now u)) (sym is) h)
 
 -- a cursor over the same sequence at a spot of it
-pub right_at : (old new : Cursor) (spot : Spot) → new.sequence ≡ old.sequence → spot_of new ≡ spot → IsSized old.sequence
-    → Holds (items_in old.sequence) (lent_parts old.sequence) → IsHere (items_in old.sequence) old.sequence.words.now old.sequence.len spot → IsRight new
+pub right_at : (old new : Cursor) (spot : Spot) → new.sequence ≡ old.sequence → spot_of new ≡ spot → IsSequenceSized old.sequence
+    → Holds (sequence_items old.sequence) (lent_parts old.sequence) → IsHere (sequence_items old.sequence) old.sequence.words.now old.sequence.len spot → IsRight new
 right_at old new spot same at sized parts here = record {
-  sized = subst IsSized (sym same) sized;
-  parts = subst (λ (s : Sequence). Holds (items_in s) (lent_parts s)) (sym same) parts;
-  here = subst (λ (s : Sequence). IsHere (items_in s) s.words.now s.len (spot_of new)) (sym same)
-      (subst (λ (p : Spot). IsHere (items_in old.sequence) old.sequence.words.now old.sequence.len p) (sym at) here);
+  sized = subst IsSequenceSized (sym same) sized;
+  parts = subst (λ (s : Sequence). Holds (sequence_items s) (lent_parts s)) (sym same) parts;
+  here = subst (λ (s : Sequence). IsHere (sequence_items s) s.words.now s.len (spot_of new)) (sym same)
+      (subst (λ (p : Spot). IsHere (sequence_items old.sequence) old.sequence.words.now old.sequence.len p) (sym at) here);
 }
 
 -- and the numbers from it on
-pub left_at : (old new : Cursor) (spot : Spot) → new.sequence ≡ old.sequence → spot_of new ≡ spot → left_in new ≡ drop spot.at (items_in old.sequence)
+pub left_at : (old new : Cursor) (spot : Spot) → new.sequence ≡ old.sequence → spot_of new ≡ spot → left_in new ≡ drop spot.at (sequence_items old.sequence)
 left_at old new spot same at =
-    ap (λ (s : Sequence). drop new.index (items_in s)) same ∙ ap (λ (p : Spot). drop p.at (items_in old.sequence)) at
+    ap (λ (s : Sequence). drop new.index (sequence_items s)) same ∙ ap (λ (p : Spot). drop p.at (sequence_items old.sequence)) at
 
 module _ (old new : Cursor) (spot : Spot) (low : Lows) (lists : Lists) (low_is : low ≡ unread old.sequence.low.now old.sequence.width)
     (is : lists ≡ (lent_parts old.sequence).upper) (same : new.sequence ≡ old.sequence) (at : spot_of new ≡ spot) where
   -- a cursor at the first number
-  pub started : (xs : List ℕ) → items_in old.sequence ≡ xs → IsSized old.sequence → Holds xs (lent_parts old.sequence)
+  pub started : (xs : List ℕ) → sequence_items old.sequence ≡ xs → IsSequenceSized old.sequence → Holds xs (lent_parts old.sequence)
       → (Holds xs (parts_with old.sequence.len low lists) → IsHere xs lists.words old.sequence.len spot × (drop spot.at xs ≡ xs))
       → IsRight new × (left_in new ≡ xs)
   started xs items sized h first =
@@ -53,7 +53,7 @@ module _ (old new : Cursor) (spot : Spot) (low : Lows) (lists : Lists) (low_is :
       → ((xs : List ℕ) → Holds xs (parts_with old.sequence.len low lists) → IsMove xs lists.words old.sequence.len v (spot_of old) answer spot)
       → IsRight old → IsAnswered (left_in old) v answer (left_in new) × IsRight new
   moved v answer moves right =
-      let xs = items_in old.sequence in
+      let xs = sequence_items old.sequence in
       let move = moves xs (held_parts xs old.sequence low lists low_is is right.parts) in
       let here : IsHere xs lists.words old.sequence.len (spot_of old) = subst (λ (u : Lists). IsHere xs u.words old.sequence.len (spot_of old)) (sym is) right.here in
       let there : IsHere xs old.sequence.words.now old.sequence.len spot = subst (λ (u : Lists). IsHere xs u.words old.sequence.len spot) is (move.here here) in (

@@ -7,13 +7,13 @@ use Rattle.postings.specs.Moves.{IfFound, IsAnswered, IsHere}
 use Rattle.postings.specs.declared.spot.Spot.{Spot}
 use Rattle.postings.specs.declared.merged.Merged.{Merged}
 use Rattle.postings.specs.declared.merged.Merged.TheVariants.{Done, Wrong}
-use Rattle.bitm_abi.specs.Sequence.{lent_parts, IsSized}
+use Rattle.bitm_abi.specs.Sequence.{lent_parts, IsSequenceSized}
 use Rattle.bitm_abi.specs.declared.sequence.Sequence.{Sequence}
 use Rattle.bitm_lists_c.specs.declared.cursor.Cursor.{Cursor}
 
 -- the items that the parts hold, if they are those of a sequence
-abbrev pub items_in : Sequence → List ℕ
-items_in sequence = items_of sequence.len sequence.width sequence.low.now sequence.words.now
+abbrev pub sequence_items : Sequence → List ℕ
+sequence_items sequence = items_of sequence.len sequence.width sequence.low.now sequence.words.now
 
 -- where the cursor stands
 abbrev pub spot_of : Cursor → Spot
@@ -21,21 +21,21 @@ spot_of cursor = record { at = cursor.index; one = cursor.position; number = cur
 
 -- the numbers from the cursor on
 abbrev pub left_in : Cursor → List ℕ
-left_in cursor = drop cursor.index (items_in cursor.sequence)
+left_in cursor = drop cursor.index (sequence_items cursor.sequence)
 
 -- its sequence has the right lengths
-abbrev pub HasSizes : Cursor → Type 0
-HasSizes cursor = IsSized cursor.sequence
+abbrev pub IsCursorSized : Cursor → Type 0
+IsCursorSized cursor = IsSequenceSized cursor.sequence
 
 -- the parts are those of a sequence, and the cursor stands at one of its numbers or at its end
 pub record IsRight (cursor : Cursor) : Type 0 where
-  pub sized : IsSized cursor.sequence
-  pub parts : Holds (items_in cursor.sequence) (lent_parts cursor.sequence)
-  pub here : IsHere (items_in cursor.sequence) cursor.sequence.words.now cursor.sequence.len (spot_of cursor)
+  pub sized : IsSequenceSized cursor.sequence
+  pub parts : Holds (sequence_items cursor.sequence) (lent_parts cursor.sequence)
+  pub here : IsHere (sequence_items cursor.sequence) cursor.sequence.words.now cursor.sequence.len (spot_of cursor)
 
 -- the first number from the cursor on that is at least v, where the cursor is right; a number that is at least v
 -- whatever it holds
-pub record IsNextOf (old : Cursor) (v : ℕ) (new : Cursor) (answer : Answer ℕ) : Type 0 where
+pub record IsNextFromCursor (old : Cursor) (v : ℕ) (new : Cursor) (answer : Answer ℕ) : Type 0 where
   pub at_least : IfFound answer (λ x. v ≤ x)
   pub next : IsRight old → IsAnswered (left_in old) v answer (left_in new)
   pub stays : IsRight old → IsRight new

@@ -1,6 +1,6 @@
 //! A cursor over a sequence as C passes it.
 ghost use Rattle.std.specs.Prelude.{◌≡◌, ◌≤◌, SomeIff};
-ghost use Rattle.bitm_abi.specs.Sequence.{lent_parts, IsSized};
+ghost use Rattle.bitm_abi.specs.Sequence.{lent_parts, IsSequenceSized};
 ghost use Rattle.postings.specs.Moves.{IfFound, IsAnswered};
 ghost use Rattle.bitm_lists_c.specs.Cursor.{left_in, spot_of, IsRight};
 
@@ -28,7 +28,7 @@ impl<'a> Cursor<'a> {
     /// The words of the high bits with their tables; `None` exactly where a length of the sequence is not right.
     #[inline(always)]
     pub(crate) fn upper(&self) -> Option<Lent<'a>>
-        ensures { SomeIff result (IsSized self.now.sequence) (lent_parts self.now.sequence).upper }
+        ensures { SomeIff result (IsSequenceSized self.now.sequence) (lent_parts self.now.sequence).upper }
     {
         match self.sequence.lent() {
             Some(_) => Lent::over(
@@ -43,7 +43,7 @@ impl<'a> Cursor<'a> {
     /// Moves to the first number from the cursor on that is at least `v`, and answers it.
     #[inline]
     pub(crate) fn advance(&mut self, upper: &Lent<'_>, v: u64) -> Answer<u64>
-        requires sized { IsSized self.old.sequence }
+        requires sized { IsSequenceSized self.old.sequence }
         requires upper { upper.now ≡ (lent_parts self.old.sequence).upper }
         ensures next { IsRight self.old → IsAnswered (left_in self.old) v result (left_in self.new) }
         ensures stays { IsRight self.old → IsRight self.new }

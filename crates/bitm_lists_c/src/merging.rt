@@ -1,8 +1,9 @@
 //! The intersection and the union of the sequences of several cursors.
 ghost use Rattle.std.specs.Prelude.{◌≡◌, ◌≢◌, ◌<◌, ◌≤◌, ◌↔◌, ◌⊎◌, ℕ, All, IsTrue, map, length, slice_index};
 ghost use Rattle.postings.specs.Joined.{AreJoined, IsInSome};
-ghost use Rattle.postings.specs.Shared.{AreShared, IsInAll, IsKeptFrom};
-ghost use Rattle.bitm_lists_c.specs.Cursor.{left_in, HasSizes, IsMergeStatus, IsRight};
+ghost use Rattle.bit_lists.specs.Kept.{IsKeptFrom};
+ghost use Rattle.postings.specs.Shared.{AreShared, IsInAll};
+ghost use Rattle.bitm_lists_c.specs.Cursor.{left_in, IsCursorSized, IsMergeStatus, IsRight};
 
 use crate::cursor::Cursor;
 use bitm_abi::{BAD_SIZE, OK, WRONG};
@@ -10,7 +11,7 @@ use postings::{Merged, total_intersect, total_union};
 
 /// Whether the sequence of each cursor has the right lengths.
 fn are_sized(cursors: &[Cursor<'_>]) -> bool
-    ensures { IsTrue result ↔ All HasSizes cursors.now }
+    ensures { IsTrue result ↔ All IsCursorSized cursors.now }
 {
     cursors.iter().all(|cursor| cursor.upper().is_some())
 }
@@ -40,7 +41,7 @@ pub extern "C" fn bitm_cursors_intersect(
 ) -> u32
     ensures bad { (result ≡ 2) ↔ (length cursors.old ≡ 0) }
     ensures status { (result ≡ 0) ⊎ (result ≡ 2) ⊎ (result ≡ 3) }
-    ensures sizes { ¬ All HasSizes cursors.old
+    ensures sizes { ¬ All IsCursorSized cursors.old
         → (result ≡ 3) × (cursors.new ≡ cursors.old) × (out.new ≡ out.old) }
     ensures sequences { map (λ c. c.sequence) cursors.new ≡ map (λ c. c.sequence) cursors.old }
     ensures shared { All IsRight cursors.old → result ≢ 2 → (result ≡ 0)
@@ -71,7 +72,7 @@ pub extern "C" fn bitm_cursors_union(
     written: &mut usize,
 ) -> u32
     ensures status { (result ≡ 0) ⊎ (result ≡ 3) }
-    ensures sizes { ¬ All HasSizes cursors.old
+    ensures sizes { ¬ All IsCursorSized cursors.old
         → (result ≡ 3) × (cursors.new ≡ cursors.old) × (out.new ≡ out.old) }
     ensures sequences { map (λ c. c.sequence) cursors.new ≡ map (λ c. c.sequence) cursors.old }
     ensures joined { All IsRight cursors.old → (result ≡ 0)

@@ -1,9 +1,9 @@
 //! A cursor is set to the first number of its sequence, and moves on.
 ghost use Rattle.std.specs.Prelude.{◌≡◌, ◌≢◌, ◌↔◌, ◌⊎◌, ℕ, List};
 ghost use Rattle.elias_fano.specs.LentParts.{Holds};
-ghost use Rattle.bitm_abi.specs.Sequence.{lent_parts, IsSized};
+ghost use Rattle.bitm_abi.specs.Sequence.{lent_parts, IsSequenceSized};
 ghost use Rattle.bitm_abi.specs.Status.{Exported};
-ghost use Rattle.bitm_lists_c.specs.Cursor.{left_in, IsNextOf, IsRight};
+ghost use Rattle.bitm_lists_c.specs.Cursor.{left_in, IsNextFromCursor, IsRight};
 
 use crate::cursor::Cursor;
 use bitm_abi::{BAD_SIZE, OK, WRONG, report};
@@ -13,9 +13,9 @@ use postings::total_start_on;
 /// Sets a cursor to the first number of its sequence, or to the end where there is none.
 #[unsafe(no_mangle)]
 pub extern "C" fn bitm_cursor_start(cursor: &mut Cursor<'_>) -> u32
-    ensures bad { (result ≡ 2) ↔ ¬ (IsSized cursor.old.sequence) }
+    ensures bad { (result ≡ 2) ↔ ¬ (IsSequenceSized cursor.old.sequence) }
     ensures status { (result ≡ 0) ⊎ (result ≡ 2) ⊎ (result ≡ 3) }
-    ensures started { IsSized cursor.old.sequence → (xs : List ℕ) → Holds xs (lent_parts cursor.old.sequence)
+    ensures started { IsSequenceSized cursor.old.sequence → (xs : List ℕ) → Holds xs (lent_parts cursor.old.sequence)
         → (result ≡ 0) × IsRight cursor.new × (left_in cursor.new ≡ xs) }
     ensures sequence { cursor.new.sequence ≡ cursor.old.sequence }
     ensures kept { result ≢ 0 → cursor.new ≡ cursor.old }
@@ -37,7 +37,7 @@ pub extern "C" fn bitm_cursor_start(cursor: &mut Cursor<'_>) -> u32
 /// Moves a cursor to the first number from it on that is at least `at_least`, and writes the number.
 #[unsafe(no_mangle)]
 pub extern "C" fn bitm_cursor_next(cursor: &mut Cursor<'_>, at_least: u64, out: &mut u64) -> u32
-    ensures next { Exported (IsSized cursor.old.sequence) (IsNextOf cursor.old at_least cursor.new)
+    ensures next { Exported (IsSequenceSized cursor.old.sequence) (IsNextFromCursor cursor.old at_least cursor.new)
         result out.old out.new }
     ensures sequence { cursor.new.sequence ≡ cursor.old.sequence }
 {

@@ -19,7 +19,7 @@ PicksEach b v ranks places = (k : ℕ) → k < length ranks → Picks b v (slice
 
 -- the sought bit of this rank is in the last upper block with at most that many such bits before it, and has rank rest
 -- there; the last entry of the upper block with at most rest such bits before it is among the 2^size from entry `at` on
-pub record IsNear (bit : ℕ) (lists : Lists) (rank rest at size : ℕ) : Type 0 where
+pub record IsNarrowed (bit : ℕ) (lists : Lists) (rank rest at size : ℕ) : Type 0 where
   pub part : ℕ
   pub low : ℕ
   pub place : at ≡ entry_in part low
@@ -46,7 +46,7 @@ pub record IsInPart (v : Bool) (lists : Lists) (rank : ℕ) (query : Query) (siz
 pub record IsSearch (bit : ℕ) (lists : Lists) (rank : ℕ) (query : Query) (size : ℕ) : Type 0 where
   pub entry : query.entry < length lists.lower
   pub in_part : IsInPart (as_bit bit) lists rank query size
-  pub near : HasTables lists → IsNear bit lists rank query.rest query.entry size
+  pub near : HasTables lists → IsNarrowed bit lists rank query.rest query.entry size
 
 -- query k is that of rank k
 pub record AreSearches (bit : ℕ) (lists : Lists) (ranks : List ℕ) (queries : List Query) (size : ℕ) : Type 0 where

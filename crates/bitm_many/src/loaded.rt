@@ -8,7 +8,8 @@ ghost use Rattle.bitm_many.specs.Many.{IsSearch, AreSearches, IsInRecord, AreInR
 ghost use Rattle.bitm_tables.specs.Reads.{word_read, ReadsAtMost};
 ghost use Rattle.bitm_select.specs.Search.{sought_in, IsWord};
 ghost use Rattle.bitm_tables.specs.Tables.{HasSizes, bits_in};
-ghost use Rattle.bitm_select.specs.Told.{wrong_for_absent, IfAbsent};
+ghost use Rattle.bitm_select.specs.Told.{wrong_for_absent};
+ghost use Rattle.bitm_tables.specs.Answers.{IfAbsent};
 
 use crate::query::Query;
 use bitm_select::search::entries::sought_entry;

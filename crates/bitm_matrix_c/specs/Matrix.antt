@@ -6,7 +6,7 @@ use Rattle.bitm_abi.specs.Matrix.{matrix_parts}
 use Rattle.bitm_abi.specs.Status.{Exported}
 use Rattle.lent_levels.specs.Answers.{IsIndexOf, IsIndexWithin}
 use Rattle.lent_levels.specs.Walk.{IsNumberAt, IsRankAt}
-use Rattle.lent_levels.specs.Ranges.{IsCountOf, IsCountWithin, IsNextOf, IsNextWithin, IsPreviousOf, IsPreviousWithin, IsSmallestOf, IsSmallestWithin}
+use Rattle.lent_levels.specs.Ranges.{IsNextOf, IsNextWithin, IsPreviousOf, IsPreviousWithin, IsRangeCountOf, IsRangeCountWithin, IsSmallestOf, IsSmallestWithin}
 use Rattle.matrix_block.specs.Block.{items_in, HasLengths, HoldsMatrix, MatrixParts}
 use Rattle.matrix_block.specs.RangeLists.{AreDistinctOf, AreDistinctWithin, AreFrequentOf, AreFrequentWithin, AreSharedOf, AreSharedWithin}
 use Rattle.matrix_levels.specs.Numbers.{count_less}
@@ -19,23 +19,23 @@ use Rattle.bitm_matrix_c.specs.declared.matrix_lists.Sought.TheVariants.{Rank, I
 
 -- number index: it has no more bits than the width, whatever the words and tables hold, and is that of the matrix where
 -- they hold one
-abbrev pub IsNumber : ℕ → MatrixParts → Answer ℕ → Type 0
-IsNumber index parts = IsNumberAt parts.levels parts.lists index
+abbrev pub IsMatrixNumber : ℕ → MatrixParts → Answer ℕ → Type 0
+IsMatrixNumber index parts = IsNumberAt parts.levels parts.lists index
 
 -- how many of the numbers before an index are this one, likewise: at most the index
-abbrev pub IsRank : ℕ → ℕ → MatrixParts → Answer ℕ → Type 0
-IsRank number index parts = IsRankAt parts.levels parts.lists number index
+abbrev pub IsRankOfNumber : ℕ → ℕ → MatrixParts → Answer ℕ → Type 0
+IsRankOfNumber number index parts = IsRankAt parts.levels parts.lists number index
 
 -- the index of this number with k such numbers before it, likewise: less than there are numbers
-pub record IsIndex (number k : ℕ) (parts : MatrixParts) (answer : Answer ℕ) : Type 0 where
+pub record IsIndexOfNumber (number k : ℕ) (parts : MatrixParts) (answer : Answer ℕ) : Type 0 where
   pub inside : IsIndexWithin parts.levels.len answer
   pub right : HoldsMatrix parts → IsIndexOf (items_in parts) number k answer
 
 -- how many numbers of a range are less than a bound, likewise: at most all of them. A range has the numbers from index s on
 -- and before index e
 pub record IsCount (s e bound : ℕ) (parts : MatrixParts) (answer : Answer ℕ) : Type 0 where
-  pub inside : IsCountWithin parts.levels.len s e answer
-  pub right : HoldsMatrix parts → IsCountOf (items_in parts) s e (count_less (slice_range (items_in parts) s e) bound) answer
+  pub inside : IsRangeCountWithin parts.levels.len s e answer
+  pub right : HoldsMatrix parts → IsRangeCountOf (items_in parts) s e (count_less (slice_range (items_in parts) s e) bound) answer
 
 -- the number that would stand at index k if a range were sorted, likewise: of no more bits than the width
 pub record IsSmallestIn (s e k : ℕ) (parts : MatrixParts) (answer : Answer ℕ) : Type 0 where
@@ -43,11 +43,11 @@ pub record IsSmallestIn (s e k : ℕ) (parts : MatrixParts) (answer : Answer ℕ
   pub right : HoldsMatrix parts → IsSmallestOf (items_in parts) s e k answer
 
 -- the least number of a range that is at least a bound, and the greatest that is less, likewise: on that side of it
-pub record IsNextIn (s e bound : ℕ) (parts : MatrixParts) (answer : Answer ℕ) : Type 0 where
+pub record IsNextInRange (s e bound : ℕ) (parts : MatrixParts) (answer : Answer ℕ) : Type 0 where
   pub inside : IsNextWithin parts.levels.len parts.levels.width s e bound answer
   pub right : HoldsMatrix parts → IsNextOf (items_in parts) s e bound answer
 
-pub record IsPreviousIn (s e bound : ℕ) (parts : MatrixParts) (answer : Answer ℕ) : Type 0 where
+pub record IsPreviousInRange (s e bound : ℕ) (parts : MatrixParts) (answer : Answer ℕ) : Type 0 where
   pub inside : IsPreviousWithin parts.levels.len parts.levels.width s e bound answer
   pub right : HoldsMatrix parts → IsPreviousOf (items_in parts) s e bound answer
 
@@ -70,22 +70,22 @@ pub record AreSharedIn (s e t f from : ℕ) (old_numbers numbers : List ℕ) (pa
 
 -- there is no number index, or the words and tables are not those of a matrix
 abbrev pub IsUnanswered : ℕ → MatrixParts → Type 0
-IsUnanswered index parts = IsNumber index parts Absent ⊎ IsNumber index parts Wrong
+IsUnanswered index parts = IsMatrixNumber index parts Absent ⊎ IsMatrixNumber index parts Wrong
 
 -- the answer to what is sought of a number
 abbrev pub Seeks : Sought → ℕ → ℕ → MatrixParts → Answer ℕ → Type 0
-Seeks Rank = IsRank
-Seeks Index = IsIndex
+Seeks Rank = IsRankOfNumber
+Seeks Index = IsIndexOfNumber
 
 -- the status, and the number before and after the call
 abbrev pub NumberAnswered : Matrix → ℕ → ℕ → ℕ → ℕ → Type 0
-NumberAnswered matrix index = Exported (HasLengths (matrix_parts matrix)) (IsNumber index (matrix_parts matrix))
+NumberAnswered matrix index = Exported (HasLengths (matrix_parts matrix)) (IsMatrixNumber index (matrix_parts matrix))
 
 abbrev pub RankAnswered : Matrix → ℕ → ℕ → ℕ → ℕ → ℕ → Type 0
-RankAnswered matrix number index = Exported (HasLengths (matrix_parts matrix)) (IsRank number index (matrix_parts matrix))
+RankAnswered matrix number index = Exported (HasLengths (matrix_parts matrix)) (IsRankOfNumber number index (matrix_parts matrix))
 
 abbrev pub IndexAnswered : Matrix → ℕ → ℕ → ℕ → ℕ → ℕ → Type 0
-IndexAnswered matrix number k = Exported (HasLengths (matrix_parts matrix)) (IsIndex number k (matrix_parts matrix))
+IndexAnswered matrix number k = Exported (HasLengths (matrix_parts matrix)) (IsIndexOfNumber number k (matrix_parts matrix))
 
 abbrev pub CountAnswered : Matrix → ℕ → ℕ → ℕ → ℕ → ℕ → ℕ → Type 0
 CountAnswered matrix s e bound = Exported (HasLengths (matrix_parts matrix)) (IsCount s e bound (matrix_parts matrix))
@@ -94,10 +94,10 @@ abbrev pub SmallestAnswered : Matrix → ℕ → ℕ → ℕ → ℕ → ℕ →
 SmallestAnswered matrix s e k = Exported (HasLengths (matrix_parts matrix)) (IsSmallestIn s e k (matrix_parts matrix))
 
 abbrev pub NextAnswered : Matrix → ℕ → ℕ → ℕ → ℕ → ℕ → ℕ → Type 0
-NextAnswered matrix s e bound = Exported (HasLengths (matrix_parts matrix)) (IsNextIn s e bound (matrix_parts matrix))
+NextAnswered matrix s e bound = Exported (HasLengths (matrix_parts matrix)) (IsNextInRange s e bound (matrix_parts matrix))
 
 abbrev pub PreviousAnswered : Matrix → ℕ → ℕ → ℕ → ℕ → ℕ → ℕ → Type 0
-PreviousAnswered matrix s e bound = Exported (HasLengths (matrix_parts matrix)) (IsPreviousIn s e bound (matrix_parts matrix))
+PreviousAnswered matrix s e bound = Exported (HasLengths (matrix_parts matrix)) (IsPreviousInRange s e bound (matrix_parts matrix))
 
 -- the lengths are right, and there is room for as many counts as numbers
 pub record HasRooms (parts : MatrixParts) (numbers counts : List ℕ) : Type 0 where

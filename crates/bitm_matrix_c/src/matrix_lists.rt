@@ -1,12 +1,12 @@
 //! Lists of queries of a matrix in a block.
 ghost use Rattle.std.specs.Prelude.{◌≡◌, ◌≢◌, ◌<◌, ◌≤◌, ◌↔◌, ℕ, length, slice_index};
 ghost use Rattle.bitm_tables.specs.declared.answer.Answer.TheVariants.{Found};
-ghost use Rattle.bitm_abi.specs.Lists.{AreCounted, IsStopped};
+ghost use Rattle.bitm_abi.specs.Lists.{AreAnswersCounted, IsStopped};
 ghost use Rattle.bitm_view.specs.Queries.{selected_by};
-ghost use Rattle.elias_fano_view.specs.Lists.{IsKeptFrom};
+ghost use Rattle.bit_lists.specs.Kept.{IsKeptFrom};
 ghost use Rattle.matrix_block.specs.Block.{HasLengths};
 ghost use Rattle.bitm_abi.specs.Matrix.{matrix_parts};
-ghost use Rattle.bitm_matrix_c.specs.Matrix.{IsIndex, IsNumber, IsRank, IsUnanswered, Seeks};
+ghost use Rattle.bitm_matrix_c.specs.Matrix.{IsIndexOfNumber, IsMatrixNumber, IsRankOfNumber, IsUnanswered, Seeks};
 
 use bitm_abi::{BAD_SIZE, ListCounts, Matrix, NONE, OK, WRONG, code_of, report_list};
 use bitm_tables::answer::Answer;
@@ -52,7 +52,7 @@ pub extern "C" fn bitm_matrix_get_list(
     ensures stopped { result ≢ 2
         → IsStopped (matrix_parts matrix.now).levels.len indices.now written.new result }
     ensures most { result ≢ 2 → written.new ≤ length indices.now }
-    ensures numbers { result ≢ 2 → (j : ℕ) → j < written.new → IsNumber
+    ensures numbers { result ≢ 2 → (j : ℕ) → j < written.new → IsMatrixNumber
         (slice_index indices.now j) (matrix_parts matrix.now) (Found (slice_index out.new j)) }
     ensures last { result ≢ 2 → written.new < length indices.now
         → IsUnanswered (slice_index indices.now written.new) (matrix_parts matrix.now) }
@@ -82,7 +82,7 @@ fn rank_with(
     requires indices { length indices.now ≡ length numbers.now }
     requires firsts { length firsts.old ≡ length numbers.now }
     requires lasts { length lasts.old ≡ length numbers.now }
-    ensures ranks { (j : ℕ) → j < length numbers.now → IsRank (slice_index numbers.now j)
+    ensures ranks { (j : ℕ) → j < length numbers.now → IsRankOfNumber (slice_index numbers.now j)
         (slice_index indices.now j) view.now (selected_by (slice_index out.new j)) }
     ensures len { length out.new ≡ length out.old }
 {
@@ -99,7 +99,7 @@ fn rank_group(view: &MatrixView<'_>, numbers: &[u64], indices: &[usize], out: &m
     requires room { length out.old ≡ length numbers.now }
     requires indices { length indices.now ≡ length numbers.now }
     requires few { length numbers.now ≤ 32 }
-    ensures ranks { (j : ℕ) → j < length numbers.now → IsRank (slice_index numbers.now j)
+    ensures ranks { (j : ℕ) → j < length numbers.now → IsRankOfNumber (slice_index numbers.now j)
         (slice_index indices.now j) view.now (selected_by (slice_index out.new j)) }
     ensures len { length out.new ≡ length out.old }
 {
@@ -121,7 +121,7 @@ fn rank_group(view: &MatrixView<'_>, numbers: &[u64], indices: &[usize], out: &m
 fn rank_each(view: &MatrixView<'_>, numbers: &[u64], indices: &[usize], out: &mut [usize])
     requires room { length out.old ≡ length numbers.now }
     requires indices { length indices.now ≡ length numbers.now }
-    ensures ranks { (j : ℕ) → j < length numbers.now → IsRank (slice_index numbers.now j)
+    ensures ranks { (j : ℕ) → j < length numbers.now → IsRankOfNumber (slice_index numbers.now j)
         (slice_index indices.now j) view.now (selected_by (slice_index out.new j)) }
     ensures len { length out.new ≡ length out.old }
 {
@@ -141,7 +141,7 @@ fn rank_each(view: &MatrixView<'_>, numbers: &[u64], indices: &[usize], out: &mu
 /// The index of a number, by the codes of lists.
 #[inline(always)]
 fn index_code(view: &MatrixView<'_>, number: u64, k: usize) -> usize
-    ensures { IsIndex number k view.now (selected_by result) }
+    ensures { IsIndexOfNumber number k view.now (selected_by result) }
 {
     let _ = view.parts(); // its clause makes the limit of the length known to the proof
     code_of(view.select(number, k))
@@ -151,7 +151,7 @@ fn index_code(view: &MatrixView<'_>, number: u64, k: usize) -> usize
 fn select_each(view: &MatrixView<'_>, numbers: &[u64], ks: &[usize], out: &mut [usize])
     requires room { length out.old ≡ length numbers.now }
     requires ks { length ks.now ≡ length numbers.now }
-    ensures indices { (j : ℕ) → j < length numbers.now → IsIndex (slice_index numbers.now j)
+    ensures indices { (j : ℕ) → j < length numbers.now → IsIndexOfNumber (slice_index numbers.now j)
         (slice_index ks.now j) view.now (selected_by (slice_index out.new j)) }
     ensures len { length out.new ≡ length out.old }
 {
@@ -195,7 +195,7 @@ fn seek_list(
     ensures answers { result ≡ 0 → (j : ℕ) → j < length numbers.now → Seeks sought
         (slice_index numbers.now j) (slice_index ks.now j) (matrix_parts matrix.now)
         (selected_by (slice_index out.new j)) }
-    ensures counts { result ≡ 0 → AreCounted out.new counts.new }
+    ensures counts { result ≡ 0 → AreAnswersCounted out.new counts.new }
 {
     let Some(view) = matrix.view() else {
         return BAD_SIZE;
@@ -219,10 +219,10 @@ pub extern "C" fn bitm_matrix_rank_list(
     ensures ok { (result ≡ 0) ↔ HasLengths (matrix_parts matrix.now)
         × (length indices.now ≡ length numbers.now) × (length out.old ≡ length numbers.now) }
     ensures kept { result ≢ 0 → (result ≡ 2) × (out.new ≡ out.old) × (counts.new ≡ counts.old) }
-    ensures ranks { result ≡ 0 → (j : ℕ) → j < length numbers.now → IsRank
+    ensures ranks { result ≡ 0 → (j : ℕ) → j < length numbers.now → IsRankOfNumber
         (slice_index numbers.now j) (slice_index indices.now j) (matrix_parts matrix.now)
         (selected_by (slice_index out.new j)) }
-    ensures counts { result ≡ 0 → AreCounted out.new counts.new }
+    ensures counts { result ≡ 0 → AreAnswersCounted out.new counts.new }
 {
     seek_list(matrix, Sought::Rank, numbers, indices, out, counts)
 }
@@ -239,10 +239,10 @@ pub extern "C" fn bitm_matrix_select_list(
     ensures ok { (result ≡ 0) ↔ HasLengths (matrix_parts matrix.now)
         × (length ranks.now ≡ length numbers.now) × (length out.old ≡ length numbers.now) }
     ensures kept { result ≢ 0 → (result ≡ 2) × (out.new ≡ out.old) × (counts.new ≡ counts.old) }
-    ensures indices { result ≡ 0 → (j : ℕ) → j < length numbers.now → IsIndex
+    ensures indices { result ≡ 0 → (j : ℕ) → j < length numbers.now → IsIndexOfNumber
         (slice_index numbers.now j) (slice_index ranks.now j) (matrix_parts matrix.now)
         (selected_by (slice_index out.new j)) }
-    ensures counts { result ≡ 0 → AreCounted out.new counts.new }
+    ensures counts { result ≡ 0 → AreAnswersCounted out.new counts.new }
 {
     seek_list(matrix, Sought::Index, numbers, ranks, out, counts)
 }

@@ -3,7 +3,7 @@ ghost use Rattle.std.specs.Prelude.{◌≡◌, ◌≢◌, ◌*◌, ◌^◌, ◌<
 ghost use Rattle.bitm_block.specs.Layout.{end_of};
 ghost use Rattle.lent_levels.specs.Levels.{AreNumbers};
 ghost use Rattle.matrix_block.specs.Block.{has_quarters, matrix_in, sections_with};
-ghost use Rattle.matrix_block.specs.Block.{CanHold, HasRoom, IsBlockOf, IsMatrixBlock, IsSoundBlock};
+ghost use Rattle.matrix_block.specs.Block.{CanHold, HasMatrixRoom, IsBlockOf, IsMatrixBlock, IsSoundBlock};
 ghost use Rattle.bitm_abi.specs.Matrix.{matrix_parts};
 
 use bitm_abi::{BAD_SIZE, Matrix, OK, WRONG};
@@ -41,7 +41,7 @@ pub extern "C" fn bitm_matrix_build(
         × (length block.old ≡ end_of (sections_with (length numbers.now) width quarters))
         × (length scratch.old ≡ 2 * length numbers.now)) }
     ensures wrong { (result ≡ 3)
-        ↔ (HasRoom (length numbers.now) width quarters (length scratch.old) (length block.old)
+        ↔ (HasMatrixRoom (length numbers.now) width quarters (length scratch.old) (length block.old)
         × (¬ (All (λ x. x < 2 ^ width) numbers.now))) }
     ensures status { (result ≡ 0) ⊎ (result ≡ 2) ⊎ (result ≡ 3) }
     ensures block { result ≡ 0 → IsBlockOf numbers.now width block.new }

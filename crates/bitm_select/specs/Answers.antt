@@ -5,6 +5,7 @@ use Rattle.bit_lists.specs.Count.{ones_before, count_before, count_of, Picks}
 use Rattle.bitm_select.specs.Search.{sought_bits}
 use Rattle.bitm_tables.specs.Tables.{HasTables, Lists, bits_in}
 use Rattle.bitm_select.specs.Told.{TellsNone}
+use Rattle.bitm_tables.specs.Answers.{Right}
 use Rattle.bitm_tables.specs.declared.answer.Answer.{Answer}
 use Rattle.bitm_tables.specs.declared.answer.Answer.TheVariants.{Found, Absent, Wrong}
 
@@ -34,9 +35,7 @@ told_in Wrong = 2 ^ 64 - 2
 
 -- the position of the bit v with r such bits before it, and Absent exactly where there are at most r of them
 abbrev pub IsSelected : List Bool → Bool → ℕ → Answer ℕ → Type 0
-IsSelected b v r (Found p) = Picks b v r p
-IsSelected b v r Absent = count_of b v ≤ r
-IsSelected b v r Wrong = ⊥
+IsSelected b v r = Right (λ p. Picks b v r p) (count_of b v ≤ r)
 
 -- the position of the bit v with rank r, sought among the eight words from word k on, or those of them that exist;
 -- Wrong where more words follow and at most r bits v come before these

@@ -20,7 +20,7 @@ sought_in bit words = sought_bits (as_bit bit) (bits_of words)
 
 -- k is one of n indices, its count is at most r, and the count of the next one is above r; where counts rise, it is the
 -- last such index
-pub record IsLast (count : ℕ → ℕ) (n r k : ℕ) : Type 0 where
+pub record IsLastWithin (count : ℕ → ℕ) (n r k : ℕ) : Type 0 where
   pub inside : k < n
   pub at_most : count k ≤ r
   pub next : k + 1 < n → r < count (k + 1)
@@ -33,8 +33,8 @@ pub record Between (count : ℕ → ℕ) (n r low left : ℕ) : Type 0 where
   pub above : low + left < n → r < count (low + left)
 
 -- none of eight counts is more than a later one
-abbrev pub Rise : List ℕ → Type 0
-Rise counts = (i j : ℕ) → i ≤ j → j < 8 → slice_index counts i ≤ slice_index counts j
+abbrev pub CountsRise : List ℕ → Type 0
+CountsRise counts = (i j : ℕ) → i ≤ j → j < 8 → slice_index counts i ≤ slice_index counts j
 
 -- the number of 1 bits before each of the eight words from word `first` on, counted from the first bit of that word
 abbrev pub AreOnesToWords : List Bool → ℕ → List ℕ → Type 0
@@ -42,7 +42,7 @@ AreOnesToWords m first counts = (k : ℕ) → k < 8 → ones_before m (64 * firs
 
 -- the last upper block with at most r 1 bits before it
 abbrev pub IsLastPart : List Bool → ℕ → ℕ → ℕ → Type 0
-IsLastPart m parts r part = IsLast (λ k. ones_before m (k * 2 ^ 32)) parts r part
+IsLastPart m parts r part = IsLastWithin (λ k. ones_before m (k * 2 ^ 32)) parts r part
 
 -- the last upper block with at most r bits of the kind before it, where rank r becomes rest
 pub record IsPartOf (bit : ℕ) (lists : Lists) (r part rest : ℕ) : Type 0 where
@@ -55,20 +55,20 @@ entry_in part j = part * 2 ^ 21 + j
 
 -- the last entry of a part with no more than r ones before it in the part
 abbrev pub IsLastEntry : List Bool → ℕ → ℕ → ℕ → ℕ → Type 0
-IsLastEntry m entries part r e = IsLast (λ j. before_in_part m (entry_in part j)) (entries_from entries part) r e
+IsLastEntry m entries part r e = IsLastWithin (λ j. before_in_part m (entry_in part j)) (entries_from entries part) r e
 
 -- the number of bits of the kind in an upper block before the entry after entry e; 2^62 and more say nothing
-abbrev pub IsAbove : ℕ → Lists → ℕ → ℕ → ℕ → Type 0
-IsAbove bit lists part e above = above < 2 ^ 62 → (e + 1 < entries_from (length lists.lower) part)
+abbrev pub IsCountAbove : ℕ → Lists → ℕ → ℕ → ℕ → Type 0
+IsCountAbove bit lists part e above = above < 2 ^ 62 → (e + 1 < entries_from (length lists.lower) part)
     × (above ≡ before_in_part (sought_in bit lists.words) (entry_in part (e + 1)))
 
 -- the last entry of an upper block with at most r 1 bits before it there is among the `left` entries from low on
-abbrev pub IsAmong : List Bool → ℕ → ℕ → ℕ → ℕ → ℕ → Type 0
-IsAmong m entries part r low left = Between (λ j. before_in_part m (part * 2 ^ 21 + j)) (entries_from entries part) r low left
+abbrev pub IsEntryAmong : List Bool → ℕ → ℕ → ℕ → ℕ → ℕ → Type 0
+IsEntryAmong m entries part r low left = Between (λ j. before_in_part m (part * 2 ^ 21 + j)) (entries_from entries part) r low left
 
--- IsAmong in the sought bits of the words of lists
+-- IsEntryAmong in the sought bits of the words of lists
 abbrev pub IsAmongIn : ℕ → Lists → ℕ → ℕ → ℕ → ℕ → Type 0
-IsAmongIn bit lists part r low left = IsAmong (sought_in bit lists.words) (length lists.lower) part r low left
+IsAmongIn bit lists part r low left = IsEntryAmong (sought_in bit lists.words) (length lists.lower) part r low left
 
 -- what a search for the last entry of an upper block with at most r bits of the kind before it there finds: an entry of
 -- the upper block and what the table claims that it packs; where the tables are those of the words, the right entry
@@ -84,7 +84,7 @@ pub record IsLastFound (bit : ℕ) (lists : Lists) (part r : ℕ) (found : ℕ �
 pub record IsRange (bit : ℕ) (lists : Lists) (part r : ℕ) (range : EntryRange) : Type 0 where
   pub some : 0 < range.left
   pub within : range.low + range.left ≤ entries_from (length lists.lower) part
-  pub among : HasTables lists → IsAmong (sought_in bit lists.words) (length lists.lower) part r range.low range.left
+  pub among : HasTables lists → IsEntryAmong (sought_in bit lists.words) (length lists.lower) part r range.low range.left
   pub packed : 0 < range.low → range.packed ≡ told_entry (as_bit bit) lists (entry_in part range.low)
 
 -- the number of sought bits in an upper block before its entry j

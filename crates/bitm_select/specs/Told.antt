@@ -1,6 +1,6 @@
 -- What tables claim, whatever they hold: the numbers that a search reads, and when they claim that there is no such
 -- bit.
-use Rattle.std.specs.Prelude.{◌≡◌, ⊤, ℕ, ◌+◌, ◌-◌, ◌*◌, ◌^◌, ◌%◌, ◌<◌, ◌≤◌, Bool, true, false, length, slice_index}
+use Rattle.std.specs.Prelude.{◌≡◌, ℕ, ◌+◌, ◌-◌, ◌*◌, ◌^◌, ◌%◌, ◌<◌, ◌≤◌, Bool, true, false, length, slice_index}
 use Rattle.bit_lists.specs.Count.{count_before, count_of}
 use Rattle.bitm_tables.specs.Entry.{field_0, greatest_entry, record_field}
 pub use Rattle.bitm_tables.specs.Entry.{less}
@@ -48,12 +48,6 @@ pub record TellsNone (v : Bool) (lists : Lists) (r : ℕ) : Type 0 where
   pub last : length lists.words ≤ 32 * (length lists.lower - 1) + 8 * k + 8
   pub count : (told_part v lists (length lists.upper - 1) + told_to (told_entry v lists (length lists.lower - 1)) k) % 2 ^ 64
       + count_from_word lists v (32 * (length lists.lower - 1) + 8 * k) ≤ r
-
--- where Absent is answered, P
-abbrev pub IfAbsent : Answer ℕ → Type 0 → Type 0
-IfAbsent (Found p) P = ⊤
-IfAbsent Absent P = P
-IfAbsent Wrong P = ⊤
 
 -- this answer, with Wrong in place of Absent
 abbrev pub wrong_for_absent : Answer ℕ → Answer ℕ

@@ -3,7 +3,7 @@ ghost use Rattle.std.specs.Prelude.{◌≡◌, ◌+◌, ◌-◌, ◌*◌, ◌/�
 ghost use Rattle.bit_lists.specs.Bits.{bits_of, IsShort};
 ghost use Rattle.bitm_tables.specs.Entry.{lower_entry, entries_from};
 ghost use Rattle.bitm_tables.specs.Reads.{ReadsAtMost};
-ghost use Rattle.bitm_select.specs.Search.{entry_in, IsAbove, IsLastEntry, items_to, sought_in};
+ghost use Rattle.bitm_select.specs.Search.{entry_in, IsCountAbove, IsLastEntry, items_to, sought_in};
 ghost use Rattle.bitm_tables.specs.Tables.{HasTables};
 
 use bitm_select::search::entries::sought_entry;
@@ -31,7 +31,7 @@ pub(crate) fn walk<const BIT: u8, T: TableSource>(
         (length (T.lists source.old).lower) part rank result.0 }
     ensures entry { result.1
         ≡ lower_entry (sought_in BIT (T.lists source.old).words) (entry_in part result.0) }
-    ensures above { IsAbove BIT (T.lists source.old) part result.0 result.2 }
+    ensures above { IsCountAbove BIT (T.lists source.old) part result.0 result.2 }
     ensures order { from ≤ result.0 }
     ensures reads { ReadsAtMost (T.reads source.old) (T.reads source.new)
         0 (result.0 - from + 2) 0 }

@@ -5,7 +5,7 @@ use Rattle.bitm_abi.specs.HashBlock.{hash_parts}
 use Rattle.bitm_abi.specs.Status.{Exported}
 use Rattle.hash_block.specs.Parts.{HasLengths, HashParts}
 use Rattle.string_block.specs.Block.{CanHold}
-use Rattle.string_block.specs.Parts.{AreStrings, HasStarts, IsFound, IsHeld, IsNotWrong, IsPiece, StringParts}
+use Rattle.string_block.specs.Parts.{AreStrings, HasStringStarts, IsNotWrong, IsPiece, IsStringFound, IsStringHeld, StringParts}
 use Rattle.bitm_strings_c.specs.declared.strings.Strings.{Strings}
 
 -- A status is 0 where the answer was written, 1 where there is no such string or number, 2 where a length or the kind is
@@ -21,15 +21,15 @@ string_parts strings = record {
 }
 
 -- a hash of the right lengths, and strings and a block that can be theirs
-pub record IsWritable (hash : HashParts) (bytes ends block : List ℕ) : Type 0 where
+pub record AreWritableStrings (hash : HashParts) (bytes ends block : List ℕ) : Type 0 where
   pub sized : HasLengths hash
   pub holds : CanHold hash bytes ends block
 
 -- the number of a string: the string stands there, whatever the parts hold; and where they are those of strings, there is
 -- none exactly for what is no string
-pub record IsNumberOf (string : ℕ → ℕ) (len : ℕ) (parts : StringParts) (answer : Answer ℕ) : Type 0 where
-  pub held : IsHeld parts string len answer
-  pub right : AreStrings parts → IsFound parts string len answer
+pub record IsNumberOfString (string : ℕ → ℕ) (len : ℕ) (parts : StringParts) (answer : Answer ℕ) : Type 0 where
+  pub held : IsStringHeld parts string len answer
+  pub right : AreStrings parts → IsStringFound parts string len answer
 
 -- where the string of a number stands, and how many bytes it has: they stand in the words, whatever the parts hold
 pub record IsPieceOf (number : ℕ) (parts : StringParts) (answer : Answer (ℕ × ℕ)) : Type 0 where
@@ -39,7 +39,7 @@ pub record IsPieceOf (number : ℕ) (parts : StringParts) (answer : Answer (ℕ 
 -- the status, and the number before and after the call
 abbrev pub FindAnswered : Strings → List ℕ → ℕ → ℕ → ℕ → Type 0
 FindAnswered strings string =
-    Exported (HasStarts (string_parts strings)) (IsNumberOf (slice_index string) (length string) (string_parts strings))
+    Exported (HasStringStarts (string_parts strings)) (IsNumberOfString (slice_index string) (length string) (string_parts strings))
 
 abbrev pub GetAnswered : Strings → ℕ → ℕ → (ℕ × ℕ) → (ℕ × ℕ) → Type 0
-GetAnswered strings number = Exported (HasStarts (string_parts strings)) (IsPieceOf number (string_parts strings))
+GetAnswered strings number = Exported (HasStringStarts (string_parts strings)) (IsPieceOf number (string_parts strings))

@@ -2,10 +2,10 @@
 ghost use Rattle.std.specs.Prelude.{◌≡◌, ◌≢◌, ◌↔◌, ◌⊎◌};
 ghost use Rattle.bitm_block.specs.Layout.{end_of};
 ghost use Rattle.string_block.specs.Block.{sections_of, strings_in};
-ghost use Rattle.string_block.specs.Block.{AreFew, IsBlockOf, IsSoundBlock, IsStringBlock, NumberStrings};
+ghost use Rattle.string_block.specs.Block.{AreFewStrings, IsBlockOf, IsSoundBlock, IsStringBlock, NumberStrings};
 ghost use Rattle.string_block.specs.Parts.{string_number};
 ghost use Rattle.bitm_abi.specs.HashBlock.{hash_parts};
-ghost use Rattle.bitm_strings_c.specs.Strings.{string_parts, IsWritable};
+ghost use Rattle.bitm_strings_c.specs.Strings.{string_parts, AreWritableStrings};
 
 use crate::strings::Strings;
 use bitm_abi::{BAD_SIZE, Hash, OK, WRONG, hash_at, hash_view};
@@ -22,7 +22,7 @@ pub extern "C" fn bitm_strings_size(
     bytes: usize,
     out: &mut usize,
 ) -> u32
-    ensures ok { (result ≡ 0) ↔ AreFew words levels strings bytes }
+    ensures ok { (result ≡ 0) ↔ AreFewStrings words levels strings bytes }
     ensures size { result ≡ 0 → out.new ≡ end_of (sections_of words levels strings bytes) }
     ensures kept { result ≢ 0 → (result ≡ 2) × (out.new ≡ out.old) }
 {
@@ -46,10 +46,10 @@ pub extern "C" fn bitm_strings_build(
     block: &mut [u64],
 ) -> u32
     ensures ok { (result ≡ 0)
-        ↔ IsWritable (hash_parts hash.now seed) bytes.now ends.now block.old
+        ↔ AreWritableStrings (hash_parts hash.now seed) bytes.now ends.now block.old
         × NumberStrings (hash_parts hash.now seed) bytes.now ends.now }
     ensures wrong { (result ≡ 3)
-        ↔ IsWritable (hash_parts hash.now seed) bytes.now ends.now block.old
+        ↔ AreWritableStrings (hash_parts hash.now seed) bytes.now ends.now block.old
         × (¬ (NumberStrings (hash_parts hash.now seed) bytes.now ends.now)) }
     ensures status { (result ≡ 0) ⊎ (result ≡ 2) ⊎ (result ≡ 3) }
     ensures block { result ≡ 0 → IsBlockOf (string_number (hash_parts hash.now seed)) bytes.now

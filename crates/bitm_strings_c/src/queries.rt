@@ -1,10 +1,10 @@
 //! Which number each string has, and which string each number.
 ghost use Rattle.std.specs.Prelude.{◌≡◌, ◌≢◌, ◌-◌, ◌^◌, ◌<◌, ◌↔◌, ℕ, length, slice_index};
-ghost use Rattle.bitm_abi.specs.Lists.{AreCounted};
+ghost use Rattle.bitm_abi.specs.Lists.{AreAnswersCounted};
 ghost use Rattle.bitm_view.specs.Queries.{selected_by};
 ghost use Rattle.string_block.specs.Given.{given, len_of, AreGiven};
-ghost use Rattle.string_block.specs.Parts.{HasStarts};
-ghost use Rattle.bitm_strings_c.specs.Strings.{string_parts, FindAnswered, GetAnswered, IsNumberOf};
+ghost use Rattle.string_block.specs.Parts.{HasStringStarts};
+ghost use Rattle.bitm_strings_c.specs.Strings.{string_parts, FindAnswered, GetAnswered, IsNumberOfString};
 
 use crate::strings::Strings;
 use bitm_abi::{BAD_SIZE, ListCounts, code_of, report, report_both, report_list};
@@ -28,7 +28,7 @@ fn found_code(view: &StringsView<'_>, bytes: &[u8], ends: &[usize], i: usize) ->
     requires codes { view.now.hash.keys < 2 ^ 64 - 2 }
     requires given { AreGiven bytes.now ends.now }
     requires inside { i < length ends.now }
-    ensures { IsNumberOf (given bytes.now ends.now i) (len_of ends.now i) view.now
+    ensures { IsNumberOfString (given bytes.now ends.now i) (len_of ends.now i) view.now
         (selected_by result) }
 {
     code_of(view.find_given(bytes, ends, i))
@@ -40,7 +40,7 @@ fn find_each(view: &StringsView<'_>, bytes: &[u8], ends: &[usize], out: &mut [us
     requires given { AreGiven bytes.now ends.now }
     requires room { length out.old ≡ length ends.now }
     ensures { (j : ℕ) → j < length ends.now
-        → IsNumberOf (given bytes.now ends.now j) (len_of ends.now j) view.now
+        → IsNumberOfString (given bytes.now ends.now j) (len_of ends.now j) view.now
         (selected_by (slice_index out.new j)) }
 {
     for at in 0..ends.len() {
@@ -58,14 +58,14 @@ pub extern "C" fn bitm_strings_find_list(
     out: &mut [usize],
     counts: &mut ListCounts,
 ) -> u32
-    ensures ok { (result ≡ 0) ↔ HasStarts (string_parts strings.now)
+    ensures ok { (result ≡ 0) ↔ HasStringStarts (string_parts strings.now)
         × (strings.now.hash.keys < 2 ^ 64 - 2) × AreGiven bytes.now ends.now
         × (length out.old ≡ length ends.now) }
     ensures kept { result ≢ 0 → (result ≡ 2) × (out.new ≡ out.old) × (counts.new ≡ counts.old) }
     ensures numbers { result ≡ 0 → (j : ℕ) → j < length ends.now
-        → IsNumberOf (given bytes.now ends.now j) (len_of ends.now j) (string_parts strings.now)
+        → IsNumberOfString (given bytes.now ends.now j) (len_of ends.now j) (string_parts strings.now)
         (selected_by (slice_index out.new j)) }
-    ensures counts { result ≡ 0 → AreCounted out.new counts.new }
+    ensures counts { result ≡ 0 → AreAnswersCounted out.new counts.new }
 {
     let Some(view) = strings.view() else {
         return BAD_SIZE;

@@ -1,6 +1,6 @@
 //! Strings in a block as C passes them, and as the library queries them.
 ghost use Rattle.std.specs.Prelude.{SomeIff};
-ghost use Rattle.string_block.specs.Parts.{HasStarts};
+ghost use Rattle.string_block.specs.Parts.{HasStringStarts};
 ghost use Rattle.bitm_strings_c.specs.Strings.{string_parts};
 
 use bitm_abi::{Hash, hash_view};
@@ -29,7 +29,7 @@ impl<'a> Strings<'a> {
     /// The strings as the library queries them; `None` exactly where a length or the kind is not right.
     #[inline(always)]
     pub(crate) fn view(&self) -> Option<StringsView<'a>>
-        ensures { SomeIff result (HasStarts (string_parts self.now)) (string_parts self.now) }
+        ensures { SomeIff result (HasStringStarts (string_parts self.now)) (string_parts self.now) }
     {
         let hash = hash_view(&self.hash, self.seed)?;
         StringsView::over(self.kind, hash, self.starts, self.bytes)

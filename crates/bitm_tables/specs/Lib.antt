@@ -1,3 +1,4 @@
+pub mod Answers
 pub mod Entry
 pub mod Quarters
 pub mod Reads

@@ -9,7 +9,7 @@ use Rattle.trie_block.specs.Answers.{IsEndOf, IsLabelOf, IsWordOf, IsWordWithin}
 use Rattle.trie_block.specs.Block.{degrees_of_parts, labels_of_parts, trie_of, HasTrieLengths, HasTrieRoom, HoldsTrie, TrieParts}
 use Rattle.bitm_abi.specs.Status.{truth_of, Exported, IsFoundBelow}
 use Rattle.bitm_abi.specs.Tree.{tree_parts}
-use Rattle.trie_words.specs.Building.{HasBlockRoom}
+use Rattle.trie_words.specs.Building.{HasTrieBlockRoom}
 use Rattle.trie_words.specs.Words.{nodes_of, words_in, AreSorted, AreWords}
 use Rattle.bitm_trie_c.specs.declared.trie.Trie.{Trie}
 
@@ -33,7 +33,7 @@ AreUnsorted bytes starts = AreWords bytes starts × (¬ (AreSorted (words_in byt
 -- so it is, and the lengths are those of the trie of words
 abbrev pub AreUnsortedInRoom : List ℕ → List ℕ → List ℕ → List ℕ → Type 0
 AreUnsortedInRoom bytes starts scratch block =
-    AreUnsorted bytes starts × HasBlockRoom (nodes_of (words_in bytes starts)) (length scratch) (length block)
+    AreUnsorted bytes starts × HasTrieBlockRoom (nodes_of (words_in bytes starts)) (length scratch) (length block)
 
 -- whether a word ends at a node, as 0 or 1, whatever the sections hold
 pub record IsEnd (node : ℕ) (parts : TrieParts) (answer : Answer ℕ) : Type 0 where
@@ -59,7 +59,7 @@ pub record IsLongest (word : List ℕ) (parts : TrieParts) (answer : Answer (ℕ
 
 -- how many labels lead to a node, likewise: no more than the number of the node. They are the last items of a list where
 -- there is room for them
-pub record IsWord (node : ℕ) (old new : List ℕ) (parts : TrieParts) (answer : Answer ℕ) : Type 0 where
+pub record IsWordAnswer (node : ℕ) (old new : List ℕ) (parts : TrieParts) (answer : Answer ℕ) : Type 0 where
   pub inside : IsWordWithin parts.tree.len node old new answer
   pub right : HoldsTrie parts → IsWordOf (degrees_of_parts parts) (labels_of_parts parts) node new answer
 
@@ -81,7 +81,7 @@ abbrev pub FindAnswered : Trie → List ℕ → ℕ → ℕ → ℕ → Type 0
 FindAnswered trie word = Exported (HasTrieLengths (trie_parts trie)) (IsNodeAt word (trie_parts trie))
 
 abbrev pub WordAnswered : Trie → ℕ → List ℕ → List ℕ → ℕ → ℕ → ℕ → Type 0
-WordAnswered trie node old new = Exported (HasTrieLengths (trie_parts trie)) (IsWord node old new (trie_parts trie))
+WordAnswered trie node old new = Exported (HasTrieLengths (trie_parts trie)) (IsWordAnswer node old new (trie_parts trie))
 
 -- the same of two numbers
 abbrev pub LongestAnswered : Trie → List ℕ → ℕ → (ℕ × ℕ) → (ℕ × ℕ) → Type 0

@@ -39,7 +39,7 @@ pub record HasBlockRoom (words : List ℕ) (n log log0 : ℕ) (to upper lower st
   pub samples_len : zeros_from (sample_room (length to) log) + sample_room (length to) log0 ≤ length samples
 
 -- the lists are the first n bits of the words, their tables, and the given numbers of samples of 1 bits and of 0 bits
-pub record IsBlock (words : List ℕ) (n log log0 : ℕ) (to upper lower starts starts0 samples : List ℕ) (ones zeros : ℕ) : Type 0 where
+pub record IsIndexBlock (words : List ℕ) (n log log0 : ℕ) (to upper lower starts starts0 samples : List ℕ) (ones zeros : ℕ) : Type 0 where
   pub bits : AreFirst (bits_of words) n (bits_of to)
   pub tables : HasTables (lists_of to upper lower)
   pub few : ones ≤ sample_room (length to) log

@@ -3,14 +3,14 @@ use Rattle.std.specs.Prelude.{◌≡◌, ℕ, ◌<◌, ◌≤◌, ◌⊎◌, Boo
 use Rattle.bit_lists.specs.Bits.{item}
 use Rattle.bitm_tables.specs.Tables.{HasSizes, Lists, bits_in}
 use Rattle.bitm_select.specs.Told.{TellsNone}
-use Rattle.lent_tables.specs.Samples.{not_sampled, Sampled}
+use Rattle.lent_tables.specs.Samples.{not_sampled, SampleLists}
 
 -- words and their tables, how many of the bits belong to the bit vector, and the samples of 1 bits and of 0 bits
 pub record Cut : Type 0 where
   pub lists : Lists
   pub len : ℕ
-  pub ones : Sampled
-  pub zeros : Sampled
+  pub ones : SampleLists
+  pub zeros : SampleLists
 
 -- words with tables, and the length of the bit vector, without samples
 abbrev pub cut_at : Lists → ℕ → Cut
@@ -25,13 +25,13 @@ abbrev pub IsWithin : Cut → Type 0
 IsWithin c = c.len ≤ length (bits_in c.lists)
 
 -- the lengths of lists are right, and the words have at least n bits
-pub record AreSized (lists : Lists) (n : ℕ) : Type 0 where
+pub record AreListsSized (lists : Lists) (n : ℕ) : Type 0 where
   pub sizes : HasSizes lists
   pub within : n ≤ length (bits_in lists)
 
 -- those of a view, whatever samples it has
 abbrev pub IsSizedCut : Cut → Type 0
-IsSizedCut c = AreSized c.lists c.len
+IsSizedCut c = AreListsSized c.lists c.len
 
 -- a list has an item v from index n on
 pub record HasItemFrom (v : Bool) (b : List Bool) (n : ℕ) : Type 0 where

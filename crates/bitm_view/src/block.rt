@@ -5,8 +5,8 @@ ghost use Rattle.bit_lists.specs.Bits.{bits_of};
 ghost use Rattle.bit_lists.specs.Count.{as_bit};
 ghost use Rattle.bitm_strategies.specs.Density.{clamped_log};
 ghost use Rattle.bitm_tables.specs.Tables.{bits_in, HasTables};
-ghost use Rattle.bitm_view.specs.Block.{sample_room, starts_of, AreFirst, HasBlockRoom, IsBlock};
-ghost use Rattle.lent_tables.specs.Samples.{AreSamples, HasRoom};
+ghost use Rattle.bitm_view.specs.Block.{sample_room, starts_of, AreFirst, HasBlockRoom, IsIndexBlock};
+ghost use Rattle.lent_tables.specs.Samples.{AreSamples, HasSampleRoom};
 
 use bit_slices::copy_range;
 use lent_tables::{Lent, build, clear_from, lower_len, samples_len, upper_len};
@@ -50,7 +50,7 @@ fn sample<const BIT: u8>(
     samples: &mut [u32],
     starts: &mut [usize],
 ) -> usize
-    requires room { log2 ≢ 0 → HasRoom tables.now log2 samples.old starts.old }
+    requires room { log2 ≢ 0 → HasSampleRoom tables.now log2 samples.old starts.old }
     ensures most { result ≤ length samples.old }
     ensures len { length samples.new ≡ length samples.old }
     ensures made { log2 ≢ 0 → HasTables tables.now → AreSamples (bits_in tables.now) (as_bit BIT)
@@ -113,7 +113,7 @@ pub fn build_block(
 ) -> (usize, usize)
     requires { HasBlockRoom words.now len logs.0 logs.1 to.old upper.old lower.old starts.old starts0.old
         samples.old }
-    ensures { IsBlock words.now len logs.0 logs.1 to.new upper.new lower.new starts.new starts0.new
+    ensures { IsIndexBlock words.now len logs.0 logs.1 to.new upper.new lower.new starts.new starts0.new
         samples.new result.0 result.1 }
 {
     copy_first(words, len, &mut *to);

@@ -3,7 +3,7 @@ ghost use Rattle.std.specs.Prelude.{◌≡◌, ◌≢◌, ◌+◌, ◌-◌, ◌<
 ghost use Rattle.bit_lists.specs.Bits.{digit_count};
 ghost use Rattle.bit_lists.specs.Count.{count_before, count_of, as_bit, Picks};
 ghost use Rattle.bitm_tables.specs.Tables.{HasTables, bits_in};
-ghost use Rattle.bitm_select.specs.Told.{IfAbsent};
+ghost use Rattle.bitm_tables.specs.Answers.{IfAbsent};
 ghost use Rattle.bitm_view.specs.Cut.{bits_of_cut, cut_at, Cut, IsWithin, TellsNoneOf};
 ghost use Rattle.bitm_view.specs.Queries.{RanksIn, SelectsIn};
 ghost use Rattle.lent_tables.specs.Counting.{Selects};

@@ -8,12 +8,12 @@ pub record Left (V : Type 0) : Type 0 where
   pub left : ℕ
 
 -- the last items of a list, as many as are left
-abbrev pub coming : {V : Type 0} → List ℕ → Left V → List ℕ
-coming xs it = drop (length xs - it.left) xs
+abbrev pub items_coming : {V : Type 0} → List ℕ → Left V → List ℕ
+items_coming xs it = drop (length xs - it.left) xs
 
 -- a call gave an item, and one less is left, or it gave none, and none is left. Where the parts hold a list, it gave the
 -- first of those to come
 pub record Gives {V : Type 0} (holds : List ℕ → V → Type 0) (old : Left V) (result : Option ℕ) (new : Left V) : Type 0 where
   pub kept : new.parts ≡ old.parts
   pub fewer : MatchOption result (new.left ≡ 0) (λ _. old.left ≡ new.left + 1)
-  pub first : (xs : List ℕ) → holds xs old.parts → YieldsFirst (coming xs) old result new
+  pub first : (xs : List ℕ) → holds xs old.parts → YieldsFirst (items_coming xs) old result new

@@ -8,11 +8,11 @@ use Rattle.std.specs.List.{slice_range}
 use Rattle.bitm_block.proofs.HeaderLemmas.{begin_next, inside, section_at, sections_len}
 use Rattle.bitm_block.proofs.LayoutLemmas.{words_fit}
 use Rattle.bitm_block.proofs.PartsLemmas.{cut, section_is}
-use Rattle.bitm_block.specs.Header.{count_in, entry_in, head_in, section_in, sections_in, IsBlock}
+use Rattle.bitm_block.specs.Header.{count_in, head_in, section_entry, section_in, sections_in, IsBlock}
 use Rattle.bitm_block.specs.Layout.{begin_of, end_of, head_of, no_section, part_in, room_of, words_of, AreShort}
 use Rattle.bitm_block.specs.Written.{IsSealed}
 use Rattle.bitm_block.specs.declared.layout.Section.{Section}
-use Rattle.block_sections.specs.Extended.{body_in, sections_with, IsExtended, StandsIn}
+use Rattle.block_sections.specs.Extended.{body_in, extended_sections, IsExtended, StandsExtended}
 
 -- a part of what stands after a front
 moved : (front body tail : List ℕ) (at p w : ℕ) → at ≡ length front + p → p + w ≤ length body
@@ -34,11 +34,11 @@ under h b p w =
     ap (λ k. take k (drop p (drop h b))) n ∙ ap (take (h + p + w - (h + p))) (drop-drop p h b)
 
 module _ (b : List ℕ) (s : Section) (is : IsBlock b) where
-  pub len_with : length (sections_with b s) ≡ count_in b + 1
+  pub len_with : length (extended_sections b s) ≡ count_in b + 1
   len_with = omega (arith, length-append (sections_in b) (s ∷ []), sections_len b)
 
   -- the new block is longer by the room of the section, and by that of its entry
-  pub end_with : end_of (sections_with b s) + head_of (count_in b) ≡ head_of (count_in b + 1) + length b + room_of s
+  pub end_with : end_of (extended_sections b s) + head_of (count_in b) ≡ head_of (count_in b + 1) + length b + room_of s
   end_with = omega (arith, sum_by_push room_of (sections_in b) s, is.directory.whole, len_with, sections_len b)
 
   -- what is copied
@@ -58,62 +58,62 @@ module _ (b : List ℕ) (s : Section) (is : IsBlock b) where
   one small zero d less = small
   one small (suc i) d less = absurd (omega (arith, less))
 
-  pub short_with : count_in b < 16 → s.count < 2 ^ 58 → end_of (sections_with b s) < 2 ^ 60 → AreShort (sections_with b s)
+  pub short_with : count_in b < 16 → s.count < 2 ^ 58 → end_of (extended_sections b s) < 2 ^ 60 → AreShort (extended_sections b s)
   short_with few small total = record {
     few = omega (arith, len_with, few);
     counts = All-append (λ (t : Section). t.count < 2 ^ 58) (sections_in b) (s ∷ []) counts (one small);
     total = total;
   }
 
-  pub few_in : AreShort (sections_with b s) → count_in b < 16
+  pub few_in : AreShort (extended_sections b s) → count_in b < 16
   few_in short = omega (arith, len_with, short.few)
 
-  pub small_in : AreShort (sections_with b s) → s.count < 2 ^ 58
+  pub small_in : AreShort (extended_sections b s) → s.count < 2 ^ 58
   small_in short =
       subst (λ (t : Section). t.count < 2 ^ 58) (get_or_push (sections_in b) s s (length (sections_in b)) refl)
       (short.counts (length (sections_in b)) s (omega (arith, len_with, sections_len b)))
 
-  module _ (words to : List ℕ) (stands : StandsIn b words to) (long : length words ≡ words_of s) where
-    kept_part : (i : ℕ) → i < count_in b → part_in (sections_with b s) to i ≡ section_in b i
+  module _ (words to : List ℕ) (stands : StandsExtended b words to) (long : length words ≡ words_of s) where
+    kept_part : (i : ℕ) → i < count_in b → part_in (extended_sections b s) to i ≡ section_in b i
     kept_part i less =
         let ss = sections_in b in
-        let at = begin_of (sections_with b s) i in
+        let at = begin_of (extended_sections b s) i in
         let p = sum_by room_of (take i ss) in
         let h = head_of (count_in b) in
-        let w = words_of (entry_in b i) in
+        let w = words_of (section_entry b i) in
         let within : i < length ss = omega (arith, less, sections_len b) in
-        let entry : get_or (sections_with b s) i no_section ≡ entry_in b i =
+        let entry : get_or (extended_sections b s) i no_section ≡ section_entry b i =
         get_or_append_left ss (s ∷ []) no_section i within ∙ section_at b i no_section less in
-        let before : sum_by room_of (take i (sections_with b s)) ≡ p = ap (sum_by room_of) (take-append-le i ss (s ∷ []) (omega (arith, within))) in
+        let before : sum_by room_of (take i (extended_sections b s)) ≡ p = ap (sum_by room_of) (take-append-le i ss (s ∷ []) (omega (arith, within))) in
         let from : at ≡ length stands.front + p = omega (arith, stands.head, before, len_with) in
         let fits : p + w ≤ length (body_in b) =
-        omega (arith, begin_next b i less, inside b is.directory (i + 1), words_fit (entry_in b i), length-drop h b, sections_len b) in
+        omega (arith, begin_next b i less, inside b is.directory (i + 1), words_fit (section_entry b i), length-drop h b, sections_len b) in
         ap (λ (t : Section). slice_range to at (at + words_of t)) entry
         ∙ ap (λ l. slice_range l at (at + w)) stands.whole
         ∙ moved stands.front (body_in b) (words ++ stands.gap) at p w from fits
         ∙ under h b p w
         ∙ ap (λ n. slice_range b (head_of n + p) (head_of n + p + w)) (sym (sections_len b))
 
-    added_part : part_in (sections_with b s) to (count_in b) ≡ words
+    added_part : part_in (extended_sections b s) to (count_in b) ≡ words
     added_part =
         let ss = sections_in b in
         let n = count_in b in
-        let at = begin_of (sections_with b s) n in
+        let at = begin_of (extended_sections b s) n in
         let front = stands.front ++ body_in b in
-        let entry : get_or (sections_with b s) n no_section ≡ s = get_or_push ss s no_section n (sections_len b) in
-        let before : take n (sections_with b s) ≡ ss =
-        ap (λ k. take k (sections_with b s)) (sym (sections_len b)) ∙ take-append_seam ss (s ∷ []) in
-        let rooms : sum_by room_of (take n (sections_with b s)) ≡ sum_by room_of ss = ap (sum_by room_of) before in
+        let entry : get_or (extended_sections b s) n no_section ≡ s = get_or_push ss s no_section n (sections_len b) in
+        let before : take n (extended_sections b s) ≡ ss =
+        ap (λ k. take k (extended_sections b s)) (sym (sections_len b)) ∙ take-append_seam ss (s ∷ []) in
+        let rooms : sum_by room_of (take n (extended_sections b s)) ≡ sum_by room_of ss = ap (sum_by room_of) before in
         let from : at ≡ length front =
         omega (arith, stands.head, rooms, len_with, sections_len b, is.directory.whole, length-append stands.front (body_in b), length-drop (head_of n) b) in
         ap (λ (t : Section). slice_range to at (at + words_of t)) entry
         ∙ ap (λ l. slice_range l at (at + words_of s)) (stands.whole ∙ sym (append_assoc stands.front (body_in b) (words ++ stands.gap)))
         ∙ cut front words stands.gap at (at + words_of s) from (omega (arith, long))
 
-    pub extended : (new : List ℕ) → IsSealed (head_in b) (sections_with b s) to new → IsExtended b s words new
+    pub extended : (new : List ℕ) → IsSealed (head_in b) (extended_sections b s) to new → IsExtended b s words new
     extended new sealed =
         let h = head_in b in
-        let ss = sections_with b s in
+        let ss = extended_sections b s in
         record {
           is_block = sealed.is_block;
           verified = sealed.verified;
@@ -128,7 +128,7 @@ module _ (b : List ℕ) (s : Section) (words new : List ℕ) (is : IsExtended b 
   pub count_is : count_in new ≡ count_in b + 1
   count_is = omega (arith, sections_len new, ap length is.sections_are, length-append (sections_in b) (s ∷ []), sections_len b)
 
-  pub entry_is : (i : ℕ) → i < count_in b → entry_in new i ≡ entry_in b i
+  pub entry_is : (i : ℕ) → i < count_in b → section_entry new i ≡ section_entry b i
   entry_is i less =
       sym (section_at new i no_section (omega (arith, less, count_is)))
       ∙ ap (λ (l : List Section). get_or l i no_section) is.sections_are

@@ -5,13 +5,13 @@ use Rattle.bitm_block.specs.Layout.{end_of, head_of, words_of, AreShort}
 use Rattle.bitm_block.specs.declared.layout.Section.{Section}
 
 -- the sections of a block, and one more after them
-abbrev pub sections_with : List ℕ → Section → List Section
-sections_with block added = sections_in block ++ added ∷ []
+abbrev pub extended_sections : List ℕ → Section → List Section
+extended_sections block added = sections_in block ++ added ∷ []
 
 -- the words are a block, and short enough with the section: it has at most 15 sections of its own
 pub record CanExtend (block : List ℕ) (added : Section) : Type 0 where
   pub is_block : IsBlock block
-  pub short : AreShort (sections_with block added)
+  pub short : AreShort (extended_sections block added)
 
 -- and its words are as many as its items take
 pub record FitsWith (block : List ℕ) (added : Section) (words : List ℕ) : Type 0 where
@@ -19,9 +19,9 @@ pub record FitsWith (block : List ℕ) (added : Section) (words : List ℕ) : Ty
   pub long : length words ≡ words_of added
 
 -- and there are as many words to write to as the new block takes
-pub record HasRoom (block : List ℕ) (added : Section) (words to : List ℕ) : Type 0 where
+pub record HasSectionRoom (block : List ℕ) (added : Section) (words to : List ℕ) : Type 0 where
   pub fits : FitsWith block added words
-  pub room : length to ≡ end_of (sections_with block added)
+  pub room : length to ≡ end_of (extended_sections block added)
 
 -- the new words are a block, as it was written: it has the numbers and the sections of the old one, which hold the same
 -- words, and one section after them, which holds these
@@ -29,7 +29,7 @@ pub record IsExtended (block : List ℕ) (added : Section) (words new : List ℕ
   pub is_block : IsBlock new
   pub verified : IsVerified new
   pub head_is : head_in new ≡ head_in block
-  pub sections_are : sections_in new ≡ sections_with block added
+  pub sections_are : sections_in new ≡ extended_sections block added
   pub kept : (i : ℕ) → i < count_in block → section_in new i ≡ section_in block i
   pub added_is : section_in new (count_in block) ≡ words
 
@@ -38,7 +38,7 @@ abbrev pub body_in : List ℕ → List ℕ
 body_in block = drop (head_of (count_in block)) block
 
 -- the sections and then the words stand where a block of one section more has them
-pub record StandsIn (block words to : List ℕ) : Type 0 where
+pub record StandsExtended (block words to : List ℕ) : Type 0 where
   pub front : List ℕ
   pub gap : List ℕ
   pub head : length front ≡ head_of (count_in block + 1)

@@ -2,7 +2,7 @@
 ghost use Rattle.std.specs.Prelude.{◌≡◌, ◌≢◌, ◌+◌, ◌↔◌, IfErr, IfOk, IsErrOf, IsOk, SomeIff, length};
 ghost use Rattle.bitm_block.specs.Header.{IsBlock, IsVerified};
 ghost use Rattle.bitm_block.specs.Layout.{end_of, words_of, AreShort};
-ghost use Rattle.block_sections.specs.Extended.{sections_with, CanExtend, FitsWith, HasRoom, IsExtended};
+ghost use Rattle.block_sections.specs.Extended.{extended_sections, CanExtend, FitsWith, HasSectionRoom, IsExtended};
 
 use crate::error::ExtendError;
 use crate::placing::{copy_parts, list_sections};
@@ -10,8 +10,8 @@ use bitm_block::{Block, MOST_SECTIONS, Section, aligned, head_len, seal_sized};
 
 /// How many words an opened block takes with one section more.
 fn size_with(block: &Block<'_>, added: &Section) -> Option<usize>
-    ensures { SomeIff result (AreShort (sections_with block.now added.now))
-        (end_of (sections_with block.now added.now)) }
+    ensures { SomeIff result (AreShort (extended_sections block.now added.now))
+        (end_of (extended_sections block.now added.now)) }
 {
     let words = block.words();
     let count = block.sections();
@@ -36,7 +36,7 @@ fn size_with(block: &Block<'_>, added: &Section) -> Option<usize>
 /// ```
 pub fn extended_size(block: &[u64], added: &Section) -> Option<usize>
     ensures { SomeIff result (CanExtend block.now added.now)
-        (end_of (sections_with block.now added.now)) }
+        (end_of (extended_sections block.now added.now)) }
 {
     let Ok(opened) = Block::open(block) else {
         return None;
@@ -46,7 +46,7 @@ pub fn extended_size(block: &[u64], added: &Section) -> Option<usize>
 
 /// Writes the block with one section more.
 fn write_extended(block: &Block<'_>, added: &Section, words: &[u64], to: &mut [u64])
-    requires { HasRoom block.now added.now words.now to.old }
+    requires { HasSectionRoom block.now added.now words.now to.old }
     ensures { IsExtended block.now added.now words.now to.new }
 {
     let mut list = [*added; MOST_SECTIONS];
@@ -84,15 +84,15 @@ pub fn extend(
 ) -> Result<(), ExtendError>
     ensures not_a_block { IsErrOf result ExtendError.NotABlock ↔ (¬ (IsBlock block.now)) }
     ensures too_large { IsErrOf result ExtendError.TooLarge
-        ↔ (IsBlock block.now × (¬ (AreShort (sections_with block.now added.now)))) }
+        ↔ (IsBlock block.now × (¬ (AreShort (extended_sections block.now added.now)))) }
     ensures wrong_words { IsErrOf result ExtendError.WrongWords
         ↔ (CanExtend block.now added.now × (length words.now ≢ words_of added.now)) }
     ensures wrong_length { IsErrOf result ExtendError.WrongLength
         ↔ (FitsWith block.now added.now words.now
-        × (length to.old ≢ end_of (sections_with block.now added.now))) }
+        × (length to.old ≢ end_of (extended_sections block.now added.now))) }
     ensures not_verified { IsErrOf result ExtendError.NotVerified
-        ↔ (HasRoom block.now added.now words.now to.old × (¬ (IsVerified block.now))) }
-    ensures ok { IsOk result ↔ (HasRoom block.now added.now words.now to.old × IsVerified block.now) }
+        ↔ (HasSectionRoom block.now added.now words.now to.old × (¬ (IsVerified block.now))) }
+    ensures ok { IsOk result ↔ (HasSectionRoom block.now added.now words.now to.old × IsVerified block.now) }
     ensures extended { IfOk result (λ _. IsExtended block.now added.now words.now to.new) }
     ensures kept { IfErr result (λ _. to.new ≡ to.old) }
 {

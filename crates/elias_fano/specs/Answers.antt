@@ -2,6 +2,7 @@
 use Rattle.std.specs.Prelude.{◌≡◌, ⊤, ℕ, ◌<◌, ◌≤◌, List, length, slice_index}
 use Rattle.std.specs.List.{All}
 use Rattle.elias_fano.specs.Sequence.{Reaches, StaysWithin}
+use Rattle.bitm_tables.specs.Answers.{Right}
 use Rattle.bitm_tables.specs.declared.answer.Answer.{Answer}
 use Rattle.bitm_tables.specs.declared.answer.Answer.TheVariants.{Found, Absent, Wrong}
 
@@ -13,9 +14,7 @@ IsOfPlace n i Wrong = i < n
 
 -- item i, and Absent exactly where there is none
 abbrev pub IsItem : List ℕ → ℕ → Answer ℕ → Type 0
-IsItem xs i (Found x) = (i < length xs) × (x ≡ slice_index xs i)
-IsItem xs i Absent = length xs ≤ i
-IsItem xs i Wrong = ⊥
+IsItem xs i = Right (λ x. (i < length xs) × (x ≡ slice_index xs i)) (length xs ≤ i)
 
 -- an index that is found is one of n
 abbrev pub IsPlaceOf : ℕ → Answer ℕ → Type 0
@@ -24,13 +23,9 @@ IsPlaceOf n Absent = ⊤
 IsPlaceOf n Wrong = ⊤
 
 -- the successor of v: the least index whose item is at least v, and Absent exactly where each item is less
-abbrev pub IsFirst : List ℕ → ℕ → Answer ℕ → Type 0
-IsFirst xs v (Found p) = Reaches xs v p
-IsFirst xs v Absent = All (λ x. x < v) xs
-IsFirst xs v Wrong = ⊥
+abbrev pub IsSuccessorOf : List ℕ → ℕ → Answer ℕ → Type 0
+IsSuccessorOf xs v = Right (λ p. Reaches xs v p) (All (λ x. x < v) xs)
 
 -- the predecessor of v: the greatest index whose item is at most v, and Absent exactly where each item is greater
-abbrev pub IsLast : List ℕ → ℕ → Answer ℕ → Type 0
-IsLast xs v (Found p) = StaysWithin xs v p
-IsLast xs v Absent = All (λ x. v < x) xs
-IsLast xs v Wrong = ⊥
+abbrev pub IsPredecessorOf : List ℕ → ℕ → Answer ℕ → Type 0
+IsPredecessorOf xs v = Right (λ p. StaysWithin xs v p) (All (λ x. v < x) xs)

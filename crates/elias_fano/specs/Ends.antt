@@ -8,6 +8,7 @@ use Rattle.elias_fano.specs.Buckets.{BeginsAt, CountsBelow}
 use Rattle.elias_fano.specs.Parts.{width_of, IsUpper}
 use Rattle.elias_fano.specs.Told.{TellsBelow, TellsTo}
 use Rattle.bitm_tables.specs.declared.source.counts.ReadCounts.{ReadCounts}
+use Rattle.bitm_tables.specs.Answers.{Right}
 use Rattle.bitm_tables.specs.declared.answer.Answer.{Answer}
 use Rattle.bitm_tables.specs.declared.answer.Answer.TheVariants.{Found, Absent, Wrong}
 
@@ -20,9 +21,7 @@ pub record HoldsHigh (xs : List ℕ) (n l : ℕ) (lists : Lists) : Type 0 where
 
 -- the first position with h 0 bits before it; Absent only where each item has high bits of less than h
 abbrev pub IsBegin : List ℕ → ℕ → List Bool → ℕ → Answer ℕ → Type 0
-IsBegin xs l b h (Found p) = BeginsAt b h p
-IsBegin xs l b h Absent = CountsBelow xs l h (length xs)
-IsBegin xs l b h Wrong = ⊥
+IsBegin xs l b h = Right (λ p. BeginsAt b h p) (CountsBelow xs l h (length xs))
 
 -- what words and tables claim by it, whatever they hold: how many of n numbers have high bits of less than h; for
 -- Absent, that all have, so that all have high bits of at most h

@@ -4,7 +4,7 @@ use Rattle.std.specs.Int.{div_ceil}
 use Rattle.bitm_tables.specs.Tables.{HasTables, Lists}
 use Rattle.elias_fano.specs.Low.{Lows}
 use Rattle.elias_fano.specs.Parts.{ArePartsOf}
-use Rattle.lent_tables.specs.Samples.{not_sampled, Sampled}
+use Rattle.lent_tables.specs.Samples.{not_sampled, SampleLists}
 
 -- the number of items, the number of low bits of each, the words of the low bits, the words of the high bits with their
 -- tables, and the samples of the 1 bits and of the 0 bits of these words
@@ -13,8 +13,8 @@ pub record LentParts : Type 0 where
   pub width : ℕ
   pub low : List ℕ
   pub upper : Lists
-  pub ones : Sampled
-  pub zeros : Sampled
+  pub ones : SampleLists
+  pub zeros : SampleLists
 
 -- parts of the first four, without samples
 abbrev pub parts_of : ℕ → ℕ → List ℕ → Lists → LentParts

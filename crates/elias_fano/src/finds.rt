@@ -4,7 +4,8 @@
 ghost use Rattle.std.specs.Prelude.{◌≡◌, ◌≢◌, ◌+◌, ◌<◌, ◌≤◌, ℕ, List, length, ⊤, true, false, IfSome, IsSomeAnd};
 ghost use Rattle.bit_lists.specs.Bits.{digit_count};
 ghost use Rattle.bitm_select.specs.Answers.{HasBit, IsSelected};
-ghost use Rattle.bitm_select.specs.Told.{IfAbsent, TellsNone};
+ghost use Rattle.bitm_select.specs.Told.{TellsNone};
+ghost use Rattle.bitm_tables.specs.Answers.{IfAbsent};
 ghost use Rattle.bitm_tables.specs.declared.answer.Answer.TheVariants.{Absent};
 ghost use Rattle.bitm_tables.specs.declared.source.counts.ReadCounts.{ReadCounts};
 ghost use Rattle.bitm_tables.specs.Reads.{none_read, OnlyReads, ReadsAtMost};

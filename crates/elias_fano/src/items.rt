@@ -1,6 +1,6 @@
 //! The queries of a sequence, whoever holds it.
 ghost use Rattle.std.specs.Prelude.{◌≡◌, ◌^◌, ◌<◌, ℕ, List, length};
-ghost use Rattle.elias_fano.specs.Answers.{IsFirst, IsItem, IsOfPlace, IsPlaceOf};
+ghost use Rattle.elias_fano.specs.Answers.{IsItem, IsOfPlace, IsPlaceOf, IsSuccessorOf};
 
 use crate::searching::{first_at_least_by, item_by};
 use crate::sequence::Sequence;
@@ -31,7 +31,7 @@ pub trait Items {
     /// in order, the answer is `Absent` exactly where each is less, and never `Wrong`.
     fn successor(&self, v: u64) -> Answer<usize>
         ensures inside { IsPlaceOf (len self.now) result }
-        ensures answer { (xs : List ℕ) → holds xs self.now → IsFirst xs v result };
+        ensures answer { (xs : List ℕ) → holds xs self.now → IsSuccessorOf xs v result };
 }
 
 impl<S: SelectForRank101111, S0: Select0ForRank101111> Items for Sequence<S, S0> {

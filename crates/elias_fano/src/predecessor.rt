@@ -4,7 +4,7 @@ ghost use Rattle.std.specs.List.{Contains};
 ghost use Rattle.bit_lists.specs.Bits.{digit_count};
 ghost use Rattle.bitm_tables.specs.Reads.{OnlyReads};
 ghost use Rattle.bitm_tables.specs.Tables.{HasSizes};
-ghost use Rattle.elias_fano.specs.Answers.{IsLast, IsPlaceOf};
+ghost use Rattle.elias_fano.specs.Answers.{IsPlaceOf, IsPredecessorOf};
 ghost use Rattle.elias_fano.specs.LentParts.{parts_with, HasLengths, Holds};
 ghost use Rattle.elias_fano.specs.Low.{sharing, ReadsFragments};
 ghost use Rattle.elias_fano.specs.Sequence.{ReachesTo};
@@ -74,7 +74,7 @@ pub(crate) fn last_at_most_by<T: TableSource, F: FindsEnds<T>>(
     ensures told { F.tells
         → IfLast result (TellsAtMost (parts_with n low.old (T.lists source.old)) v) }
     ensures answer { (xs : List ℕ) → Holds xs (parts_with n low.old (T.lists source.old))
-        → F.finds finder.now (T.lists source.old) → IsLast xs v result }
+        → F.finds finder.now (T.lists source.old) → IsPredecessorOf xs v result }
     ensures reads { let most = F.most (T.lists source.old) in
         let end = F.most_end (T.lists source.old) in
         OnlyReads T.lists T.reads source.old source.new (most.upper + end.upper)
@@ -113,7 +113,7 @@ pub fn total_last_at_most_on<T: TableSource>(
     ensures inside { IsPlaceOf n result }
     ensures told { IfLast result (TellsAtMost (parts_with n low.old (T.lists source.old)) v) }
     ensures answer { (xs : List ℕ) → Holds xs (parts_with n low.old (T.lists source.old))
-        → IsLast xs v result }
+        → IsPredecessorOf xs v result }
     ensures reads { OnlyReads T.lists T.reads source.old source.new
         (2 * (digit_count (length (T.lists source.old).upper) + 1)) (2 * 23) (2 * 8) }
     ensures fragments { ReadsFragments low.old low.new (digit_count n) }
@@ -141,7 +141,7 @@ pub fn total_last_at_most_by<T: TableSource, F: FindsEntry<0, T>>(
     ensures inside { IsPlaceOf n result }
     ensures told { IfLast result (TellsAtMost (parts_with n low.old (T.lists source.old)) v) }
     ensures answer { (xs : List ℕ) → Holds xs (parts_with n low.old (T.lists source.old))
-        → IsLast xs v result }
+        → IsPredecessorOf xs v result }
     ensures reads { OnlyReads T.lists T.reads source.old source.new
         (2 * (digit_count (length (T.lists source.old).upper) + 1)) (2 * F.lowers) (2 * 8) }
     ensures fragments { ReadsFragments low.old low.new (digit_count n) }

@@ -7,7 +7,7 @@ ghost use Rattle.bit_lists.specs.Count.{Picks};
 ghost use Rattle.bitm_tables.specs.Reads.{OnlyReads, ReadsAtMost};
 ghost use Rattle.bitm_tables.specs.Tables.{HasSizes};
 ghost use Rattle.bitm_tables.specs.Entry.{less};
-ghost use Rattle.elias_fano.specs.Answers.{IsFirst, IsItem, IsOfPlace, IsPlaceOf};
+ghost use Rattle.elias_fano.specs.Answers.{IsItem, IsOfPlace, IsPlaceOf, IsSuccessorOf};
 ghost use Rattle.elias_fano.specs.Buckets.{CountsTo, HasEnds, LowsRise, Splits};
 ghost use Rattle.elias_fano.specs.LentParts.{parts_with, HasLengths, Holds};
 ghost use Rattle.elias_fano.specs.Low.{fragment, joined_item, sharing, HasFragments, ReadsFragments};
@@ -227,7 +227,7 @@ pub fn place_in_bucket(
     ensures told { let w = low.old.width in IfPlace n result
         (PartsAt (fragment low.old) w first end (v % 2 ^ w)) }
     ensures answer { (xs upper : List ℕ) → ArePartsOf xs n low.old.width low.old.words upper
-        → HasEnds xs low.old.width v first end → IsFirst xs v result }
+        → HasEnds xs low.old.width v first end → IsSuccessorOf xs v result }
     ensures fragments { ReadsFragments low.old low.new (digit_count n) }
     ensures shared { (xs upper : List ℕ) → ArePartsOf xs n low.old.width low.old.words upper
         → HasEnds xs low.old.width v first end
@@ -269,7 +269,7 @@ pub(crate) fn first_at_least_by<T: TableSource, F: FindsEnds<T>>(
     ensures told { F.tells
         → IfPlace n result (TellsLess (parts_with n low.old (T.lists source.old)) v) }
     ensures answer { (xs : List ℕ) → Holds xs (parts_with n low.old (T.lists source.old))
-        → F.finds finder.now (T.lists source.old) → IsFirst xs v result }
+        → F.finds finder.now (T.lists source.old) → IsSuccessorOf xs v result }
     ensures reads { let most = F.most (T.lists source.old) in
         let end = F.most_end (T.lists source.old) in
         OnlyReads T.lists T.reads source.old source.new (most.upper + end.upper)
@@ -324,7 +324,7 @@ pub fn total_first_at_least_on<T: TableSource>(
     ensures inside { IsPlaceOf n result }
     ensures told { IfPlace n result (TellsLess (parts_with n low.old (T.lists source.old)) v) }
     ensures answer { (xs : List ℕ) → Holds xs (parts_with n low.old (T.lists source.old))
-        → IsFirst xs v result }
+        → IsSuccessorOf xs v result }
     ensures reads { OnlyReads T.lists T.reads source.old source.new
         (2 * (digit_count (length (T.lists source.old).upper) + 1)) (2 * 23) (2 * 8) }
     ensures fragments { ReadsFragments low.old low.new (digit_count n) }
@@ -352,7 +352,7 @@ pub fn total_first_at_least_by<T: TableSource, F: FindsEntry<0, T>>(
     ensures inside { IsPlaceOf n result }
     ensures told { IfPlace n result (TellsLess (parts_with n low.old (T.lists source.old)) v) }
     ensures answer { (xs : List ℕ) → Holds xs (parts_with n low.old (T.lists source.old))
-        → IsFirst xs v result }
+        → IsSuccessorOf xs v result }
     ensures reads { OnlyReads T.lists T.reads source.old source.new
         (2 * (digit_count (length (T.lists source.old).upper) + 1)) (2 * F.lowers) (2 * 8) }
     ensures fragments { ReadsFragments low.old low.new (digit_count n) }

@@ -17,7 +17,7 @@ use Rattle.elias_fano.proofs.lemmas.UpperLemmas.{places_are}
 use Rattle.elias_fano.specs.Low.{unread, HasFragments}
 use Rattle.elias_fano.specs.Parts.{width_at, upper_place, upper_places, items_of, ArePartsOf}
 use Rattle.elias_fano.specs.Sequence.{largest, IsSequence}
-use Rattle.elias_fano_view.specs.Checks.{held_item, AreNumbers}
+use Rattle.elias_fano_view.specs.Checks.{held_item, AreFirstNumbers}
 use Rattle.elias_fano_view.specs.Sizes.{upper_words_at}
 
 -- ---- a number below 2^64
@@ -69,7 +69,7 @@ module _ (xs : List ℕ) (n l : ℕ) (low words : List ℕ) (h : ArePartsOf xs n
   ones-all = omega (arith, places_are_counted (bits_of words) true, places_are xs l words h.upper_is, h.count)
 
   -- the last number is the largest
-  pub last-largest : (last : ℕ) → AreNumbers l low words n last → last ≡ largest xs
+  pub last-largest : (last : ℕ) → AreFirstNumbers l low words n last → last ≡ largest xs
   last-largest last a =
       ⊎_elim (λ e. a.none e ∙ sym (none xs (omega (arith, e, h.count))))
       (λ some.
@@ -82,7 +82,7 @@ module _ (xs : List ℕ) (n l : ℕ) (low words : List ℕ) (h : ArePartsOf xs n
       none (y ∷ ys) e = absurd (omega arith)
 
   -- the width and the number of upper words follow from the number of the numbers and the last
-  pub sizes-agree : (last : ℕ) → AreNumbers l low words n last → (width_at n last ≡ l) × (upper_words_at n last l ≡ length words)
+  pub sizes-agree : (last : ℕ) → AreFirstNumbers l low words n last → (width_at n last ≡ l) × (upper_words_at n last l ≡ length words)
   sizes-agree last a =
       let u = last-largest last a in
       let count : length xs ≡ n = sym h.count in (
@@ -92,7 +92,7 @@ module _ (xs : List ℕ) (n l : ℕ) (low words : List ℕ) (h : ArePartsOf xs n
 
 -- ---- what is held is a sequence
 
-module _ (n l last : ℕ) (low words : List ℕ) (fragments : HasFragments (unread low l) n) (a : AreNumbers l low words n last)
+module _ (n l last : ℕ) (low words : List ℕ) (fragments : HasFragments (unread low l) n) (a : AreFirstNumbers l low words n last)
     (ones : ones_of (bits_of words) ≡ n) where
   ys : List ℕ
   ys = items_of n l low words

@@ -18,7 +18,7 @@ use Rattle.elias_fano.specs.Low.{unread, HasFragments}
 use Rattle.elias_fano.specs.Parts.{ArePartsOf}
 use Rattle.elias_fano_view.proofs.CheckLemmas.{held_is, held_of_pick, ones-all}
 use Rattle.elias_fano_view.proofs.FollowLemmas.{place-is, place-of, FollowAt}
-use Rattle.elias_fano_view.specs.Checks.{held_item, low_item, AreNumbers, FollowsOne, NeighboursRise}
+use Rattle.elias_fano_view.specs.Checks.{held_item, low_item, AreFirstNumbers, FollowsOne, NeighboursRise}
 
 both_are : (a b : Bool) → (a && b) ≡ true → (a ≡ true) × (b ≡ true)
 both_are true b e = (refl, e)
@@ -157,7 +157,7 @@ module _ (gap n l : ℕ) (low words : List ℕ) (small : gap ≤ 1) (fragments :
       let to : i + (j - i) ≡ j = omega arith in
       omega (arith, held-on i (j - i) (omega arith), ap (held_item l low words) to)
 
-  pub are-numbers : (last : ℕ) → (0 < n → last ≡ held_item l low words (n - 1)) → (n ≡ 0 → last ≡ 0) → last < 2 ^ 64 → AreNumbers l low words n last
+  pub are-numbers : (last : ℕ) → (0 < n → last ≡ held_item l low words (n - 1)) → (n ≡ 0 → last ≡ 0) → last < 2 ^ 64 → AreFirstNumbers l low words n last
   are-numbers last is none fits = record {
     rising = held-order;
     small = λ j less. omega (arith, held-order j (n - 1) (omega arith) (omega arith), is (omega arith), fits);

@@ -8,7 +8,7 @@ use Rattle.lent_tables.specs.Sizes.{lists_of}
 use Rattle.elias_fano.proofs.lemmas.SizeLemmas.{few_of_some, upper_few_at}
 use Rattle.elias_fano.specs.Parts.{width_at, width_of, upper_words_of, IsUpper}
 use Rattle.elias_fano.specs.Sequence.{largest}
-use Rattle.elias_fano_view.specs.Sizes.{HasRoom, upper_words_at}
+use Rattle.elias_fano_view.specs.Sizes.{HasPartRoom, upper_words_at}
 
 -- a largest item without its low digits is less than twice the number of items, or there is none
 pub few_above : (n u l : ℕ) → (n ≡ 0 → u ≡ 0) → l ≡ width_at n u → u / 2 ^ l ≤ 2 * n
@@ -30,7 +30,7 @@ vectors-few n u l none width =
     small : (n l h : ℕ) → 0 < n → h < 2 * n → 64 * (div_ceil (n * l) 64 + div_ceil (n + h + 1) 64) ≤ n * (l + 3) + 126
     small n l h some few = omega arith
 
-module _ (xs low words upper lower : List ℕ) (l : ℕ) (h : HasRoom xs low words upper lower) (width : l ≡ width_of xs) where
+module _ (xs low words upper lower : List ℕ) (l : ℕ) (h : HasPartRoom xs low words upper lower) (width : l ≡ width_of xs) where
   -- the upper words are few enough for an index
   pub upper-words-few : upper_words_of xs l < 2 ^ 58
   upper-words-few = omega (arith, h.short, upper_few_at xs l (largest xs) width refl)

@@ -13,7 +13,7 @@ abbrev pub held_item : ℕ → List ℕ → List ℕ → ℕ → ℕ
 held_item l low words j = (slice_index (places true 0 (bits_of words)) j - j) * 2 ^ l + low_item l low j
 
 -- the first k numbers do not fall, each is below 2^64, and the last of them is `last`, which is 0 where there is none
-pub record AreNumbers (l : ℕ) (low words : List ℕ) (k last : ℕ) : Type 0 where
+pub record AreFirstNumbers (l : ℕ) (low words : List ℕ) (k last : ℕ) : Type 0 where
   pub rising : (i j : ℕ) → i ≤ j → j < k → held_item l low words i ≤ held_item l low words j
   pub small : (j : ℕ) → j < k → held_item l low words j < 2 ^ 64
   pub last_is : 0 < k → last ≡ held_item l low words (k - 1)

@@ -64,10 +64,6 @@ AreItems xs places n ys = (j : ℕ) → j < n → slice_index ys j ≡ slice_ind
 abbrev pub AreItemsFrom : List ℕ → ℕ → ℕ → List ℕ → Type 0
 AreItemsFrom xs from n ys = (j : ℕ) → j < n → slice_index ys j ≡ slice_index xs (from + j)
 
--- the length and the items from item n on are unchanged
-abbrev pub IsKeptFrom : ℕ → List ℕ → List ℕ → Type 0
-IsKeptFrom n old new = (length new ≡ length old) × ((j : ℕ) → n ≤ j → slice_index new j ≡ slice_index old j)
-
 -- each item is less than v
 abbrev pub IsAllLess : List ℕ → ℕ → Type 0
 IsAllLess xs v = (j : ℕ) → j < length xs → slice_index xs j < v

@@ -25,7 +25,7 @@ sizes_of n u = record {
 }
 
 -- few enough items, and lists with the lengths of their parts and tables
-pub record HasRoom (xs low words upper lower : List ℕ) : Type 0 where
+pub record HasPartRoom (xs low words upper lower : List ℕ) : Type 0 where
   pub short : length xs < 2 ^ 56
   pub low_len : length low ≡ (sizes_of (length xs) (largest xs)).low
   pub words_len : length words ≡ (sizes_of (length xs) (largest xs)).words

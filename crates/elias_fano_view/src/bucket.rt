@@ -7,7 +7,7 @@ ghost use Rattle.bit_lists.specs.Bits.{digit_count, IsShort};
 ghost use Rattle.bitm_tables.specs.Tables.{HasTables, Lists};
 ghost use Rattle.elias_fano.specs.Buckets.{CountsTo, CountsBelow};
 ghost use Rattle.elias_fano.specs.Parts.{IsUpper};
-ghost use Rattle.elias_fano.specs.Answers.{IsFirst, IsPlaceOf};
+ghost use Rattle.elias_fano.specs.Answers.{IsPlaceOf, IsSuccessorOf};
 ghost use Rattle.elias_fano.specs.LentParts.{parts_with, Holds};
 ghost use Rattle.elias_fano_view.specs.Lists.{EndsTold};
 ghost use Rattle.elias_fano.specs.Low.{sharing, HasFragments, ReadsFragments};
@@ -84,7 +84,7 @@ pub(crate) fn place_of(
     ensures told { (upper : Lists) → EndsTold (parts_with n low.old upper) v begin end
         → IfPlace n result (TellsLess (parts_with n low.old upper) v) }
     ensures answer { (xs : List ℕ) (upper : Lists) → Holds xs (parts_with n low.old upper)
-        → EndsTold (parts_with n low.old upper) v begin end → IsFirst xs v result }
+        → EndsTold (parts_with n low.old upper) v begin end → IsSuccessorOf xs v result }
     ensures fragments { ReadsFragments low.old low.new (digit_count n) }
     ensures shared { (xs : List ℕ) (upper : Lists) → Holds xs (parts_with n low.old upper)
         → EndsTold (parts_with n low.old upper) v begin end

@@ -5,7 +5,7 @@ ghost use Rattle.bit_lists.specs.Bits.{bits_of, IsShort};
 ghost use Rattle.bit_lists.specs.Count.{ones_of};
 ghost use Rattle.elias_fano.specs.Low.{joined_item, unread, HasFragments, ReadsFragments};
 ghost use Rattle.elias_fano.specs.Parts.{ArePartsOf, HasFragment};
-ghost use Rattle.elias_fano_view.specs.Checks.{AreNumbers};
+ghost use Rattle.elias_fano_view.specs.Checks.{AreFirstNumbers};
 
 use crate::rising::rise_among;
 use crate::sizes::Sizes;
@@ -36,7 +36,7 @@ fn last_of(words: &[u64], low: &[u64], width: u8, n: usize) -> Option<u64>
     requires some { HasFragments (unread low.now width) n }
     ensures { MatchOption result
         ((xs : List ℕ) → ¬ (ArePartsOf xs n width low.now words.now))
-        (λ last. AreNumbers width low.now words.now n last × (ones_of (bits_of words.now) ≡ n)) }
+        (λ last. AreFirstNumbers width low.now words.now n last × (ones_of (bits_of words.now) ≡ n)) }
 {
     if !rise_among(words, low, width, n, 0) {
         return None;

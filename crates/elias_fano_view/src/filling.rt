@@ -5,7 +5,7 @@ ghost use Rattle.std.specs.List.Sorted.{IsNonDecreasing};
 ghost use Rattle.elias_fano.specs.Parts.{width_of, upper_words_of, IsUpper};
 ghost use Rattle.elias_fano.specs.Sequence.{HasFall};
 ghost use Rattle.elias_fano.specs.LentParts.{parts_of, Holds};
-ghost use Rattle.elias_fano_view.specs.Sizes.{HasRoom};
+ghost use Rattle.elias_fano_view.specs.Sizes.{HasPartRoom};
 
 use crate::error::BuildError;
 use crate::sizes::Sizes;
@@ -47,7 +47,7 @@ fn width_if_room(
     upper: &[usize],
     lower: &[u64],
 ) -> Option<u8>
-    ensures { SomeIff result (HasRoom items.now low.now words.now upper.now lower.now)
+    ensures { SomeIff result (HasPartRoom items.now low.now words.now upper.now lower.now)
         (width_of items.now) }
 {
     let sizes = Sizes::of(items.len(), largest_of(items))?;
@@ -81,9 +81,9 @@ pub fn build(
     ensures parts { IfOk result (λ l. Holds items.now
         (parts_of (length items.now) l low.new (lists_of words.new upper.new lower.new))) }
     ensures wrong_length { IsErrOf result BuildError.WrongLength
-        ↔ ¬ (HasRoom items.now low.old words.old upper.old lower.old) }
+        ↔ ¬ (HasPartRoom items.now low.old words.old upper.old lower.old) }
     ensures not_sorted { IsErrOf result BuildError.NotSorted
-        ↔ (HasRoom items.now low.old words.old upper.old lower.old × HasFall items.now) }
+        ↔ (HasPartRoom items.now low.old words.old upper.old lower.old × HasFall items.now) }
     ensures kept { IsErr result → (low.new ≡ low.old) × (words.new ≡ words.old)
         × (upper.new ≡ upper.old) × (lower.new ≡ lower.old) }
 {

@@ -1,7 +1,8 @@
 //! Lists of queries: the numbers at a list of indices, and the successors of a list of values.
 ghost use Rattle.std.specs.Prelude.{◌≡◌, ◌<◌, ◌↔◌, ℕ, IsTrue, List, length, slice_index, false};
 ghost use Rattle.elias_fano.specs.LentParts.{Holds};
-ghost use Rattle.elias_fano_view.specs.Lists.{written_count, AreItems, EndsTold, IsKeptFrom, IsListed, IsNeverWrong};
+ghost use Rattle.bit_lists.specs.Kept.{IsKeptFrom};
+ghost use Rattle.elias_fano_view.specs.Lists.{written_count, AreItems, EndsTold, IsListed, IsNeverWrong};
 ghost use Rattle.elias_fano_view.specs.Lists.{PlaceTold};
 
 use crate::sequence::LentSequence;

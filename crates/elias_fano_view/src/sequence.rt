@@ -6,7 +6,7 @@ ghost use Rattle.bit_lists.specs.Count.{as_bit};
 ghost use Rattle.bitm_select.specs.Answers.{SelectTold, ToldEach};
 ghost use Rattle.bitm_tables.specs.Tables.{Lists};
 ghost use Rattle.elias_fano.specs.Parts.{HasFragment};
-ghost use Rattle.elias_fano.specs.Answers.{IsFirst, IsItem, IsOfPlace, IsPlaceOf};
+ghost use Rattle.elias_fano.specs.Answers.{IsItem, IsOfPlace, IsPlaceOf, IsSuccessorOf};
 ghost use Rattle.elias_fano.specs.LentParts.{parts_of, parts_with, AreParts, HasLengths, Holds};
 ghost use Rattle.elias_fano_view.specs.Lists.{AreAhead, AreZerosAhead, EndsTold, ZeroTold};
 ghost use Rattle.elias_fano.specs.Low.{unread, ReadsFragments};
@@ -295,7 +295,7 @@ impl<'a> LentSequence<'a> {
         requires { EndsTold self.now v begin end }
         ensures inside { IsPlaceOf self.now.len result }
         ensures told { IfPlace self.now.len result (TellsLess self.now v) }
-        ensures answer { (xs : List ℕ) → Holds xs self.now → IsFirst xs v result }
+        ensures answer { (xs : List ℕ) → Holds xs self.now → IsSuccessorOf xs v result }
     {
         place_of(&mut self.low_digits(), self.len, v, begin, end)
     }
@@ -324,7 +324,7 @@ impl<'a> LentSequence<'a> {
     pub fn first_at_least(&self, v: u64) -> Answer<usize>
         ensures inside { IsPlaceOf self.now.len result }
         ensures told { IfPlace self.now.len result (TellsLess self.now v) }
-        ensures answer { (xs : List ℕ) → Holds xs self.now → IsFirst xs v result }
+        ensures answer { (xs : List ℕ) → Holds xs self.now → IsSuccessorOf xs v result }
     {
         let (source, low) = (&mut self.upper.probe(), &mut self.low_digits());
         total_first_at_least_by(source, &self.by_zeros(), low, self.len, v)

@@ -3,7 +3,7 @@ ghost use Rattle.std.specs.Prelude.{◌≡◌, true};
 ghost use Rattle.bitm.specs.Count.{IsSelect};
 ghost use Rattle.bitm.specs.Tables.{HasTables, bits_in};
 ghost use Rattle.bitm_view.specs.Answers.{IsSelected};
-ghost use Rattle.bitm_view.specs.Samples.{HasRoom};
+ghost use Rattle.bitm_view.specs.Samples.{HasSampleRoom};
 
 use bitm_view::{Answer, Lent, LentSamples};
 
@@ -30,7 +30,7 @@ pub fn sample_and_select(
     rank: usize,
 ) -> Answer<usize>
     requires { HasTables lent.now }
-    ensures { HasRoom lent.now log2 numbers.old starts.old
+    ensures { HasSampleRoom lent.now log2 numbers.old starts.old
         → IsSelected (bits_in lent.now) true rank result }
 {
     let Some(used) = lent.build_samples::<1>(log2, &mut *numbers, &mut *starts) else {

@@ -11,7 +11,7 @@ use Rattle.block_tables.specs.Sections.{tables_in}
 use Rattle.extended_blocks.proofs.KeptLemmas.{last_role, role_is, table_sections, tables_are}
 use Rattle.extended_blocks.specs.Hashes.{AddsKeys, KeepsDictionary, KeepsHash, KeepsSeeded}
 use Rattle.hash_block.specs.Block.{hash_in, IsHashBlock, IsSoundBlock}
-use Rattle.hash_block.specs.Dictionary.{dictionary_in, number_of_key, AreKeys, DictionaryParts, IsDictionary, IsDictionaryBlock, IsSoundDictionary, StandAtNumbers}
+use Rattle.hash_block.specs.Dictionary.{dictionary_in, number_of_key, AreKeys, DictionaryParts, IsDictionaryBlock, IsDictionaryIn, IsSoundDictionary, StandAtNumbers}
 use Rattle.hash_block.specs.Parts.{HashParts, HasLengths, IsHash}
 use Rattle.seeded_block.specs.Block as seeded
 use Rattle.seeded_block.specs.Parts.{HasSeeds, SeededParts}
@@ -80,7 +80,7 @@ module _ (block : List ℕ) (added : Section) (words new : List ℕ) (is : IsExt
   sound_dictionary old = record {
     dictionary_block = opened_dictionary old.dictionary_block;
     verified = is.verified;
-    dictionary = subst (λ (p : DictionaryParts). IsDictionary p) (sym (dictionary_is old.dictionary_block.five)) old.dictionary;
+    dictionary = subst (λ (p : DictionaryParts). IsDictionaryIn p) (sym (dictionary_is old.dictionary_block.five)) old.dictionary;
   }
 
   pub keeps_dictionary : KeepsDictionary block new

@@ -3,7 +3,7 @@ use Rattle.std.proofs.Common.{◌≡◌, ℕ, ◌+◌, ◌*◌, ◌<◌, ◌≤�
 use Rattle.std.proofs.lemmas.List.{get_or_push}
 use Rattle.std.specs.Int.{div_ceil}
 use Rattle.bitm_block.proofs.HeaderLemmas.{section_at, sections_len}
-use Rattle.bitm_block.specs.Header.{count_in, entry_in, section_in, sections_in}
+use Rattle.bitm_block.specs.Header.{count_in, section_entry, section_in, sections_in}
 use Rattle.bitm_block.specs.Layout.{no_section}
 use Rattle.bitm_block.specs.declared.head.Head.{Head}
 use Rattle.bitm_block.specs.declared.layout.Section.{Section}
@@ -20,7 +20,7 @@ use Rattle.lent_tables.specs.Sizes.{lists_of}
 use Rattle.sequence_block.specs.Block.{sequence_in, IsBlockOfKind, IsSoundOfKind}
 
 module _ (block : List ℕ) (added : Section) (words new : List ℕ) (is : IsExtended block added words new) where
-  pub role_is : (i : ℕ) → i < count_in block → (entry_in new i).role ≡ (entry_in block i).role
+  pub role_is : (i : ℕ) → i < count_in block → (section_entry new i).role ≡ (section_entry block i).role
   role_is i less = ap (λ (s : Section). s.role) (entry_is block added words new is i less)
 
   -- the section that is added has its role at the end of the directory

@@ -11,7 +11,7 @@ use Rattle.hash_block.specs.Block.{hash_in, IsHashBlock}
 use Rattle.string_block.specs.Block.{strings_in, IsSoundBlock, IsStringBlock}
 use Rattle.string_block.specs.Given.{given, len_of}
 use Rattle.string_block.specs.Kinds.{IsStringKind}
-use Rattle.string_block.specs.Parts.{number_in, AreStrings, HasStarts, IsString, StringParts}
+use Rattle.string_block.specs.Parts.{string_number_in, AreStrings, HasStringStarts, IsString, StringParts}
 
 abbrev strings_with : ℕ → List ℕ → List ℕ → List ℕ → StringParts
 strings_with kind hash starts bytes = record { kind = kind; hash = hash_in hash; starts = starts; bytes = bytes }
@@ -40,7 +40,7 @@ module _ (block : List ℕ) (added : Section) (words new : List ℕ) (is : IsExt
           bytes = role_is block added words new is 2 (omega (arith, three)) ∙ old.sections.bytes;
         };
         hash_block = subst (λ (h : List ℕ). IsHashBlock h) (sym (is.kept 0 (omega (arith, three)))) old.hash_block;
-        starts = subst (λ (p : StringParts). HasStarts p) (sym (strings_are three)) old.starts;
+        starts = subst (λ (p : StringParts). HasStringStarts p) (sym (strings_are three)) old.starts;
         len = ap (λ (h : Head). h.len) is.head_is ∙ old.len ∙ sym (ap (λ (p : StringParts). p.hash.keys) (strings_are three));
       }
 
@@ -59,7 +59,7 @@ module _ (block : List ℕ) (added : Section) (words new : List ℕ) (is : IsExt
     strings = λ number bytes ends old.
         let same = strings_are old.sound.string_block.sections.three in record {
           sound = sound_strings old.sound;
-          numbers = λ string len. ap (λ (p : StringParts). number_in p string len) same ∙ old.numbers string len;
+          numbers = λ string len. ap (λ (p : StringParts). string_number_in p string len) same ∙ old.numbers string len;
           count = ap (λ (p : StringParts). p.hash.keys) same ∙ old.count;
           all = λ i v less some.
               subst (λ (p : StringParts). IsString p v (given bytes ends i) (len_of ends i)) (sym same) (old.all i v less some);

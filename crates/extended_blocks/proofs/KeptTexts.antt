@@ -10,14 +10,14 @@ use Rattle.extended_blocks.specs.Texts.{KeepsText}
 use Rattle.lent_levels.specs.Levels.{levels_of}
 use Rattle.lent_tables.specs.Sizes.{lists_of}
 use Rattle.matrix_block.specs.Block.{MatrixParts}
-use Rattle.text_block.specs.Block.{levels_at, lists_at, matrix_of, parts_in, parts_of, text_of_parts, HasTextLengths, HoldsIndex, IsSoundBlock, IsTextBlock, TextParts, bytes_of_parts}
+use Rattle.text_block.specs.Block.{bytes_of_parts, levels_at, matrix_of, parts_in, parts_of, text_lists_at, HasTextLengths, HoldsIndex, IsSoundBlock, IsTextBlock, TextParts, text_of_parts}
 use Rattle.text_build.specs.Made.{IsByteBlock, IsMadeBlock}
 use Rattle.text_build.specs.Written.{text_head, IsBlockWith}
 use Rattle.text_index.specs.Samples.{Indexed}
 
 -- the matrix of n numbers of w bits whose five sections stand in a block from section i on
 abbrev matrix_at : List ℕ → ℕ → ℕ → ℕ → MatrixParts
-matrix_at block i n w = matrix_of (levels_at block i n w) (lists_at block i)
+matrix_at block i n w = matrix_of (levels_at block i n w) (text_lists_at block i)
 
 abbrev matrix_with : ℕ → ℕ → List ℕ → List ℕ → List ℕ → List ℕ → List ℕ → MatrixParts
 matrix_with n w words upper lower ones zeros = matrix_of (levels_of n w ones zeros) (lists_of words upper lower)

@@ -10,7 +10,7 @@ use Rattle.perfect_hash.proofs.lemmas.GetLemmas.{one_counted}
 use Rattle.hash_levels.specs.Numbers.{number_by}
 use Rattle.hash_levels.specs.Perfect.{IsMinimalPerfect}
 use Rattle.hash_levels.specs.Places.{place_in}
-use Rattle.hash_block.specs.Dictionary.{added, number_of_key, DictionaryParts, IsDictionary}
+use Rattle.hash_block.specs.Dictionary.{added, number_of_key, DictionaryParts, IsDictionaryIn}
 use Rattle.hash_block.specs.Numbered.{NumberKeys}
 
 -- a hash falls on a one, where it falls on any
@@ -54,7 +54,7 @@ own_perfect number keys bounded own = record {
     one_number v w same = cc
 
 -- the parts of a dictionary number its keys
-pub numbers_keys : (parts : DictionaryParts) → length parts.keys ≡ parts.hash.keys → IsDictionary parts
+pub numbers_keys : (parts : DictionaryParts) → length parts.keys ≡ parts.hash.keys → IsDictionaryIn parts
     → NumberKeys parts.hash.lists.words parts.hash.sizes parts.hash.seed parts.keys
 numbers_keys parts len is = record {
   perfect = own_perfect (number_of_key parts.hash) parts.keys (λ k. bounded (number_of_key parts.hash k)

@@ -1,6 +1,7 @@
 -- A block that holds a dictionary of numbers: a minimal perfect hash, and each key at its number.
 use Rattle.std.specs.Prelude.{◌≡◌, ◌≢◌, ◌==◌, if◌then◌else◌, ⊤, ℕ, ◌+◌, ◌%◌, ◌^◌, ◌<◌, ◌≤◌, List, [], ◌∷◌, length, slice_get, slice_index, Option, Some}
 use Rattle.std.specs.Int.{div_ceil}
+use Rattle.bitm_tables.specs.Answers.{Right}
 use Rattle.bitm_tables.specs.declared.answer.Answer.{Answer}
 use Rattle.bitm_tables.specs.declared.answer.Answer.TheVariants.{Found, Absent, Wrong}
 use Rattle.bit_lists.specs.Bits.{bits_of}
@@ -37,15 +38,15 @@ pub record HasKeys (parts : DictionaryParts) : Type 0 where
   pub len : length parts.keys ≡ parts.hash.keys
 
 -- the parts of the hash are those of one, by which each key stands at its number
-pub record IsDictionary (parts : DictionaryParts) : Type 0 where
+pub record IsDictionaryIn (parts : DictionaryParts) : Type 0 where
   pub hash : IsHash parts.hash
   pub own : (i : ℕ) → i < length parts.keys → number_of_key parts.hash (slice_index parts.keys i) ≡ Some i
 
 -- the key stands at the number that is found
-abbrev pub IsHeld : List ℕ → ℕ → Answer ℕ → Type 0
-IsHeld keys key (Found n) = (n < length keys) × (slice_index keys n ≡ key)
-IsHeld keys key Absent = ⊤
-IsHeld keys key Wrong = ⊤
+abbrev pub IsKeyHeld : List ℕ → ℕ → Answer ℕ → Type 0
+IsKeyHeld keys key (Found n) = (n < length keys) × (slice_index keys n ≡ key)
+IsKeyHeld keys key Absent = ⊤
+IsKeyHeld keys key Wrong = ⊤
 
 -- the number that is found, where the key stands there; else the key is absent
 abbrev pub kept : List ℕ → ℕ → Answer ℕ → Answer ℕ
@@ -54,10 +55,9 @@ kept keys key Absent = Absent
 kept keys key Wrong = Wrong
 
 -- and it is Absent exactly where it is none of the keys
-abbrev pub IsFound : List ℕ → ℕ → Answer ℕ → Type 0
-IsFound keys key (Found n) = (n < length keys) × (slice_index keys n ≡ key)
-IsFound keys key Absent = (i : ℕ) → i < length keys → slice_index keys i ≢ key
-IsFound keys key Wrong = ⊥
+abbrev pub IsKeyFound : List ℕ → ℕ → Answer ℕ → Type 0
+IsKeyFound keys key =
+    Right (λ n. (n < length keys) × (slice_index keys n ≡ key)) ((i : ℕ) → i < length keys → slice_index keys i ≢ key)
 
 -- the sections of a dictionary: those of its hash, and the keys
 abbrev pub dictionary_sections : ℕ → ℕ → ℕ → List Section
@@ -86,7 +86,7 @@ pub record IsDictionaryBlock (block : List ℕ) : Type 0 where
 pub record IsSoundDictionary (block : List ℕ) : Type 0 where
   pub dictionary_block : IsDictionaryBlock block
   pub verified : IsVerified block
-  pub dictionary : IsDictionary (dictionary_in block)
+  pub dictionary : IsDictionaryIn (dictionary_in block)
 
 -- each of the keys stands at the number that a hash gives it
 abbrev pub StandAtNumbers : (ℕ → Option ℕ) → List ℕ → List ℕ → Type 0

@@ -2,8 +2,8 @@
 ghost use Rattle.std.specs.Prelude.{◌≡◌, ◌+◌, ◌<◌, ◌≤◌, ◌↔◌, ℕ, IsTrue, length, slice_index, Some, SomeIff};
 ghost use Rattle.bitm_tables.specs.Reads.{none_read, ReadsAtMost};
 ghost use Rattle.perfect_hash.specs.Asking.{IsBelow};
-ghost use Rattle.hash_block.specs.Dictionary.{dictionary_in, kept, number_of_key, IsDictionary};
-ghost use Rattle.hash_block.specs.Dictionary.{IsDictionaryBlock, IsFound, IsHeld, IsSoundDictionary};
+ghost use Rattle.hash_block.specs.Dictionary.{dictionary_in, kept, number_of_key, IsDictionaryIn};
+ghost use Rattle.hash_block.specs.Dictionary.{IsDictionaryBlock, IsKeyFound, IsKeyHeld, IsSoundDictionary};
 ghost use Rattle.hash_block.specs.Parts.{IsHash};
 
 use crate::hashing::Added;
@@ -98,8 +98,8 @@ impl<'a> DictionaryView<'a> {
     /// ```
     #[inline]
     pub fn find(&self, key: u64) -> Answer<usize>
-        ensures held { IsHeld self.now.keys key result }
-        ensures found { IsDictionary self.now → IsFound self.now.keys key result }
+        ensures held { IsKeyHeld self.now.keys key result }
+        ensures found { IsDictionaryIn self.now → IsKeyFound self.now.keys key result }
     {
         self.find_counted(key).0
     }
@@ -113,8 +113,8 @@ impl<'a> DictionaryView<'a> {
     /// ```
     #[inline]
     pub fn find_counted(&self, key: u64) -> (Answer<usize>, ReadCounts)
-        ensures held { IsHeld self.now.keys key result.0 }
-        ensures found { IsDictionary self.now → IsFound self.now.keys key result.0 }
+        ensures held { IsKeyHeld self.now.keys key result.0 }
+        ensures found { IsDictionaryIn self.now → IsKeyFound self.now.keys key result.0 }
         ensures reads { ReadsAtMost none_read result.1 1 1 (length self.now.hash.sizes + 8) }
     {
         let seed = self.hash.seed();
@@ -143,7 +143,7 @@ impl<'a> DictionaryView<'a> {
     /// squares.check();   // true of a block that `build_dictionary` wrote
     /// ```
     pub fn check(&self) -> bool
-        ensures { IsTrue result ↔ IsDictionary self.now }
+        ensures { IsTrue result ↔ IsDictionaryIn self.now }
     {
         self.hash.check() && self.are_own()
     }

@@ -8,7 +8,7 @@ ghost use Rattle.perfect_hash.specs.Parts.{number_of};
 ghost use Rattle.hash_levels.specs.Perfect.{IsMinimalPerfect};
 ghost use Rattle.hash_block.specs.Block.{hash_head};
 ghost use Rattle.hash_block.specs.Dictionary.{dictionary_sections, hashed, number_of_key};
-ghost use Rattle.hash_block.specs.Dictionary.{AreFewKeys, CanHoldKeys, IsDictionary, IsDictionaryOf};
+ghost use Rattle.hash_block.specs.Dictionary.{AreFewKeys, CanHoldKeys, IsDictionaryIn, IsDictionaryOf};
 ghost use Rattle.hash_block.specs.Numbered.{key_number, CanHoldParts, NumberKeys};
 
 use crate::dictionary::DictionaryView;
@@ -126,10 +126,10 @@ pub fn build_dictionary<S: SelectForRank101111, S0: Select0ForRank101111, BV: As
 /// build_keyed(&squares, block.as_mut_slice());                              // Ok(())
 /// ```
 pub fn build_keyed(dictionary: &DictionaryView<'_>, block: &mut [u64]) -> Result<(), BuildError>
-    ensures ok { IsOk result ↔ CanHoldParts dictionary.now block.old × IsDictionary dictionary.now }
+    ensures ok { IsOk result ↔ CanHoldParts dictionary.now block.old × IsDictionaryIn dictionary.now }
     ensures too_long { IsErrOf result BuildError.TooLong ↔ (2 ^ 58 ≤ length dictionary.now.keys) }
     ensures not_keys { IsErrOf result BuildError.NotKeys
-        ↔ CanHoldParts dictionary.now block.old × (¬ (IsDictionary dictionary.now)) }
+        ↔ CanHoldParts dictionary.now block.old × (¬ (IsDictionaryIn dictionary.now)) }
     ensures dictionary { IfOk result (λ _. IsDictionaryOf (number_of_key dictionary.now.hash)
         dictionary.now.keys block.new) }
     ensures kept { IfErr result (λ _. block.new ≡ block.old) }

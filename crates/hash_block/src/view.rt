@@ -3,7 +3,8 @@ ghost use Rattle.std.specs.Prelude.{◌≡◌, ◌+◌, ◌<◌, ◌≤◌, ◌�
 ghost use Rattle.bitm_tables.specs.Reads.{none_read, ReadsAtMost};
 ghost use Rattle.bit_lists.specs.Count.{ones_of};
 ghost use Rattle.bitm_tables.specs.Tables.{bits_in, HasTables, IsIndexed};
-ghost use Rattle.perfect_hash.specs.Asking.{IfAbsent, IsBelow, IsNumbered};
+ghost use Rattle.bitm_tables.specs.Answers.{IfAbsent};
+ghost use Rattle.perfect_hash.specs.Asking.{IsBelow, IsNumbered};
 ghost use Rattle.hash_levels.specs.Numbers.{number_by};
 ghost use Rattle.perfect_hash.specs.Placed.{FitIn};
 ghost use Rattle.hash_block.specs.Dictionary.{number_of_key};

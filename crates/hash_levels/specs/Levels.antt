@@ -52,7 +52,7 @@ looked fall b level begin (words ∷ sizes) =
     if item b (begin + fall level words) then 1 else 1 + looked fall b (level + 1) (begin + 64 * words) sizes
 
 -- a count is at least another, and exceeds it by at most the given number
-pub record IsWithin (more low count : ℕ) : Type 0 where
+pub record ExceedsBy (more low count : ℕ) : Type 0 where
   pub least : low ≤ count
   pub most : count ≤ low + more
 

@@ -2,14 +2,14 @@
 use Rattle.std.specs.Prelude.{ℕ, ◌+◌, ◌*◌, ◌/◌, ◌%◌, ◌^◌, bit_xor, max, List, slice_index}
 
 -- x, its higher half folded down by the given number of bits, times a number
-abbrev pub folded : ℕ → ℕ → ℕ → ℕ
-folded by times x = bit_xor x (x / 2 ^ by) * times % 2 ^ 64
+abbrev pub folded_by : ℕ → ℕ → ℕ → ℕ
+folded_by by times x = bit_xor x (x / 2 ^ by) * times % 2 ^ 64
 
 -- number `level` of the generator splitmix64 that begins at the hash
 unfoldable pub spread : ℕ → ℕ → ℕ
 spread hash level =
     let start = (hash + (level + 1) * 0x9E3779B97F4A7C15 % 2 ^ 64) % 2 ^ 64 in
-    let z = folded 27 0x94D049BB133111EB (folded 30 0xBF58476D1CE4E5B9 start) in
+    let z = folded_by 27 0x94D049BB133111EB (folded_by 30 0xBF58476D1CE4E5B9 start) in
     bit_xor z (z / 2 ^ 31)
 
 -- the bit of a level of the given number of words that a hash falls on: the spread number, as a fraction of 2^64, of
@@ -19,7 +19,7 @@ place_in hash level words = spread hash level % 2 ^ 64 * (64 * words) / 2 ^ 64
 
 -- the bit of a word that a spread number falls on by a seed
 unfoldable pub bit_by : ℕ → ℕ → ℕ
-bit_by seed x = folded 32 0xBF58476D1CE4E5B9 ((x + seed * 0x9E3779B97F4A7C15 % 2 ^ 64) % 2 ^ 64) / 2 ^ 58
+bit_by seed x = folded_by 32 0xBF58476D1CE4E5B9 ((x + seed * 0x9E3779B97F4A7C15 % 2 ^ 64) % 2 ^ 64) / 2 ^ 58
 
 -- the word of a level of the given number of words that a hash falls in
 abbrev pub word_of : ℕ → ℕ → ℕ → ℕ

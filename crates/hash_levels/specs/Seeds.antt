@@ -23,8 +23,8 @@ group_of level words hashes word =
     map (λ hash. spread hash level) (filter (λ hash. word_of level words hash == word) hashes)
 
 -- how many of the hashes fall in a word
-abbrev pub count_in : ℕ → ℕ → List ℕ → ℕ → ℕ
-count_in level words hashes word = count_by (λ hash. word_of level words hash == word) hashes
+abbrev pub count_in_word : ℕ → ℕ → List ℕ → ℕ → ℕ
+count_in_word level words hashes word = count_by (λ hash. word_of level words hash == word) hashes
 
 -- how many of the hashes fall in the words before one: where its hashes begin, once they stand word after word
 abbrev pub count_to : ℕ → ℕ → List ℕ → ℕ → ℕ
@@ -33,7 +33,7 @@ count_to level words hashes word = count_by (λ hash. nat_lt (word_of level word
 -- the hashes of each of the given number of words follow one another
 abbrev pub AreGrouped : ℕ → ℕ → List ℕ → List ℕ → Type 0
 AreGrouped level words hashes sorted =
-    (word k : ℕ) → word < words → k < count_in level words hashes word
+    (word k : ℕ) → word < words → k < count_in_word level words hashes word
     → slice_index sorted (count_to level words hashes word + k) ≡ slice_index (group_of level words hashes word) k
 
 -- of a list the items before one end and from the end before that one on

@@ -1,6 +1,6 @@
 //! Where a hash falls in a level, and how many words a level has.
 ghost use Rattle.std.specs.Prelude.{◌≡◌, ◌*◌, ◌/◌, ◌^◌, ◌<◌};
-ghost use Rattle.hash_levels.specs.Places.{folded, place_in, spread, words_for};
+ghost use Rattle.hash_levels.specs.Places.{folded_by, place_in, spread, words_for};
 
 /// The step of the generator: 2^64 divided by the golden ratio, made odd.
 pub(crate) const STEP: u64 = 0x9E37_79B9_7F4A_7C15;
@@ -9,7 +9,7 @@ pub(crate) const STEP: u64 = 0x9E37_79B9_7F4A_7C15;
 #[inline(always)]
 pub(crate) fn fold(x: u64, by: u32, times: u64) -> u64
     requires { by < 64 }
-    ensures { result ≡ folded by times x }
+    ensures { result ≡ folded_by by times x }
 {
     (x ^ (x >> by)).wrapping_mul(times)
 }

@@ -5,7 +5,7 @@ use Rattle.std.proofs.lemmas.Option.{none-some, same_Some}
 use Rattle.std.proofs.Math.Nat.{mul-div_cancel, mul-le-mul_right}
 use Rattle.bitm_tables.specs.Tables.{bits_in, IsIndexed, Lists}
 use Rattle.matrix_levels.specs.Levels.{level_place}
-use Rattle.matrix_levels.specs.Matrix.{items_of, numbers_in, IsMatrix, LevelTables}
+use Rattle.matrix_levels.specs.Matrix.{level_items, numbers_in, IsMatrix, LevelTables}
 use Rattle.matrix_levels.proofs.lemmas.MatrixLemmas.{count-whole}
 use Rattle.matrix_levels.proofs.lemmas.StartLemmas.{start-of-begin, starts-of-none}
 use Rattle.matrix_levels.proofs.lemmas.WalkLemmas.{level_place-first}
@@ -35,7 +35,7 @@ module _ (l : LevelTables) (lists : Lists) (has : HasLevels l) (room : l.width *
           omega (
             arith,
             (counts d less).zeros_are,
-            count-whole (items_of b l.width l.len) l.width l.len b (sym (items-len b l.width l.len room)) room (any-levels b l.width l.len room) false d less,
+            count-whole (level_items b l.width l.len) l.width l.len b (sym (items-len b l.width l.len room)) room (any-levels b l.width l.len room) false d less,
           );
       known_most = has.known_most;
       starts_len = has.starts_len;
@@ -50,7 +50,7 @@ module _ (l : LevelTables) (lists : Lists) (has : HasLevels l) (room : l.width *
       let m = h.numbers in
       record {
         ones_are = m.ones_are d less;
-        zeros_are = omega (arith, m.zeros_are d less, count-whole (items_of b l.width l.len) l.width l.len b m.count m.room m.levels false d less);
+        zeros_are = omega (arith, m.zeros_are d less, count-whole (level_items b l.width l.len) l.width l.len b m.count m.room m.levels false d less);
       }
 
 -- these levels without their table of starts
@@ -60,7 +60,7 @@ plain l = tables_of l.len l.width l.ones l.zeros 0 (0 ∷ []) l.compact l.quarte
 -- they hold the same numbers, and find where a prefix starts
 module _ (l m : LevelTables) (s lists : Lists) (same : m ≡ plain l) (kept : s ≡ lists) (has : HasLevels l) (room : l.width * l.len ≤ length (bits_in lists)) (indexed : IsIndexed lists) (counts : AreCounts l (bits_in lists)) (quarters : HasQuarters l (bits_in lists)) where
   abbrev xs : List ℕ
-  xs = items_of (bits_in lists) l.width l.len
+  xs = level_items (bits_in lists) l.width l.len
 
   plain-matrix : IsMatrix (plain l) lists
   plain-matrix =
@@ -95,7 +95,7 @@ module _ (l m : LevelTables) (s lists : Lists) (same : m ≡ plain l) (kept : s 
 
 -- a table of starts is right for each prefix
 pub starts-each : (l : LevelTables) (b : List Bool) → l.known ≤ l.width → HasStarts l b → (h : ℕ) → h < 2 ^ l.known
-    → get_or l.starts h 0 ≡ level_place (items_of b l.width l.len) l.width (h * 2 ^ (l.width - l.known)) l.known 0
+    → get_or l.starts h 0 ≡ level_place (level_items b l.width l.len) l.width (h * 2 ^ (l.width - l.known)) l.known 0
 starts-each l b most right h less =
     let r : ℕ = l.width - l.known in
     let e : l.known + r ≡ l.width = omega (arith, most) in

@@ -4,7 +4,7 @@ use Rattle.std.proofs.lemmas.List.{length-take-le}
 use Rattle.std.proofs.lemmas.List.Sums.{count_by-le-length}
 use Rattle.bit_lists.specs.Bits.{digit}
 use Rattle.matrix_levels.specs.Levels.{level, level_place}
-use Rattle.matrix_levels.specs.Numbers.{count_before}
+use Rattle.matrix_levels.specs.Numbers.{occurrences_before}
 use Rattle.matrix_levels.proofs.lemmas.ManyLemmas.{IsAtLevel}
 use Rattle.matrix_levels.proofs.lemmas.WalkLemmas.{level_place-item, rank-is, rank-order}
 
@@ -18,10 +18,10 @@ own-digit xs w i d p n v ys inside same at is =
     ∙ ap (λ y. digit y (w - 1 - d)) (level_place-item xs w (get_or xs i 0) d i inside refl).1
 
 -- no more of the first i numbers are a number than there are
-pub few-before : (xs : List ℕ) (x i : ℕ) → i ≤ length xs → count_before xs x i ≤ i
+pub few-before : (xs : List ℕ) (x i : ℕ) → i ≤ length xs → occurrences_before xs x i ≤ i
 few-before xs x i inside = omega (arith, count_by-le-length (λ y. y == x) (take i xs), length-take-le i xs inside)
 
 -- as many of a number stand before an index as there are between its first place after the last level and that of the index
 pub rank-between : (xs : List ℕ) (w x i first last : ℕ) → All (λ y. y < 2 ^ w) xs → x < 2 ^ w → i ≤ length xs → first ≡ level_place xs w x w 0
-    → last ≡ level_place xs w x w i → first + count_before xs x i ≡ last
+    → last ≡ level_place xs w x w i → first + occurrences_before xs x i ≡ last
 rank-between xs w x i first last all fit inside f l = omega (arith, f, l, rank-order xs w x all fit i inside, rank-is xs w x all fit i inside)

@@ -5,12 +5,12 @@ use Rattle.bit_lists.specs.Bits.{bits_of}
 use Rattle.bit_lists.specs.Count.{ones_before}
 use Rattle.bit_lists.proofs.lemmas.BitsLemmas.{length-bits_of}
 use Rattle.bitm_tables.specs.Quarters.{AreQuartersOf, quarter_count, record_count}
-use Rattle.lent_levels.specs.Quarters.{CountsTo}
+use Rattle.lent_levels.specs.Quarters.{CountsToQuarter}
 
 -- a number counts to a quarter exactly where its parts are what is between the upper block and the quarter
 pub tells-quarter : (b : List Bool) (k e part before x y : ℕ) → part ≡ ones_before b (k / 4 / 2 ^ 23 * 2 ^ 32) → before ≡ ones_before b (128 * k)
     → x ≡ record_count e → y ≡ quarter_count e (k % 4) → part ≤ before
-    → (x + y ≡ before - part → CountsTo b k e) × (CountsTo b k e → x + y ≡ before - part)
+    → (x + y ≡ before - part → CountsToQuarter b k e) × (CountsToQuarter b k e → x + y ≡ before - part)
 tells-quarter b k e part before x y part_is before_is x_is y_is order = (
   λ h. omega (arith, h, part_is, before_is, x_is, y_is, order),
   λ h. omega (arith, h, part_is, before_is, x_is, y_is, order),
@@ -22,7 +22,7 @@ quarter-begun n k h = grind arith
 
 -- quarters of which each counts are those of the bits
 pub quarters-of : (words quarters : List ℕ) → length quarters ≡ div_ceil (length words) 8
-    → ((k : ℕ) → k < div_ceil (length words) 2 → CountsTo (bits_of words) k (slice_index quarters (k / 4)))
+    → ((k : ℕ) → k < div_ceil (length words) 2 → CountsToQuarter (bits_of words) k (slice_index quarters (k / 4)))
     → AreQuartersOf (bits_of words) quarters
 quarters-of words quarters len right = record {
   len = len ∙ eights (length words) ∙ ap (λ (n : ℕ). div_ceil n 512) (sym (length-bits_of words));
@@ -44,7 +44,7 @@ quarters-of words quarters len right = record {
 
 -- and of quarters of the bits each counts
 pub quarters-each : (words quarters : List ℕ) → AreQuartersOf (bits_of words) quarters → (k : ℕ) → 2 * k < length words
-    → CountsTo (bits_of words) k (slice_index quarters (k / 4))
+    → CountsToQuarter (bits_of words) k (slice_index quarters (k / 4))
 quarters-each words quarters h k inside =
     let b = bits_of words in
     let place : 512 * (k / 4) + 128 * (k % 4) ≡ 128 * k = omega arith in

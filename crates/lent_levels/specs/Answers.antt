@@ -1,8 +1,9 @@
 -- What is answered of a matrix in memory that may hold anything, and in that of a matrix.
 use Rattle.std.specs.Prelude.{◌≡◌, ⊤, ℕ, ◌^◌, ◌<◌, ◌≤◌, ◌⊎◌, List, Option, Some, None, length, slice_index}
+use Rattle.bitm_tables.specs.Answers.{Right}
 use Rattle.bitm_tables.specs.declared.answer.Answer.{Answer}
 use Rattle.bitm_tables.specs.declared.answer.Answer.TheVariants.{Found, Absent, Wrong}
-use Rattle.matrix_levels.specs.Numbers.{count_before, PicksItem}
+use Rattle.matrix_levels.specs.Numbers.{occurrences_before, PicksItem}
 
 -- of n numbers of w bits: a number has no more bits, and Absent is answered exactly where there is no number i
 abbrev pub IsNumberWithin : ℕ → ℕ → ℕ → Answer ℕ → Type 0
@@ -12,9 +13,7 @@ IsNumberWithin n w i Wrong = i < n
 
 -- number i, and Absent exactly where there is none
 abbrev pub IsNumberOf : List ℕ → ℕ → Answer ℕ → Type 0
-IsNumberOf xs i (Found x) = (i < length xs) × (x ≡ slice_index xs i)
-IsNumberOf xs i Absent = length xs ≤ i
-IsNumberOf xs i Wrong = ⊥
+IsNumberOf xs i = Right (λ x. (i < length xs) × (x ≡ slice_index xs i)) (length xs ≤ i)
 
 -- of n numbers: at most i of the first i are a number, and Absent is answered exactly where there are fewer than i
 abbrev pub IsRankWithin : ℕ → ℕ → Answer ℕ → Type 0
@@ -24,9 +23,7 @@ IsRankWithin n i Wrong = i ≤ n
 
 -- how many of the first i numbers are v, and Absent exactly where there are fewer than i
 abbrev pub IsRankOf : List ℕ → ℕ → ℕ → Answer ℕ → Type 0
-IsRankOf xs v i (Found c) = (i ≤ length xs) × (c ≡ count_before xs v i)
-IsRankOf xs v i Absent = length xs < i
-IsRankOf xs v i Wrong = ⊥
+IsRankOf xs v i = Right (λ c. (i ≤ length xs) × (c ≡ occurrences_before xs v i)) (length xs < i)
 
 -- of n numbers: an index is that of a number
 abbrev pub IsIndexWithin : ℕ → Answer ℕ → Type 0
@@ -36,9 +33,7 @@ IsIndexWithin n Wrong = ⊤
 
 -- of the items: an index of v with k such before it, and Absent exactly where there are no more than k of them in the list
 abbrev pub IsIndexAmong : List ℕ → List ℕ → ℕ → ℕ → Answer ℕ → Type 0
-IsIndexAmong xs items v k (Found p) = PicksItem items v k p
-IsIndexAmong xs items v k Absent = count_before xs v (length xs) ≤ k
-IsIndexAmong xs items v k Wrong = ⊥
+IsIndexAmong xs items v k = Right (λ p. PicksItem items v k p) (occurrences_before xs v (length xs) ≤ k)
 
 -- the index of v with k such numbers before it, and Absent exactly where there are no more than k of them
 abbrev pub IsIndexOf : List ℕ → ℕ → ℕ → Answer ℕ → Type 0
@@ -53,9 +48,8 @@ IsItemWithin n w i Wrong = i < n
 
 -- number i and how many before it are the same, and Absent exactly where there is no such number
 abbrev pub IsItemOf : List ℕ → ℕ → Answer (ℕ × ℕ) → Type 0
-IsItemOf xs i (Found x) = (i < length xs) × (x.0 ≡ slice_index xs i) × (x.1 ≡ count_before xs x.0 i)
-IsItemOf xs i Absent = length xs ≤ i
-IsItemOf xs i Wrong = ⊥
+IsItemOf xs i =
+    Right (λ x. (i < length xs) × (x.0 ≡ slice_index xs i) × (x.1 ≡ occurrences_before xs x.0 i)) (length xs ≤ i)
 
 -- of n numbers: at most s of the first s and at most e of the first e are a number, and Absent is answered exactly where
 -- there are fewer than s or fewer than e
@@ -66,9 +60,9 @@ AreRanksWithin n s e Wrong = (s ≤ n) × (e ≤ n)
 
 -- how many of the first s numbers are v, and of the first e, and Absent exactly where there are fewer than s or than e
 abbrev pub AreRanksOf : List ℕ → ℕ → ℕ → ℕ → Answer (ℕ × ℕ) → Type 0
-AreRanksOf xs v s e (Found c) = (s ≤ length xs) × (e ≤ length xs) × (c.0 ≡ count_before xs v s) × (c.1 ≡ count_before xs v e)
-AreRanksOf xs v s e Absent = (length xs < s) ⊎ (length xs < e)
-AreRanksOf xs v s e Wrong = ⊥
+AreRanksOf xs v s e =
+    Right (λ c. (s ≤ length xs) × (e ≤ length xs) × (c.0 ≡ occurrences_before xs v s) × (c.1 ≡ occurrences_before xs v e))
+    ((length xs < s) ⊎ (length xs < e))
 
 -- what was found, or that words and tables are wrong
 abbrev pub found_or_wrong : {X : Type 0} → Option X → Answer X

@@ -3,7 +3,7 @@ ghost use Rattle.std.specs.Prelude.{◌≡◌, ◌+◌, ◌*◌, ◌≤◌, ℕ,
 ghost use Rattle.bitm_tables.specs.Tables.{HasSizes, bits_in};
 ghost use Rattle.matrix_levels.specs.Matrix.{IsMatrix, OnlyRanks, numbers_in};
 ghost use Rattle.matrix_levels.specs.Numbers.{count_between, count_less};
-ghost use Rattle.lent_levels.specs.Ranges.{IsCountOf, IsCountWithin};
+ghost use Rattle.lent_levels.specs.Ranges.{IsRangeCountOf, IsRangeCountWithin};
 ghost use Rattle.lent_levels.specs.Ranges.{IsNextOf, IsNextWithin, IsPreviousOf, IsPreviousWithin};
 ghost use Rattle.lent_levels.specs.Ranges.{IsSmallestOf, IsSmallestWithin};
 
@@ -163,9 +163,9 @@ impl<'a> LevelsView<'a> {
     ) -> Answer<usize>
         requires sized { HasSizes (T.lists source.old) }
         requires room { self.now.width * self.now.len ≤ length (bits_in (T.lists source.old)) }
-        ensures inside { IsCountWithin self.now.len start end result }
+        ensures inside { IsRangeCountWithin self.now.len start end result }
         ensures answer { let numbers = numbers_in self.now (T.lists source.old) in
-            IsMatrix self.now (T.lists source.old) → IsCountOf numbers start end
+            IsMatrix self.now (T.lists source.old) → IsRangeCountOf numbers start end
             (count_between (slice_range numbers start end) low high) result }
         ensures reads { OnlyRanks self.now T.lists T.reads source.old source.new
             (4 * self.now.width) }

@@ -3,7 +3,7 @@ ghost use Rattle.std.specs.Prelude.{◌≡◌, ◌*◌, ◌<◌, ◌↔◌, IsTr
 ghost use Rattle.bit_lists.specs.Count.{ones_before};
 ghost use Rattle.bitm_tables.specs.Quarters.{AreQuartersOf};
 ghost use Rattle.bitm_tables.specs.Tables.{IsIndexed, bits_in};
-ghost use Rattle.lent_levels.specs.Quarters.{CountsTo};
+ghost use Rattle.lent_levels.specs.Quarters.{CountsToQuarter};
 
 use bitm_tables::entry::ones_to_entry;
 use bitm_tables::levels::BITS_PER_L1_ENTRY;
@@ -32,7 +32,7 @@ fn ones_up_to<T: TableSource>(source: &mut T, index: usize) -> usize
 fn counts_to<T: TableSource>(source: &mut T, number: u64, quarter: usize) -> bool
     requires indexed { IsIndexed (T.lists source.old) }
     requires begun { 2 * quarter < length (T.lists source.old).words }
-    ensures answer { IsTrue result ↔ CountsTo (bits_in (T.lists source.old)) quarter number }
+    ensures answer { IsTrue result ↔ CountsToQuarter (bits_in (T.lists source.old)) quarter number }
     ensures same { T.lists source.new ≡ T.lists source.old }
 {
     let first = quarter * QUARTER_BITS;

@@ -3,7 +3,7 @@ ghost use Rattle.std.specs.Prelude.{◌≡◌, ◌*◌, ◌-◌, ◌/◌, ◌^�
 ghost use Rattle.bitm_tables.specs.Tables.{HasSizes, bits_in};
 ghost use Rattle.matrix_levels.specs.Levels.{level_place};
 ghost use Rattle.matrix_levels.specs.Matrix.{IsMatrix, OnlyRanks, numbers_in};
-ghost use Rattle.matrix_levels.specs.Numbers.{count_before};
+ghost use Rattle.matrix_levels.specs.Numbers.{occurrences_before};
 ghost use Rattle.lent_levels.specs.Answers.{IsNumberOf, IsNumberWithin, IsRankOf, IsRankWithin};
 
 use crate::levels::LevelsView;
@@ -211,7 +211,7 @@ impl<'a> LevelsView<'a> {
         requires end { end ≤ self.now.len }
         ensures inside { IfSome result (λ count. count ≤ end) }
         ensures answer { IsMatrix self.now (T.lists source.old)
-            → result ≡ Some (count_before (numbers_in self.now (T.lists source.old)) number end) }
+            → result ≡ Some (occurrences_before (numbers_in self.now (T.lists source.old)) number end) }
         ensures reads { OnlyRanks self.now T.lists T.reads source.old source.new
             (2 * self.now.width - self.now.known) }
     {

@@ -5,7 +5,7 @@ ghost use Rattle.bitm_tables.specs.Tables.{HasSizes, bits_in};
 ghost use Rattle.matrix_levels.specs.Levels.{ArePlacesAfter, has_digit, level, partition_place};
 ghost use Rattle.matrix_levels.specs.Matrix.{IsMatrix, IsMatrixOf, OnlyRanks, digit_place, level_in, numbers_in};
 ghost use Rattle.matrix_levels.specs.Numbers.{count_less};
-ghost use Rattle.lent_levels.specs.Ranges.{IsCountOf, IsCountWithin};
+ghost use Rattle.lent_levels.specs.Ranges.{IsRangeCountOf, IsRangeCountWithin};
 
 use crate::levels::LevelsView;
 use crate::stepping::{difference, sum_within};
@@ -146,9 +146,9 @@ impl<'a> LevelsView<'a> {
     ) -> Answer<usize>
         requires sized { HasSizes (T.lists source.old) }
         requires room { self.now.width * self.now.len ≤ length (bits_in (T.lists source.old)) }
-        ensures inside { IsCountWithin self.now.len start end result }
+        ensures inside { IsRangeCountWithin self.now.len start end result }
         ensures answer { let numbers = numbers_in self.now (T.lists source.old) in
-            IsMatrix self.now (T.lists source.old) → IsCountOf numbers start end
+            IsMatrix self.now (T.lists source.old) → IsRangeCountOf numbers start end
             (count_less (slice_range numbers start end) bound) result }
         ensures reads { OnlyRanks self.now T.lists T.reads source.old source.new
             (2 * self.now.width) }

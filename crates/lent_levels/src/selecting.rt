@@ -5,9 +5,10 @@ ghost use Rattle.bit_lists.specs.Count.{count_of, Picks};
 ghost use Rattle.bitm_tables.specs.Tables.{HasSizes, HasTables, bits_in};
 ghost use Rattle.bitm_selection.specs.Selection.{by_halves, OnlySelectsBy};
 ghost use Rattle.matrix_levels.specs.Levels.{level};
-ghost use Rattle.matrix_levels.specs.Matrix.{IsBitOf, IsMatrix, IsMatrixOf, OnlyRanks, OnlyRanksAndSelects, level_in};
+ghost use Rattle.matrix_levels.specs.Matrix.{IsLevelBitOf, IsMatrix, IsMatrixOf, OnlyRanks, OnlyRanksAndSelects};
+ghost use Rattle.matrix_levels.specs.Matrix.{level_in};
 ghost use Rattle.matrix_levels.specs.Matrix.{numbers_in};
-ghost use Rattle.matrix_levels.specs.Numbers.{count_before, PicksItem};
+ghost use Rattle.matrix_levels.specs.Numbers.{occurrences_before, PicksItem};
 ghost use Rattle.lent_levels.specs.Answers.{IsIndexAmong, IsIndexOf, IsIndexWithin};
 
 use crate::levels::LevelsView;
@@ -61,7 +62,7 @@ impl<'a> LevelsView<'a> {
         requires { depth < self.now.width }
         ensures { (xs : List ℕ) → (b : List Bool) → (k : ℕ) → IsMatrixOf xs self.now b
             → PicksItem (level xs self.now.width (depth + 1)) number k place
-            → IsBitOf xs self.now b depth number k result.0 result.1 }
+            → IsLevelBitOf xs self.now b depth number k result.0 result.1 }
     {
         let ones = self.ones_before_level(depth);
         if digit_of(number, self.width() - 1 - depth) {
@@ -147,7 +148,7 @@ impl<'a> LevelsView<'a> {
         requires room { self.now.width * self.now.len ≤ length (bits_in (T.lists source.old)) }
         ensures inside { IfSome result (λ place. place < self.now.len) }
         ensures answer { let numbers = numbers_in self.now (T.lists source.old) in
-            IsMatrix self.now (T.lists source.old) → k < count_before numbers number (length numbers)
+            IsMatrix self.now (T.lists source.old) → k < occurrences_before numbers number (length numbers)
             → IsSomeAnd result (PicksItem (level_in self.now (T.lists source.old) self.now.width) number k) }
         ensures reads { OnlyRanks self.now T.lists T.reads source.old source.new
             (self.now.width - self.now.known) }
@@ -190,7 +191,7 @@ impl<'a> LevelsView<'a> {
         ensures inside { IfSome result (λ index. index < self.now.len) }
         ensures answer { let numbers = numbers_in self.now (T.lists source.old) in
             IsMatrix self.now (T.lists source.old) → F.finds finder.now (T.lists source.old)
-            → k < count_before numbers number (length numbers)
+            → k < occurrences_before numbers number (length numbers)
             → IsSomeAnd result (PicksItem numbers number k) }
         ensures reads { OnlyRanksAndSelects self.now T.lists T.reads source.old source.new
             (self.now.width - self.now.known) (F.most (T.lists source.old)) self.now.width }

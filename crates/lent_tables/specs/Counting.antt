@@ -2,7 +2,8 @@
 use Rattle.std.specs.Prelude.{ℕ, Bool, List, length}
 use Rattle.bitm_select.specs.Answers.{HasBit, IsSelected}
 use Rattle.bitm_tables.specs.Tables.{HasTables, Lists, bits_in}
-use Rattle.bitm_select.specs.Told.{IfAbsent, TellsNone}
+use Rattle.bitm_select.specs.Told.{TellsNone}
+use Rattle.bitm_tables.specs.Answers.{IfAbsent}
 use Rattle.bitm_tables.specs.declared.answer.Answer.{Answer}
 use Rattle.lent_tables.specs.Ranks.{IsCountWithin, IsRanked}
 

@@ -2,20 +2,18 @@
 use Rattle.std.specs.Prelude.{◌≡◌, ℕ, ◌-◌, ◌<◌, ◌≤◌, Bool, not, List, length, min}
 use Rattle.bit_lists.specs.Bits.{item}
 use Rattle.bit_lists.specs.Count.{IsFirstFrom, IsLastTo}
+use Rattle.bitm_tables.specs.Answers.{Right}
 use Rattle.bitm_tables.specs.declared.answer.Answer.{Answer}
 use Rattle.bitm_tables.specs.declared.answer.Answer.TheVariants.{Found, Absent, Wrong}
 
 -- the least position from s on with bit v, and Absent exactly where there is none
 abbrev pub IsNext : List Bool → Bool → ℕ → Answer ℕ → Type 0
-IsNext b v s (Found p) = IsFirstFrom b v s p
-IsNext b v s Absent = (p : ℕ) → s ≤ p → p < length b → item b p ≡ not v
-IsNext b v s Wrong = ⊥
+IsNext b v s = Right (λ p. IsFirstFrom b v s p) ((p : ℕ) → s ≤ p → p < length b → item b p ≡ not v)
 
 -- the greatest position up to s, or to the last one, with bit v, and Absent exactly where there is none
 abbrev pub IsPrevious : List Bool → Bool → ℕ → Answer ℕ → Type 0
-IsPrevious b v s (Found p) = IsLastTo b v (min s (length b - 1)) p
-IsPrevious b v s Absent = (p : ℕ) → p ≤ s → p < length b → item b p ≡ not v
-IsPrevious b v s Wrong = ⊥
+IsPrevious b v s =
+    Right (λ p. IsLastTo b v (min s (length b - 1)) p) ((p : ℕ) → p ≤ s → p < length b → item b p ≡ not v)
 
 -- a position that is found is answered where it is not before position i, and else Wrong
 abbrev pub IsOnlyFrom : ℕ → Answer ℕ → Answer ℕ → Type 0

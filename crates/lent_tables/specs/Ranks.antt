@@ -1,6 +1,7 @@
 -- What rank answers, over tables that may hold anything and over those of the words.
 use Rattle.std.specs.Prelude.{◌≡◌, ℕ, ◌<◌, ◌≤◌, Bool, List, length}
 use Rattle.bit_lists.specs.Count.{count_before}
+use Rattle.bitm_tables.specs.Answers.{Right}
 use Rattle.bitm_tables.specs.declared.answer.Answer.{Answer}
 use Rattle.bitm_tables.specs.declared.answer.Answer.TheVariants.{Found, Absent, Wrong}
 
@@ -13,6 +14,4 @@ IsCountWithin len i Wrong = i ≤ len
 
 -- how many of the first i bits are v, and Absent exactly where there are fewer bits
 abbrev pub IsRanked : List Bool → Bool → ℕ → Answer ℕ → Type 0
-IsRanked b v i (Found n) = (i ≤ length b) × (n ≡ count_before b v i)
-IsRanked b v i Absent = length b < i
-IsRanked b v i Wrong = ⊥
+IsRanked b v i = Right (λ n. (i ≤ length b) × (n ≡ count_before b v i)) (length b < i)

@@ -8,13 +8,13 @@ use Rattle.bitm_tables.specs.Tables.{Lists}
 use Rattle.lent_tables.specs.declared.samples.LentSamples.{LentSamples}
 
 -- samples of one kind, how many there are before each upper block, and their logarithm, which is 0 where there are none
-pub record Sampled : Type 0 where
+pub record SampleLists : Type 0 where
   pub samples : List ℕ
   pub starts : List ℕ
   pub log2 : ℕ
 
 -- the borrowed samples
-abbrev pub sampled : LentSamples → Sampled
+abbrev pub sampled : LentSamples → SampleLists
 sampled lent = record {
   samples = lent.samples.now;
   starts = lent.starts.now;
@@ -22,7 +22,7 @@ sampled lent = record {
 }
 
 -- no samples
-abbrev pub not_sampled : Sampled
+abbrev pub not_sampled : SampleLists
 not_sampled = record { samples = []; starts = []; log2 = 0 }
 
 -- the two lists are the samples of the bits v of b at logarithm d, and how many there are before each upper block
@@ -43,7 +43,7 @@ abbrev pub enough_samples : ℕ → ℕ → ℕ
 enough_samples words log = div_ceil words (2 ^ (clamped_log log - 6))
 
 -- there is room for the samples of any words of this number, and for one start for each upper block
-pub record HasRoom (lists : Lists) (log : ℕ) (samples starts : List ℕ) : Type 0 where
+pub record HasSampleRoom (lists : Lists) (log : ℕ) (samples starts : List ℕ) : Type 0 where
   pub samples_len : enough_samples (length lists.words) log ≤ length samples
   pub starts_len : length starts ≡ length lists.upper
 

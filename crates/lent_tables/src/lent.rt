@@ -6,7 +6,8 @@ ghost use Rattle.bit_lists.specs.Count.{as_bit, IsRank};
 ghost use Rattle.bitm_tables.specs.Reads.{none_read};
 ghost use Rattle.bitm_tables.specs.Tables.{HasSizes, HasTables, bits_in};
 ghost use Rattle.bitm_select.specs.Answers.{HasBit, IsSelected};
-ghost use Rattle.bitm_select.specs.Told.{IfAbsent, TellsNone};
+ghost use Rattle.bitm_select.specs.Told.{TellsNone};
+ghost use Rattle.bitm_tables.specs.Answers.{IfAbsent};
 ghost use Rattle.lent_tables.specs.Ranks.{IsCountWithin, IsRanked};
 ghost use Rattle.lent_tables.specs.Sizes.{lists_of};
 

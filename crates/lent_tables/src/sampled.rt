@@ -13,7 +13,8 @@ ghost use Rattle.bitm_strategies.specs.Samples.{part_of, parts, sample_count_bef
 ghost use Rattle.bitm_select.specs.Search.{entry_in, sought_in, IsLastFound};
 ghost use Rattle.bitm_tables.specs.Tables.{HasSizes, HasTables, bits_in};
 ghost use Rattle.bitm_select.specs.Answers.{HasBit, IsSelected};
-ghost use Rattle.bitm_select.specs.Told.{told_entry, IfAbsent, TellsNone};
+ghost use Rattle.bitm_select.specs.Told.{told_entry, TellsNone};
+ghost use Rattle.bitm_tables.specs.Answers.{IfAbsent};
 ghost use Rattle.lent_tables.specs.Samples.{AreSamplesOf, IsBounded};
 
 use crate::guessed::ByGuess;

@@ -17,8 +17,8 @@ pub record IsWritten (d : List ℕ) (n : ℕ) (b : List Bool) : Type 0 where
   pub ones : (j p : ℕ) → j < n → zero_place d j < p → p < zero_place d (j + 1) → item b p ≡ true
 
 -- as many words as hold the bits of n nodes
-abbrev pub words_of : ℕ → ℕ
-words_of n = div_ceil (2 * n + 1) 64
+abbrev pub tree_words : ℕ → ℕ
+tree_words n = div_ceil (2 * n + 1) 64
 
 -- the bits hold the tree of the degrees, in no more words than it takes: zero j stands at its place, for each node
 -- and at the end
@@ -26,7 +26,7 @@ pub record IsHeld (d : List ℕ) (n : ℕ) (b : List Bool) : Type 0 where
   pub count : n ≡ length d
   pub tree : IsTree d
   pub short : n < 2 ^ 60
-  pub tight : length b ≡ 64 * words_of n
+  pub tight : length b ≡ 64 * tree_words n
   pub zeros : (j : ℕ) → j ≤ n → Picks b false j (zero_place d j)
 
 -- the degrees of the n nodes that bits hold: how many ones stand between two zeros

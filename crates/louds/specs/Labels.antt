@@ -11,14 +11,14 @@ abbrev pub numbers_of : List ℕ → ℕ → ℕ → List ℕ
 numbers_of words width n = map (λ i. number_at (bits_of words) (i * width) width) (range_with_len 0 n)
 
 -- there are as many words as n numbers of `width` digits take
-pub record HasRoom (words : List ℕ) (width n : ℕ) : Type 0 where
+pub record HasLabelRoom (words : List ℕ) (width n : ℕ) : Type 0 where
   pub some : 1 ≤ width
   pub few : width ≤ 63
   pub short : n * width < 2 ^ 64
   pub tight : length words ≡ div_ceil (n * width) 64
 
 -- what packed numbers are seen as
-pub record Numbers : Type 0 where
+pub record PackedNumbers : Type 0 where
   pub items : List ℕ
   pub width : ℕ
 

@@ -1,9 +1,10 @@
 -- Nodes that carry a place among the bits.
 use Rattle.std.specs.Prelude.{◌≡◌, ℕ, ◌<◌, ◌≤◌, ◌⊎◌, List, length, slice_index, Option, MatchOption}
+use Rattle.bitm_tables.specs.Answers.{Right}
 use Rattle.bitm_tables.specs.declared.answer.Answer.{Answer}
 use Rattle.bitm_tables.specs.declared.answer.Answer.TheVariants.{Found, Absent, Wrong}
 use Rattle.louds.specs.Held.{zero_place}
-use Rattle.louds.specs.Tree.{IsChild, IsLast, IsNextSibling}
+use Rattle.louds.specs.Tree.{IsChild, IsLastChild, IsNextSibling}
 
 -- a number, and a place among the bits of a tree
 pub record NodeValue : Type 0 where
@@ -32,10 +33,9 @@ IsParentNodeWithin n v Wrong = (0 < v) × (v < n)
 
 -- the parent of node v with its place, and Absent exactly at the root and where v is no node
 abbrev pub IsParentNodeOf : List ℕ → ℕ → Answer NodeValue → Type 0
-IsParentNodeOf d v (Found p) = IsNode d p × (p.number < v) × ((k : ℕ) × IsChild d p.number k v)
-IsParentNodeOf d v Absent = (v ≡ 0) ⊎ (length d ≤ v)
-IsParentNodeOf d v Wrong = ⊥
+IsParentNodeOf d v =
+    Right (λ p. IsNode d p × (p.number < v) × ((k : ℕ) × IsChild d p.number k v)) ((v ≡ 0) ⊎ (length d ≤ v))
 
 -- the next child of the parent of v with its place, and None exactly where v is the last one or the root
 abbrev pub MatchesNextSiblingNode : List ℕ → ℕ → Option NodeValue → Type 0
-MatchesNextSiblingNode d v o = MatchOption o (IsLast d v) (λ w. IsNode d w × IsNextSibling d v w.number)
+MatchesNextSiblingNode d v o = MatchOption o (IsLastChild d v) (λ w. IsNode d w × IsNextSibling d v w.number)

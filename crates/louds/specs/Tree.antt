@@ -30,20 +30,20 @@ abbrev pub IsNextSibling : List ℕ → ℕ → ℕ → Type 0
 IsNextSibling d v w = (i : ℕ) × (k : ℕ) × IsChild d i k v × IsChild d i (k + 1) w
 
 -- v is the last child of any parent that it has
-abbrev pub IsLast : List ℕ → ℕ → Type 0
-IsLast d v = (i k : ℕ) → IsChild d i k v → k + 1 ≡ slice_index d i
+abbrev pub IsLastChild : List ℕ → ℕ → Type 0
+IsLastChild d v = (i k : ℕ) → IsChild d i k v → k + 1 ≡ slice_index d i
 
 -- the next child of the parent of v, and None exactly where v is the last one or the root
 abbrev pub MatchesNextSibling : List ℕ → ℕ → Option ℕ → Type 0
-MatchesNextSibling d v o = MatchOption o (IsLast d v) (IsNextSibling d v)
+MatchesNextSibling d v o = MatchOption o (IsLastChild d v) (IsNextSibling d v)
 
 -- v is the first child of any parent that it has
-abbrev pub IsFirst : List ℕ → ℕ → Type 0
-IsFirst d v = (i k : ℕ) → IsChild d i k v → k ≡ 0
+abbrev pub IsFirstChild : List ℕ → ℕ → Type 0
+IsFirstChild d v = (i k : ℕ) → IsChild d i k v → k ≡ 0
 
 -- the child before v of its parent, and None exactly where v is the first one or the root
 abbrev pub MatchesPreviousSibling : List ℕ → ℕ → Option ℕ → Type 0
-MatchesPreviousSibling d v o = MatchOption o (IsFirst d v) (λ u. IsNextSibling d u v)
+MatchesPreviousSibling d v o = MatchOption o (IsFirstChild d v) (λ u. IsNextSibling d u v)
 
 -- the last child of node i, and None exactly where i has none
 abbrev pub MatchesLastChild : List ℕ → ℕ → Option ℕ → Type 0

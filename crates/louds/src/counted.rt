@@ -61,11 +61,7 @@ pub fn child_on<T: TableSource>(source: &mut T, len: usize, node: usize, k: usiz
     ensures reads { OnlySelects T.lists T.reads source.old source.new 2 0 }
 {
     index_laws::tables_have_sizes();
-    match total_child_on(source, len, node, k) {
-        Answer::Found(child) => Some(child),
-        Answer::Absent => None,
-        Answer::Wrong => unreachable!(),
-    }
+    total_child_on(source, len, node, k).right()
 }
 
 /// The parent of a node; `None` exactly where it is the root.
@@ -81,11 +77,7 @@ pub fn parent_on<T: TableSource>(source: &mut T, len: usize, node: usize) -> Opt
     ensures reads { OnlySelects T.lists T.reads source.old source.new 1 0 }
 {
     index_laws::tables_have_sizes();
-    match parent_by(&ByTables, source, len, node) {
-        Answer::Found(parent) => Some(parent),
-        Answer::Absent => None,
-        Answer::Wrong => unreachable!(),
-    }
+    parent_by(&ByTables, source, len, node).right()
 }
 
 /// The next child of a node's parent; `None` exactly where the node is the last child or the root.

@@ -3,7 +3,7 @@ ghost use Rattle.std.specs.Prelude.{◌≡◌, ◌+◌, ◌*◌, ◌^◌, ◌<�
 ghost use Rattle.std.specs.Prelude.{length, slice_index};
 ghost use Rattle.std.specs.Int.{div_ceil};
 ghost use Rattle.bitm_bits.specs.Size.{saturated_size};
-ghost use Rattle.louds.specs.Held.{words_of};
+ghost use Rattle.louds.specs.Held.{tree_words};
 ghost use Rattle.louds.specs.Labels.{AreLabels, Leads, MatchesChildWith, MatchesWord, Rise};
 ghost use Rattle.louds.specs.Tree.{IsTree};
 
@@ -197,11 +197,7 @@ impl<S: SelectForRank101111, S0: Select0ForRank101111> LabelledLouds<S, S0> {
     {
         let (index, mut probe) = self.tree.parts();
         let mut labels = self.labels.probe();
-        match find_by(index, &mut probe, &mut labels, self.tree.len(), word) {
-            Answer::Found(node) => Some(node),
-            Answer::Absent => None,
-            Answer::Wrong => unreachable!(),
-        }
+        find_by(index, &mut probe, &mut labels, self.tree.len(), word).right()
     }
 
     /// The word that leads from the root to a node: the labels on the way down, without the root's.
@@ -244,7 +240,7 @@ impl<S: SelectForRank101111, S0: Select0ForRank101111> LabelledLouds<S, S0> {
 impl<S: SelectForRank101111 + GetSize, S0: Select0ForRank101111 + GetSize> GetSize
     for LabelledLouds<S, S0> {
     // what the tree keeps, and the words of the labels
-    ghost dyn_bytes = { λ t. let n = length t.degrees in let words = words_of n in saturated_size
+    ghost dyn_bytes = { λ t. let n = length t.degrees in let words = tree_words n in saturated_size
         (8 * words + 8 * div_ceil words (2 ^ 26) + 8 * div_ceil words 32
         + S.dyn_bytes t.select + S0.dyn_bytes t.select0 + 8 * div_ceil (n * t.width) 64) };
 

@@ -2,7 +2,7 @@
 ghost use Rattle.std.specs.Prelude.{◌≡◌, ◌*◌, ◌^◌, ◌<◌, ◌≤◌, ◌↔◌, All, IfOk, IsTrue, length, slice_index};
 ghost use Rattle.std.specs.Box.{boxed_slice_items};
 ghost use Rattle.std.specs.Int.{div_ceil};
-ghost use Rattle.louds.specs.Labels.{HasRoom, numbers_of};
+ghost use Rattle.louds.specs.Labels.{HasLabelRoom, numbers_of};
 
 use crate::probing::RootedProbe;
 use bit_words::{n_lowest_bits, words};
@@ -21,16 +21,16 @@ pub(crate) struct Packed {
 
 impl Model for Packed {
     ghost use Rattle.std.specs.Box.{boxed_slice_items};
-    ghost use Rattle.louds.specs.Labels.{HasRoom, Numbers, numbers_of};
+    ghost use Rattle.louds.specs.Labels.{HasLabelRoom, PackedNumbers, numbers_of};
 
-    ghost Value = { Numbers };
+    ghost Value = { PackedNumbers };
 
     ghost view = { λ p. record {
       items = numbers_of (boxed_slice_items p.words) p.width p.len;
       width = p.width;
     } };
 
-    ghost invariant = { λ p. HasRoom (boxed_slice_items p.words) p.width p.len };
+    ghost invariant = { λ p. HasLabelRoom (boxed_slice_items p.words) p.width p.len };
 }
 
 /// Whether no number has more than `width` bits.
@@ -65,7 +65,7 @@ pub fn all_fit(numbers: &[u64], width: u8) -> bool
 /// write_numbers(words.as_mut_slice(), &[5, 7], 3);   // the bits 101 111
 /// ```
 pub fn write_numbers(words: &mut [u64], numbers: &[u64], width: u8)
-    requires room { HasRoom words.old width (length numbers.now) }
+    requires room { HasLabelRoom words.old width (length numbers.now) }
     requires fit { All (λ x. x < 2 ^ width) numbers.now }
     ensures numbers { numbers_of words.new width (length numbers.now) ≡ numbers.now }
     ensures len { length words.new ≡ length words.old }
@@ -82,7 +82,7 @@ pub fn write_numbers(words: &mut [u64], numbers: &[u64], width: u8)
 #[inline(always)]
 #[tactic(auto, using(crate::proofs::lemmas::LabelLemmas::number_inside, crate::proofs::lemmas::LabelLemmas::packed_at))]
 pub(crate) fn number_of(words: &[u64], width: u8, _len: usize, i: usize) -> u64
-    requires room { HasRoom words.now width _len }
+    requires room { HasLabelRoom words.now width _len }
     requires inside { i < _len }
     ensures { result ≡ slice_index (numbers_of words.now width _len) i }
 {
@@ -132,7 +132,7 @@ impl Packed {
     #[inline(always)]
     #[tactic(auto, using(crate::proofs::lemmas::LabelLemmas::numbers_counted))]
     pub(crate) fn probe(&self) -> RootedProbe<'_>
-        ensures room { HasRoom result.words result.width (length self.now.items) }
+        ensures room { HasLabelRoom result.words result.width (length self.now.items) }
         ensures items { numbers_of result.words result.width (length self.now.items)
             ≡ self.now.items }
     {

@@ -12,7 +12,7 @@ ghost use Rattle.louds.specs.Answers.{IsChildWithin};
 ghost use Rattle.louds.specs.Counted.{degrees_in, IsLouds, OnlySelects};
 ghost use Rattle.louds.specs.Labels.{MatchesChildWith, Rise};
 ghost use Rattle.louds.specs.Leading.{IsChildByLabelOf, IsLongestOf, IsLongestWithin, IsNodeOf};
-ghost use Rattle.louds.specs.Leading.{IsNodeWithin, Grow, IsFirstFrom, ReadsLabels};
+ghost use Rattle.louds.specs.Leading.{Grow, IsLabelPlace, IsNodeWithin, ReadsLabels};
 ghost use Rattle.louds.specs.Tree.{AreChildren};
 
 use crate::finding::FindsChildren;
@@ -32,7 +32,7 @@ fn first_from<L: Labels>(labels: &mut L, len: usize, first: usize, past: usize, 
     ensures from { first ≤ result }
     ensures to { result ≤ past }
     ensures answer { Grow (L.listed (L.seen labels.old).words (L.seen labels.old).width len) first past
-        → IsFirstFrom (L.listed (L.seen labels.old).words (L.seen labels.old).width len) first past
+        → IsLabelPlace (L.listed (L.seen labels.old).words (L.seen labels.old).width len) first past
         label result }
     ensures reads { ReadsLabels (L.seen labels.old) (L.seen labels.new) (digit_count (past - first)) }
 {

@@ -2,7 +2,7 @@
 ghost use Rattle.std.specs.Prelude.{◌≡◌, ◌+◌, ◌*◌, ◌<◌, ◌≤◌, ◌^◌, ℕ, true, false, length, sum, IfOk};
 ghost use Rattle.std.specs.Box.{boxed_slice_items};
 ghost use Rattle.bit_lists.specs.Bits.{bits_of, item};
-ghost use Rattle.louds.specs.Held.{IsWritten, words_of};
+ghost use Rattle.louds.specs.Held.{IsWritten, tree_words};
 
 use bit_words::words;
 use bitm_bits::BitVec;
@@ -49,7 +49,7 @@ pub(crate) fn make_bits(
 ) -> Result<BoxedSlice<u64, Global>, AllocError>
     requires short { length degrees.now < 2 ^ 60 }
     requires count { sum degrees.now + 1 ≡ length degrees.now }
-    ensures len { IfOk result (λ made. length (boxed_slice_items made) ≡ words_of (length degrees.now)) }
+    ensures len { IfOk result (λ made. length (boxed_slice_items made) ≡ tree_words (length degrees.now)) }
     ensures written { IfOk result (λ made.
         IsWritten degrees.now (length degrees.now) (bits_of (boxed_slice_items made))) }
 {

@@ -189,11 +189,7 @@ impl<S: SelectForRank101111, S0: Select0ForRank101111> Louds<S, S0> {
         ensures { MatchesParentNode self.now.degrees node.number result }
     {
         let (index, mut probe) = self.parts();
-        match parent_of_by(index, &mut probe, self.len(), node.number) {
-            Answer::Found(parent) => Some(parent),
-            Answer::Absent => None,
-            Answer::Wrong => unreachable!(),
-        }
+        parent_of_by(index, &mut probe, self.len(), node.number).right()
     }
 
     /// The next child of a node's parent; `None` exactly where the node is the last child or the root.

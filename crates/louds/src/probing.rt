@@ -1,6 +1,6 @@
 //! Labels of nodes, whose reads are counted.
 ghost use Rattle.std.specs.Prelude.{◌≡◌, ◌+◌, ◌<◌, ℕ, List, length, slice_index};
-ghost use Rattle.louds.specs.Labels.{numbers_of, HasRoom};
+ghost use Rattle.louds.specs.Labels.{numbers_of, HasLabelRoom};
 ghost use Rattle.louds.specs.Leading.{none_read_of, LabelReads};
 
 use crate::labels::number_of;
@@ -108,7 +108,7 @@ impl<'a> RootedProbe<'a> {
 impl<'a> Labels for RootedProbe<'a> {
     ghost seen = { λ l. l };
 
-    ghost fitting = { HasRoom };
+    ghost fitting = { HasLabelRoom };
 
     ghost listed = { numbers_of };
 

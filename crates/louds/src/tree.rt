@@ -7,7 +7,7 @@ ghost use Rattle.bitm_tables.specs.Reads.{none_read};
 ghost use Rattle.bitm_tables.specs.Tables.{HasSizes};
 ghost use Rattle.bitm_bits.specs.Size.{saturated_size};
 ghost use Rattle.louds.specs.Counted.{degrees_in, IsLouds};
-ghost use Rattle.louds.specs.Held.{degrees_of, words_of, zero_place, IsHeld};
+ghost use Rattle.louds.specs.Held.{degrees_of, tree_words, zero_place, IsHeld};
 ghost use Rattle.bit_lists.specs.Bits.{bits_of};
 ghost use Rattle.louds.specs.Tree.{AreChildren, IsTree, MatchesChild, MatchesLastChild};
 ghost use Rattle.louds.specs.Tree.{MatchesParent, MatchesChildRank, MatchesNextSibling, MatchesPreviousSibling};
@@ -219,11 +219,7 @@ impl<S: SelectForRank101111, S0: Select0ForRank101111> Louds<S, S0> {
         ensures child { MatchesChild self.now.degrees node k result }
         ensures inside { IfSome result (λ child. child < length self.now.degrees) }
     {
-        match child_after_on(&mut self.probe(), self.len(), node, self.zero(node), k) {
-            Answer::Found(child) => Some(child),
-            Answer::Absent => None,
-            Answer::Wrong => unreachable!(),
-        }
+        child_after_on(&mut self.probe(), self.len(), node, self.zero(node), k).right()
     }
 
     /// The first child of a node; `None` exactly where it has none.
@@ -289,11 +285,7 @@ impl<S: SelectForRank101111, S0: Select0ForRank101111> Louds<S, S0> {
         ensures { MatchesParent self.now.degrees node result }
     {
         let (index, mut probe) = self.parts();
-        match parent_by(index, &mut probe, self.len(), node) {
-            Answer::Found(parent) => Some(parent),
-            Answer::Absent => None,
-            Answer::Wrong => unreachable!(),
-        }
+        parent_by(index, &mut probe, self.len(), node).right()
     }
 
     /// Which child of its parent a node is; `None` exactly where it is the root.
@@ -308,11 +300,7 @@ impl<S: SelectForRank101111, S0: Select0ForRank101111> Louds<S, S0> {
         ensures { MatchesChildRank self.now.degrees node result }
     {
         let (index, mut probe) = self.parts();
-        match child_rank_by(index, &mut probe, self.len(), node) {
-            Answer::Found(k) => Some(k),
-            Answer::Absent => None,
-            Answer::Wrong => unreachable!(),
-        }
+        child_rank_by(index, &mut probe, self.len(), node).right()
     }
 
     /// The next child of a node's parent; `None` exactly where the node is the last child or the root.
@@ -380,7 +368,7 @@ impl<S: SelectForRank101111, S0: Select0ForRank101111> Louds<S, S0> {
 impl<S: SelectForRank101111 + GetSize, S0: Select0ForRank101111 + GetSize> GetSize
     for Louds<S, S0> {
     // the bits, eight bytes for each upper block and each lower block of them, and the two strategies
-    ghost dyn_bytes = { λ t. let words = words_of (length t.degrees) in saturated_size
+    ghost dyn_bytes = { λ t. let words = tree_words (length t.degrees) in saturated_size
         (8 * words + 8 * div_ceil words (2 ^ 26) + 8 * div_ceil words 32
         + S.dyn_bytes t.select + S0.dyn_bytes t.select0) };
 

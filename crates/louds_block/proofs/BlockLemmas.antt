@@ -8,16 +8,16 @@ use Rattle.bitm_block.specs.Written.{IsSealed}
 use Rattle.bitm_block.specs.declared.head.Head.{Head}
 use Rattle.bitm_block.specs.declared.layout.Section.{Section}
 use Rattle.louds.specs.Counted.{degrees_in, IsLouds}
-use Rattle.louds.specs.Held.{words_of}
-use Rattle.louds_block.specs.Block.{lower_at, lower_of_nodes, parts_of, tree_head, tree_in, tree_sections, upper_at, upper_of_nodes, IsBlockOf, IsTreeOf, StandsIn, TreeParts}
+use Rattle.louds.specs.Held.{tree_words}
+use Rattle.louds_block.specs.Block.{lower_of_nodes, parts_of, tree_head, tree_in, tree_lower_at, tree_sections, tree_upper_at, upper_of_nodes, IsBlockOf, IsTreeOf, StandsIn, TreeParts}
 
 -- the lengths of a header, words, tables and what stands between them
 pub record HaveLengths (n : ℕ) (head words gap upper gap2 lower tail : List ℕ) : Type 0 where
   pub head_len : length head ≡ 32
-  pub words_len : length words ≡ words_of n
-  pub gap_len : length gap + 32 + words_of n ≡ upper_at n
+  pub words_len : length words ≡ tree_words n
+  pub gap_len : length gap + 32 + tree_words n ≡ tree_upper_at n
   pub upper_len : length upper ≡ upper_of_nodes n
-  pub gap2_len : length gap2 + upper_at n + upper_of_nodes n ≡ lower_at n
+  pub gap2_len : length gap2 + tree_upper_at n + upper_of_nodes n ≡ tree_lower_at n
   pub lower_len : length lower ≡ lower_of_nodes n
 
 -- words and tables that are written one after another stand where the sections of a tree are
@@ -27,26 +27,26 @@ stands d head words gap upper gap2 lower tail lens tree =
     let n = length d in
     let block = head ++ ((words ++ gap) ++ ((upper ++ gap2) ++ (lower ++ tail))) in
     let last = (upper ++ gap2) ++ (lower ++ tail) in
-    let words_are : slice_range block 32 (32 + words_of n) ≡ words =
-    ap (λ x. slice_range (head ++ x) 32 (32 + words_of n)) (append_assoc words gap last)
-    ∙ cut head words (gap ++ last) 32 (32 + words_of n) (sym lens.head_len) (omega (arith, lens.words_len)) in
+    let words_are : slice_range block 32 (32 + tree_words n) ≡ words =
+    ap (λ x. slice_range (head ++ x) 32 (32 + tree_words n)) (append_assoc words gap last)
+    ∙ cut head words (gap ++ last) 32 (32 + tree_words n) (sym lens.head_len) (omega (arith, lens.words_len)) in
     let front = head ++ (words ++ gap) in
-    let front_len : length front ≡ upper_at n =
+    let front_len : length front ≡ tree_upper_at n =
     omega (arith, length-append head (words ++ gap), length-append words gap, lens.head_len, lens.words_len, lens.gap_len) in
-    let upper_are : slice_range block (upper_at n) (upper_at n + upper_of_nodes n) ≡ upper =
-    ap (λ b. slice_range b (upper_at n) (upper_at n + upper_of_nodes n))
+    let upper_are : slice_range block (tree_upper_at n) (tree_upper_at n + upper_of_nodes n) ≡ upper =
+    ap (λ b. slice_range b (tree_upper_at n) (tree_upper_at n + upper_of_nodes n))
     (sym (append_assoc head (words ++ gap) last) ∙ ap (λ x. front ++ x) (append_assoc upper gap2 (lower ++ tail)))
-    ∙ cut front upper (gap2 ++ (lower ++ tail)) (upper_at n) (upper_at n + upper_of_nodes n) (sym front_len) (omega (arith, lens.upper_len)) in
+    ∙ cut front upper (gap2 ++ (lower ++ tail)) (tree_upper_at n) (tree_upper_at n + upper_of_nodes n) (sym front_len) (omega (arith, lens.upper_len)) in
     let long = front ++ (upper ++ gap2) in
-    let long_len : length long ≡ lower_at n =
+    let long_len : length long ≡ tree_lower_at n =
     omega (arith, length-append front (upper ++ gap2), length-append upper gap2, front_len, lens.upper_len, lens.gap2_len) in
-    let lower_are : slice_range block (lower_at n) (lower_at n + lower_of_nodes n) ≡ lower =
-    ap (λ b. slice_range b (lower_at n) (lower_at n + lower_of_nodes n))
+    let lower_are : slice_range block (tree_lower_at n) (tree_lower_at n + lower_of_nodes n) ≡ lower =
+    ap (λ b. slice_range b (tree_lower_at n) (tree_lower_at n + lower_of_nodes n))
     (sym (append_assoc head (words ++ gap) last) ∙ sym (append_assoc front (upper ++ gap2) (lower ++ tail)))
-    ∙ cut long lower tail (lower_at n) (lower_at n + lower_of_nodes n) (sym long_len) (omega (arith, lens.lower_len)) in
-    subst (λ (w : List ℕ). IsTreeOf d w (slice_range block (upper_at n) (upper_at n + upper_of_nodes n)) (slice_range block (lower_at n) (lower_at n + lower_of_nodes n)))
+    ∙ cut long lower tail (tree_lower_at n) (tree_lower_at n + lower_of_nodes n) (sym long_len) (omega (arith, lens.lower_len)) in
+    subst (λ (w : List ℕ). IsTreeOf d w (slice_range block (tree_upper_at n) (tree_upper_at n + upper_of_nodes n)) (slice_range block (tree_lower_at n) (tree_lower_at n + lower_of_nodes n)))
     (sym words_are)
-    (subst (λ (u : List ℕ). IsTreeOf d words u (slice_range block (lower_at n) (lower_at n + lower_of_nodes n))) (sym upper_are)
+    (subst (λ (u : List ℕ). IsTreeOf d words u (slice_range block (tree_lower_at n) (tree_lower_at n + lower_of_nodes n))) (sym upper_are)
     (subst (IsTreeOf d words upper) (sym lower_are) tree))
 
 -- the numbers of the header of a sealed tree
@@ -62,12 +62,12 @@ pub block_is : (d old new : List ℕ) → length d < 2 ^ 60 → IsSealed (tree_h
     → IsBlockOf d new
 block_is d old new short sealed tree =
     let n = length d in
-    let words = slice_range old 32 (32 + words_of n) in
-    let upper = slice_range old (upper_at n) (upper_at n + upper_of_nodes n) in
-    let lower = slice_range old (lower_at n) (lower_at n + lower_of_nodes n) in
+    let words = slice_range old 32 (32 + tree_words n) in
+    let upper = slice_range old (tree_upper_at n) (tree_upper_at n + upper_of_nodes n) in
+    let lower = slice_range old (tree_lower_at n) (tree_lower_at n + lower_of_nodes n) in
     let w : section_in new 0 ≡ words = section_is (tree_head n) (tree_sections n) old new sealed 0 (omega arith) in
-    let second : begin_of (tree_sections n) 1 ≡ upper_at n = omega arith in
-    let third : begin_of (tree_sections n) 2 ≡ lower_at n = omega arith in
+    let second : begin_of (tree_sections n) 1 ≡ tree_upper_at n = omega arith in
+    let third : begin_of (tree_sections n) 2 ≡ tree_lower_at n = omega arith in
     let u : section_in new 1 ≡ upper =
     section_is (tree_head n) (tree_sections n) old new sealed 1 (omega arith) ∙ ap (λ p. slice_range old p (p + upper_of_nodes n)) second in
     let l : section_in new 2 ≡ lower =
@@ -90,7 +90,7 @@ block_is d old new short sealed tree =
           };
           lengths = record {
             short = omega (arith, short, nodes_are n old new sealed);
-            words_len = ap length w ∙ tree.words_len ∙ ap words_of (sym (nodes_are n old new sealed));
+            words_len = ap length w ∙ tree.words_len ∙ ap tree_words (sym (nodes_are n old new sealed));
             sized = record {
               short = omega (arith, short, ap length w, tree.words_len);
               upper_len = omega (arith, ap length u, ap length w, tree.upper_len, tree.words_len);

@@ -13,8 +13,8 @@ use Rattle.bit_lists.specs.Count.{ones_before, zeros_before, is_same, places, Pi
 use Rattle.bit_lists.proofs.BitLaws.{at_most_one_picked, bits_are_counted, count_after_item, counts_grow, ones_and_zeros, places_are_counted, places_are_picked}
 use Rattle.bit_lists.proofs.Callers.{zero_below}
 use Rattle.louds.proofs.lemmas.TreeLemmas.{sum_all, zero_place_more}
-use Rattle.louds.specs.Held.{degrees_of, words_of, zero_place, IsHeld}
-use Rattle.louds_block.specs.Check.{KeepsLead, Leads}
+use Rattle.louds.specs.Held.{degrees_of, tree_words, zero_place, IsHeld}
+use Rattle.louds_block.specs.Check.{KeepsLead, OnesLead}
 
 -- of a tree of n nodes the zero of rank v can stand at place p: the first one at 1, each before the last after at least as
 -- many ones as nodes are known then, and the last one at 2 n
@@ -101,7 +101,7 @@ module _ (b : List Bool) (n : ℕ) (zeros : (v : ℕ) → v ≤ n → StandsRigh
       ∙ omega (arith, zero_place_more d v inside, own, stands v (omega arith), order v (omega arith))
       ∙ ap at (sym next)
 
-  held_of : n < 2 ^ 60 → length b ≡ 64 * words_of n → IsHeld (degrees_of b n) n b
+  held_of : n < 2 ^ 60 → length b ≡ 64 * tree_words n → IsHeld (degrees_of b n) n b
   held_of short tight =
       let total : sum (take n d) ≡ sum d = sum_all d n (sym len) in
       let last : zero_place d n ≡ 2 * n = stands n (omega arith) ∙ (right n (omega arith)).last refl in
@@ -120,11 +120,11 @@ module _ (b : List Bool) (n : ℕ) (zeros : (v : ℕ) → v ≤ n → StandsRigh
 
 -- ---- more ones than zeros before each zero
 
-pub leads_fewer : (b : List Bool) (m n : ℕ) → m ≤ n → Leads b n → Leads b m
+pub leads_fewer : (b : List Bool) (m n : ℕ) → m ≤ n → OnesLead b n → OnesLead b m
 leads_fewer b m n within leads = λ p inside zero_here. leads p (omega (arith, inside, within)) zero_here
 
 -- there are no fewer ones than zeros
-pub lead_left : (b : List Bool) (m : ℕ) → m ≤ length b → Leads b m → m ≤ 2 * ones_before b m
+pub lead_left : (b : List Bool) (m : ℕ) → m ≤ length b → OnesLead b m → m ≤ 2 * ones_before b m
 lead_left b zero within leads = omega arith
 lead_left b (suc m) within leads =
     let before = lead_left b m (omega (arith, within)) (leads_fewer b m (suc m) (omega arith) leads) in
@@ -143,11 +143,11 @@ lead_left b (suc m) within leads =
 pub record AreOfTree (b : List Bool) (n : ℕ) : Type 0 where
   pub some : 0 < n
   pub second : item b 1 ≡ false
-  pub leads : Leads b (2 * n)
+  pub leads : OnesLead b (2 * n)
   pub last : item b (2 * n) ≡ false
   pub count : ones_before b (2 * n) ≡ n
 
-pub tree_of_held : (d : List ℕ) (n : ℕ) (b : List Bool) → length b ≡ 64 * words_of n → IsHeld d n b → AreOfTree b n
+pub tree_of_held : (d : List ℕ) (n : ℕ) (b : List Bool) → length b ≡ 64 * tree_words n → IsHeld d n b → AreOfTree b n
 tree_of_held d n b tight h =
     let first = right_of_held d n b h 0 (omega arith) in
     let end = right_of_held d n b h n (omega arith) in
@@ -176,7 +176,7 @@ tree_of_held d n b tight h =
     some_of zero one none = absurd (omega (arith, one, none))
     some_of (suc m) one none = omega arith
 
-pub held_of_tree : (b : List Bool) (n : ℕ) → n < 2 ^ 60 → length b ≡ 64 * words_of n → AreOfTree b n → IsHeld (degrees_of b n) n b
+pub held_of_tree : (b : List Bool) (n : ℕ) → n < 2 ^ 60 → length b ≡ 64 * tree_words n → AreOfTree b n → IsHeld (degrees_of b n) n b
 held_of_tree b n short tight tree = held_of b n zeros short tight
   where
     room : 2 * n < length b
@@ -226,7 +226,7 @@ pub ones_few : (words : List ℕ) (p : ℕ) → p ≤ 64 * length words → ones
 ones_few words p within = omega (arith, ones_and_zeros (bits_of words) p (omega (arith, within, bits_are_counted words)))
 
 -- and at least as many as the zeros
-pub ones_left : (words : List ℕ) (q : ℕ) → q ≤ length words → Leads (bits_of words) (64 * q) → 64 * q ≤ 2 * ones_before (bits_of words) (64 * q)
+pub ones_left : (words : List ℕ) (q : ℕ) → q ≤ length words → OnesLead (bits_of words) (64 * q) → 64 * q ≤ 2 * ones_before (bits_of words) (64 * q)
 ones_left words q within leads = lead_left (bits_of words) (64 * q) (omega (arith, within, bits_are_counted words)) leads
 
 -- item j of a word is a zero exactly where digit j is
@@ -242,7 +242,7 @@ digit_zero words q j within inside =
 
 module _ (words : List ℕ) (q n lead : ℕ) (within : q < length words) (few : n ≤ 64)
     (same : lead + 64 * q ≡ 2 * ones_before (bits_of words) (64 * q)) where
-  pub leads_on : Leads (bits_of words) (64 * q) → KeepsLead (get_or words q 0) n lead → Leads (bits_of words) (64 * q + n)
+  pub leads_on : OnesLead (bits_of words) (64 * q) → KeepsLead (get_or words q 0) n lead → OnesLead (bits_of words) (64 * q + n)
   leads_on leads keeps = λ p inside zero_here.
       ⊎_elim
       (λ before. leads p before zero_here)
@@ -254,7 +254,7 @@ module _ (words : List ℕ) (q n lead : ℕ) (within : q < length words) (few : 
       omega (arith, here, e, same, ones_before-bits_of_in_word words q within j (omega (arith, less, few)), ap (ones_before (bits_of words)) e))
       (cases_lt p (64 * q))
 
-  pub keeps_where_leads : Leads (bits_of words) (64 * q + n) → KeepsLead (get_or words q 0) n lead
+  pub keeps_where_leads : OnesLead (bits_of words) (64 * q + n) → KeepsLead (get_or words q 0) n lead
   keeps_where_leads leads = λ j inside zero_here.
       let here = leads (64 * q + j) (omega (arith, inside)) ((digit_zero words q j within (omega (arith, inside, few))).1 zero_here) in
       omega (arith, here, same, ones_before-bits_of_in_word words q within j (omega (arith, inside, few)))

@@ -8,15 +8,15 @@ use Rattle.bitm_block.specs.declared.head.Head.{Head}
 use Rattle.bitm_block.specs.declared.layout.Section.{Section}
 use Rattle.lent_tables.specs.Sizes.{lists_of}
 use Rattle.louds.specs.Counted.{degrees_in, IsLouds}
-use Rattle.louds.specs.Held.{words_of}
+use Rattle.louds.specs.Held.{tree_words}
 use Rattle.louds.specs.Tree.{IsTree}
 
 -- how many entries the upper and the lower table of n nodes have
 abbrev pub upper_of_nodes : ℕ → ℕ
-upper_of_nodes n = div_ceil (words_of n) (2 ^ 26)
+upper_of_nodes n = div_ceil (tree_words n) (2 ^ 26)
 
 abbrev pub lower_of_nodes : ℕ → ℕ
-lower_of_nodes n = div_ceil (words_of n) 32
+lower_of_nodes n = div_ceil (tree_words n) 32
 
 -- the numbers of the header of a tree of n nodes
 abbrev pub tree_head : ℕ → Head
@@ -25,18 +25,18 @@ tree_head n = record { kind = 7; len = n; width = 0; ones_log2 = 0; zeros_log2 =
 -- the sections of a tree of n nodes: words, upper and lower table
 abbrev pub tree_sections : ℕ → List Section
 tree_sections n =
-    record { role = 1; count = words_of n } ∷ record { role = 2; count = upper_of_nodes n } ∷ record { role = 3; count = lower_of_nodes n }
+    record { role = 1; count = tree_words n } ∷ record { role = 2; count = upper_of_nodes n } ∷ record { role = 3; count = lower_of_nodes n }
     ∷ []
 
 -- where the upper and the lower table begin, and where the block ends
-abbrev pub upper_at : ℕ → ℕ
-upper_at n = 32 + aligned (words_of n)
+abbrev pub tree_upper_at : ℕ → ℕ
+tree_upper_at n = 32 + aligned (tree_words n)
 
-abbrev pub lower_at : ℕ → ℕ
-lower_at n = upper_at n + aligned (upper_of_nodes n)
+abbrev pub tree_lower_at : ℕ → ℕ
+tree_lower_at n = tree_upper_at n + aligned (upper_of_nodes n)
 
-abbrev pub end_at : ℕ → ℕ
-end_at n = lower_at n + aligned (lower_of_nodes n)
+abbrev pub tree_end_at : ℕ → ℕ
+tree_end_at n = tree_lower_at n + aligned (lower_of_nodes n)
 
 -- a number of nodes, and words with two tables
 pub record TreeParts : Type 0 where
@@ -54,7 +54,7 @@ tree_in block = parts_of (slice_index block 3) (section_in block 0) (section_in 
 -- the words and tables are as long as those of the number of nodes: nothing is said of what they hold
 pub record HasLengths (parts : TreeParts) : Type 0 where
   pub short : parts.len < 2 ^ 60
-  pub words_len : length parts.lists.words ≡ words_of parts.len
+  pub words_len : length parts.lists.words ≡ tree_words parts.len
   pub sized : HasSizes parts.lists
 
 -- the block is of the kind of a tree, and its first three sections are words, an upper and a lower table
@@ -79,7 +79,7 @@ pub record CanHold (degrees block : List ℕ) : Type 0 where
 
 -- words and tables that hold the tree of these degrees
 pub record IsTreeOf (degrees words upper lower : List ℕ) : Type 0 where
-  pub words_len : length words ≡ words_of (length degrees)
+  pub words_len : length words ≡ tree_words (length degrees)
   pub upper_len : length upper ≡ upper_of_nodes (length degrees)
   pub lower_len : length lower ≡ lower_of_nodes (length degrees)
   pub louds : IsLouds (length degrees) (lists_of words upper lower)
@@ -89,8 +89,8 @@ pub record IsTreeOf (degrees words upper lower : List ℕ) : Type 0 where
 abbrev pub StandsIn : List ℕ → List ℕ → Type 0
 StandsIn degrees block =
     let n = length degrees in
-    IsTreeOf degrees (slice_range block 32 (32 + words_of n)) (slice_range block (upper_at n) (upper_at n + upper_of_nodes n))
-    (slice_range block (lower_at n) (lower_at n + lower_of_nodes n))
+    IsTreeOf degrees (slice_range block 32 (32 + tree_words n)) (slice_range block (tree_upper_at n) (tree_upper_at n + upper_of_nodes n))
+    (slice_range block (tree_lower_at n) (tree_lower_at n + lower_of_nodes n))
 
 -- the block is as it was written, and holds a tree
 pub record HoldsTree (block : List ℕ) : Type 0 where

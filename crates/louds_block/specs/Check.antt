@@ -5,8 +5,8 @@ use Rattle.bit_lists.specs.Bits.{item}
 use Rattle.bit_lists.specs.Count.{ones_before}
 
 -- each zero before place m has more ones before it than zeros
-abbrev pub Leads : List Bool → ℕ → Type 0
-Leads b m = (p : ℕ) → p < m → item b p ≡ false → p < 2 * ones_before b p
+abbrev pub OnesLead : List Bool → ℕ → Type 0
+OnesLead b m = (p : ℕ) → p < m → item b p ≡ false → p < 2 * ones_before b p
 
 -- where `lead` more ones than zeros stand before the m lowest digits of v, each zero among these has more ones before it
 -- than zeros

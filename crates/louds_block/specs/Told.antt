@@ -23,7 +23,7 @@ pub record IsParent (node : ℕ) (parts : TreeParts) (answer : Answer ℕ) : Typ
   pub right : IsLouds parts.len parts.lists → IsParentOf (degrees_in parts.len parts.lists) node answer
 
 -- child k of a node, likewise: more than the node
-pub record IsChild (node k : ℕ) (parts : TreeParts) (answer : Answer ℕ) : Type 0 where
+pub record IsChildAnswer (node k : ℕ) (parts : TreeParts) (answer : Answer ℕ) : Type 0 where
   pub inside : IsChildWithin parts.len node answer
   pub right : IsLouds parts.len parts.lists → IsChildOf (degrees_in parts.len parts.lists) node k answer
 

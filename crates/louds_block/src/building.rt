@@ -2,7 +2,7 @@
 ghost use Rattle.std.specs.Prelude.{◌≡◌, ◌≢◌, ◌^◌, ◌<◌, ◌≤◌, ◌↔◌, IfErr, IfOk, IsErrOf, IsOk, length, replicate};
 ghost use Rattle.bitm_block.specs.Layout.{end_of};
 ghost use Rattle.bitm_block.specs.Written.{IsSealed};
-ghost use Rattle.louds.specs.Held.{words_of};
+ghost use Rattle.louds.specs.Held.{tree_words};
 ghost use Rattle.louds.specs.Tree.{IsTree};
 ghost use Rattle.louds_block.specs.Block.{lower_of_nodes, tree_head, tree_sections, upper_of_nodes};
 ghost use Rattle.louds_block.specs.Block.{CanHold, IsBlockOf, IsTreeOf, StandsIn};
@@ -29,7 +29,7 @@ use louds::{is_tree, write_degrees};
 pub fn write_tree(degrees: &[usize], words: &mut [u64], upper: &mut [u64], lower: &mut [u64])
     requires short { length degrees.now < 2 ^ 60 }
     requires tree { IsTree degrees.now }
-    requires clear { words.old ≡ replicate (words_of (length degrees.now)) 0 }
+    requires clear { words.old ≡ replicate (tree_words (length degrees.now)) 0 }
     requires upper { length upper.old ≡ upper_of_nodes (length degrees.now) }
     requires lower { length lower.old ≡ lower_of_nodes (length degrees.now) }
     ensures { IsTreeOf degrees.now words.new upper.new lower.new }

@@ -3,8 +3,8 @@ ghost use Rattle.std.specs.Prelude.{◌≡◌, ◌+◌, ◌-◌, ◌*◌, ◌%�
 ghost use Rattle.std.specs.Prelude.{count_ones, ℕ, MatchOption};
 ghost use Rattle.bit_lists.specs.Bits.{bits_of};
 ghost use Rattle.bit_lists.specs.Count.{ones_before};
-ghost use Rattle.louds.specs.Held.{degrees_of, words_of, IsHeld};
-ghost use Rattle.louds_block.specs.Check.{KeepsLead, Leads};
+ghost use Rattle.louds.specs.Held.{degrees_of, tree_words, IsHeld};
+ghost use Rattle.louds_block.specs.Check.{KeepsLead, OnesLead};
 
 /// For each byte the least lead with which each of its 0 bits has more 1 bits before it than 0 bits.
 #[rattlefmt::skip]
@@ -79,8 +79,8 @@ fn ones_of_words(words: &[u64], len: usize) -> Option<usize>
     requires short { length words.now < 2 ^ 57 }
     requires within { len ≤ length words.now }
     ensures { let b = bits_of words.now in
-        MatchOption result (¬ (Leads b (64 * len)))
-        (λ ones. Leads b (64 * len) × (ones ≡ ones_before b (64 * len))) }
+        MatchOption result (¬ (OnesLead b (64 * len)))
+        (λ ones. OnesLead b (64 * len) × (ones ≡ ones_before b (64 * len))) }
 {
     let mut ones = 0;
     for i in 0..len {
@@ -102,7 +102,7 @@ fn ones_of_words(words: &[u64], len: usize) -> Option<usize>
 /// before it, and fewer than its `lone_zeros`.
 pub(crate) fn holds_tree(words: &[u64], nodes: usize) -> bool
     requires few { nodes < 2 ^ 60 }
-    requires tight { length words.now ≡ words_of nodes }
+    requires tight { length words.now ≡ tree_words nodes }
     ensures { IsTrue result
         ↔ IsHeld (degrees_of (bits_of words.now) nodes) nodes (bits_of words.now) }
 {

@@ -7,7 +7,7 @@ ghost use Rattle.bitm_tables.specs.declared.answer.Answer.{Answer};
 ghost use Rattle.bitm_tables.specs.Tables.{HasSizes};
 ghost use Rattle.louds.specs.Counted.{OnlySelects};
 ghost use Rattle.louds_block.specs.Block.{TreeParts};
-ghost use Rattle.louds_block.specs.Told.{in_lists, IsChild, IsCodeOf, IsDegree, IsParent};
+ghost use Rattle.louds_block.specs.Told.{in_lists, IsChildAnswer, IsCodeOf, IsDegree, IsParent};
 
 use crate::tree::LoudsView;
 use bitm_many::lists::total_select_many_on;
@@ -78,7 +78,7 @@ impl<T: TableSource> Asks<0, T> for Degrees {
 struct Children;
 
 impl<T: TableSource> Asks<0, T> for Children {
-    ghost holds = { IsChild };
+    ghost holds = { IsChildAnswer };
 
     ghost selects = { 1 };
 
@@ -221,7 +221,7 @@ pub fn total_child_list_on<T: TableSource>(
     requires part { 0 < length (T.lists source.old).upper }
     requires room { length out.old ≡ length nodes.now }
     requires ks { length ks.now ≡ length nodes.now }
-    ensures each { (j : ℕ) → j < length nodes.now → IsCodeOf (IsChild (slice_index nodes.now j)
+    ensures each { (j : ℕ) → j < length nodes.now → IsCodeOf (IsChildAnswer (slice_index nodes.now j)
         (slice_index ks.now j) (in_lists len (T.lists source.old))) (slice_index out.new j) }
     ensures reads { OnlySelects T.lists T.reads source.old source.new
         (2 * length nodes.now) 0 }
@@ -282,7 +282,7 @@ impl<'a> LoudsView<'a> {
     pub fn child_list(&self, nodes: &[usize], ks: &[usize], out: &mut [usize])
         requires room { length out.old ≡ length nodes.now }
         requires ks { length ks.now ≡ length nodes.now }
-        ensures each { (j : ℕ) → j < length nodes.now → IsCodeOf (IsChild (slice_index nodes.now j)
+        ensures each { (j : ℕ) → j < length nodes.now → IsCodeOf (IsChildAnswer (slice_index nodes.now j)
             (slice_index ks.now j) self.now) (slice_index out.new j) }
     {
         total_child_list_on(&mut self.probe(), self.len(), nodes, ks, out);

@@ -1,8 +1,8 @@
 //! The sections of the block of a tree.
 ghost use Rattle.std.specs.Prelude.{◌≡◌, ◌^◌, ◌<◌};
-ghost use Rattle.louds.specs.Held.{words_of};
+ghost use Rattle.louds.specs.Held.{tree_words};
 ghost use Rattle.bitm_block.specs.Layout.{end_of};
-ghost use Rattle.louds_block.specs.Block.{end_at, lower_of_nodes, tree_head, tree_sections, upper_of_nodes};
+ghost use Rattle.louds_block.specs.Block.{lower_of_nodes, tree_end_at, tree_head, tree_sections, upper_of_nodes};
 
 use bitm_block::{Head, Section, aligned};
 use lent_tables::{lower_len, upper_len};
@@ -37,7 +37,7 @@ impl Lens {
     #[inline(always)]
     pub fn of(nodes: usize) -> Lens
         requires { nodes < 2 ^ 60 }
-        ensures words { result.words ≡ words_of nodes }
+        ensures words { result.words ≡ tree_words nodes }
         ensures upper { result.upper ≡ upper_of_nodes nodes }
         ensures lower { result.lower ≡ lower_of_nodes nodes }
         ensures short { result.words < 2 ^ 56 }
@@ -91,7 +91,7 @@ pub(crate) fn tree_sections(nodes: usize) -> [Section; 3]
 pub fn size(nodes: usize) -> usize
     requires { nodes < 2 ^ 60 }
     ensures sections { result ≡ end_of (tree_sections nodes) }
-    ensures parts { result ≡ end_at nodes }
+    ensures parts { result ≡ tree_end_at nodes }
     ensures short { result < 2 ^ 59 }
 {
     let lens = Lens::of(nodes);

@@ -18,7 +18,7 @@ use Rattle.bitm_block.specs.declared.head.Head.{Head}
 use Rattle.bitm_block.specs.declared.layout.Section.{Section}
 use Rattle.lent_tables.specs.Sizes.{lists_of}
 use Rattle.matrix_levels.specs.Levels.{columns}
-use Rattle.matrix_levels.specs.Matrix.{quarters_for, words_of, IsMatrix, IsMatrixOf}
+use Rattle.matrix_levels.specs.Matrix.{matrix_words, quarters_for, IsMatrix, IsMatrixOf}
 use Rattle.matrix_levels.proofs.lemmas.MatrixLemmas.{is-matrix, items_of-is, made-matrix}
 use Rattle.lent_levels.specs.Levels.{levels_of, levels_with}
 use Rattle.matrix_block.specs.Block.{end_at, has_quarters, items_in, lists_in, lower_at, lower_of_numbers, matrix_head, matrix_in, sections_with, ones_at, parts_of, quarters_in, quarters_of_numbers, upper_at, upper_of_numbers, zeros_at, AreParts, CanHold, HasLengths, HasMatrixSections, HaveQuarters, HoldsMatrix, IsBlockOf, MatrixParts, StandsIn}
@@ -31,8 +31,8 @@ part_of_block block front part back i j is from to = ap (λ b. slice_range b i j
 -- the lengths of a header, of the sections of a matrix and of what stands between them
 pub record HaveLengths (n w : ℕ) (head words gap upper gap2 lower gap3 ones gap4 zeros : List ℕ) : Type 0 where
   pub head_len : length head ≡ 40
-  pub words_len : length words ≡ words_of n w
-  pub gap_len : length gap + 40 + words_of n w ≡ upper_at n w
+  pub words_len : length words ≡ matrix_words n w
+  pub gap_len : length gap + 40 + matrix_words n w ≡ upper_at n w
   pub upper_len : length upper ≡ upper_of_numbers n w
   pub gap2_len : length gap2 + upper_at n w + upper_of_numbers n w ≡ lower_at n w
   pub lower_len : length lower ≡ lower_of_numbers n w
@@ -68,7 +68,7 @@ stands xs w head words gap upper gap2 lower gap3 ones gap4 zeros tail lens parts
     omega (arith, length-append f3 (lower ++ gap3), length-append lower gap3, len3, lens.lower_len, lens.gap3_len) in
     let len5 : length f5 ≡ zeros_at n w =
     omega (arith, length-append f4 (ones ++ gap4), length-append ones gap4, len4, lens.ones_len, lens.gap4_len) in
-    let words_are : slice_range block 40 (40 + words_of n w) ≡ words =
+    let words_are : slice_range block 40 (40 + matrix_words n w) ≡ words =
     part_of_block block head words (gap ++ r2) 40 _ (ap (λ r. head ++ r) (append_assoc words gap r2)) (sym lens.head_len) (omega (arith, lens.words_len)) in
     let upper_are : slice_range block (upper_at n w) (upper_at n w + upper_of_numbers n w) ≡ upper =
     part_of_block block f2 upper (gap2 ++ r3) (upper_at n w) _ (at2 ∙ ap (λ r. f2 ++ r) (append_assoc upper gap2 r3)) (sym len2) (omega (arith, lens.upper_len)) in
@@ -90,7 +90,7 @@ stands xs w head words gap upper gap2 lower gap3 ones gap4 zeros tail lens parts
 
 -- bits that are the levels of numbers, with their tables and those of the levels, are a matrix
 pub parts-are : (xs : List ℕ) (w k : ℕ) (words upper lower ones zeros : List ℕ) → CanHold xs w
-    → length words ≡ words_of (length xs) w → length upper ≡ upper_of_numbers (length xs) w → length lower ≡ lower_of_numbers (length xs) w
+    → length words ≡ matrix_words (length xs) w → length upper ≡ upper_of_numbers (length xs) w → length lower ≡ lower_of_numbers (length xs) w
     → length ones ≡ w → length zeros ≡ w → k ≡ w → take (w * length xs) (bits_of words) ≡ columns xs w w
     → IsIndexed (lists_of words upper lower) → AreCounts (levels_of (length xs) k ones zeros) (bits_of words)
     → AreParts xs w words upper lower ones zeros
@@ -129,7 +129,7 @@ stands-on xs w front back whole stands =
     let l = slice_range front (lower_at n w) (lower_at n w + lower_of_numbers n w) in
     let o = slice_range front (ones_at n w) (ones_at n w + w) in
     let z = slice_range front (zeros_at n w) (zeros_at n w + w) in
-    let words = slice_range block 40 (40 + words_of n w) in
+    let words = slice_range block 40 (40 + matrix_words n w) in
     let upper = slice_range block (upper_at n w) (upper_at n w + upper_of_numbers n w) in
     let lower = slice_range block (lower_at n w) (lower_at n w + lower_of_numbers n w) in
     let ones = slice_range block (ones_at n w) (ones_at n w + w) in
@@ -137,18 +137,18 @@ stands-on xs w front back whole stands =
     (subst (λ (x : List ℕ). AreParts xs w words upper lower x z) (at (ones_at n w) w (omega arith))
     (subst (λ (x : List ℕ). AreParts xs w words upper x o z) (at (lower_at n w) (lower_of_numbers n w) (omega arith))
     (subst (λ (x : List ℕ). AreParts xs w words x l o z) (at (upper_at n w) (upper_of_numbers n w) (omega arith))
-    (subst (λ (x : List ℕ). AreParts xs w x u l o z) (at 40 (words_of n w) (omega arith)) stands))))
+    (subst (λ (x : List ℕ). AreParts xs w x u l o z) (at 40 (matrix_words n w) (omega arith)) stands))))
 
 -- quarters after a front that holds a matrix are those of the block
 pub quarters-on : (n w : ℕ) (front quarters gap : List ℕ) → length front ≡ end_at n w → length quarters ≡ quarters_of_numbers n w
     → AreQuartersOf (bits_in (lists_in front n w)) quarters → HaveQuarters n w (front ++ (quarters ++ gap))
 quarters-on n w front quarters gap whole len right =
     let block = front ++ (quarters ++ gap) in
-    let words : slice_range front 40 (40 + words_of n w) ≡ slice_range block 40 (40 + words_of n w) =
-    sym (in-front front (quarters ++ gap) 40 (40 + words_of n w) (omega arith) (omega (arith, whole))) in
+    let words : slice_range front 40 (40 + matrix_words n w) ≡ slice_range block 40 (40 + matrix_words n w) =
+    sym (in-front front (quarters ++ gap) 40 (40 + matrix_words n w) (omega arith) (omega (arith, whole))) in
     let own : quarters ≡ slice_range block (end_at n w) (end_at n w + quarters_of_numbers n w) =
     sym (cut front quarters gap (end_at n w) (end_at n w + quarters_of_numbers n w) (sym whole) (omega (arith, len))) in
-    subst (λ (qs : List ℕ). AreQuartersOf (bits_of (slice_range block 40 (40 + words_of n w))) qs) own
+    subst (λ (qs : List ℕ). AreQuartersOf (bits_of (slice_range block 40 (40 + matrix_words n w))) qs) own
     (subst (λ (ws : List ℕ). AreQuartersOf (bits_of ws) quarters) words right)
 
 -- what a sealed block has: the sections of a matrix, and these quarters
@@ -158,7 +158,7 @@ pub record HasParts (n w : ℕ) (old new quarters : List ℕ) : Type 0 where
   pub len_is : slice_index new 3 ≡ n
   pub width_is : slice_index new 4 ≡ w
   pub sections : HasMatrixSections new
-  pub words_are : section_in new 0 ≡ slice_range old 40 (40 + words_of n w)
+  pub words_are : section_in new 0 ≡ slice_range old 40 (40 + matrix_words n w)
   pub upper_are : section_in new 1 ≡ slice_range old (upper_at n w) (upper_at n w + upper_of_numbers n w)
   pub lower_are : section_in new 2 ≡ slice_range old (lower_at n w) (lower_at n w + lower_of_numbers n w)
   pub ones_are : section_in new 3 ≡ slice_range old (ones_at n w) (ones_at n w + w)
@@ -207,7 +207,7 @@ module _ (n w : ℕ) (q : Bool) (old new : List ℕ) (sealed : IsSealed (matrix_
     len_is = ap (λ (h : Head). h.len) sealed.head_is;
     width_is = ap (λ (h : Head). h.width) sealed.head_is;
     sections = five-sections;
-    words_are = section-at 0 40 (words_of n w) (omega arith) (omega (arith, few)) refl;
+    words_are = section-at 0 40 (matrix_words n w) (omega arith) (omega (arith, few)) refl;
     upper_are = section-at 1 (upper_at n w) (upper_of_numbers n w) (omega arith) (omega (arith, few)) refl;
     lower_are = section-at 2 (lower_at n w) (lower_of_numbers n w) (omega arith) (omega (arith, few)) refl;
     ones_are = section-at 3 (ones_at n w) w (omega arith) (omega (arith, few)) refl;
@@ -269,7 +269,7 @@ quarters-cover b q h = grind arith
 
 -- a block with these parts is that of its numbers
 parts-hold : (xs : List ℕ) (w : ℕ) (old new quarters : List ℕ) → CanHold xs w → HasParts (length xs) w old new quarters → StandsIn xs w old
-    → length quarters ≡ quarters_for (length quarters == 0) (words_of (length xs) w)
+    → length quarters ≡ quarters_for (length quarters == 0) (matrix_words (length xs) w)
     → (length quarters == 0 ≡ false → AreQuartersOf (bits_in (lists_in old (length xs) w)) quarters) → IsBlockOf xs w new
 parts-hold xs w old new quarters can has parts quarters_len right =
     let n = length xs in
@@ -295,7 +295,7 @@ parts-hold xs w old new quarters can has parts quarters_len right =
         known_most = omega arith;
         starts_len = refl;
         no_quarters = λ e. eqb-true (length quarters) 0 e;
-        all_quarters = λ e. quarters-cover (w * n) (length quarters) (quarters_len ∙ ap (λ c. quarters_for c (words_of n w)) e);
+        all_quarters = λ e. quarters-cover (w * n) (length quarters) (quarters_len ∙ ap (λ c. quarters_for c (matrix_words n w)) e);
       };
       words_len = parts.words_len;
       sized = record {
@@ -339,6 +339,6 @@ block_is xs w true old new can sealed parts right =
     let quarters = asked_quarters n w true old in
     let h = right refl in
     let len : length quarters ≡ quarters_of_numbers n w =
-    h.len ∙ ap (λ k. div_ceil k 512) (bits_are_counted (lists_in old n w).words ∙ ap (λ k. 64 * k) parts.words_len) ∙ sym (records_of (words_of n w)) in
+    h.len ∙ ap (λ k. div_ceil k 512) (bits_are_counted (lists_in old n w).words ∙ ap (λ k. 64 * k) parts.words_len) ∙ sym (records_of (matrix_words n w)) in
     parts-hold xs w old new quarters can (has-parts n w true old new sealed quarters (own-quarters n w true old new sealed)) parts
     (as-many (length quarters) (quarters_of_numbers n w) len) (λ _. h)

@@ -7,7 +7,7 @@ use Rattle.bitm_tables.specs.declared.answer.Answer.TheVariants.{Found, Absent}
 use Rattle.lent_levels.specs.Ranges.{IsNextOf}
 use Rattle.matrix_levels.specs.Numbers.{count_less, IsNextItem}
 use Rattle.number_lists.specs.SharedFrom.{shared_from}
-use Rattle.matrix_block.specs.RangeLists.{AreRising}
+use Rattle.matrix_block.specs.RangeLists.{AreRisingFrom}
 use Rattle.number_lists.proofs.SharedFromLemmas.{less-grows, misses-after, misses-all, misses-below, not-first, not-second, shared-first, shared-none, shared-skip}
 
 -- x is the least number of the list that is at least v
@@ -100,7 +100,7 @@ module _ (xs ys : List ℕ) (n from bound turn k : ℕ) (numbers : List ℕ) (s 
 -- what holds after a turn, of the new bound, and of how many numbers were written
 pub record IsTurned (w from : ℕ) (old : List ℕ) (holds : Type 0) (xs ys : List ℕ) (turn bound k : ℕ) (numbers : List ℕ) : Type 0 where
   pub from_on : from ≤ bound
-  pub rising : AreRising w from k old numbers
+  pub rising : AreRisingFrom w from k old numbers
   pub below : All (λ x. x < bound) (take k numbers)
   pub right : holds → AreSharedSoFar xs ys (2 ^ w) from bound turn k numbers
 

@@ -11,12 +11,12 @@ use Rattle.number_lists.specs.Distinct.{coming_tallies, tallies_from, StandsBetw
 use Rattle.matrix_levels.specs.Numbers.{count_equal, count_less, IsSmallest}
 use Rattle.number_lists.proofs.DistinctLemmas.{after, coming-first, coming-from, coming-none, stands-after, stands-from}
 use Rattle.matrix_levels.proofs.lemmas.OrderLemmas.{at_most-is, count_less-grows}
-use Rattle.matrix_block.specs.RangeLists.{tallies_in, AreCounts, AreRising, AreWritten}
+use Rattle.matrix_block.specs.RangeLists.{tallies_in, AreItemsWritten, AreRisingFrom, AreTallyCounts}
 
-pub written-none : (xs : List ℕ) → AreWritten 0 xs xs
+pub written-none : (xs : List ℕ) → AreItemsWritten 0 xs xs
 written-none xs = record { room = omega arith; len = refl; behind = refl }
 
-pub written-more : (k x : ℕ) (old now : List ℕ) → AreWritten k old now → k < length old → AreWritten (k + 1) old (set now k x)
+pub written-more : (k x : ℕ) (old now : List ℕ) → AreItemsWritten k old now → k < length old → AreItemsWritten (k + 1) old (set now k x)
 written-more k x old now w inside = record {
   room = omega (arith, inside);
   len = length-set now k x ∙ w.len;
@@ -49,23 +49,23 @@ last-decides xs x rising below =
     (cases_lt i (length xs - 1)))
 
 -- the first items, with one more
-pub front-more : (k x : ℕ) (old now : List ℕ) → AreWritten k old now → k < length old → take (k + 1) (set now k x) ≡ take k now ++ x ∷ []
+pub front-more : (k x : ℕ) (old now : List ℕ) → AreItemsWritten k old now → k < length old → take (k + 1) (set now k x) ≡ take k now ++ x ∷ []
 front-more k x old now w inside = take_more_set now k x (omega (arith, inside, w.len))
 
-all-more : (P : ℕ → Type 0) (k x : ℕ) (old now : List ℕ) → AreWritten k old now → k < length old → All P (take k now) → P x
+all-more : (P : ℕ → Type 0) (k x : ℕ) (old now : List ℕ) → AreItemsWritten k old now → k < length old → All P (take k now) → P x
     → All P (take (k + 1) (set now k x))
 all-more P k x old now w inside all one =
     All-same P (take (k + 1) (set now k x)) (take k now ++ x ∷ []) (front-more k x old now w inside) (All-push P (take k now) x all one)
 
-pub rising-none : (w from : ℕ) (xs : List ℕ) → AreRising w from 0 xs xs
+pub rising-none : (w from : ℕ) (xs : List ℕ) → AreRisingFrom w from 0 xs xs
 rising-none w from xs = record {
   narrow = record { written = written-none xs; fit = All-nil (λ x. x < 2 ^ w) };
   rising = λ k h. absurd (omega arith);
   least = All-nil (λ x. from ≤ x);
 }
 
-pub rising-more : (w from k x : ℕ) (old now : List ℕ) → AreRising w from k old now → k < length old → from ≤ x → x < 2 ^ w
-    → All (λ y. y < x) (take k now) → AreRising w from (k + 1) old (set now k x)
+pub rising-more : (w from k x : ℕ) (old now : List ℕ) → AreRisingFrom w from k old now → k < length old → from ≤ x → x < 2 ^ w
+    → All (λ y. y < x) (take k now) → AreRisingFrom w from (k + 1) old (set now k x)
 rising-more w from k x old now r inside least fit less =
     let R : List ℕ → Type 0 = IsStrictlyIncreasing in
     record {
@@ -77,11 +77,11 @@ rising-more w from k x old now r inside least fit less =
       least = all-more (λ y. from ≤ y) k x old now r.narrow.written inside r.least least;
     }
 
-pub counts-none : (most : ℕ) (xs : List ℕ) → AreCounts most 0 xs xs
+pub counts-none : (most : ℕ) (xs : List ℕ) → AreTallyCounts most 0 xs xs
 counts-none most xs = record { written = written-none xs; some = All-nil (λ c. 1 ≤ c); few = All-nil (λ c. c ≤ most) }
 
-pub counts-more : (most k c : ℕ) (old now : List ℕ) → AreCounts most k old now → k < length old → 1 ≤ c → c ≤ most
-    → AreCounts most (k + 1) old (set now k c)
+pub counts-more : (most k c : ℕ) (old now : List ℕ) → AreTallyCounts most k old now → k < length old → 1 ≤ c → c ≤ most
+    → AreTallyCounts most (k + 1) old (set now k c)
 counts-more most k c old now r inside some below = record {
   written = written-more k c old now r.written inside;
   some = all-more (λ d. 1 ≤ d) k c old now r.written inside r.some some;

@@ -9,14 +9,14 @@ use Rattle.bitm_block.specs.declared.head.Head.{Head}
 use Rattle.bitm_block.specs.declared.layout.Section.{Section}
 use Rattle.lent_tables.specs.Sizes.{lists_of}
 use Rattle.lent_levels.specs.Levels.{levels_of, levels_with, AreNumbers, HasLevels}
-use Rattle.matrix_levels.specs.Matrix.{numbers_in, quarters_for, words_of, IsMatrix, LevelTables}
+use Rattle.matrix_levels.specs.Matrix.{matrix_words, numbers_in, quarters_for, IsMatrix, LevelTables}
 
 -- how many entries the upper and the lower table of n numbers of w bits have
 abbrev pub upper_of_numbers : ℕ → ℕ → ℕ
-upper_of_numbers n w = div_ceil (words_of n w) (2 ^ 26)
+upper_of_numbers n w = div_ceil (matrix_words n w) (2 ^ 26)
 
 abbrev pub lower_of_numbers : ℕ → ℕ → ℕ
-lower_of_numbers n w = div_ceil (words_of n w) 32
+lower_of_numbers n w = div_ceil (matrix_words n w) 32
 
 -- a number can have so many bits
 abbrev pub IsWidth : ℕ → Type 0
@@ -28,13 +28,13 @@ matrix_head n w = record { kind = 6; len = n; width = w; ones_log2 = 0; zeros_lo
 
 -- how many numbers the quarters of n numbers of w bits have
 abbrev pub quarters_of_numbers : ℕ → ℕ → ℕ
-quarters_of_numbers n w = div_ceil (words_of n w) 8
+quarters_of_numbers n w = div_ceil (matrix_words n w) 8
 
 -- the sections of a compact matrix of n numbers of w bits: words, upper and lower table, and for each level the 1 bits
 -- before it and how many of its items have a 0 bit
 abbrev pub matrix_sections : ℕ → ℕ → List Section
 matrix_sections n w =
-    record { role = 1; count = words_of n w } ∷ record { role = 2; count = upper_of_numbers n w }
+    record { role = 1; count = matrix_words n w } ∷ record { role = 2; count = upper_of_numbers n w }
     ∷ record { role = 3; count = lower_of_numbers n w } ∷ record { role = 11; count = w } ∷ record { role = 12; count = w } ∷ []
 
 -- these, and quarters or none
@@ -44,7 +44,7 @@ sections_with n w quarters =
 
 -- where the sections after the first begin, and where the block ends, without quarters and with these or none
 abbrev pub upper_at : ℕ → ℕ → ℕ
-upper_at n w = 40 + aligned (words_of n w)
+upper_at n w = 40 + aligned (matrix_words n w)
 
 abbrev pub lower_at : ℕ → ℕ → ℕ
 lower_at n w = upper_at n w + aligned (upper_of_numbers n w)
@@ -95,7 +95,7 @@ pub record IsPlain (levels : LevelTables) : Type 0 where
 -- said of what they hold
 pub record HasLengths (parts : MatrixParts) : Type 0 where
   pub levels : HasLevels parts.levels
-  pub words_len : length parts.lists.words ≡ words_of parts.levels.len parts.levels.width
+  pub words_len : length parts.lists.words ≡ matrix_words parts.levels.len parts.levels.width
   pub sized : HasSizes parts.lists
   pub quarters_len : length parts.levels.quarters ≡ quarters_for parts.levels.compact (length parts.lists.words)
   pub plain : IsPlain parts.levels
@@ -130,14 +130,14 @@ pub record CanHold (xs : List ℕ) (w : ℕ) : Type 0 where
   pub fit : All (λ x. x < 2 ^ w) xs
 
 -- the lengths of the scratch and of a block are those of n numbers of w bits, with quarters or without
-pub record HasRoom (n w : ℕ) (quarters : Bool) (scratch block : ℕ) : Type 0 where
+pub record HasMatrixRoom (n w : ℕ) (quarters : Bool) (scratch block : ℕ) : Type 0 where
   pub numbers : AreNumbers n w
   pub block_len : block ≡ end_of (sections_with n w quarters)
   pub scratch_len : scratch ≡ 2 * n
 
 -- words and tables that hold these numbers of w bits
 pub record AreParts (numbers : List ℕ) (w : ℕ) (words upper lower ones zeros : List ℕ) : Type 0 where
-  pub words_len : length words ≡ words_of (length numbers) w
+  pub words_len : length words ≡ matrix_words (length numbers) w
   pub upper_len : length upper ≡ upper_of_numbers (length numbers) w
   pub lower_len : length lower ≡ lower_of_numbers (length numbers) w
   pub ones_len : length ones ≡ w
@@ -148,14 +148,14 @@ pub record AreParts (numbers : List ℕ) (w : ℕ) (words upper lower ones zeros
 -- the words with their tables that stand in a block of n numbers of w bits
 abbrev pub lists_in : List ℕ → ℕ → ℕ → Lists
 lists_in block n w =
-    lists_of (slice_range block 40 (40 + words_of n w)) (slice_range block (upper_at n w) (upper_at n w + upper_of_numbers n w))
+    lists_of (slice_range block 40 (40 + matrix_words n w)) (slice_range block (upper_at n w) (upper_at n w + upper_of_numbers n w))
     (slice_range block (lower_at n w) (lower_at n w + lower_of_numbers n w))
 
 -- they stand in a block where its sections are
 abbrev pub StandsIn : List ℕ → ℕ → List ℕ → Type 0
 StandsIn numbers w block =
     let n = length numbers in
-    AreParts numbers w (slice_range block 40 (40 + words_of n w))
+    AreParts numbers w (slice_range block 40 (40 + matrix_words n w))
     (slice_range block (upper_at n w) (upper_at n w + upper_of_numbers n w))
     (slice_range block (lower_at n w) (lower_at n w + lower_of_numbers n w)) (slice_range block (ones_at n w) (ones_at n w + w))
     (slice_range block (zeros_at n w) (zeros_at n w + w))

@@ -3,7 +3,7 @@ ghost use Rattle.std.specs.Prelude.{slice_range};
 ghost use Rattle.matrix_levels.specs.Numbers.{count_between, count_less};
 ghost use Rattle.matrix_block.specs.Block.{items_in, HoldsMatrix};
 ghost use Rattle.lent_levels.specs.Ranges.{IsNextOf, IsNextWithin, IsPreviousOf, IsPreviousWithin};
-ghost use Rattle.lent_levels.specs.Ranges.{IsCountOf, IsCountWithin, IsSmallestOf, IsSmallestWithin};
+ghost use Rattle.lent_levels.specs.Ranges.{IsRangeCountOf, IsRangeCountWithin, IsSmallestOf, IsSmallestWithin};
 ghost use Rattle.lent_levels.specs.Ranges.{IsTallyOf, IsTallyWithin};
 
 use crate::matrix::MatrixView;
@@ -22,8 +22,8 @@ impl<'a> MatrixView<'a> {
     /// ```
     #[inline]
     pub fn count_less(&self, start: usize, end: usize, bound: u64) -> Answer<usize>
-        ensures inside { IsCountWithin self.now.levels.len start end result }
-        ensures answer { HoldsMatrix self.now → IsCountOf (items_in self.now) start end
+        ensures inside { IsRangeCountWithin self.now.levels.len start end result }
+        ensures answer { HoldsMatrix self.now → IsRangeCountOf (items_in self.now) start end
             (count_less (slice_range (items_in self.now) start end) bound) result }
     {
         let (levels, mut source) = self.parts();
@@ -127,8 +127,8 @@ impl<'a> MatrixView<'a> {
     /// ```
     #[inline]
     pub fn range_count(&self, start: usize, end: usize, low: u64, high: u64) -> Answer<usize>
-        ensures inside { IsCountWithin self.now.levels.len start end result }
-        ensures answer { HoldsMatrix self.now → IsCountOf (items_in self.now) start end
+        ensures inside { IsRangeCountWithin self.now.levels.len start end result }
+        ensures answer { HoldsMatrix self.now → IsRangeCountOf (items_in self.now) start end
             (count_between (slice_range (items_in self.now) start end) low high) result }
     {
         let (levels, mut source) = self.parts();

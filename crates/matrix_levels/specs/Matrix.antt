@@ -37,8 +37,8 @@ low_part b w n (suc r) p =
     (if item c p then 2 ^ r else 0) + low_part b w n r (next_place c p)
 
 -- the n numbers of w digits
-abbrev pub items_of : List Bool → ℕ → ℕ → List ℕ
-items_of b w n = map (low_part b w n w) (range_with_len 0 n)
+abbrev pub level_items : List Bool → ℕ → ℕ → List ℕ
+level_items b w n = map (low_part b w n w) (range_with_len 0 n)
 
 -- the digit by which level d is partitioned
 abbrev pub digit_place : LevelTables → ℕ → ℕ
@@ -66,14 +66,14 @@ pub record IsMatrixOf (xs : List ℕ) (l : LevelTables) (b : List Bool) : Type 0
   pub no_quarters : l.compact ≡ true → length l.quarters ≡ 0
 
 -- the bit v of rank r is that of an item of level d: x, with k equal to it before on that level
-pub record IsBitOf (xs : List ℕ) (l : LevelTables) (b : List Bool) (d x k : ℕ) (v : Bool) (r : ℕ) : Type 0 where
+pub record IsLevelBitOf (xs : List ℕ) (l : LevelTables) (b : List Bool) (d x k : ℕ) (v : Bool) (r : ℕ) : Type 0 where
   pub some : r < count_of b v
   pub start : (p : ℕ) → Picks b v r p → d * l.len ≤ p
   pub picked : (p : ℕ) → Picks b v r p → PicksItem (level xs l.width d) x k (p - d * l.len)
 
 -- the numbers that the words of a source hold
 abbrev pub numbers_in : LevelTables → Lists → List ℕ
-numbers_in l lists = items_of (bits_in lists) l.width l.len
+numbers_in l lists = level_items (bits_in lists) l.width l.len
 
 -- these are levels of numbers that the words of a source hold, and its tables are those of its words
 pub record IsMatrix (l : LevelTables) (lists : Lists) : Type 0 where
@@ -101,8 +101,8 @@ pub record OnlyRanksAndSelects {S : Type 0} (l : LevelTables) (lists_of : S → 
   pub same : lists_of new ≡ lists_of old
 
 -- as many words as n numbers of w digits take
-abbrev pub words_of : ℕ → ℕ → ℕ
-words_of n w = div_ceil (w * n) 64
+abbrev pub matrix_words : ℕ → ℕ → ℕ
+matrix_words n w = div_ceil (w * n) 64
 
 -- the number of quarters' numbers for the given number of words: ceil(words / 8), and none in a compact matrix
 abbrev pub quarters_for : Bool → ℕ → ℕ
@@ -110,5 +110,5 @@ quarters_for compact words = if compact then 0 else div_ceil words 8
 
 -- as many words as the numbers take, and as many known digits as their starts are to have
 pub record IsTight (l : LevelTables) (ws : List ℕ) : Type 0 where
-  pub words : length ws ≡ words_of l.len l.width
+  pub words : length ws ≡ matrix_words l.len l.width
   pub known : l.known ≡ known_of l.len l.width

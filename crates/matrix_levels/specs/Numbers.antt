@@ -2,8 +2,8 @@
 use Rattle.std.specs.Prelude.{◌≡◌, ℕ, ◌<◌, ◌≤◌, ◌==◌, ◌&&◌, nat_lt, nat_le, List, length, take, slice_index, count_by, Option, MatchOption, All, Contains}
 
 -- how many of the first i items are v; past the end, of all
-abbrev pub count_before : List ℕ → ℕ → ℕ → ℕ
-count_before xs v i = count_by (λ x. x == v) (take i xs)
+abbrev pub occurrences_before : List ℕ → ℕ → ℕ → ℕ
+occurrences_before xs v i = count_by (λ x. x == v) (take i xs)
 
 -- how many items are v
 abbrev pub count_equal : List ℕ → ℕ → ℕ
@@ -13,24 +13,24 @@ count_equal xs v = count_by (λ x. x == v) xs
 pub record PicksItem (xs : List ℕ) (v k p : ℕ) : Type 0 where
   pub inside : p < length xs
   pub item : slice_index xs p ≡ v
-  pub before : count_before xs v p ≡ k
+  pub before : occurrences_before xs v p ≡ k
 
 -- how many of the first i items are v, and None exactly where there are fewer items
 abbrev pub IsItemRank : List ℕ → ℕ → ℕ → Option ℕ → Type 0
-IsItemRank xs v i o = MatchOption o (length xs < i) (λ n. (i ≤ length xs) × (n ≡ count_before xs v i))
+IsItemRank xs v i o = MatchOption o (length xs < i) (λ n. (i ≤ length xs) × (n ≡ occurrences_before xs v i))
 
 -- the place of the item v with k such items before it, and None exactly where there are no more than k of them
 abbrev pub IsItemSelect : List ℕ → ℕ → ℕ → Option ℕ → Type 0
-IsItemSelect xs v k o = MatchOption o (count_before xs v (length xs) ≤ k) (PicksItem xs v k)
+IsItemSelect xs v k o = MatchOption o (occurrences_before xs v (length xs) ≤ k) (PicksItem xs v k)
 
 -- for each place the item there
 abbrev pub GetsEach : List ℕ → List ℕ → List ℕ → Type 0
 GetsEach xs places items = (k : ℕ) → k < length places → slice_index items k ≡ slice_index xs (slice_index places k)
 
 -- for each number and place how many items before the place are the number
-abbrev pub RanksEach : List ℕ → List ℕ → List ℕ → List ℕ → Type 0
-RanksEach xs numbers places ranks =
-    (k : ℕ) → k < length places → slice_index ranks k ≡ count_before xs (slice_index numbers k) (slice_index places k)
+abbrev pub RanksEachNumber : List ℕ → List ℕ → List ℕ → List ℕ → Type 0
+RanksEachNumber xs numbers places ranks =
+    (k : ℕ) → k < length places → slice_index ranks k ≡ occurrences_before xs (slice_index numbers k) (slice_index places k)
 
 -- how many items are less than v
 abbrev pub count_less : List ℕ → ℕ → ℕ

@@ -1,5 +1,6 @@
 -- What a look-up over words, tables and sizes that may hold anything answers.
 use Rattle.std.specs.Prelude.{◌≡◌, ⊤, ℕ, ◌<◌, Option, Some, None}
+use Rattle.bitm_tables.specs.Answers.{Right}
 use Rattle.bitm_tables.specs.declared.answer.Answer.{Answer}
 use Rattle.bitm_tables.specs.declared.answer.Answer.TheVariants.{Found, Absent, Wrong}
 
@@ -11,12 +12,4 @@ IsBelow count Wrong = ⊤
 
 -- the number, and Absent exactly where there is none
 abbrev pub IsNumbered : Option ℕ → Answer ℕ → Type 0
-IsNumbered number (Found n) = number ≡ Some n
-IsNumbered number Absent = number ≡ None
-IsNumbered number Wrong = ⊥
-
--- what is known where Absent is answered
-abbrev pub IfAbsent : Answer ℕ → Type 0 → Type 0
-IfAbsent (Found n) known = ⊤
-IfAbsent Absent known = known
-IfAbsent Wrong known = ⊤
+IsNumbered number = Right (λ n. number ≡ Some n) (number ≡ None)

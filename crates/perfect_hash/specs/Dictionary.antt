@@ -35,7 +35,7 @@ abbrev pub found_of : {H I P K : Type 0} → (P → ℕ → ℕ → ℕ → ℕ 
 found_of by hash e key = found_by (number_from by e.numbers) e.prints e.width (hash e.numbers.hasher key)
 
 -- there is a fragment of the given number of bits for each 1 bit
-pub record HasRoom (b : List Bool) (prints : List ℕ) (width : ℕ) : Type 0 where
+pub record HasPrintRoom (b : List Bool) (prints : List ℕ) (width : ℕ) : Type 0 where
   pub some : 0 < width
   pub few : width ≤ 32
   pub enough : ones_of b * width ≤ 64 * length prints

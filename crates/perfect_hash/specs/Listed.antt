@@ -6,7 +6,8 @@ use Rattle.bitm_tables.specs.Tables.{bits_in, HasTables, Lists}
 use Rattle.bitm_tables.specs.declared.answer.Answer.{Answer}
 use Rattle.hash_levels.specs.Levels.{fall_in, place_from}
 use Rattle.hash_levels.specs.Numbers.{number_in, AreSizes}
-use Rattle.perfect_hash.specs.Asking.{IfAbsent, IsBelow, IsNumbered}
+use Rattle.bitm_tables.specs.Answers.{IfAbsent}
+use Rattle.perfect_hash.specs.Asking.{IsBelow, IsNumbered}
 use Rattle.perfect_hash.specs.Placed.{FitIn}
 
 -- the number of a hash, below the count, as a look-up of it alone answers it

@@ -21,7 +21,7 @@ abbrev pub AreNumbersOfKeys : {K : Type 0} → (K → Option ℕ) → List K →
 AreNumbersOfKeys {K} number keys numbers = (k : ℕ) (key : K) → slice_get keys k ≡ Some key → slice_index numbers k ≡ told (number key)
 
 -- levels of these sizes, each of at least one word, are inside the bits, and there are few enough of both
-pub record AreInside (sizes : List ℕ) (bits : List Bool) : Type 0 where
+pub record AreLevelsInside (sizes : List ℕ) (bits : List Bool) : Type 0 where
   pub some : All (λ size. 0 < size) sizes
   pub within : 64 * sum sizes ≤ length bits
   pub few : length sizes ≤ 256
@@ -43,9 +43,9 @@ pub record AreLookedUp (fall : ℕ → ℕ → ℕ → ℕ) (b : List Bool) (siz
   pub wait : (k : ℕ) → k < length hashes → slice_index places k ≡ 2 ^ 64 - 1 → (a : ℕ) × (a < count) × (slice_index waiting a ≡ k)
 
 -- number k is that of the ones before place k
-pub record IsRanked (b : List Bool) (place number : ℕ) : Type 0 where
+pub record IsNumberOfPlace (b : List Bool) (place number : ℕ) : Type 0 where
   pub none : place ≡ 2 ^ 64 - 1 → number ≡ 2 ^ 64 - 1
   pub some : place ≢ 2 ^ 64 - 1 → number ≡ ones_before b place
 
 abbrev pub AreRanks : List Bool → List ℕ → List ℕ → Type 0
-AreRanks b places numbers = (k : ℕ) → k < length places → IsRanked b (slice_index places k) (slice_index numbers k)
+AreRanks b places numbers = (k : ℕ) → k < length places → IsNumberOfPlace b (slice_index places k) (slice_index numbers k)

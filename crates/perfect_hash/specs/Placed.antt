@@ -1,13 +1,12 @@
 -- What a search for the one of a hash answers.
 use Rattle.std.specs.Prelude.{◌≡◌, ⊤, ℕ, ◌<◌, ◌≤◌, List, All, sum, Option, Some, None}
+use Rattle.bitm_tables.specs.Answers.{Right}
 use Rattle.bitm_tables.specs.declared.answer.Answer.{Answer}
 use Rattle.bitm_tables.specs.declared.answer.Answer.TheVariants.{Found, Absent, Wrong}
 
 -- the place, and Absent exactly where there is none
 abbrev pub IsPlaced : Option ℕ → Answer ℕ → Type 0
-IsPlaced place (Found p) = place ≡ Some p
-IsPlaced place Absent = place ≡ None
-IsPlaced place Wrong = ⊥
+IsPlaced place = Right (λ p. place ≡ Some p) (place ≡ None)
 
 -- what is known where Absent is answered
 abbrev pub WhereAbsent : Answer ℕ → Type 0 → Type 0

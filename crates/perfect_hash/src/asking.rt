@@ -5,8 +5,9 @@ ghost use Rattle.bit_lists.specs.Bits.{item};
 ghost use Rattle.bit_lists.specs.Count.{ones_of};
 ghost use Rattle.bitm_tables.specs.Reads.{word_read, OnlyReads, ReadsAtMost};
 ghost use Rattle.bitm_tables.specs.Tables.{bits_in, HasSizes, HasTables, IsIndexed};
-ghost use Rattle.perfect_hash.specs.Asking.{IfAbsent, IsBelow, IsNumbered};
-ghost use Rattle.hash_levels.specs.Levels.{fall_in, looked, place_from, IsWithin};
+ghost use Rattle.bitm_tables.specs.Answers.{IfAbsent};
+ghost use Rattle.perfect_hash.specs.Asking.{IsBelow, IsNumbered};
+ghost use Rattle.hash_levels.specs.Levels.{fall_in, looked, place_from, ExceedsBy};
 ghost use Rattle.hash_levels.specs.Numbers.{number_by, number_in, AreSizes};
 ghost use Rattle.perfect_hash.specs.Placed.{FitIn, IsPlaced, WhereAbsent, WhereWrong};
 
@@ -136,7 +137,7 @@ pub(crate) fn number_by<const TESTS: u8, Q: Query, T: TableSource, P: Placing>(
         (Q.bits query.now (T.lists source.old)) hash ≡ None) }
     ensures reads { OnlyReads T.lists T.reads source.old source.new 1 1 (length sizes.now + 8) }
     ensures looked { let b = Q.bits query.now (T.lists source.old) in AreSizes sizes.now b
-        → IsWithin 8 ((T.reads source.old).words
+        → ExceedsBy 8 ((T.reads source.old).words
         + Q.words_each * looked (fall_in (P.fall placing.now) sizes.now hash) b 0 0 sizes.now)
         (T.reads source.new).words }
     ensures seeds { ReadsAtMost reads.old reads.new 0 0 (length sizes.now) }
@@ -206,7 +207,7 @@ pub fn total_number_by_on<T: TableSource, P: Placing>(
         (bits_in (T.lists source.old)) hash ≡ None) }
     ensures reads { OnlyReads T.lists T.reads source.old source.new 1 1 (length sizes.now + 8) }
     ensures looked { let b = bits_in (T.lists source.old) in AreSizes sizes.now b
-        → IsWithin 8 ((T.reads source.old).words
+        → ExceedsBy 8 ((T.reads source.old).words
         + looked (fall_in (P.fall placing.now) sizes.now hash) b 0 0 sizes.now)
         (T.reads source.new).words }
     ensures seeds { ReadsAtMost reads.old reads.new 0 0 (length sizes.now) }
@@ -236,7 +237,7 @@ pub(crate) fn number_by_on<T: TableSource, P: Placing>(
         (bits_in (T.lists source.old)) hash }
     ensures reads { OnlyReads T.lists T.reads source.old source.new 1 1 (length sizes.now + 8) }
     ensures looked { let b = bits_in (T.lists source.old) in
-        IsWithin 8 ((T.reads source.old).words
+        ExceedsBy 8 ((T.reads source.old).words
         + looked (fall_in (P.fall placing.now) sizes.now hash) b 0 0 sizes.now)
         (T.reads source.new).words }
 {

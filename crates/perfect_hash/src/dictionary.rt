@@ -3,7 +3,7 @@ ghost use Rattle.std.specs.Prelude.{◌≡◌, ◌*◌, ◌^◌, ◌<◌, ◌≤
 ghost use Rattle.std.specs.Box.{boxed_slice_items};
 ghost use Rattle.std.specs.Int.{div_ceil};
 ghost use Rattle.bit_lists.specs.Count.{ones_of};
-ghost use Rattle.perfect_hash.specs.Dictionary.{found_of, print_of, ArePrints, HasRoom, IsDictionary};
+ghost use Rattle.perfect_hash.specs.Dictionary.{found_of, print_of, ArePrints, HasPrintRoom, IsDictionary};
 ghost use Rattle.perfect_hash.specs.Parts.{number_at};
 ghost use Rattle.hash_levels.specs.Perfect.{IsMinimalPerfect};
 
@@ -32,7 +32,7 @@ pub struct Dictionary<H, I: Access = ArrayWithRank101111, P: Placing = Plain> {
 
 impl<H, I: Access, P: Placing> Model for Dictionary<H, I, P> {
     ghost use Rattle.std.specs.Box.{boxed_slice_items};
-    ghost use Rattle.perfect_hash.specs.Dictionary.{Entries, HasRoom};
+    ghost use Rattle.perfect_hash.specs.Dictionary.{Entries, HasPrintRoom};
 
     ghost Value = { Entries H I P };
 
@@ -42,7 +42,7 @@ impl<H, I: Access, P: Placing> Model for Dictionary<H, I, P> {
       width = d.width;
     } };
 
-    ghost invariant = { λ d. HasRoom d.numbers.bits (boxed_slice_items d.prints) d.width };
+    ghost invariant = { λ d. HasPrintRoom d.numbers.bits (boxed_slice_items d.prints) d.width };
 }
 
 /// The fingerprint of a hash.
@@ -66,7 +66,7 @@ fn write_prints<K, H: KeyHash<K>, I: Access, P: Placing>(
     prints: &mut [u64],
 )
     requires perfect { IsMinimalPerfect (number_at P.fall H.hash numbers.now) keys.now }
-    requires room { HasRoom numbers.now.bits prints.old width }
+    requires room { HasPrintRoom numbers.now.bits prints.old width }
     ensures prints { ArePrints (number_at P.fall H.hash numbers.now)
         (λ k. print_of width (H.hash numbers.now.hasher k)) keys.now prints.new width }
     ensures len { length prints.new ≡ length prints.old }
@@ -95,7 +95,7 @@ fn make_prints<K, H: KeyHash<K>, I: Access, P: Placing>(
     requires perfect { IsMinimalPerfect (number_at P.fall H.hash numbers.now) keys.now }
     requires some { 0 < width }
     requires few { width ≤ 32 }
-    ensures room { IfOk result (λ prints. HasRoom numbers.now.bits (boxed_slice_items prints) width) }
+    ensures room { IfOk result (λ prints. HasPrintRoom numbers.now.bits (boxed_slice_items prints) width) }
     ensures prints { IfOk result (λ prints. ArePrints (number_at P.fall H.hash numbers.now)
         (λ k. print_of width (H.hash numbers.now.hasher k)) keys.now (boxed_slice_items prints) width) }
     ensures size { IfOk result (λ prints.

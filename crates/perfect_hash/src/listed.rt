@@ -4,7 +4,7 @@ ghost use Rattle.std.specs.Prelude.{◌≡◌, ◌+◌, ◌*◌, ◌-◌, ◌^�
 ghost use Rattle.bitm_tables.specs.Reads.{OnlyReads};
 ghost use Rattle.bitm_tables.specs.Tables.{bits_in, HasSizes};
 ghost use Rattle.perfect_hash.specs.Listed.{AreCoded, AreNumbersTold, IsCode};
-ghost use Rattle.perfect_hash.specs.Many.{AreInside};
+ghost use Rattle.perfect_hash.specs.Many.{AreLevelsInside};
 ghost use Rattle.perfect_hash.specs.Placed.{FitIn};
 
 use crate::many::find_places;
@@ -71,7 +71,7 @@ fn number_block_on<T: TableSource, P: Placing>(
     numbers: &mut [usize],
 )
     requires sized { HasSizes (T.lists source.old) }
-    requires sizes { AreInside sizes.now (bits_in (T.lists source.old)) }
+    requires sizes { AreLevelsInside sizes.now (bits_in (T.lists source.old)) }
     requires same_length { length numbers.old ≡ length hashes.now }
     requires few { length hashes.now ≤ 32 }
     ensures coded { AreCoded (P.fall placing.now) sizes.now count absent (T.lists source.old)
@@ -107,7 +107,7 @@ fn number_each_on<T: TableSource, P: Placing>(
     numbers: &mut [usize],
 )
     requires sized { HasSizes (T.lists source.old) }
-    requires sizes { AreInside sizes.now (bits_in (T.lists source.old)) }
+    requires sizes { AreLevelsInside sizes.now (bits_in (T.lists source.old)) }
     requires same_length { length numbers.old ≡ length hashes.now }
     ensures coded { AreCoded (P.fall placing.now) sizes.now count absent (T.lists source.old)
         hashes.now numbers.new }

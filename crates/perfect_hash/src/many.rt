@@ -2,7 +2,7 @@
 ghost use Rattle.std.specs.Prelude.{◌≡◌, ◌≢◌, ◌+◌, ◌*◌, ◌%◌, ◌^◌, ◌-◌, ◌<◌, ◌≤◌, ℕ, length, slice_index};
 ghost use Rattle.bit_lists.specs.Count.{ones_before};
 ghost use Rattle.hash_levels.specs.Levels.{fall_in, place_from, GoesOn};
-ghost use Rattle.perfect_hash.specs.Many.{told, AreHashes, AreInside, AreLookedUp, AreNumbersOf};
+ghost use Rattle.perfect_hash.specs.Many.{told, AreHashes, AreLevelsInside, AreLookedUp, AreNumbersOf};
 ghost use Rattle.perfect_hash.specs.Many.{AreNumbersOfKeys, AreRanks, IsLookedUp};
 ghost use Rattle.perfect_hash.specs.Parts.{number_at, number_from};
 ghost use Rattle.bitm_tables.specs.Reads.{OnlyReads};
@@ -27,7 +27,7 @@ fn look<Q: Query, T: TableSource, P: Placing>(
     begin: usize,
     hash: u64,
 ) -> usize
-    requires sizes { AreInside sizes.now (Q.bits query.now (T.lists source.old)) }
+    requires sizes { AreLevelsInside sizes.now (Q.bits query.now (T.lists source.old)) }
     requires level { level < length sizes.now }
     requires goes_on { GoesOn (fall_in (P.fall placing.now) sizes.now hash)
         (Q.bits query.now (T.lists source.old)) sizes.now level begin }
@@ -60,7 +60,7 @@ fn look_at_level<Q: Query, T: TableSource, P: Placing>(
     waiting: &mut [usize],
     count: usize,
 ) -> usize
-    requires sizes { AreInside sizes.now (Q.bits query.now (T.lists source.old)) }
+    requires sizes { AreLevelsInside sizes.now (Q.bits query.now (T.lists source.old)) }
     requires level { level < length sizes.now }
     requires same_length { length places.old ≡ length hashes.now }
     requires before { AreLookedUp (fall_in (P.fall placing.now) sizes.now)
@@ -112,7 +112,7 @@ pub(crate) fn find_places<Q: Query, T: TableSource, P: Placing>(
     places: &mut [usize],
     waiting: &mut [usize],
 )
-    requires sizes { AreInside sizes.now (Q.bits query.now (T.lists source.old)) }
+    requires sizes { AreLevelsInside sizes.now (Q.bits query.now (T.lists source.old)) }
     requires same_length { length places.old ≡ length hashes.now }
     requires room { length hashes.now ≤ length waiting.old }
     ensures told { (k : ℕ) → k < length hashes.now → slice_index places.new k

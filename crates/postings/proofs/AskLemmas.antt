@@ -3,7 +3,7 @@ use Rattle.std.proofs.Common.{◌≡◌, ◌≢◌, ℕ, ◌+◌, ◌<◌, ◌�
 use Rattle.std.proofs.lemmas.Bool.{cases_lt}
 use Rattle.std.proofs.lemmas.List.{length-map}
 use Rattle.postings.specs.Next.{IsNextAtLeast}
-use Rattle.postings.specs.Shared.{list_at, AskedAtMost, IsAgreed, IsAsked, IsAsking, KeepsFrom, StandsIn}
+use Rattle.postings.specs.Shared.{list_at, AskedAtMost, IsAgreed, IsAsked, IsAsking, IsNumberIn, KeepsFrom}
 use Rattle.postings.specs.declared.sharing.Agreed.{Agreed}
 use Rattle.postings.specs.declared.sharing.Agreed.TheVariants.{Next, Ended}
 use Rattle.postings.proofs.SharingLemmas.{keeps_through, next_none, next_least, next_has, next_back}
@@ -58,15 +58,15 @@ module _ {C : Type 0} (L : C → List ℕ) (K : C → ℕ) (old lists : List C) 
       → IsAsking (map L old) (map K old) v (i + 1) (map L (set lists i now)) (map K (set lists i now))
   ask_agreed x is next =
       let here = there (Some x) next in
-      let has : StandsIn (list_at (map L lists) i) v =
-      subst (λ (y : ℕ). StandsIn (list_at (map L lists) i) y) is
+      let has : IsNumberIn (list_at (map L lists) i) v =
+      subst (λ (y : ℕ). IsNumberIn (list_at (map L lists) i) y) is
       (next_back (list_at (map L lists) i) v (Some x) (L now) x here (next_has (list_at (map L lists) i) v x (L now) here)) in
       record {
         agreed = λ j least less. ⊎_elim
             (λ (before : j < i). asking.agreed j least before)
             (λ (past : i ≤ j).
             let e : i ≡ j = omega (arith, less, past) in
-            subst (λ (k : ℕ). StandsIn (list_at (map L old) k) v) e (asking.keeps.back i v has))
+            subst (λ (k : ℕ). IsNumberIn (list_at (map L old) k) v) e (asking.keeps.back i v has))
             (cases_lt j i);
         keeps = keeps (Some x) next;
         at_most = at_most;

@@ -5,7 +5,7 @@ use Rattle.bitm_tables.specs.Tables.{HasSizes, Lists}
 use Rattle.elias_fano.specs.LentParts.{parts_of, Holds}
 use Rattle.elias_fano.specs.Low.{Lows}
 use Rattle.elias_fano.specs.Parts.{items_of}
-use Rattle.postings.specs.Held.{IsHeld}
+use Rattle.postings.specs.Held.{IsSpotHeld}
 use Rattle.postings.specs.Moves.{IsHere, IsReaching}
 use Rattle.postings.specs.Next.{IsReached}
 use Rattle.postings.specs.declared.spot.Spot.{Spot}
@@ -19,7 +19,7 @@ same_parts P low new lists later words width same h =
     (subst (λ (w : ℕ). P w low.words lists) (sym width) h))
 
 -- where the first number that is left is at least v, so is the number at the cursor
-pub reaching : (n w : ℕ) (low : List ℕ) (lists : Lists) (spot : Spot) (v : ℕ) → IsHeld n w low lists spot
+pub reaching : (n w : ℕ) (low : List ℕ) (lists : Lists) (spot : Spot) (v : ℕ) → IsSpotHeld n w low lists spot
     → IsReached (drop spot.at (items_of n w low lists.words)) v → IsReaching n v spot
 reaching n w low lists spot v h r =
     let xs = items_of n w low lists.words in
@@ -29,7 +29,7 @@ reaching n w low lists spot v h r =
 
 -- a cursor at the first number
 pub held_first : (xs : List ℕ) (n w : ℕ) (low : List ℕ) (lists : Lists) (spot : Spot) → Holds xs (parts_of n w low lists)
-    → items_of n w low lists.words ≡ xs → HasSizes lists → IsHere xs lists.words n spot → IsHeld n w low lists spot
+    → items_of n w low lists.words ≡ xs → HasSizes lists → IsHere xs lists.words n spot → IsSpotHeld n w low lists spot
 held_first xs n w low lists spot h is sizes here = record {
   parts = subst (λ (ys : List ℕ). Holds ys (parts_of n w low lists)) (sym is) h;
   sizes = sizes;

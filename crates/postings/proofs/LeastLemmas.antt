@@ -3,18 +3,18 @@ use Rattle.std.proofs.Common.{◌≡◌, ℕ, ◌+◌, ◌<◌, ◌≤◌, ◌�
 use Rattle.std.proofs.lemmas.Bool.{cases_lt}
 use Rattle.std.specs.Prelude.{MatchOption}
 use Rattle.postings.specs.Next.{IsNextAtLeast}
-use Rattle.postings.specs.Shared.{list_at, StandsIn, KeepsFrom}
+use Rattle.postings.specs.Shared.{list_at, IsNumberIn, KeepsFrom}
 use Rattle.postings.specs.Joined.{IsInFirst, IsLeastFrom, IsLeastOf, IsLesser}
 use Rattle.postings.proofs.SharingLemmas.{next_none, next_least, next_has, next_back}
 
 -- the least number from v on in one list
 record IsHead (xs : List ℕ) (v x : ℕ) : Type 0 where
   from : v ≤ x
-  there : StandsIn xs x
-  least : (y : ℕ) → v ≤ y → StandsIn xs y → x ≤ y
+  there : IsNumberIn xs x
+  least : (y : ℕ) → v ≤ y → IsNumberIn xs y → x ≤ y
 
 abbrev Head : List ℕ → ℕ → Option ℕ → Type 0
-Head xs v o = MatchOption o ((y : ℕ) → v ≤ y → StandsIn xs y → ⊥) (IsHead xs v)
+Head xs v o = MatchOption o ((y : ℕ) → v ≤ y → IsNumberIn xs y → ⊥) (IsHead xs v)
 
 -- a list that was not asked from v on is what it was from there on
 head_of : (old now : List (List ℕ)) (i v : ℕ) (o : Option ℕ) (new : List ℕ) → KeepsFrom old now v → IsNextAtLeast (list_at now i) v o new
@@ -27,17 +27,17 @@ head_of old now i v (Some x) new keeps next = record {
 }
 
 -- in one of the first i lists, or in the next
-split : (xss : List (List ℕ)) (i y : ℕ) → IsInFirst xss (i + 1) y → IsInFirst xss i y ⊎ StandsIn (list_at xss i) y
+split : (xss : List (List ℕ)) (i y : ℕ) → IsInFirst xss (i + 1) y → IsInFirst xss i y ⊎ IsNumberIn (list_at xss i) y
 split xss i y c = ⊎_elim
     (λ (l : c.0 < i). inl (c.0, l, c.2))
-    (λ (past : i ≤ c.0). let e : c.0 ≡ i = omega (arith, past, c.1) in inr (subst (λ (j : ℕ). StandsIn (list_at xss j) y) e c.2))
+    (λ (past : i ≤ c.0). let e : c.0 ≡ i = omega (arith, past, c.1) in inr (subst (λ (j : ℕ). IsNumberIn (list_at xss j) y) e c.2))
     (cases_lt c.0 i)
 
 more : (xss : List (List ℕ)) (i y : ℕ) → IsInFirst xss i y → IsInFirst xss (i + 1) y
 more xss i y c = (c.0, omega (arith, c.1), c.2)
 
 -- the least of the first i lists stays the least
-first_stays : (xss : List (List ℕ)) (i v x : ℕ) → IsLeastOf xss i v x → ((y : ℕ) → v ≤ y → StandsIn (list_at xss i) y → x ≤ y) → IsLeastOf xss (i + 1) v x
+first_stays : (xss : List (List ℕ)) (i v x : ℕ) → IsLeastOf xss i v x → ((y : ℕ) → v ≤ y → IsNumberIn (list_at xss i) y → x ≤ y) → IsLeastOf xss (i + 1) v x
 first_stays xss i v x h other = record {
   from = h.from;
   there = more xss i x h.there;

@@ -3,7 +3,7 @@ use Rattle.std.proofs.Common.{◌≡◌, ℕ, ◌+◌, ◌<◌, ◌≤◌, List,
 use Rattle.std.proofs.lemmas.Bool.{cases_lt}
 use Rattle.std.proofs.lemmas.List.{length-map}
 use Rattle.postings.specs.Next.{IsNextAtLeast}
-use Rattle.postings.specs.Shared.{list_at, AreShared, AskedAtMost, IsAsked, IsInAll, IsSharing, KeepsFrom, StandsIn}
+use Rattle.postings.specs.Shared.{list_at, AreShared, AskedAtMost, IsAsked, IsInAll, IsNumberIn, IsSharing, KeepsFrom}
 use Rattle.postings.specs.declared.sharing.Agreed.{Agreed}
 use Rattle.postings.proofs.SharingLemmas.{keeps_through, next_least}
 use Rattle.postings.proofs.StepLemmas.{step_next, step_next_there, step_keeps, step_asked, step_once}
@@ -78,7 +78,7 @@ module _ {C : Type 0} (L : C → List ℕ) (K : C → ℕ) (old lists : List C) 
     turned_next =
         turn_next (map L old) (map L lists) (map L (set lists 0 now)) (map L after) (map K old) (map K lists) (map K after) from n low v ys sharing some there moved e.keeps e.same once
 
-    pub turned_all : n < length ys → ((i : ℕ) → 1 ≤ i → i < length (map L (set lists 0 now)) → StandsIn (list_at (map L (set lists 0 now)) i) v)
+    pub turned_all : n < length ys → ((i : ℕ) → 1 ≤ i → i < length (map L (set lists 0 now)) → IsNumberIn (list_at (map L (set lists 0 now)) i) v)
         → IsSharing (map L old) (map K old) from (n + 1) (set ys n v) (map L after) (map K after) (v + 1)
     turned_all =
         turn_all (map L old) (map L lists) (map L (set lists 0 now)) (map L after) (map K old) (map K lists) (map K after) from n low v ys sharing some there moved e.keeps e.same once

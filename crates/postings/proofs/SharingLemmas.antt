@@ -3,34 +3,34 @@ use Rattle.std.proofs.Common.{◌≡◌, ◌≢◌, ℕ, ◌+◌, ◌-◌, ◌<�
 use Rattle.std.proofs.lemmas.Bool.{cases_lt, cases_eq}
 use Rattle.std.proofs.lemmas.List.{get_or-drop, get_or-set_same, get_or-set_other, length-set}
 use Rattle.postings.specs.Next.{IsNextAtLeast}
-use Rattle.postings.specs.Shared.{list_at, StandsIn, KeepsFrom}
+use Rattle.postings.specs.Shared.{list_at, IsNumberIn, KeepsFrom}
 
-pub next_kept : (old : List ℕ) (v : ℕ) (o : _) (new : List ℕ) (x : ℕ) → IsNextAtLeast old v o new → v ≤ x → StandsIn old x → StandsIn new x
+pub next_kept : (old : List ℕ) (v : ℕ) (o : _) (new : List ℕ) (x : ℕ) → IsNextAtLeast old v o new → v ≤ x → IsNumberIn old x → IsNumberIn new x
 next_kept old v o new x h from c =
     let past : h.passed ≤ c.0 = ⊎_elim
     (λ before. absurd (omega (arith, h.less c.0 before, c.2, from)))
     (λ (l : h.passed ≤ c.0). l)
     (cases_lt c.0 h.passed) in
     let is : h.passed + (c.0 - h.passed) ≡ c.0 = omega (arith, past) in
-    subst (λ (l : List ℕ). StandsIn l x) (sym h.rest)
+    subst (λ (l : List ℕ). IsNumberIn l x) (sym h.rest)
     (c.0 - h.passed, omega (arith, past, c.1, length-drop h.passed old), get_or-drop h.passed old (c.0 - h.passed) 0 ∙ (ap (λ (k : ℕ). get_or old k 0) is ∙ c.2))
 
-pub next_back : (old : List ℕ) (v : ℕ) (o : _) (new : List ℕ) (x : ℕ) → IsNextAtLeast old v o new → StandsIn new x → StandsIn old x
+pub next_back : (old : List ℕ) (v : ℕ) (o : _) (new : List ℕ) (x : ℕ) → IsNextAtLeast old v o new → IsNumberIn new x → IsNumberIn old x
 next_back old v o new x h c =
-    let there : StandsIn (drop h.passed old) x = subst (λ (l : List ℕ). StandsIn l x) h.rest c in
+    let there : IsNumberIn (drop h.passed old) x = subst (λ (l : List ℕ). IsNumberIn l x) h.rest c in
     (h.passed + there.0, omega (arith, there.1, length-drop h.passed old), sym (get_or-drop h.passed old there.0 0) ∙ there.2)
 
-pub next_none : (old : List ℕ) (v : ℕ) (new : List ℕ) (x : ℕ) → IsNextAtLeast old v None new → v ≤ x → StandsIn old x → ⊥
+pub next_none : (old : List ℕ) (v : ℕ) (new : List ℕ) (x : ℕ) → IsNextAtLeast old v None new → v ≤ x → IsNumberIn old x → ⊥
 next_none old v new x h from c =
-    let there : StandsIn [] x = subst (λ (l : List ℕ). StandsIn l x) h.answer (next_kept old v None new x h from c) in
+    let there : IsNumberIn [] x = subst (λ (l : List ℕ). IsNumberIn l x) h.answer (next_kept old v None new x h from c) in
     let none : there.0 < 0 = there.1 in omega (arith, none)
 
-pub next_least : (old : List ℕ) (v y : ℕ) (new : List ℕ) (x : ℕ) → IsNextAtLeast old v (Some y) new → v ≤ x → StandsIn old x → y ≤ x
+pub next_least : (old : List ℕ) (v y : ℕ) (new : List ℕ) (x : ℕ) → IsNextAtLeast old v (Some y) new → v ≤ x → IsNumberIn old x → y ≤ x
 next_least old v y new x h from c =
     let there = next_kept old v (Some y) new x h from c in
     omega (arith, h.answer.least there.0 there.1, there.2)
 
-pub next_has : (old : List ℕ) (v y : ℕ) (new : List ℕ) → IsNextAtLeast old v (Some y) new → StandsIn new y
+pub next_has : (old : List ℕ) (v y : ℕ) (new : List ℕ) → IsNextAtLeast old v (Some y) new → IsNumberIn new y
 next_has old v y new h = (0, h.answer.some, sym h.answer.is)
 
 -- ---- many lists
@@ -62,14 +62,14 @@ keeps_next xss i v o new inside h = record {
   count = length-set xss i new;
   back = λ j x c. ⊎_elim
       (λ (e : j ≡ i).
-      let P : ℕ → Type 0 = λ k. StandsIn (list_at (set xss i new) k) x → StandsIn (list_at xss k) x in
-      subst P (sym e) (λ there. next_back (list_at xss i) v o new x h (subst (λ (l : List ℕ). StandsIn l x) (at_same xss i new inside) there)) c)
-      (λ (n : j ≢ i). subst (λ (l : List ℕ). StandsIn l x) (at_other xss i j new n) c)
+      let P : ℕ → Type 0 = λ k. IsNumberIn (list_at (set xss i new) k) x → IsNumberIn (list_at xss k) x in
+      subst P (sym e) (λ there. next_back (list_at xss i) v o new x h (subst (λ (l : List ℕ). IsNumberIn l x) (at_same xss i new inside) there)) c)
+      (λ (n : j ≢ i). subst (λ (l : List ℕ). IsNumberIn l x) (at_other xss i j new n) c)
       (cases_eq j i);
   kept = λ j x from c. ⊎_elim
       (λ (e : j ≡ i).
-      let P : ℕ → Type 0 = λ k. StandsIn (list_at xss k) x → StandsIn (list_at (set xss i new) k) x in
-      subst P (sym e) (λ there. subst (λ (l : List ℕ). StandsIn l x) (sym (at_same xss i new inside)) (next_kept (list_at xss i) v o new x h from there)) c)
-      (λ (n : j ≢ i). subst (λ (l : List ℕ). StandsIn l x) (sym (at_other xss i j new n)) c)
+      let P : ℕ → Type 0 = λ k. IsNumberIn (list_at xss k) x → IsNumberIn (list_at (set xss i new) k) x in
+      subst P (sym e) (λ there. subst (λ (l : List ℕ). IsNumberIn l x) (sym (at_same xss i new inside)) (next_kept (list_at xss i) v o new x h from there)) c)
+      (λ (n : j ≢ i). subst (λ (l : List ℕ). IsNumberIn l x) (sym (at_other xss i j new n)) c)
       (cases_eq j i);
 }

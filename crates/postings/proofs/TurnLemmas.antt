@@ -3,7 +3,7 @@ use Rattle.std.proofs.Common.{◌≡◌, ◌≢◌, ℕ, ◌+◌, ◌^◌, ◌<�
 use Rattle.std.proofs.lemmas.Bool.{cases_lt}
 use Rattle.std.proofs.lemmas.List.{get_or-set_same, get_or-set_other}
 use Rattle.postings.specs.Next.{IsNextAtLeast}
-use Rattle.postings.specs.Shared.{list_at, StandsIn, IsAmong, KeepsFrom, IsInAll, AskedAtMost, IsSharing, AreShared}
+use Rattle.postings.specs.Shared.{list_at, AreShared, AskedAtMost, IsAmong, IsInAll, IsNumberIn, IsSharing, KeepsFrom}
 use Rattle.postings.proofs.SharingLemmas.{next_back, next_none, next_least, next_has, keeps_all, keeps_less, keeps_through}
 
 -- nothing is written yet
@@ -129,7 +129,7 @@ module _ (old now mid after : List (List ℕ)) (asked calls later : List ℕ) (f
   }
 
   -- all lists have v
-  module _ (inside : n < length ys) (agreed : (i : ℕ) → 1 ≤ i → i < length mid → StandsIn (list_at mid i) v) where
+  module _ (inside : n < length ys) (agreed : (i : ℕ) → 1 ≤ i → i < length mid → IsNumberIn (list_at mid i) v) where
     kept : (k : ℕ) → k < n → get_or (set ys n v) k 0 ≡ get_or ys k 0
     kept k l = let d : k ≢ n = λ e. omega (arith, e, l) in get_or-set_other ys n k v 0 d
 
@@ -140,7 +140,7 @@ module _ (old now mid after : List (List ℕ)) (asked calls later : List ℕ) (f
     in_each i l = ⊎_elim
         (λ (first : i < 1).
         let e : 0 ≡ i = omega (arith, first) in
-        subst (λ (k : ℕ). StandsIn (list_at old k) v) e
+        subst (λ (k : ℕ). IsNumberIn (list_at old k) v) e
         (was.keeps.back 0 v (next_back (list_at now 0) low (Some v) (list_at mid 0) v next (next_has (list_at now 0) low v (list_at mid 0) next))))
         (λ (other : 1 ≤ i). (keeps_through old now mid low was.keeps moved).back i v (agreed i other (omega (arith, l, moved.count, was.keeps.count))))
         (cases_lt i 1)

@@ -19,7 +19,7 @@ pub record SeekerValue : Type 0 where
   pub lists : Lists
 
 -- the parts of a sequence, and a spot of it or the end
-pub record IsHeld (n width : ℕ) (low : List ℕ) (lists : Lists) (spot : Spot) : Type 0 where
+pub record IsSpotHeld (n width : ℕ) (low : List ℕ) (lists : Lists) (spot : Spot) : Type 0 where
   pub parts : Holds (items_of n width low lists.words) (parts_of n width low lists)
   pub sizes : HasSizes lists
   pub here : IsHere (items_of n width low lists.words) lists.words n spot

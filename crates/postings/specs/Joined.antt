@@ -1,12 +1,13 @@
 -- The numbers that stand in any of several lists.
 use Rattle.std.specs.Prelude.{◌≡◌, ℕ, ◌^◌, ◌<◌, ◌≤◌, ◌⊎◌, List, length, slice_index, Option, Some, None, MatchOption}
+use Rattle.bitm_tables.specs.Answers.{Right}
 use Rattle.bitm_tables.specs.declared.answer.Answer.{Answer}
-use Rattle.bitm_tables.specs.declared.answer.Answer.TheVariants.{Found, Absent, Wrong}
-use Rattle.postings.specs.Shared.{list_at, IsAmong, KeepsFrom, StandsIn}
+use Rattle.bitm_tables.specs.declared.answer.Answer.TheVariants.{Wrong}
+use Rattle.postings.specs.Shared.{list_at, IsAmong, IsNumberIn, KeepsFrom}
 
 -- x stands in one of the first n lists
 abbrev pub IsInFirst : List (List ℕ) → ℕ → ℕ → Type 0
-IsInFirst xss n x = (i : ℕ) × (i < n) × StandsIn (list_at xss i) x
+IsInFirst xss n x = (i : ℕ) × (i < n) × IsNumberIn (list_at xss i) x
 
 -- x stands in some list
 abbrev pub IsInSome : List (List ℕ) → ℕ → Type 0
@@ -24,9 +25,7 @@ IsLeastFrom xss n v o = MatchOption o ((y : ℕ) → v ≤ y → IsInFirst xss n
 
 -- the same by an answer, which is not Wrong
 abbrev pub IsLeastAnswer : List (List ℕ) → ℕ → ℕ → Answer ℕ → Type 0
-IsLeastAnswer xss n v (Found x) = IsLeastFrom xss n v (Some x)
-IsLeastAnswer xss n v Absent = IsLeastFrom xss n v None
-IsLeastAnswer xss n v Wrong = ⊥
+IsLeastAnswer xss n v = Right (λ x. IsLeastFrom xss n v (Some x)) (IsLeastFrom xss n v None)
 
 -- the lesser of two numbers, the one where the other is missing, and None where both are
 abbrev pub IsLesser : Option ℕ → Option ℕ → Option ℕ → Type 0

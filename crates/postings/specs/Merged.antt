@@ -14,6 +14,6 @@ IfDone (Done n) P = P
 IfDone (Wrong n) P = ⊤
 
 -- no list turned out wrong, and P holds of how many numbers were written
-abbrev pub IsDone : Merged → (ℕ → Type 0) → Type 0
-IsDone (Done n) P = P n
-IsDone (Wrong n) P = ⊥
+abbrev pub IsMerged : Merged → (ℕ → Type 0) → Type 0
+IsMerged (Done n) P = P n
+IsMerged (Wrong n) P = ⊥

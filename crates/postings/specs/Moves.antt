@@ -1,6 +1,7 @@
 -- How a cursor over a sequence moves: over the parts of a sequence, and over any parts.
 use Rattle.std.specs.Prelude.{◌≡◌, ⊤, ℕ, ◌<◌, ◌≤◌, ◌⊎◌, List, drop, Option, Some, None, MatchOption}
 use Rattle.std.specs.List.{All}
+use Rattle.bitm_tables.specs.Answers.{Right}
 use Rattle.bitm_tables.specs.declared.answer.Answer.{Answer}
 use Rattle.bitm_tables.specs.declared.answer.Answer.TheVariants.{Found, Absent, Wrong}
 use Rattle.elias_fano.specs.Sequence.{Reaches}
@@ -22,9 +23,7 @@ IfFound Wrong P = ⊤
 
 -- the first item that is at least v, and Absent exactly where there is none
 abbrev pub IsFar : List ℕ → List ℕ → ℕ → Answer Spot → Type 0
-IsFar xs words v (Found s) = IsSpot xs words s × Reaches xs v s.at
-IsFar xs words v Absent = All (λ x. x < v) xs
-IsFar xs words v Wrong = ⊥
+IsFar xs words v = Right (λ s. IsSpot xs words s × Reaches xs v s.at) (All (λ x. x < v) xs)
 
 -- one of n numbers, at least v
 pub record IsReaching (n v : ℕ) (s : Spot) : Type 0 where

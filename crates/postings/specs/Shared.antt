@@ -8,8 +8,8 @@ abbrev pub IsAmong : List ℕ → ℕ → ℕ → Type 0
 IsAmong xs n x = (k : ℕ) × (k < n) × (slice_index xs k ≡ x)
 
 -- x stands in xs
-abbrev pub StandsIn : List ℕ → ℕ → Type 0
-StandsIn xs x = IsAmong xs (length xs) x
+abbrev pub IsNumberIn : List ℕ → ℕ → Type 0
+IsNumberIn xs x = IsAmong xs (length xs) x
 
 -- list i of several
 abbrev pub list_at : List (List ℕ) → ℕ → List ℕ
@@ -17,7 +17,7 @@ list_at xss i = slice_index_or xss i []
 
 -- x stands in each list
 abbrev pub IsInAll : List (List ℕ) → ℕ → Type 0
-IsInAll xss x = (i : ℕ) → i < length xss → StandsIn (list_at xss i) x
+IsInAll xss x = (i : ℕ) → i < length xss → IsNumberIn (list_at xss i) x
 
 -- the first n of ys rise, each is at least from and stands in each list, and each other such number of 64 digits is more
 -- than all of them, or there is none where fewer were written than there was room for
@@ -29,11 +29,6 @@ pub record AreShared (xss : List (List ℕ)) (from n room : ℕ) (ys : List ℕ)
   pub all : (x : ℕ) → from ≤ x → x < 2 ^ 64 → IsInAll xss x
       → IsAmong ys n x ⊎ ((n ≡ room) × ((k : ℕ) → k < n → slice_index ys k < x))
 
--- from item n on nothing changed, nor the length
-pub record IsKeptFrom (n : ℕ) (old new : List ℕ) : Type 0 where
-  pub len : length new ≡ length old
-  pub behind : (j : ℕ) → n ≤ j → slice_index new j ≡ slice_index old j
-
 -- no list was asked more than n times
 abbrev pub AskedAtMost : List ℕ → List ℕ → ℕ → Type 0
 AskedAtMost old new n = (i : ℕ) → slice_index new i ≤ slice_index old i + n
@@ -41,12 +36,12 @@ AskedAtMost old new n = (i : ℕ) → slice_index new i ≤ slice_index old i + 
 -- no list lost a number from v on, none has others than it had, and there are as many
 pub record KeepsFrom (old new : List (List ℕ)) (v : ℕ) : Type 0 where
   pub count : length new ≡ length old
-  pub back : (i x : ℕ) → StandsIn (list_at new i) x → StandsIn (list_at old i) x
-  pub kept : (i x : ℕ) → v ≤ x → StandsIn (list_at old i) x → StandsIn (list_at new i) x
+  pub back : (i x : ℕ) → IsNumberIn (list_at new i) x → IsNumberIn (list_at old i) x
+  pub kept : (i x : ℕ) → v ≤ x → IsNumberIn (list_at old i) x → IsNumberIn (list_at new i) x
 
 -- the lists after the first have v; or none of the numbers from v on up to x stands in all; or none from v on
 abbrev pub IsAgreed : List (List ℕ) → ℕ → Agreed → Type 0
-IsAgreed xss v All = (i : ℕ) → 1 ≤ i → i < length xss → StandsIn (list_at xss i) v
+IsAgreed xss v All = (i : ℕ) → 1 ≤ i → i < length xss → IsNumberIn (list_at xss i) v
 IsAgreed xss v (Next x) = (v < x) × ((y : ℕ) → v ≤ y → y < x → IsInAll xss y → ⊥)
 IsAgreed xss v Ended = (y : ℕ) → v ≤ y → IsInAll xss y → ⊥
 IsAgreed xss v Unknown = ⊥
@@ -75,7 +70,7 @@ pub record IsAsked (old : List (List ℕ)) (asked : List ℕ) (v : ℕ) (answer 
 
 -- those of the lists from the second on that were asked, up to list i, have v; the others were not asked yet
 pub record IsAsking (old : List (List ℕ)) (asked : List ℕ) (v i : ℕ) (new : List (List ℕ)) (calls : List ℕ) : Type 0 where
-  pub agreed : (j : ℕ) → 1 ≤ j → j < i → StandsIn (list_at old j) v
+  pub agreed : (j : ℕ) → 1 ≤ j → j < i → IsNumberIn (list_at old j) v
   pub keeps : KeepsFrom old new v
   pub at_most : AskedAtMost asked calls 1
   pub fresh : (j : ℕ) → i ≤ j → slice_index calls j ≡ slice_index asked j

@@ -1,9 +1,10 @@
 //! The union of lists: the numbers that stand in any of them.
 ghost use Rattle.std.specs.Prelude.{◌≡◌, ℕ, ◌+◌, ◌<◌, ◌≤◌, All, map, length, slice_index, Some};
 ghost use Rattle.postings.specs.Joined.{AreJoined, IsInSome, IsLeastAnswer, IsLesser};
-ghost use Rattle.postings.specs.Merged.{written_in, IfDone, IsDone};
+ghost use Rattle.postings.specs.Merged.{written_in, IfDone, IsMerged};
 ghost use Rattle.postings.specs.Moves.{UnlessWrong};
-ghost use Rattle.postings.specs.Shared.{AskedAtMost, IsKeptFrom, KeepsFrom};
+ghost use Rattle.bit_lists.specs.Kept.{IsKeptFrom};
+ghost use Rattle.postings.specs.Shared.{AskedAtMost, KeepsFrom};
 
 use crate::cursor::{Cursor, TotalCursor};
 use crate::merged::Merged;
@@ -57,7 +58,7 @@ fn least_from<C: TotalCursor>(lists: &mut [C], v: u64) -> Answer<u64>
 /// total_union(&mut lists, 0, &mut out);     // Done(4)
 /// ```
 pub fn total_union<C: TotalCursor>(lists: &mut [C], from: u64, out: &mut [u64]) -> Merged
-    ensures joined { All C.right lists.old → IsDone result (λ count.
+    ensures joined { All C.right lists.old → IsMerged result (λ count.
         AreJoined (map C.left lists.old) from count (length out.old) out.new) }
     ensures most { written_in result ≤ length out.old }
     ensures rest { IsKeptFrom (written_in result) out.old out.new }

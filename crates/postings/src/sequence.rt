@@ -39,7 +39,7 @@ pub struct Seeker<'a> {
 impl<'a> Model for Seeker<'a> {
     ghost use Rattle.std.specs.Prelude.{drop};
     ghost use Rattle.elias_fano.specs.Parts.{items_of};
-    ghost use Rattle.postings.specs.Held.{IsHeld, SeekerValue};
+    ghost use Rattle.postings.specs.Held.{IsSpotHeld, SeekerValue};
 
     ghost Value = { SeekerValue };
 
@@ -53,7 +53,7 @@ impl<'a> Model for Seeker<'a> {
       lists = c.source.lists;
     } };
 
-    ghost invariant = { λ c. IsHeld c.len c.low.width c.low.words c.source.lists c.spot };
+    ghost invariant = { λ c. IsSpotHeld c.len c.low.width c.low.words c.source.lists c.spot };
 }
 
 impl<'a> Seeker<'a> {

@@ -1,8 +1,9 @@
 //! The intersection of lists: the numbers that all of them share.
 ghost use Rattle.std.specs.Prelude.{◌≡◌, ℕ, ◌+◌, ◌<◌, ◌≤◌, All, map, length, slice_index};
-ghost use Rattle.postings.specs.Merged.{written_in, IfDone, IsDone};
+ghost use Rattle.postings.specs.Merged.{written_in, IfDone, IsMerged};
 ghost use Rattle.postings.specs.Shared.{list_at, AreShared, AskedAtMost, IfNext, IsAsked, IsInAll};
-ghost use Rattle.postings.specs.Shared.{IsKeptFrom, UnlessUnknown};
+ghost use Rattle.bit_lists.specs.Kept.{IsKeptFrom};
+ghost use Rattle.postings.specs.Shared.{UnlessUnknown};
 
 use crate::cursor::{Cursor, TotalCursor};
 use crate::merged::Merged;
@@ -60,7 +61,7 @@ fn ask_others<C: TotalCursor>(lists: &mut [C], v: u64) -> Agreed
 /// ```
 pub fn total_intersect<C: TotalCursor>(lists: &mut [C], from: u64, out: &mut [u64]) -> Merged
     requires { 0 < length lists.old }
-    ensures shared { All C.right lists.old → IsDone result (λ count.
+    ensures shared { All C.right lists.old → IsMerged result (λ count.
         AreShared (map C.left lists.old) from count (length out.old) out.new) }
     ensures most { written_in result ≤ length out.old }
     ensures rest { IsKeptFrom (written_in result) out.old out.new }

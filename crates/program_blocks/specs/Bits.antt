@@ -8,7 +8,7 @@ use Rattle.bitm_view.specs.Ranks.{IsRanked}
 use Rattle.bits_block.specs.Block as bits
 use Rattle.sparse_bits.specs.Answers.{IsBitOf}
 use Rattle.bitm.specs.Answer.{Answer}
-use Rattle.program_blocks.specs.Reply.{answer_of, as_number}
+use Rattle.program_blocks.specs.Reply.{answer_in_reply, as_number}
 use Rattle.program_blocks.specs.declared.question.Question.{Question}
 use Rattle.program_blocks.specs.declared.question.Question.TheVariants.{One, Two}
 use Rattle.program_blocks.specs.declared.question.Word.{Word}
@@ -38,19 +38,19 @@ pub record IsBitsOf (xs block : List ℕ) : Type 0 where
 pub record IsBitReply (b : List Bool) (p : ℕ) (reply : Reply) : Type 0 where
   pub bit : Answer Bool
   pub bit_of : IsBitOf b p bit
-  pub told : answer_of reply ≡ as_number bit
+  pub told : answer_in_reply reply ≡ as_number bit
 
 -- what these bits answer to a word and one number; other words are no questions to them
 abbrev pub IsBitsReplyOne : List Bool → Word → ℕ → Reply → Type 0
 IsBitsReplyOne b Get p reply = IsBitReply b p reply
-IsBitsReplyOne b Rank i reply = IsRanked b true i (answer_of reply)
-IsBitsReplyOne b Rank0 i reply = IsRanked b false i (answer_of reply)
-IsBitsReplyOne b Select r reply = IsSelected b true r (answer_of reply)
-IsBitsReplyOne b Select0 r reply = IsSelected b false r (answer_of reply)
-IsBitsReplyOne b Next p reply = IsNext b true p (answer_of reply)
-IsBitsReplyOne b Next0 p reply = IsNext b false p (answer_of reply)
-IsBitsReplyOne b Previous p reply = IsPrevious b true p (answer_of reply)
-IsBitsReplyOne b Previous0 p reply = IsPrevious b false p (answer_of reply)
+IsBitsReplyOne b Rank i reply = IsRanked b true i (answer_in_reply reply)
+IsBitsReplyOne b Rank0 i reply = IsRanked b false i (answer_in_reply reply)
+IsBitsReplyOne b Select r reply = IsSelected b true r (answer_in_reply reply)
+IsBitsReplyOne b Select0 r reply = IsSelected b false r (answer_in_reply reply)
+IsBitsReplyOne b Next p reply = IsNext b true p (answer_in_reply reply)
+IsBitsReplyOne b Next0 p reply = IsNext b false p (answer_in_reply reply)
+IsBitsReplyOne b Previous p reply = IsPrevious b true p (answer_in_reply reply)
+IsBitsReplyOne b Previous0 p reply = IsPrevious b false p (answer_in_reply reply)
 IsBitsReplyOne b _ n reply = reply ≡ BadQuestion
 
 -- what they answer to a question

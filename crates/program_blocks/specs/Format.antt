@@ -17,8 +17,8 @@ version_at [] = None
 version_at (first ∷ more) = version_of (from_le_bytes w64 first)
 
 -- the version that a file says: none where it is shorter than a mark, or has not those letters
-abbrev pub version_in : List ℕ → Option ℕ
-version_in bytes = version_at (first_chunks 8 (length bytes / 8) bytes)
+abbrev pub version_of_file : List ℕ → Option ℕ
+version_of_file bytes = version_at (first_chunks 8 (length bytes / 8) bytes)
 
 -- the format of files that say a version, or why they are refused
 abbrev pub format_of : Option ℕ → Result Format Failure
@@ -27,4 +27,4 @@ format_of (Some version) = if version == 3 then Ok Block else if version == 2 th
 
 -- the format of a file, or why it is refused whatever else it holds
 abbrev pub format_in : List ℕ → Result Format Failure
-format_in bytes = format_of (version_in bytes)
+format_in bytes = format_of (version_of_file bytes)

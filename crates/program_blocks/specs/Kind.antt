@@ -5,12 +5,12 @@ use Rattle.program_blocks.specs.declared.kind.Kind.{Kind}
 use Rattle.program_blocks.specs.declared.kind.Kind.TheVariants.{Bits, Sequence, Sparse, Matrix, Tree}
 
 -- the characters of its name
-abbrev pub kind_text : Kind → List ℕ
-kind_text Bits = codes "bits"
-kind_text Sequence = codes "sequence"
-kind_text Sparse = codes "sparse"
-kind_text Matrix = codes "matrix"
-kind_text Tree = codes "tree"
+abbrev pub number_kind_text : Kind → List ℕ
+number_kind_text Bits = codes "bits"
+number_kind_text Sequence = codes "sequence"
+number_kind_text Sparse = codes "sparse"
+number_kind_text Matrix = codes "matrix"
+number_kind_text Tree = codes "tree"
 
 -- the kind of this name
 abbrev pub kind_named : List ℕ → Option Kind
@@ -23,8 +23,8 @@ kind_named name =
     else None
 
 -- the kind of this number in a header
-abbrev pub kind_of : ℕ → Option Kind
-kind_of n =
+abbrev pub kind_by_number : ℕ → Option Kind
+kind_by_number n =
     if n == 2 then Some Bits
     else if n == 3 then Some Sequence
     else if n == 4 then Some Sparse
@@ -33,8 +33,8 @@ kind_of n =
     else None
 
 -- the kind that a block says it is of
-abbrev pub kind_in : List ℕ → Option Kind
-kind_in block = if nat_lt (length block) 2 then None else kind_of (slice_index block 1)
+abbrev pub number_kind_in : List ℕ → Option Kind
+number_kind_in block = if nat_lt (length block) 2 then None else kind_by_number (slice_index block 1)
 
 -- whether the numbers of a text have an order, and if so whether no two may be the same
 abbrev pub order_of : Kind → Option Bool

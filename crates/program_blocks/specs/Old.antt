@@ -20,12 +20,12 @@ use Rattle.program_blocks.specs.declared.question.Question.{Question}
 use Rattle.program_blocks.specs.declared.reply.Reply.{Reply}
 
 -- the words of a part of a file
-abbrev pub part_in : List ℕ → Span → List ℕ
-part_in file span = slice_range file (span.at / 8) (span.at / 8 + span.len)
+abbrev pub part_of_file : List ℕ → Span → List ℕ
+part_of_file file span = slice_range file (span.at / 8) (span.at / 8 + span.len)
 
 -- the words and tables of which a header speaks
 abbrev pub tables_at : List ℕ → Stored → Lists
-tables_at file h = lists_of (part_in file h.words) (part_in file h.upper) (part_in file h.lower)
+tables_at file h = lists_of (part_of_file file h.words) (part_of_file file h.upper) (part_of_file file h.lower)
 
 -- the bits of a file
 abbrev pub old_bits_in : List ℕ → Cut
@@ -33,7 +33,7 @@ old_bits_in file = cut_at (tables_at file (header_in file)) (header_in file).len
 
 -- the sequence of a file
 abbrev pub sequence_at : List ℕ → Stored → LentParts
-sequence_at file h = parts_of h.len h.width (part_in file h.low) (tables_at file h)
+sequence_at file h = parts_of h.len h.width (part_of_file file h.low) (tables_at file h)
 
 abbrev pub old_sequence_in : List ℕ → LentParts
 old_sequence_in file = sequence_at file (header_in file)

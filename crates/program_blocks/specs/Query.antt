@@ -16,9 +16,9 @@ use Rattle.program_blocks.specs.Bits.{IsBitsReply}
 use Rattle.program_blocks.specs.Bytes.{words_of_bytes}
 use Rattle.program_blocks.specs.Matrix.{IsNumbersReply}
 use Rattle.program_blocks.specs.Question.{question_of}
-use Rattle.program_blocks.specs.Reply.{is_good, reply_in, text_of}
+use Rattle.program_blocks.specs.Reply.{is_good_reply, replies_text, reply_in}
 use Rattle.program_blocks.specs.Sequence.{IsSequenceReply}
-use Rattle.program_blocks.specs.Sound.{IsSound}
+use Rattle.program_blocks.specs.Sound.{AreSoundNumbers}
 use Rattle.program_blocks.specs.Tree.{IsTreeReply}
 use Rattle.program_blocks.specs.declared.kind.Kind.{Kind}
 use Rattle.program_blocks.specs.declared.kind.Kind.TheVariants.{Bits, Sequence, Sparse, Matrix, Tree}
@@ -53,14 +53,14 @@ pub record WroteReply (form : Form) (R : Question → Reply → Type 0) (line : 
   pub reply : Reply
   pub answers : IsReplyTo R (question_of line) reply
   pub written : Appends before after (reply_in form reply ++ 10 ∷ [])
-  pub told : good ≡ is_good reply
+  pub told : good ≡ is_good_reply reply
 
 -- the replies to these lines were written, and good says that each line was a question
 pub record WroteReplies (form : Form) (R : Question → Reply → Type 0) (lines : List (List ℕ)) (before after : Option (List ℕ)) (good : Bool) : Type 0 where
   pub replies : List Reply
   pub answers : AreReplies R lines replies
-  pub written : Appends before after (text_of form replies)
-  pub told : good ≡ list_all is_good replies
+  pub written : Appends before after (replies_text form replies)
+  pub told : good ≡ list_all is_good_reply replies
 
 -- the replies of what a block of the kind holds were written to the lines of a text
 abbrev pub WroteAnswers : Form → Kind → List ℕ → List ℕ → Option (List ℕ) → Option (List ℕ) → Bool → Type 0
@@ -70,5 +70,5 @@ WroteAnswers form kind block text before after good = WroteReplies form (IsReply
 pub record Told (form : Form) (bytes text : List ℕ) (before after : Option (List ℕ)) (good : Bool) : Type 0 where
   pub block : List ℕ
   pub words : words_of_bytes bytes ≡ Some block
-  pub sound : IsSound block
+  pub sound : AreSoundNumbers block
   pub wrote : WroteAnswers form sound.kind block text before after good

@@ -1,7 +1,7 @@
 -- The question of a line.
 use Rattle.std.specs.Prelude.{ℕ, List, [], ◌∷◌, codes, Option, None, Some, option_map, option_and_then, if◌then◌else◌}
 use Rattle.std.specs.Str.{bytes_eq}
-use Rattle.program_text.specs.Text.{parts_of, only_part, decimal_of}
+use Rattle.program_text.specs.Text.{decimal_of, only_part, parts_between_spaces}
 use Rattle.program_blocks.specs.declared.question.Question.{Question}
 use Rattle.program_blocks.specs.declared.question.Question.TheVariants.{One, Two}
 use Rattle.program_blocks.specs.declared.question.Word.{Word}
@@ -60,4 +60,4 @@ question_of_parts (name ∷ rest) = option_and_then (λ word. question_with word
 
 -- the question of a line, and None where it is none
 abbrev pub question_of : List ℕ → Option Question
-question_of line = question_of_parts (parts_of line)
+question_of line = question_of_parts (parts_between_spaces line)

@@ -29,21 +29,21 @@ reply_in Text reply = reply_text reply
 reply_in Json reply = reply_json reply
 
 -- the replies, each with a line feed after it
-abbrev pub text_of : Form → List Reply → List ℕ
-text_of form replies = flat_map (λ reply. reply_in form reply ++ 10 ∷ []) replies
+abbrev pub replies_text : Form → List Reply → List ℕ
+replies_text form replies = flat_map (λ reply. reply_in form reply ++ 10 ∷ []) replies
 
-abbrev pub is_good : Reply → Bool
-is_good (Number number) = true
-is_good Absent = true
-is_good Wrong = true
-is_good BadQuestion = false
+abbrev pub is_good_reply : Reply → Bool
+is_good_reply (Number number) = true
+is_good_reply Absent = true
+is_good_reply Wrong = true
+is_good_reply BadQuestion = false
 
 -- the answer that a reply says, and Wrong where it says none
-abbrev pub answer_of : Reply → answer.Answer ℕ
-answer_of (Number number) = answers.Found number
-answer_of Absent = answers.Absent
-answer_of Wrong = answers.Wrong
-answer_of BadQuestion = answers.Wrong
+abbrev pub answer_in_reply : Reply → answer.Answer ℕ
+answer_in_reply (Number number) = answers.Found number
+answer_in_reply Absent = answers.Absent
+answer_in_reply Wrong = answers.Wrong
+answer_in_reply BadQuestion = answers.Wrong
 
 -- the number 0 or 1 of a bit
 abbrev pub as_number : answer.Answer Bool → answer.Answer ℕ

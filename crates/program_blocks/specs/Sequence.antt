@@ -1,10 +1,10 @@
 -- What the numbers of a monotone sequence answer.
 use Rattle.std.specs.Prelude.{◌≡◌, ℕ, ◌<◌, ◌⊎◌, List, All, length, slice_index}
+use Rattle.bitm_tables.specs.Answers.{Right}
 use Rattle.elias_fano.specs.Answers.{IsItem}
 use Rattle.elias_fano.specs.Sequence.{Reaches, StaysWithin}
 use Rattle.bitm.specs.Answer.{Answer}
-use Rattle.bitm.specs.Answer.TheVariants.{Found, Absent, Wrong}
-use Rattle.program_blocks.specs.Reply.{answer_of}
+use Rattle.program_blocks.specs.Reply.{answer_in_reply}
 use Rattle.program_blocks.specs.declared.question.Question.{Question}
 use Rattle.program_blocks.specs.declared.question.Question.TheVariants.{One, Two}
 use Rattle.program_blocks.specs.declared.question.Word.{Word}
@@ -13,29 +13,23 @@ use Rattle.program_blocks.specs.declared.reply.Reply.{Reply}
 use Rattle.program_blocks.specs.declared.reply.Reply.TheVariants.{BadQuestion}
 
 -- how many numbers come before the first that is at least v: all, where none is
-abbrev pub IsCountOf : List ℕ → ℕ → Answer ℕ → Type 0
-IsCountOf xs v (Found c) = Reaches xs v c ⊎ ((c ≡ length xs) × All (λ x. x < v) xs)
-IsCountOf xs v Absent = ⊥
-IsCountOf xs v Wrong = ⊥
+abbrev pub IsCountBelow : List ℕ → ℕ → Answer ℕ → Type 0
+IsCountBelow xs v = Right (λ c. Reaches xs v c ⊎ ((c ≡ length xs) × All (λ x. x < v) xs)) ⊥
 
 -- the first number that is at least v, and Absent exactly where each is less
-abbrev pub IsNextOf : List ℕ → ℕ → Answer ℕ → Type 0
-IsNextOf xs v (Found x) = (i : ℕ) × Reaches xs v i × (x ≡ slice_index xs i)
-IsNextOf xs v Absent = All (λ x. x < v) xs
-IsNextOf xs v Wrong = ⊥
+abbrev pub IsNextNumber : List ℕ → ℕ → Answer ℕ → Type 0
+IsNextNumber xs v = Right (λ x. (i : ℕ) × Reaches xs v i × (x ≡ slice_index xs i)) (All (λ x. x < v) xs)
 
 -- the last number that is at most v, and Absent exactly where each is greater
-abbrev pub IsPreviousOf : List ℕ → ℕ → Answer ℕ → Type 0
-IsPreviousOf xs v (Found x) = (i : ℕ) × StaysWithin xs v i × (x ≡ slice_index xs i)
-IsPreviousOf xs v Absent = All (λ x. v < x) xs
-IsPreviousOf xs v Wrong = ⊥
+abbrev pub IsPreviousNumber : List ℕ → ℕ → Answer ℕ → Type 0
+IsPreviousNumber xs v = Right (λ x. (i : ℕ) × StaysWithin xs v i × (x ≡ slice_index xs i)) (All (λ x. v < x) xs)
 
 -- what these numbers answer to a word and one number; other words are no questions to them
 abbrev pub IsSequenceReplyOne : List ℕ → Word → ℕ → Reply → Type 0
-IsSequenceReplyOne xs Get i reply = IsItem xs i (answer_of reply)
-IsSequenceReplyOne xs Rank v reply = IsCountOf xs v (answer_of reply)
-IsSequenceReplyOne xs Next v reply = IsNextOf xs v (answer_of reply)
-IsSequenceReplyOne xs Previous v reply = IsPreviousOf xs v (answer_of reply)
+IsSequenceReplyOne xs Get i reply = IsItem xs i (answer_in_reply reply)
+IsSequenceReplyOne xs Rank v reply = IsCountBelow xs v (answer_in_reply reply)
+IsSequenceReplyOne xs Next v reply = IsNextNumber xs v (answer_in_reply reply)
+IsSequenceReplyOne xs Previous v reply = IsPreviousNumber xs v (answer_in_reply reply)
 IsSequenceReplyOne xs _ n reply = reply ≡ BadQuestion
 
 -- what they answer to a question

@@ -1,7 +1,7 @@
 -- What a tree answers.
 use Rattle.std.specs.Prelude.{◌≡◌, ℕ, List}
 use Rattle.louds.specs.Answers.{IsChildOf, IsChildRankOf, IsDegreeOf, IsNextSiblingOf, IsParentOf, IsPreviousSiblingOf}
-use Rattle.program_blocks.specs.Reply.{answer_of}
+use Rattle.program_blocks.specs.Reply.{answer_in_reply}
 use Rattle.program_blocks.specs.declared.question.Question.{Question}
 use Rattle.program_blocks.specs.declared.question.Question.TheVariants.{One, Two}
 use Rattle.program_blocks.specs.declared.question.Word.{Word}
@@ -11,16 +11,16 @@ use Rattle.program_blocks.specs.declared.reply.Reply.TheVariants.{BadQuestion}
 
 -- what the tree of these degrees answers to a word and one number; other words are no questions to it
 abbrev pub IsTreeReplyOne : List ℕ → Word → ℕ → Reply → Type 0
-IsTreeReplyOne d Parent node reply = IsParentOf d node (answer_of reply)
-IsTreeReplyOne d Degree node reply = IsDegreeOf d node (answer_of reply)
-IsTreeReplyOne d ChildRank node reply = IsChildRankOf d node (answer_of reply)
-IsTreeReplyOne d NextSibling node reply = IsNextSiblingOf d node (answer_of reply)
-IsTreeReplyOne d PreviousSibling node reply = IsPreviousSiblingOf d node (answer_of reply)
+IsTreeReplyOne d Parent node reply = IsParentOf d node (answer_in_reply reply)
+IsTreeReplyOne d Degree node reply = IsDegreeOf d node (answer_in_reply reply)
+IsTreeReplyOne d ChildRank node reply = IsChildRankOf d node (answer_in_reply reply)
+IsTreeReplyOne d NextSibling node reply = IsNextSiblingOf d node (answer_in_reply reply)
+IsTreeReplyOne d PreviousSibling node reply = IsPreviousSiblingOf d node (answer_in_reply reply)
 IsTreeReplyOne d _ node reply = reply ≡ BadQuestion
 
 -- to a word and two numbers
 abbrev pub IsTreeReplyTwo : List ℕ → Word → ℕ → ℕ → Reply → Type 0
-IsTreeReplyTwo d Child node k reply = IsChildOf d node k (answer_of reply)
+IsTreeReplyTwo d Child node k reply = IsChildOf d node k (answer_in_reply reply)
 IsTreeReplyTwo d _ node k reply = reply ≡ BadQuestion
 
 -- what it answers to a question

@@ -5,7 +5,7 @@ ghost use Rattle.program_blocks.specs.Failure.{IsAnswerFailure, IsRefusal};
 ghost use Rattle.program_blocks.specs.Format.{format_in};
 ghost use Rattle.program_blocks.specs.Old.{IsOld, IsOldFile, ToldOfFile, ToldOld, WroteOldBits, WroteOldSequence};
 ghost use Rattle.program_blocks.specs.Query.{Told, WroteAnswers, WroteReplies, WroteReply};
-ghost use Rattle.program_blocks.specs.Sound.{IsSoundFile, IsSoundOf};
+ghost use Rattle.program_blocks.specs.Sound.{AreSoundNumbersOf, IsFileOfSoundNumbers};
 
 use crate::bits::open_bits;
 use crate::bytes::words_of_bytes;
@@ -49,7 +49,7 @@ pub fn query<W: Write>(
     ensures refused { IfErr (format_in block.now) (λ e. result ≡ Err e) }
     ensures failure { IfOk (format_in block.now) (λ _. IfErr result IsAnswerFailure) }
     ensures wrong { IfErr result (λ e. IsRefusal e
-        → (¬ (IsSoundFile block.now)) × (¬ (IsOldFile block.now))) }
+        → (¬ (IsFileOfSoundNumbers block.now)) × (¬ (IsOldFile block.now))) }
     ensures nothing { IfErr result (λ e. IsRefusal e → out.new ≡ out.old) }
 {
     match format_in(block) {
@@ -70,7 +70,7 @@ fn query_block<W: Write>(
     ensures answers { IfOk result (λ good. Told form block.now text.now
         (W.contents out.old) (W.contents out.new) good) }
     ensures failure { IfErr result IsAnswerFailure }
-    ensures wrong { IsErrOf result Failure.WrongBlock → ¬ (IsSoundFile block.now) }
+    ensures wrong { IsErrOf result Failure.WrongBlock → ¬ (IsFileOfSoundNumbers block.now) }
     ensures nothing { IsErrOf result Failure.WrongBlock → out.new ≡ out.old }
 {
     let Some(words) = words_of_bytes(alloc, block)? else {
@@ -125,11 +125,11 @@ fn answer_kind<W: Write>(
     form: Form,
     out: &mut W,
 ) -> Result<bool, Failure>
-    ensures sound { IfOk result (λ _. IsSoundOf kind block.now) }
+    ensures sound { IfOk result (λ _. AreSoundNumbersOf kind block.now) }
     ensures answers { IfOk result (λ good. WroteAnswers form kind block.now text.now
         (W.contents out.old) (W.contents out.new) good) }
     ensures failure { IfErr result IsAnswerFailure }
-    ensures wrong { IsErrOf result Failure.WrongBlock → ¬ (IsSoundOf kind block.now) }
+    ensures wrong { IsErrOf result Failure.WrongBlock → ¬ (AreSoundNumbersOf kind block.now) }
     ensures nothing { IsErrOf result Failure.WrongBlock → out.new ≡ out.old }
 {
     match kind {

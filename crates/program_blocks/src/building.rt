@@ -1,6 +1,6 @@
 //! The block of the numbers in a text.
 ghost use Rattle.std.specs.Prelude.{◌≡◌, ◌≢◌, IfErr, IfOk, None, OnOk};
-ghost use Rattle.program_text.specs.List.{numbers_of, wrong_line};
+ghost use Rattle.program_text.specs.List.{numbers_in_lines, wrong_line};
 ghost use Rattle.program_blocks.specs.Building.{first_out, IsBlockOf, IsTextFailure, WroteBlock};
 ghost use Rattle.program_blocks.specs.Failure.{IsBlockFailure};
 
@@ -41,7 +41,7 @@ fn first_out(kind: Kind, text: &[u8]) -> Option<usize>
 #[tactic(auto, using(crate::proofs::lemmas::BuildingLemmas::line_named, crate::proofs::lemmas::BuildingLemmas::no_block))]
 fn block_of_text(alloc: Global, kind: Kind, text: &[u8]) -> Result<Vec<u64>, Failure>
     ensures right { IfOk result (λ _. wrong_line text.now ≡ None) }
-    ensures block { IfOk result (λ block. IsBlockOf kind (numbers_of text.now) block.items) }
+    ensures block { IfOk result (λ block. IsBlockOf kind (numbers_in_lines text.now) block.items) }
     ensures order { IfOk result (λ _. first_out kind text.now ≡ None) }
     ensures failure { IfErr result (IsTextFailure kind text.now) }
 {

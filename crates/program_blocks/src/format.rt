@@ -1,6 +1,6 @@
 //! Which format a file is in, by the mark that it begins with.
 ghost use Rattle.std.specs.Prelude.{◌≡◌};
-ghost use Rattle.program_blocks.specs.Format.{format_in, version_in, version_of};
+ghost use Rattle.program_blocks.specs.Format.{format_in, version_of, version_of_file};
 
 use crate::failure::Failure;
 
@@ -29,7 +29,7 @@ fn version_of(mark: u64) -> Option<u64>
 
 /// The version that a file says, if it has the letters of a mark.
 fn version_in(bytes: &[u8]) -> Option<u64>
-    ensures { result ≡ version_in bytes.now }
+    ensures { result ≡ version_of_file bytes.now }
 {
     let (chunks, _rest) = bytes.as_chunks::<8>();
     match chunks {

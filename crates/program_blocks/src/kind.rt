@@ -1,6 +1,6 @@
 //! The kinds of blocks that hold the numbers of a text.
 ghost use Rattle.std.specs.Prelude.{◌≡◌};
-ghost use Rattle.program_blocks.specs.Kind.{kind_in, kind_named, order_of};
+ghost use Rattle.program_blocks.specs.Kind.{kind_named, number_kind_in, order_of};
 
 use std::fmt;
 
@@ -21,9 +21,9 @@ pub enum Kind {
 
 impl fmt::Display for Kind {
     ghost use Rattle.std.specs.Prelude.{Some};
-    ghost use Rattle.program_blocks.specs.Kind.{kind_text};
+    ghost use Rattle.program_blocks.specs.Kind.{number_kind_text};
 
-    ghost output = { λ k. Some (kind_text k) };
+    ghost output = { λ k. Some (number_kind_text k) };
 
     fn fmt<W: fmt::Write>(&self, f: &mut fmt::Formatter<W>) -> fmt::Result {
         match self {
@@ -61,7 +61,7 @@ pub(crate) fn kind_named(name: &str) -> Option<Kind>
 /// kind_in(block.as_slice());   // Some(Kind::Tree) where the second word is 7
 /// ```
 pub fn kind_in(block: &[u64]) -> Option<Kind>
-    ensures { result ≡ kind_in block.now }
+    ensures { result ≡ number_kind_in block.now }
 {
     if block.len() < 2 {
         return None;

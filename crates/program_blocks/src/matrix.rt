@@ -1,7 +1,7 @@
 //! Blocks of a wavelet matrix: numbers in any order.
 ghost use Rattle.std.specs.Prelude.{◌≡◌, IfErr, IfOk, IfSome, SomeIff};
 ghost use Rattle.matrix_block.specs.Block.{matrix_in, HoldsMatrix, IsSoundBlock};
-ghost use Rattle.program_blocks.specs.Matrix.{HasLeastWidth, IsMatrixOf};
+ghost use Rattle.program_blocks.specs.Matrix.{HasLeastWidth, IsMatrixBlockOf};
 ghost use Rattle.program_blocks.specs.Failure.{IsBlockFailure};
 
 use crate::failure::Failure;
@@ -26,7 +26,7 @@ fn least_width(numbers: &[u64]) -> u8
 
 /// The block of a matrix of these numbers.
 pub(crate) fn block_of_matrix(alloc: Global, numbers: &[u64]) -> Result<Vec<u64>, Failure>
-    ensures block { IfOk result (λ block. IsMatrixOf numbers.now block.items) }
+    ensures block { IfOk result (λ block. IsMatrixBlockOf numbers.now block.items) }
     ensures failure { IfErr result (IsBlockFailure Kind.Matrix numbers.now) }
 {
     let width = least_width(numbers);

@@ -1,9 +1,9 @@
 //! Files of version 2 of the format, which releases before 0.3.0 wrote: bits or a sequence after a header.
 ghost use Rattle.std.specs.Prelude.{◌≡◌, ◌*◌, ◌≤◌, ◌↔◌, IfSome, IsTrue, SomeIff, length};
-ghost use Rattle.bitm_abi.specs.Stored.{end_of, LiesWithin};
+ghost use Rattle.bitm_abi.specs.Stored.{end_of_span, LiesWithin};
 ghost use Rattle.bitm_tables.specs.Tables.{HasSizes, HasTables};
 ghost use Rattle.elias_fano.specs.LentParts.{AreParts};
-ghost use Rattle.program_blocks.specs.Old.{old_bits_in, old_head_in, old_kind_of, old_sequence_in, part_in};
+ghost use Rattle.program_blocks.specs.Old.{old_bits_in, old_head_in, old_kind_of, old_sequence_in, part_of_file};
 ghost use Rattle.program_blocks.specs.Old.{sequence_at, tables_at};
 ghost use Rattle.program_blocks.specs.Old.{HasSequence, IsOld, IsOldBits, IsOldSequence};
 
@@ -27,8 +27,8 @@ pub struct OldHead {
 
 /// The words of a part of a file.
 fn part(file: &[u64], span: Span) -> &[u64]
-    requires { end_of span 8 ≤ 8 * length file.now }
-    ensures { result.now ≡ part_in file.now span }
+    requires { end_of_span span 8 ≤ 8 * length file.now }
+    ensures { result.now ≡ part_of_file file.now span }
 {
     let begin = (span.at / 8) as usize;
     &file[begin..begin + span.len as usize]

@@ -1,6 +1,6 @@
 //! The answer to a line.
 ghost use Rattle.std.specs.Prelude.{◌≡◌};
-ghost use Rattle.program_blocks.specs.Reply.{answer_of, as_number, reply_text, is_good};
+ghost use Rattle.program_blocks.specs.Reply.{answer_in_reply, as_number, is_good_reply, reply_text};
 
 use matrix_block::Answer;
 use program_runs::{Form, none_in};
@@ -37,7 +37,7 @@ impl fmt::Display for Reply {
 impl Reply {
     /// The reply that says a number.
     pub(crate) fn of_number(answer: Answer<u64>) -> Reply
-        ensures { answer_of result ≡ answer }
+        ensures { answer_in_reply result ≡ answer }
     {
         match answer {
             Answer::Found(number) => Reply::Number(number),
@@ -48,7 +48,7 @@ impl Reply {
 
     /// The reply that says a count or an index.
     pub(crate) fn of_index(answer: Answer<usize>) -> Reply
-        ensures { answer_of result ≡ answer }
+        ensures { answer_in_reply result ≡ answer }
     {
         match answer {
             Answer::Found(index) => Reply::Number(index as u64),
@@ -59,7 +59,7 @@ impl Reply {
 
     /// The reply that says a bit, by 0 or 1.
     pub(crate) fn of_bit(answer: Answer<bool>) -> Reply
-        ensures { answer_of result ≡ as_number answer }
+        ensures { answer_in_reply result ≡ as_number answer }
     {
         match answer {
             Answer::Found(bit) => Reply::Number(bit as u64),
@@ -70,7 +70,7 @@ impl Reply {
 
     /// Whether the line was a question.
     pub(crate) fn is_good(&self) -> bool
-        ensures { result ≡ is_good self.now }
+        ensures { result ≡ is_good_reply self.now }
     {
         !matches!(self, Reply::BadQuestion)
     }

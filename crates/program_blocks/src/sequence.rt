@@ -2,7 +2,7 @@
 ghost use Rattle.std.specs.Prelude.{◌≡◌, IfErr, IfOk, IfSome, List, SomeIff, ℕ};
 ghost use Rattle.elias_fano.specs.LentParts.{AreParts, Holds};
 ghost use Rattle.sequence_block.specs.Block.{sequence_in, IsBlockOf, IsSoundBlock};
-ghost use Rattle.program_blocks.specs.Sequence.{IsCountOf, IsNextOf, IsPreviousOf, IsSequenceReplyOne};
+ghost use Rattle.program_blocks.specs.Sequence.{IsCountBelow, IsNextNumber, IsPreviousNumber, IsSequenceReplyOne};
 ghost use Rattle.program_blocks.specs.Failure.{IsBlockFailure};
 
 use crate::failure::Failure;
@@ -51,7 +51,7 @@ pub(crate) fn open_sequence(block: &[u64]) -> Option<LentSequence<'_>>
 
 /// How many numbers come before the first that is at least `value`.
 fn rank(view: &LentSequence<'_>, value: u64) -> Answer<usize>
-    ensures { (xs : List ℕ) → Holds xs view.now → IsCountOf xs value result }
+    ensures { (xs : List ℕ) → Holds xs view.now → IsCountBelow xs value result }
 {
     match view.first_at_least(value) {
         Answer::Found(index) => Answer::Found(index),
@@ -62,7 +62,7 @@ fn rank(view: &LentSequence<'_>, value: u64) -> Answer<usize>
 
 /// The first number that is at least `value`.
 fn next(view: &LentSequence<'_>, value: u64) -> Answer<u64>
-    ensures { (xs : List ℕ) → Holds xs view.now → IsNextOf xs value result }
+    ensures { (xs : List ℕ) → Holds xs view.now → IsNextNumber xs value result }
 {
     match view.first_at_least(value) {
         Answer::Found(index) => view.get(index),
@@ -73,7 +73,7 @@ fn next(view: &LentSequence<'_>, value: u64) -> Answer<u64>
 
 /// The last number that is at most `value`.
 fn previous(view: &LentSequence<'_>, value: u64) -> Answer<u64>
-    ensures { (xs : List ℕ) → Holds xs view.now → IsPreviousOf xs value result }
+    ensures { (xs : List ℕ) → Holds xs view.now → IsPreviousNumber xs value result }
 {
     match view.last_at_most(value) {
         Answer::Found(index) => view.get(index),

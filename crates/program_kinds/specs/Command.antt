@@ -8,13 +8,13 @@ use Rattle.program_kinds.specs.declared.command.Command.{Command}
 use Rattle.program_kinds.specs.declared.command.Command.TheVariants.{Check, Info}
 
 -- the command of a word, with its form
-abbrev pub command_of : List ℕ → Form → Option Command
-command_of word form = if bytes_eq word (codes "check") then Some (Check form) else if bytes_eq word (codes "info") then Some (Info form) else None
+abbrev pub command_with_form : List ℕ → Form → Option Command
+command_with_form word form = if bytes_eq word (codes "check") then Some (Check form) else if bytes_eq word (codes "info") then Some (Info form) else None
 
 -- the command that these arguments are, with the path of its file
 abbrev pub command_in : List (List ℕ) → Option (Command × List ℕ)
 command_in [] = None
 command_in (word ∷ []) = None
-command_in (word ∷ path ∷ []) = option_map (λ command. (command, path)) (command_of word Text)
-command_in (word ∷ option ∷ path ∷ []) = option_map (λ command. (command, path)) (option_and_then (command_of word) (form_of option))
+command_in (word ∷ path ∷ []) = option_map (λ command. (command, path)) (command_with_form word Text)
+command_in (word ∷ option ∷ path ∷ []) = option_map (λ command. (command, path)) (option_and_then (command_with_form word) (form_of option))
 command_in (word ∷ option ∷ path ∷ other ∷ more) = None

@@ -47,8 +47,8 @@ info_text form kind head bytes = kind_line form kind ++ (size_lines form head.le
 
 -- the kind of a file of version 2
 abbrev pub old_line : Form → NumberKind → List ℕ
-old_line Text kind = codes "kind " ++ kinds.kind_text kind ++ codes " (version 2)\n"
-old_line Json kind = codes "{\"kind\":\"" ++ kinds.kind_text kind ++ codes " (version 2)\""
+old_line Text kind = codes "kind " ++ kinds.number_kind_text kind ++ codes " (version 2)\n"
+old_line Json kind = codes "{\"kind\":\"" ++ kinds.number_kind_text kind ++ codes " (version 2)\""
 
 -- all that is said of such a file
 abbrev pub old_text : Form → OldHead → ℕ → List ℕ

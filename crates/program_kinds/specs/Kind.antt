@@ -7,7 +7,7 @@ use Rattle.program_kinds.specs.declared.kind.Kind.TheVariants.{Numbers, Hash, Se
 
 -- the characters of its name
 abbrev pub kind_text : Kind → List ℕ
-kind_text (Numbers kind) = numbers.kind_text kind
+kind_text (Numbers kind) = numbers.number_kind_text kind
 kind_text Hash = codes "hash"
 kind_text SeededHash = codes "hash with seeds"
 kind_text Dictionary = codes "dictionary"
@@ -46,4 +46,4 @@ kind_or None other = other
 
 -- the kind that a block says it is of
 abbrev pub kind_in : List ℕ → Option Kind
-kind_in block = kind_or (numbers.kind_in block) (other_kind_in block)
+kind_in block = kind_or (numbers.number_kind_in block) (other_kind_in block)

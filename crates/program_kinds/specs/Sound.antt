@@ -14,7 +14,7 @@ use Rattle.program_kinds.specs.declared.kind.Kind.TheVariants.{Numbers, Hash, Se
 
 -- the block is of the kind, as it was written
 abbrev pub IsSoundOf : Kind → List ℕ → Type 0
-IsSoundOf (Numbers kind) block = numbers.IsSoundOf kind block
+IsSoundOf (Numbers kind) block = numbers.AreSoundNumbersOf kind block
 IsSoundOf Hash block = hash.IsSoundBlock block
 IsSoundOf SeededHash block = seeded.IsSoundBlock block
 IsSoundOf Dictionary block = IsSoundDictionary block

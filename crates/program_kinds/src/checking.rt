@@ -81,7 +81,7 @@ fn is_sound_of(kind: Kind, block: &[u64]) -> bool
 
 /// Whether the words are a block of a kind that holds the numbers of a text, as it was written.
 fn holds_numbers(kind: program_blocks::Kind, block: &[u64]) -> bool
-    ensures { IsTrue result ↔ numbers.IsSoundOf kind block.now }
+    ensures { IsTrue result ↔ numbers.AreSoundNumbersOf kind block.now }
 {
     match kind {
         program_blocks::Kind::Bits => bits_block::check(block),

@@ -1,6 +1,6 @@
 //! The command that the arguments are.
 ghost use Rattle.std.specs.Prelude.{◌≡◌, map, option_map, string_bytes};
-ghost use Rattle.program_kinds.specs.Command.{command_in, command_of};
+ghost use Rattle.program_kinds.specs.Command.{command_in, command_with_form};
 
 use program_runs::{Form, form_of};
 
@@ -27,7 +27,7 @@ pub(crate) fn command_in(args: &[String]) -> Option<(Command, &str)>
 
 /// The command of a word, with its form, if there is one.
 fn command_of(word: &str, form: Form) -> Option<Command>
-    ensures { result ≡ command_of word.now form }
+    ensures { result ≡ command_with_form word.now form }
 {
     if word == "check" {
         Some(Command::Check(form))

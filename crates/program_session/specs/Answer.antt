@@ -15,8 +15,8 @@ answer_text NoMemory = codes "no memory"
 answer_text BadCommand = codes "bad command"
 
 -- the answers, each with a line feed after it
-abbrev pub text_of : List Answer → List ℕ
-text_of answers = flat_map (λ answer. answer_text answer ++ 10 ∷ []) answers
+abbrev pub answers_text : List Answer → List ℕ
+answers_text answers = flat_map (λ answer. answer_text answer ++ 10 ∷ []) answers
 
 abbrev pub is_good : Answer → Bool
 is_good (Accepted number) = true

@@ -2,7 +2,7 @@
 use Rattle.std.specs.Prelude.{ℕ, ◌≤◌, ◌&&◌, nat_le, is_some, length, ⊤, List, [], ◌∷◌, codes, Option, None, Some, option_map, option_and_then, if◌then◌else◌}
 use Rattle.std.specs.Str.{bytes_eq}
 use Rattle.std.specs.List.{filter_map, list_all}
-use Rattle.program_text.specs.Text.{parts_of, only_part, decimal_of, hexadecimal_of}
+use Rattle.program_text.specs.Text.{decimal_of, hexadecimal_of, only_part, parts_between_spaces}
 use Rattle.program_session.specs.declared.command.Kind.{Kind}
 use Rattle.program_session.specs.declared.command.Kind.TheVariants.{Simple, Binary, Sampled}
 use Rattle.program_session.specs.declared.command.Command.{Command}
@@ -33,14 +33,14 @@ request (command.Select rank) = Select rank
 request (command.Select0 rank) = Select0 rank
 
 -- the words that the parts write, where each part is one and there are at most 65536
-abbrev pub words_of : List (List ℕ) → Option (List ℕ)
-words_of parts =
+abbrev pub written_words : List (List ℕ) → Option (List ℕ)
+written_words parts =
     if nat_le (length parts) 65536 && list_all (λ part. is_some (hexadecimal_of part)) parts
     then Some (filter_map hexadecimal_of parts) else None
 
 -- the kind of index that has this name
-abbrev pub kind_of : List ℕ → Option Kind
-kind_of name =
+abbrev pub kind_by_name : List ℕ → Option Kind
+kind_by_name name =
     if bytes_eq name (codes "simple") then Some Simple
     else if bytes_eq name (codes "binary") then Some Binary
     else if bytes_eq name (codes "sampled") then Some Sampled
@@ -60,10 +60,10 @@ range_request (begin ∷ rest) = short_range (decimal_of begin) (option_and_then
 abbrev pub request_of_parts : List (List ℕ) → Option Request
 request_of_parts [] = None
 request_of_parts (name ∷ rest) =
-    if bytes_eq name (codes "words") then option_map Words (words_of rest)
+    if bytes_eq name (codes "words") then option_map Words (written_words rest)
     else if bytes_eq name (codes "set") then option_map Set (option_and_then decimal_of (only_part rest))
     else if bytes_eq name (codes "clear") then option_map Clear (option_and_then decimal_of (only_part rest))
-    else if bytes_eq name (codes "build") then option_map Build (option_and_then kind_of (only_part rest))
+    else if bytes_eq name (codes "build") then option_map Build (option_and_then kind_by_name (only_part rest))
     else if bytes_eq name (codes "rank") then option_map Rank (option_and_then decimal_of (only_part rest))
     else if bytes_eq name (codes "bits") then range_request rest
     else if bytes_eq name (codes "rank0") then option_map Rank0 (option_and_then decimal_of (only_part rest))
@@ -73,7 +73,7 @@ request_of_parts (name ∷ rest) =
 
 -- what a line asks for, and None where it is no command
 abbrev pub request_of : List ℕ → Option Request
-request_of line = request_of_parts (parts_of line)
+request_of line = request_of_parts (parts_between_spaces line)
 
 -- only this asks for memory while the line is read
 abbrev pub AsksForWords : Option Request → Type 0

@@ -2,7 +2,7 @@
 use Rattle.std.specs.Prelude.{◌≡◌, ◌≤◌, ℕ, ◌+◌, ◌&&◌, nat_le, List, [], ◌∷◌, ◌++◌, length, Bool, true, false, Option, None, Some, nat_lt, slice_set, ◌⊎◌, if◌then◌else◌}
 use Rattle.std.specs.List.{list_all}
 use Rattle.std.specs.Io.KnownBytes.{Appends}
-use Rattle.program_session.specs.Answer.{answer_text, text_of, is_good}
+use Rattle.program_session.specs.Answer.{answer_text, answers_text, is_good}
 use Rattle.bitm.specs.Bits.{bits_of}
 use Rattle.bitm.specs.Count.{ones_before, zeros_before, count_before, Picks}
 use Rattle.bitm.specs.Number.{number_at}
@@ -39,21 +39,21 @@ range_answer bits begin len =
     if nat_lt begin (length bits) && nat_le (begin + len) (length bits) then Number (number_at bits begin len) else Absent
 
 -- the position of the bit of the kind with the given number of them before it, or none where there is none
-abbrev pub IsPlaced : List Bool → Bool → ℕ → Answer → Type 0
-IsPlaced bits v rank (Number place) = Picks bits v rank place
-IsPlaced bits v rank Absent = count_before bits v (length bits) ≤ rank
-IsPlaced bits v rank (Accepted number) = ⊥
-IsPlaced bits v rank (Ones count) = ⊥
-IsPlaced bits v rank NotBuilt = ⊥
-IsPlaced bits v rank NoMemory = ⊥
-IsPlaced bits v rank BadCommand = ⊥
+abbrev pub IsPositionFound : List Bool → Bool → ℕ → Answer → Type 0
+IsPositionFound bits v rank (Number place) = Picks bits v rank place
+IsPositionFound bits v rank Absent = count_before bits v (length bits) ≤ rank
+IsPositionFound bits v rank (Accepted number) = ⊥
+IsPositionFound bits v rank (Ones count) = ⊥
+IsPositionFound bits v rank NotBuilt = ⊥
+IsPositionFound bits v rank NoMemory = ⊥
+IsPositionFound bits v rank BadCommand = ⊥
 
 -- the answer where a place is asked of an index, if one is built that selects
 abbrev pub IsPlaceAnswer : Option Kind → List Bool → Bool → ℕ → Answer → Type 0
 IsPlaceAnswer None bits v rank answer = answer ≡ NotBuilt
 IsPlaceAnswer (Some Simple) bits v rank answer = answer ≡ NotBuilt
-IsPlaceAnswer (Some Binary) bits v rank answer = IsPlaced bits v rank answer
-IsPlaceAnswer (Some Sampled) bits v rank answer = IsPlaced bits v rank answer
+IsPlaceAnswer (Some Binary) bits v rank answer = IsPositionFound bits v rank answer
+IsPlaceAnswer (Some Sampled) bits v rank answer = IsPositionFound bits v rank answer
 
 -- what is answered where memory is found
 abbrev pub IsAnswer : State → Request → Answer → Type 0
@@ -120,5 +120,5 @@ pub record WroteAnswer (line : List ℕ) (old new : State) (before after : Optio
 pub record Wrote (lines : List (List ℕ)) (end : State) (before after : Option (List ℕ)) (good : Bool) : Type 0 where
   pub answers : List Answer
   pub session : Answers start lines answers end
-  pub written : Appends before after (text_of answers)
+  pub written : Appends before after (answers_text answers)
   pub told : good ≡ list_all is_good answers

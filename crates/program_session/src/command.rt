@@ -2,8 +2,8 @@
 ghost use Rattle.std.specs.Prelude.{◌≡◌, ◌≤◌, length, option_map};
 ghost use Rattle.std.specs.Prelude.{IfOk, OnErr, IfSome, IsSome, is_some};
 ghost use Rattle.std.specs.List.{filter_map, list_all};
-ghost use Rattle.program_text.specs.Text.{parts_of, parts_left, hexadecimal_of};
-ghost use Rattle.program_session.specs.Request.{request, request_of, range_request, kind_of, words_of};
+ghost use Rattle.program_text.specs.Text.{hexadecimal_of, parts_between_spaces, parts_left};
+ghost use Rattle.program_session.specs.Request.{kind_by_name, range_request, request, request_of, written_words};
 ghost use Rattle.program_session.specs.Request.{AsksForWords, IsWithinLimits};
 
 use program_text::digits::{decimal, hexadecimal};
@@ -84,7 +84,7 @@ fn range(rest: Option<&[u8]>) -> Option<Command>
 
 /// The kind of index that has this name.
 fn kind_named(name: &[u8]) -> Option<Kind>
-    ensures { result ≡ kind_of name.now }
+    ensures { result ≡ kind_by_name name.now }
 {
     if name == b"simple".as_slice() {
         Some(Kind::Simple)
@@ -101,9 +101,9 @@ fn kind_named(name: &[u8]) -> Option<Kind>
 #[tactic(auto, using(crate::proofs::lemmas::LineLemmas::length_filter_map))]
 fn words(alloc: Global, rest: Option<&[u8]>) -> Result<Option<Vec<u64>>, AllocError>
     ensures read { IfOk result (λ words. option_map (λ v. v.items) words
-        ≡ words_of (parts_left rest.entry)) }
+        ≡ written_words (parts_left rest.entry)) }
     ensures few { IfOk result (λ words. IfSome words (λ v. length v.items ≤ 65536)) }
-    ensures refused { OnErr result (IsSome (words_of (parts_left rest.entry))) }
+    ensures refused { OnErr result (IsSome (written_words (parts_left rest.entry))) }
 {
     let Some(text) = rest else {
         return Ok(Some(Vec::new(alloc)));
@@ -116,13 +116,13 @@ fn words(alloc: Global, rest: Option<&[u8]>) -> Result<Option<Vec<u64>>, AllocEr
 }
 
 fn count_parts(text: &[u8]) -> usize
-    ensures { result ≡ length (parts_of text.now) }
+    ensures { result ≡ length (parts_between_spaces text.now) }
 {
     text.split(|byte| *byte == b' ').count()
 }
 
 fn are_words(text: &[u8]) -> bool
-    ensures { result ≡ list_all (λ part. is_some (hexadecimal_of part)) (parts_of text.now) }
+    ensures { result ≡ list_all (λ part. is_some (hexadecimal_of part)) (parts_between_spaces text.now) }
 {
     let mut parts = text.split(|byte| *byte == b' ');
     parts.all(|part| hexadecimal(part).is_some())
@@ -130,7 +130,7 @@ fn are_words(text: &[u8]) -> bool
 
 /// The words that the parts write, `count` of them, in one allocation of just their size.
 fn collect_words(alloc: Global, text: &[u8], count: usize) -> Result<Vec<u64>, AllocError>
-    ensures { IfOk result (λ words. words.items ≡ filter_map hexadecimal_of (parts_of text.now)) }
+    ensures { IfOk result (λ words. words.items ≡ filter_map hexadecimal_of (parts_between_spaces text.now)) }
 {
     let mut words = Vec::with_capacity(alloc, count)?;
     let parts = text.split(|byte| *byte == b' ');

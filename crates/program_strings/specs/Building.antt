@@ -3,7 +3,7 @@ use Rattle.std.specs.Prelude.{⊤, ℕ, List, Option}
 use Rattle.std.specs.Io.KnownBytes.{Appends}
 use Rattle.program_blocks.specs.Bytes.{bytes_of}
 use Rattle.program_text.specs.Text.{lines_of}
-use Rattle.program_strings.specs.Lines.{ends_of, joined}
+use Rattle.program_strings.specs.Lines.{ends_of, joined_lines}
 use Rattle.program_strings.specs.declared.failure.Failure.{Failure}
 use Rattle.program_strings.specs.declared.failure.Failure.TheVariants.{EqualLines, TooLarge, WrongBlock, NoMemory, CannotWrite}
 use Rattle.string_block.specs.Block.{IsBlockOf}
@@ -17,7 +17,7 @@ pub record IsStringsOf (bytes ends block : List ℕ) : Type 0 where
 -- before to after by just them
 pub record WroteStrings (text : List ℕ) (before after : Option (List ℕ)) : Type 0 where
   pub block : List ℕ
-  pub block_of : IsStringsOf (joined (lines_of text)) (ends_of (lines_of text)) block
+  pub block_of : IsStringsOf (joined_lines (lines_of text)) (ends_of (lines_of text)) block
   pub written : Appends before after (bytes_of block)
 
 -- it may be why strings have no block

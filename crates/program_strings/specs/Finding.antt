@@ -10,7 +10,7 @@ use Rattle.program_runs.specs.Form.{none_in}
 use Rattle.program_runs.specs.declared.form.Form.{Form}
 use Rattle.program_text.specs.Text.{lines_of}
 use Rattle.string_block.specs.Block.{strings_in, IsSoundBlock}
-use Rattle.string_block.specs.Parts.{IsFound, StringParts}
+use Rattle.string_block.specs.Parts.{IsStringFound, StringParts}
 
 -- the line that says a number, or that there is none
 abbrev pub answer_line : Form → Answer ℕ → List ℕ
@@ -19,19 +19,19 @@ answer_line form Absent = none_in form ++ codes "\n"
 answer_line form Wrong = none_in form ++ codes "\n"
 
 -- whether it is a number
-abbrev pub is_number : Answer ℕ → Bool
-is_number (Found number) = true
-is_number Absent = false
-is_number Wrong = false
+abbrev pub is_number_found : Answer ℕ → Bool
+is_number_found (Found number) = true
+is_number_found Absent = false
+is_number_found Wrong = false
 
 -- the answer to a line: the number of the string that it is, or that it is none of the strings
-abbrev pub IsAnswer : StringParts → List ℕ → Answer ℕ → Type 0
-IsAnswer parts line answer = IsFound parts (slice_index line) (length line) answer
+abbrev pub IsLineAnswer : StringParts → List ℕ → Answer ℕ → Type 0
+IsLineAnswer parts line answer = IsStringFound parts (slice_index line) (length line) answer
 
 -- these are the answers to these lines, one for each and in their order
 abbrev pub AreAnswers : StringParts → List (List ℕ) → List (Answer ℕ) → Type 0
 AreAnswers parts [] [] = ⊤
-AreAnswers parts (line ∷ lines) (answer ∷ answers) = IsAnswer parts line answer × AreAnswers parts lines answers
+AreAnswers parts (line ∷ lines) (answer ∷ answers) = IsLineAnswer parts line answer × AreAnswers parts lines answers
 AreAnswers parts [] (answer ∷ answers) = ⊥
 AreAnswers parts (line ∷ lines) [] = ⊥
 
@@ -39,14 +39,14 @@ AreAnswers parts (line ∷ lines) [] = ⊥
 -- and found says that it is a number
 pub record WroteNumber (form : Form) (parts : StringParts) (line : List ℕ) (before after : Option (List ℕ)) (found : Bool) : Type 0 where
   pub answer : Answer ℕ
-  pub told : found ≡ is_number answer
-  pub is : IsAnswer parts line answer
+  pub told : found ≡ is_number_found answer
+  pub is : IsLineAnswer parts line answer
   pub written : Appends before after (answer_line form answer)
 
 -- the answers to these lines were, and found says that one of them is a number
 pub record WroteNumbers (form : Form) (parts : StringParts) (lines : List (List ℕ)) (before after : Option (List ℕ)) (found : Bool) : Type 0 where
   pub answers : List (Answer ℕ)
-  pub told : found ≡ list_any is_number answers
+  pub told : found ≡ list_any is_number_found answers
   pub are : AreAnswers parts lines answers
   pub written : Appends before after (flat_map (answer_line form) answers)
 

@@ -1,7 +1,7 @@
 //! The lines of a text, one after another.
 ghost use Rattle.std.specs.Prelude.{◌≡◌, IfOk};
 ghost use Rattle.program_text.specs.Text.{lines_of};
-ghost use Rattle.program_strings.specs.Lines.{ends_of, joined};
+ghost use Rattle.program_strings.specs.Lines.{ends_of, joined_lines};
 
 use program_text::FilledLines;
 use std::alloc::{AllocError, Global};
@@ -17,7 +17,7 @@ pub(crate) struct StringList {
 
 /// The lines of a text that are not empty, one after another.
 pub(crate) fn gathered(alloc: Global, text: &[u8]) -> Result<StringList, AllocError>
-    ensures bytes { IfOk result (λ made. made.bytes.items ≡ joined (lines_of text.now)) }
+    ensures bytes { IfOk result (λ made. made.bytes.items ≡ joined_lines (lines_of text.now)) }
     ensures ends { IfOk result (λ made. made.ends.items ≡ ends_of (lines_of text.now)) }
 {
     let mut bytes = Vec::new(alloc);

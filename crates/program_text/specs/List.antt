@@ -16,8 +16,8 @@ abbrev pub wrong_line : List ℕ → Option ℕ
 wrong_line text = position (λ line. not (is_number_line line)) (lines text)
 
 -- the numbers of the lines that have just one
-abbrev pub numbers_of : List ℕ → List ℕ
-numbers_of text = filter_map decimal_of (lines text)
+abbrev pub numbers_in_lines : List ℕ → List ℕ
+numbers_in_lines text = filter_map decimal_of (lines text)
 
 -- this is why the text is no list of numbers
 abbrev pub IsListError : List ℕ → ListError → Type 0

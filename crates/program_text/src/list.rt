@@ -1,6 +1,6 @@
 //! The numbers of a text, one a line.
 ghost use Rattle.std.specs.Prelude.{◌≡◌, IfErr, IfOk, None};
-ghost use Rattle.program_text.specs.List.{is_number_line, numbers_of, wrong_line, IsListError};
+ghost use Rattle.program_text.specs.List.{is_number_line, numbers_in_lines, wrong_line, IsListError};
 
 use crate::digits::decimal;
 use crate::lines::Lines;
@@ -73,7 +73,7 @@ fn wrong_line(text: &[u8]) -> Option<usize>
 /// ```
 pub fn numbers(alloc: Global, text: &[u8]) -> Result<Vec<u64>, ListError>
     ensures right { IfOk result (λ _. wrong_line text.now ≡ None) }
-    ensures numbers { IfOk result (λ v. v.items ≡ numbers_of text.now) }
+    ensures numbers { IfOk result (λ v. v.items ≡ numbers_in_lines text.now) }
     ensures error { IfErr result (λ e. IsListError text.now e) }
 {
     match wrong_line(text) {
@@ -84,7 +84,7 @@ pub fn numbers(alloc: Global, text: &[u8]) -> Result<Vec<u64>, ListError>
 
 /// The numbers of the lines that have just one.
 fn collect_numbers(alloc: Global, text: &[u8]) -> Result<Vec<u64>, AllocError>
-    ensures { IfOk result (λ numbers. numbers.items ≡ numbers_of text.now) }
+    ensures { IfOk result (λ numbers. numbers.items ≡ numbers_in_lines text.now) }
 {
     let mut numbers = Vec::new(alloc);
     numbers.extend(Lines::new(text).filter_map(decimal))?;

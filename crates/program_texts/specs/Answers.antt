@@ -31,10 +31,10 @@ pub record ArePositions (text pattern positions : List ℕ) : Type 0 where
 
 -- what is asked of patterns in a text: at how many positions each stands, the positions at which any stands, or the lines
 -- that have any
-abbrev pub AreAnswers : Asked → List ℕ → List (List ℕ) → List ℕ → Type 0
-AreAnswers Count text patterns numbers = numbers ≡ map (occurrences text) patterns
-AreAnswers Locate text patterns numbers = ArePlacesOf patterns text numbers
-AreAnswers Lines text patterns numbers = LinesWith patterns text numbers
+abbrev pub ArePatternAnswers : Asked → List ℕ → List (List ℕ) → List ℕ → Type 0
+ArePatternAnswers Count text patterns numbers = numbers ≡ map (occurrences text) patterns
+ArePatternAnswers Locate text patterns numbers = ArePlacesOf patterns text numbers
+ArePatternAnswers Lines text patterns numbers = LinesWith patterns text numbers
 
 -- what that can be in a text of n letters: a count is at most that of all positions, a position one of a letter or the
 -- end, and positions and lines rise
@@ -58,7 +58,7 @@ pub record WroteOfFile (asked : Asked) (sums : Bool) (file : List ℕ) (patterns
   pub words : words_of_bytes file ≡ Some block
   pub opened : IsOpened sums block
   pub numbers : List ℕ
-  pub answers : (text : List ℕ) → IsTextFile file text → AreAnswers asked text patterns numbers
+  pub answers : (text : List ℕ) → IsTextFile file text → ArePatternAnswers asked text patterns numbers
   pub within : AreWithin asked (parts_in block).tables.letters.len patterns numbers
   pub found_is : found ≡ is_found asked numbers
   pub written : Appends before after (flat_map line_of numbers)

@@ -2,7 +2,7 @@
 ghost use Rattle.std.specs.Prelude.{◌≡◌, IfOk, IsErrOf, List, OnOk, SomeIff, ℕ};
 ghost use Rattle.std.specs.Io.KnownBytes.{Appends};
 ghost use Rattle.std.specs.List.{flat_map};
-ghost use Rattle.program_texts.specs.Answers.{is_found, line_of, AreAnswers, AreWithin};
+ghost use Rattle.program_texts.specs.Answers.{is_found, line_of, ArePatternAnswers, AreWithin};
 ghost use Rattle.program_texts.specs.Answers.{WroteCounts, WroteLines, WroteOfFile, WrotePositions};
 ghost use Rattle.program_texts.specs.File.{IsOpened, IsTextFile};
 ghost use Rattle.program_texts.specs.Lines.{bytes_in};
@@ -154,7 +154,7 @@ fn answers(
     patterns: &[&[u8]],
 ) -> Result<Vec<usize>, Failure>
     ensures answer { HoldsIndex text.now → IfOk result (λ numbers.
-        AreAnswers asked (bytes_of_parts text.now) (bytes_in patterns.now) numbers.items) }
+        ArePatternAnswers asked (bytes_of_parts text.now) (bytes_in patterns.now) numbers.items) }
     ensures within { IfOk result (λ numbers.
         AreWithin asked text.now.tables.letters.len (bytes_in patterns.now) numbers.items) }
     ensures wrong { HoldsIndex text.now → ¬ (IsErrOf result Failure.WrongBlock) }

@@ -5,7 +5,7 @@ use Rattle.bit_lists.specs.Bits.{bits_of}
 use Rattle.bit_lists.specs.Count.{ones_of}
 use Rattle.bitm_tables.specs.Tables.{bits_in, HasSizes, HasTables, Lists}
 use Rattle.bitm_block.proofs.PartsLemmas.{count_is, entry_is, laid, part, part_is, section_is, HaveLengths, Part}
-use Rattle.bitm_block.specs.Header.{entry_in, section_in}
+use Rattle.bitm_block.specs.Header.{section_entry, section_in}
 use Rattle.bitm_block.specs.Layout.{head_of, no_section, part_in}
 use Rattle.bitm_block.specs.Written.{IsSealed}
 use Rattle.bitm_block.specs.declared.head.Head.{Head}
@@ -55,7 +55,7 @@ module _ (words seeds sizes : List ℕ) (seed keys : ℕ) (old new : List ℕ)
   at : (i : ℕ) → i < 5 → section_in new i ≡ part_in (seeded_sections (length words) (length sizes)) old i
   at i less = section_is (hash_head keys seed) (seeded_sections (length words) (length sizes)) old new sealed i less
 
-  entry_at : (i : ℕ) → i < 5 → entry_in new i ≡ get_or (seeded_sections (length words) (length sizes)) i no_section
+  entry_at : (i : ℕ) → i < 5 → section_entry new i ≡ get_or (seeded_sections (length words) (length sizes)) i no_section
   entry_at i less = entry_is (hash_head keys seed) (seeded_sections (length words) (length sizes)) old new sealed i less
 
   role_at : (i : ℕ) → i < 5 → slice_index new (16 + 4 * i) ≡ (get_or (seeded_sections (length words) (length sizes)) i no_section).role

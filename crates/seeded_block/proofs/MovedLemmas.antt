@@ -10,7 +10,7 @@ use Rattle.bit_lists.proofs.lemmas.BitsLemmas.{item-bits_of_at, length-bits_of, 
 use Rattle.bit_lists.proofs.lemmas.CutLemmas.{item-stretch}
 use Rattle.bitm_block.proofs.HeaderLemmas.{begin_next, inside}
 use Rattle.bitm_block.proofs.LayoutLemmas.{words_fit}
-use Rattle.bitm_block.specs.Header.{begin_in, count_in, entry_in, section_in, IsBlock}
+use Rattle.bitm_block.specs.Header.{begin_in, count_in, section_entry, section_in, IsBlock}
 use Rattle.bitm_block.specs.Layout.{words_of}
 use Rattle.seeded_block.specs.Block.{seeds_in, HasSeededSections, IsSeededBlock}
 use Rattle.seeded_block.specs.Seeds.{seed_of, AreBytesOf}
@@ -24,12 +24,12 @@ part_len : (xs : List ℕ) (begin end : ℕ) → begin ≤ end → end ≤ lengt
 part_len xs begin end order within = length-take-le (end - begin) (drop begin xs) (omega (arith, order, within, length-drop begin xs))
 
 -- a section has as many words as its entry says, and ends inside the block
-pub section_end : (block : List ℕ) (i : ℕ) → IsBlock block → i < count_in block → begin_in block i + words_of (entry_in block i) ≤ length block
-section_end block i is less = omega (arith, begin_next block i less, words_fit (entry_in block i), inside block is.directory (i + 1))
+pub section_end : (block : List ℕ) (i : ℕ) → IsBlock block → i < count_in block → begin_in block i + words_of (section_entry block i) ≤ length block
+section_end block i is less = omega (arith, begin_next block i less, words_fit (section_entry block i), inside block is.directory (i + 1))
 
-pub section_len : (block : List ℕ) (i : ℕ) → IsBlock block → i < count_in block → length (section_in block i) ≡ words_of (entry_in block i)
+pub section_len : (block : List ℕ) (i : ℕ) → IsBlock block → i < count_in block → length (section_in block i) ≡ words_of (section_entry block i)
 section_len block i is less =
-    omega (arith, part_len block (begin_in block i) (begin_in block i + words_of (entry_in block i)) (omega arith) (section_end block i is less))
+    omega (arith, part_len block (begin_in block i) (begin_in block i + words_of (section_entry block i)) (omega arith) (section_end block i is less))
 
 -- there are as many words of seeds as they take
 pub seeds_words : (block : List ℕ) → IsBlock block → HasSeededSections block → length (section_in block 3) ≡ div_ceil (slice_index block 30) 8
@@ -89,7 +89,7 @@ seeds_are_bytes block bytes is len same =
         length-take-le (slice_index block 30) (drop (8 * begin_in block 3) bytes)
         (omega (arith, length-drop (8 * begin_in block 3) bytes, len, (seeds_place block is).1))
 
-    words_are : words_of (entry_in block 3) ≡ div_ceil (slice_index block 30) 8
+    words_are : words_of (section_entry block 3) ≡ div_ceil (slice_index block 30) 8
     words_are = ap (λ (role : ℕ). words_of (record { role = role; count = slice_index block 30 })) is.sections.seeds
 
     each : (k : ℕ) → k < slice_index block 30
@@ -98,6 +98,6 @@ seeds_are_bytes block bytes is len same =
         get_or-take (slice_index block 30) (drop (8 * begin_in block 3) bytes) k 0 less
         ∙ get_or-drop (8 * begin_in block 3) bytes k 0
         ∙ same (8 * begin_in block 3 + k) (omega (arith, less, len, (seeds_place block is).1))
-        ∙ sym (seed_moved block (begin_in block 3) (begin_in block 3 + words_of (entry_in block 3)) k (omega arith)
+        ∙ sym (seed_moved block (begin_in block 3) (begin_in block 3 + words_of (section_entry block 3)) k (omega arith)
         (section_end block 3 is.is_block (omega (arith, is.sections.five))) (omega (arith, less, words_are)))
         ∙ sym (seed_at (section_in block 3) (slice_index block 30) k less)

@@ -1,7 +1,8 @@
 //! A hash with seeds in memory that may hold anything.
 ghost use Rattle.std.specs.Prelude.{◌≡◌, ◌+◌, ◌↔◌, IsTrue, length, None, SomeIff};
 ghost use Rattle.bitm_tables.specs.Reads.{none_read, ReadsAtMost};
-ghost use Rattle.perfect_hash.specs.Asking.{IfAbsent, IsBelow, IsNumbered};
+ghost use Rattle.bitm_tables.specs.Answers.{IfAbsent};
+ghost use Rattle.perfect_hash.specs.Asking.{IsBelow, IsNumbered};
 ghost use Rattle.perfect_hash.specs.Placed.{FitIn};
 ghost use Rattle.hash_block.specs.Parts.{IsHash};
 ghost use Rattle.seeded_block.specs.Parts.{seeded_number};

@@ -20,7 +20,7 @@ use Rattle.elias_fano.specs.Sequence.{largest}
 use Rattle.elias_fano_view.proofs.RoomLemmas.{room-sizes}
 use Rattle.elias_fano_view.specs.Sizes.{sizes_of}
 use Rattle.elias_fano_view.specs.declared.sizes.Sizes.{Sizes}
-use Rattle.sequence_block.specs.Block.{numbers_head, sections_of, sequence_in, AreWritten, HoldsNumbers, StandsIn}
+use Rattle.sequence_block.specs.Block.{numbers_head, sections_of, sequence_in, ArePartsWritten, HoldsNumbers, StandsIn}
 
 -- the sections of a sequence are few and short
 module _ (xs : List ℕ) (short : length xs < 2 ^ 56) (rising : IsNonDecreasing xs) (fits : (k : ℕ) → get_or xs k 0 < 2 ^ 64) where
@@ -47,7 +47,7 @@ module _ (xs : List ℕ) (short : length xs < 2 ^ 56) (rising : IsNonDecreasing 
 
 -- parts that are written one after another stand where the sections of the numbers are
 pub stands : (xs head words gap upper gap2 lower gap3 low tail : List ℕ) → length head ≡ 32
-    → HaveLengths (sections_of xs) (part words gap ∷ part upper gap2 ∷ part lower gap3 ∷ part low tail ∷ []) → AreWritten xs low words upper lower
+    → HaveLengths (sections_of xs) (part words gap ∷ part upper gap2 ∷ part lower gap3 ∷ part low tail ∷ []) → ArePartsWritten xs low words upper lower
     → StandsIn xs (head ++ ((words ++ gap) ++ ((upper ++ gap2) ++ ((lower ++ gap3) ++ (low ++ tail)))))
 stands xs head words gap upper gap2 lower gap3 low tail head_len lens are =
     let ss = sections_of xs in
@@ -57,10 +57,10 @@ stands xs head words gap upper gap2 lower gap3 low tail head_len lens are =
     ap (λ z. head ++ ((words ++ gap) ++ ((upper ++ gap2) ++ ((lower ++ gap3) ++ z)))) (append-nil (low ++ tail)) in
     let from : head_of (length ss) ≡ length head = omega (arith, head_len) in
     subst (StandsIn xs) whole
-    (subst (λ (l : List ℕ). AreWritten xs l (part_in ss all 0) (part_in ss all 1) (part_in ss all 2)) (sym (part_is ss ps head 3 lens from (omega arith)))
-    (subst (λ (w : List ℕ). AreWritten xs low w (part_in ss all 1) (part_in ss all 2)) (sym (part_is ss ps head 0 lens from (omega arith)))
-    (subst (λ (u : List ℕ). AreWritten xs low words u (part_in ss all 2)) (sym (part_is ss ps head 1 lens from (omega arith)))
-    (subst (λ (l : List ℕ). AreWritten xs low words upper l) (sym (part_is ss ps head 2 lens from (omega arith))) are))))
+    (subst (λ (l : List ℕ). ArePartsWritten xs l (part_in ss all 0) (part_in ss all 1) (part_in ss all 2)) (sym (part_is ss ps head 3 lens from (omega arith)))
+    (subst (λ (w : List ℕ). ArePartsWritten xs low w (part_in ss all 1) (part_in ss all 2)) (sym (part_is ss ps head 0 lens from (omega arith)))
+    (subst (λ (u : List ℕ). ArePartsWritten xs low words u (part_in ss all 2)) (sym (part_is ss ps head 1 lens from (omega arith)))
+    (subst (λ (l : List ℕ). ArePartsWritten xs low words upper l) (sym (part_is ss ps head 2 lens from (omega arith))) are))))
 
 -- a sealed block whose sections hold the sequence is its block
 pub block_is : (kind b : ℕ) (xs old new : List ℕ) → IsSealed (numbers_head kind b (length xs) (width_of xs)) (sections_of xs) old new → StandsIn xs old

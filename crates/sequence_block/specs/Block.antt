@@ -11,7 +11,7 @@ use Rattle.block_tables.specs.Sections.{section_of, tables_in, HasTableSections}
 use Rattle.elias_fano.specs.LentParts.{parts_of, AreParts, HasLengths, Holds, LentParts}
 use Rattle.elias_fano.specs.Parts.{width_of}
 use Rattle.elias_fano.specs.Sequence.{largest}
-use Rattle.elias_fano_view.specs.Sizes.{sizes_of, HasRoom}
+use Rattle.elias_fano_view.specs.Sizes.{sizes_of, HasPartRoom}
 
 -- the numbers of the header of n numbers with l low bits in a block of a kind, which has the number b besides
 abbrev pub numbers_head : ℕ → ℕ → ℕ → ℕ → Head
@@ -28,14 +28,14 @@ abbrev pub sections_of : List ℕ → List Section
 sections_of xs = sequence_sections (length xs) (largest xs)
 
 -- the lists are the parts of the sequence xs, and as long as these need
-pub record AreWritten (xs low words upper lower : List ℕ) : Type 0 where
-  pub room : HasRoom xs low words upper lower
+pub record ArePartsWritten (xs low words upper lower : List ℕ) : Type 0 where
+  pub room : HasPartRoom xs low words upper lower
   pub holds : Holds xs (parts_of (length xs) (width_of xs) low (lists_of words upper lower))
 
 -- they stand where the sections of the numbers are
 abbrev pub StandsIn : List ℕ → List ℕ → Type 0
 StandsIn xs block =
-    let ss = sections_of xs in AreWritten xs (part_in ss block 3) (part_in ss block 0) (part_in ss block 1) (part_in ss block 2)
+    let ss = sections_of xs in ArePartsWritten xs (part_in ss block 3) (part_in ss block 0) (part_in ss block 1) (part_in ss block 2)
 
 -- the sequence whose parts are the first four sections
 abbrev pub sequence_in : List ℕ → LentParts

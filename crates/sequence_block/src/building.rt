@@ -5,9 +5,9 @@ ghost use Rattle.bitm_block.specs.Layout.{end_of};
 ghost use Rattle.bitm_block.specs.Written.{IsSealed};
 ghost use Rattle.elias_fano.specs.Parts.{width_of};
 ghost use Rattle.elias_fano.specs.Sequence.{largest, HasFall};
-ghost use Rattle.elias_fano_view.specs.Sizes.{sizes_of, HasRoom};
+ghost use Rattle.elias_fano_view.specs.Sizes.{sizes_of, HasPartRoom};
 ghost use Rattle.sequence_block.specs.Block.{numbers_head, sections_of};
-ghost use Rattle.sequence_block.specs.Block.{AreWritten, CanHold, HoldsNumbers, IsBlockOf, StandsIn};
+ghost use Rattle.sequence_block.specs.Block.{ArePartsWritten, CanHold, HoldsNumbers, IsBlockOf, StandsIn};
 
 use crate::error::BuildError;
 use crate::sections::{SEQUENCE, numbers_head, sequence_sections, size};
@@ -24,9 +24,9 @@ fn write_numbers(
     upper: &mut [u64],
     lower: &mut [u64],
 )
-    requires room { HasRoom items.now low.old words.old upper.old lower.old }
+    requires room { HasPartRoom items.now low.old words.old upper.old lower.old }
     requires rising { IsNonDecreasing items.now }
-    ensures { AreWritten items.now low.new words.new upper.new lower.new }
+    ensures { ArePartsWritten items.now low.new words.new upper.new lower.new }
 {
     match elias_fano_view::build(items, low, words, as_entries_mut(upper), lower) {
         Ok(_) => {}

@@ -4,10 +4,10 @@ use Rattle.std.proofs.lemmas.List.{length-map}
 use Rattle.bit_lists.proofs.lemmas.CutLemmas.{cut_count, cut_pick, item-stretch}
 use Rattle.bit_lists.specs.Bits.{item}
 use Rattle.bit_lists.specs.Count.{count_before, Picks}
-use Rattle.sharded_index.specs.Joined.{joined, joined_to, number_of, shard_at}
+use Rattle.sharded_index.specs.Joined.{count_of_kind, joined, joined_to, shard_at}
 use Rattle.sharded_index.specs.Laws.{ItemOfJoined, PickedInJoined, PrefixesAreSums, RankInJoined}
 use Rattle.sharded_index.specs.declared.counts.Kind.TheVariants.{Positions, Ones}
-use Rattle.sharded_index.proofs.JoinedLemmas.{count_to_shard, number_of-joined_to, shard_is_stretch, shard_is_within}
+use Rattle.sharded_index.proofs.JoinedLemmas.{number_of-joined_to, count_to_shard, shard_is_stretch, shard_is_within}
 
 -- an item of a bit vector is one of the joined bits
 pub item_of_joined : ItemOfJoined
@@ -41,8 +41,8 @@ picked_in_joined bs v k r p l inside =
 -- prefix sums of the numbers of each bit vector are the prefix counts
 pub prefixes_are_sums : PrefixesAreSums
 prefixes_are_sums bs c =
-    let bits_len = length-map bs (number_of Positions) in
-    let ones_len = length-map bs (number_of Ones) in (
+    let bits_len = length-map bs (count_of_kind Positions) in
+    let ones_len = length-map bs (count_of_kind Ones) in (
       λ h. (
         record {
           len = omega (arith, h.bits_len, bits_len);

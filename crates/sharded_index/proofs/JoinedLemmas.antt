@@ -6,7 +6,7 @@ use Rattle.std.proofs.lemmas.List.Sums.{sum_by-append, sum_by-cons}
 use Rattle.std.proofs.Math.Seq.{drop-append_seam, take-append-add, take-append_seam}
 use Rattle.bit_lists.specs.Count.{count_before, count_of, ones_before, zeros_before}
 use Rattle.bit_lists.specs.StretchLaws.{stretch}
-use Rattle.sharded_index.specs.Joined.{joined, joined_to, number_of, shard_at}
+use Rattle.sharded_index.specs.Joined.{count_of_kind, joined, joined_to, shard_at}
 use Rattle.sharded_index.specs.declared.counts.Kind.{Kind}
 use Rattle.sharded_index.specs.declared.counts.Kind.TheVariants.{Positions, Zeros, Ones}
 
@@ -67,38 +67,38 @@ module _ (bs : List (List Bool)) (k : ℕ) (l : k < length bs) where
       ∙ count-append_first (joined_to bs k) (shard_at bs k ++ rest) v (length (joined_to bs k)) (omega arith)
 
 -- the number of bits of a kind of two lists
-pub number_of-append : (of : Kind) (a b : List Bool) → number_of of (a ++ b) ≡ number_of of a + number_of of b
+pub number_of-append : (of : Kind) (a b : List Bool) → count_of_kind of (a ++ b) ≡ count_of_kind of a + count_of_kind of b
 number_of-append Positions a b = length-append a b
 number_of-append Zeros a b = count_of-append a b false
 number_of-append Ones a b = count_of-append a b true
 
-pub number_of-nil : (of : Kind) → number_of of [] ≡ 0
+pub number_of-nil : (of : Kind) → count_of_kind of [] ≡ 0
 unfolding ones_before zeros_before
 number_of-nil Positions = refl
 number_of-nil Zeros = refl
 number_of-nil Ones = refl
 
 -- the number of bits of a kind is the sum of those of each
-pub number_of-joined : (of : Kind) (bs : List (List Bool)) → sum (map (number_of of) bs) ≡ number_of of (joined bs)
+pub number_of-joined : (of : Kind) (bs : List (List Bool)) → sum (map (count_of_kind of) bs) ≡ count_of_kind of (joined bs)
 number_of-joined of [] = sym (number_of-nil of)
 number_of-joined of (b ∷ bs) =
-    sum_by-cons (λ x. x) (number_of of b) (map (number_of of) bs)
-    ∙ ap (λ (n : ℕ). number_of of b + n) (number_of-joined of bs) ∙ sym (number_of-append of b (joined bs))
+    sum_by-cons (λ x. x) (count_of_kind of b) (map (count_of_kind of) bs)
+    ∙ ap (λ (n : ℕ). count_of_kind of b + n) (number_of-joined of bs) ∙ sym (number_of-append of b (joined bs))
 
 -- and of the first k
-pub number_of-joined_to : (of : Kind) (bs : List (List Bool)) (k : ℕ) → sum (take k (map (number_of of) bs)) ≡ number_of of (joined_to bs k)
-number_of-joined_to of bs k = ap (λ (l : List ℕ). sum l) (take-map (number_of of) k bs) ∙ number_of-joined of (take k bs)
+pub number_of-joined_to : (of : Kind) (bs : List (List Bool)) (k : ℕ) → sum (take k (map (count_of_kind of) bs)) ≡ count_of_kind of (joined_to bs k)
+number_of-joined_to of bs k = ap (λ (l : List ℕ). sum l) (take-map (count_of_kind of) k bs) ∙ number_of-joined of (take k bs)
 
 -- one more
 pub number_of-next : (of : Kind) (bs : List (List Bool)) (k : ℕ) → k < length bs
-    → number_of of (joined_to bs (k + 1)) ≡ number_of of (joined_to bs k) + number_of of (shard_at bs k)
+    → count_of_kind of (joined_to bs (k + 1)) ≡ count_of_kind of (joined_to bs k) + count_of_kind of (shard_at bs k)
 number_of-next of [] k l = absurd (omega (arith, l))
 number_of-next of (b ∷ bs) zero l = omega (arith, number_of-append of b [], number_of-nil of)
 number_of-next of (b ∷ bs) (suc k) l =
     let e : suc k + 1 ≡ suc (k + 1) = omega arith in
     omega (
       arith,
-      ap (λ (m : ℕ). number_of of (joined_to (b ∷ bs) m)) e,
+      ap (λ (m : ℕ). count_of_kind of (joined_to (b ∷ bs) m)) e,
       number_of-append of b (joined_to bs (k + 1)),
       number_of-append of b (joined_to bs k),
       number_of-next of bs k (omega (arith, l)),
@@ -109,8 +109,8 @@ zero_of j le = omega (arith, le)
 
 -- the counts do not fall
 pub number_of-rises : (of : Kind) (bs : List (List Bool)) (j k : ℕ) → j ≤ k → k ≤ length bs
-    → number_of of (joined_to bs j) ≤ number_of of (joined_to bs k)
-number_of-rises of bs j zero le l = omega (arith, ap (λ (m : ℕ). number_of of (joined_to bs m)) (zero_of j le))
+    → count_of_kind of (joined_to bs j) ≤ count_of_kind of (joined_to bs k)
+number_of-rises of bs j zero le l = omega (arith, ap (λ (m : ℕ). count_of_kind of (joined_to bs m)) (zero_of j le))
 number_of-rises of bs j (suc k) le l =
     ⊎_elim
     (λ (less : j < suc k).
@@ -119,9 +119,9 @@ number_of-rises of bs j (suc k) le l =
       arith,
       number_of-rises of bs j k (omega (arith, less)) (omega (arith, l)),
       number_of-next of bs k (omega (arith, l)),
-      ap (λ (m : ℕ). number_of of (joined_to bs m)) e,
+      ap (λ (m : ℕ). count_of_kind of (joined_to bs m)) e,
     ))
     (λ (least : suc k ≤ j).
     let e : j ≡ suc k = omega (arith, le, least) in
-    omega (arith, ap (λ (m : ℕ). number_of of (joined_to bs m)) e))
+    omega (arith, ap (λ (m : ℕ). count_of_kind of (joined_to bs m)) e))
     (cases_lt j (suc k))

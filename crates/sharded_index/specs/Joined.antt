@@ -18,10 +18,10 @@ abbrev pub shard_at : List (List Bool) → ℕ → List Bool
 shard_at bs k = slice_index_or bs k []
 
 -- how many bits of a kind there are
-abbrev pub number_of : Kind → List Bool → ℕ
-number_of Positions b = length b
-number_of Zeros b = count_of b false
-number_of Ones b = count_of b true
+abbrev pub count_of_kind : Kind → List Bool → ℕ
+count_of_kind Positions b = length b
+count_of_kind Zeros b = count_of b false
+count_of_kind Ones b = count_of b true
 
 -- the kind of a bit
 abbrev pub kind_of : Bool → Kind

@@ -3,7 +3,7 @@
 use Rattle.std.specs.Prelude.{◌≡◌, ℕ, ◌+◌, ◌<◌, ◌≤◌, ◌↔◌, Bool, List, length, map}
 use Rattle.bit_lists.specs.Bits.{item}
 use Rattle.bit_lists.specs.Count.{count_before, count_of, Picks}
-use Rattle.sharded_index.specs.Joined.{joined, joined_to, number_of, shard_at, IsPrefixSums}
+use Rattle.sharded_index.specs.Joined.{count_of_kind, joined, joined_to, shard_at, IsPrefixSums}
 use Rattle.sharded_index.specs.Prefixes.{ArePrefixes, Prefixes}
 use Rattle.sharded_index.specs.declared.counts.Kind.TheVariants.{Positions, Ones}
 
@@ -29,4 +29,4 @@ PickedInJoined =
 abbrev pub PrefixesAreSums : Type 0
 PrefixesAreSums =
     (bs : List (List Bool)) (c : Prefixes)
-    → ArePrefixes bs c ↔ (IsPrefixSums (map (number_of Positions) bs) c.bits × IsPrefixSums (map (number_of Ones) bs) c.ones)
+    → ArePrefixes bs c ↔ (IsPrefixSums (map (count_of_kind Positions) bs) c.bits × IsPrefixSums (map (count_of_kind Ones) bs) c.ones)

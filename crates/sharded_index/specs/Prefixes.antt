@@ -1,9 +1,10 @@
 -- How many bits, and how many 1 bits, there are before each shard: what is found in such numbers, whatever they are, and
 -- where they are those of the shards.
 use Rattle.std.specs.Prelude.{◌≡◌, ℕ, ◌+◌, ◌-◌, ◌<◌, ◌≤◌, Bool, List, length, slice_index}
+use Rattle.bitm_tables.specs.Answers.{Right}
 use Rattle.bitm_tables.specs.declared.answer.Answer.{Answer}
 use Rattle.bitm_tables.specs.declared.answer.Answer.TheVariants.{Found, Absent, Wrong}
-use Rattle.sharded_index.specs.Joined.{joined, joined_to, number_of, shard_at}
+use Rattle.sharded_index.specs.Joined.{count_of_kind, joined, joined_to, shard_at}
 use Rattle.sharded_index.specs.declared.counts.Kind.{Kind}
 use Rattle.sharded_index.specs.declared.counts.Kind.TheVariants.{Positions, Zeros, Ones}
 use Rattle.sharded_index.specs.declared.counts.Place.{Place}
@@ -40,8 +41,8 @@ claimed_in_all of c = claimed of c (shard_count c)
 pub record ArePrefixes (bs : List (List Bool)) (c : Prefixes) : Type 0 where
   pub bits_len : length c.bits ≡ length bs + 1
   pub ones_len : length c.ones ≡ length bs + 1
-  pub bits_before : (k : ℕ) → k ≤ length bs → slice_index c.bits k ≡ number_of Positions (joined_to bs k)
-  pub ones_before : (k : ℕ) → k ≤ length bs → slice_index c.ones k ≡ number_of Ones (joined_to bs k)
+  pub bits_before : (k : ℕ) → k ≤ length bs → slice_index c.bits k ≡ count_of_kind Positions (joined_to bs k)
+  pub ones_before : (k : ℕ) → k ≤ length bs → slice_index c.ones k ≡ count_of_kind Ones (joined_to bs k)
 
 -- the numbers claim that a position, or the bit with a rank, is in a shard, after the given number of its kind there
 pub record IsClaimed (of : Kind) (c : Prefixes) (number : ℕ) (place : Place) : Type 0 where
@@ -59,11 +60,9 @@ IsClaimedBy of c number Wrong = (number < claimed of c 0) × (number < claimed_i
 -- a position of the joined bits, or the bit with a rank there, is in a shard, after the given number of its kind there
 pub record IsWithin (of : Kind) (bs : List (List Bool)) (number : ℕ) (place : Place) : Type 0 where
   pub inside : place.shard < length bs
-  pub within : place.within < number_of of (shard_at bs place.shard)
-  pub is : number_of of (joined_to bs place.shard) + place.within ≡ number
+  pub within : place.within < count_of_kind of (shard_at bs place.shard)
+  pub is : count_of_kind of (joined_to bs place.shard) + place.within ≡ number
 
 -- where the numbers are those of the shards: Absent exactly where the joined bits have no more of the kind
-abbrev pub IsPlaced : Kind → List (List Bool) → ℕ → Answer Place → Type 0
-IsPlaced of bs number (Found place) = IsWithin of bs number place
-IsPlaced of bs number Absent = number_of of (joined bs) ≤ number
-IsPlaced of bs number Wrong = ⊥
+abbrev pub IsShardFound : Kind → List (List Bool) → ℕ → Answer Place → Type 0
+IsShardFound of bs number = Right (λ place. IsWithin of bs number place) (count_of_kind of (joined bs) ≤ number)

@@ -1,9 +1,9 @@
 //! How many bits, and how many 1 bits, there are before each shard, and which shard holds a position or a rank.
 ghost use Rattle.std.specs.Prelude.{◌≡◌, ◌+◌, ◌-◌, ◌<◌, ◌≤◌, ◌↔◌, ℕ, Bool, IsTrue, List, SomeIff, length};
-ghost use Rattle.sharded_index.specs.Joined.{joined, joined_to, number_of};
+ghost use Rattle.sharded_index.specs.Joined.{count_of_kind, joined, joined_to};
 ghost use Rattle.sharded_index.specs.Prefixes.{claimed, claimed_in_all, prefixes_of, shard_count};
-ghost use Rattle.sharded_index.specs.Prefixes.{ArePrefixes, HasLengths, IsClaimed, IsClaimedBy, IsPlaced};
-ghost use Rattle.bitm_select.specs.Search.{IsLast};
+ghost use Rattle.sharded_index.specs.Prefixes.{ArePrefixes, HasLengths, IsClaimed, IsClaimedBy, IsShardFound};
+ghost use Rattle.bitm_select.specs.Search.{IsLastWithin};
 
 use bitm_tables::answer::Answer;
 use std::marker::Model;
@@ -89,7 +89,7 @@ impl<'a> PrefixCounts<'a> {
         requires { shard ≤ shard_count self.now }
         ensures claimed { result ≡ claimed of self.now shard }
         ensures right { (bs : List (List Bool)) → ArePrefixes bs self.now
-            → result ≡ number_of of (joined_to bs shard) }
+            → result ≡ count_of_kind of (joined_to bs shard) }
     {
         claimed_before(self.bits, self.ones, of, shard)
     }
@@ -99,7 +99,7 @@ impl<'a> PrefixCounts<'a> {
     pub fn total(&self, of: Kind) -> usize
         ensures claimed { result ≡ claimed_in_all of self.now }
         ensures right { (bs : List (List Bool)) → ArePrefixes bs self.now
-            → result ≡ number_of of (joined bs) }
+            → result ≡ count_of_kind of (joined bs) }
     {
         self.before(of, self.shards())
     }
@@ -113,7 +113,7 @@ impl<'a> PrefixCounts<'a> {
     /// A pair of numbers for each halving of how many there are: evident from the code.
     fn last_before(&self, of: Kind, number: usize) -> usize
         requires { claimed of self.now 0 ≤ number }
-        ensures { IsLast (claimed of self.now) (length self.now.bits) number result }
+        ensures { IsLastWithin (claimed of self.now) (length self.now.bits) number result }
     {
         let mut low = 0;
         let mut left = self.bits.len();
@@ -140,7 +140,7 @@ impl<'a> PrefixCounts<'a> {
     pub fn find(&self, of: Kind, number: usize) -> Answer<Place>
         ensures claimed { IsClaimedBy of self.now number result }
         ensures right { (bs : List (List Bool)) → ArePrefixes bs self.now
-            → IsPlaced of bs number result }
+            → IsShardFound of bs number result }
     {
         if self.total(of) <= number {
             return Answer::Absent;

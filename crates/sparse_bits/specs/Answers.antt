@@ -2,6 +2,7 @@
 use Rattle.std.specs.Prelude.{◌≡◌, ℕ, ◌<◌, ◌≤◌, Bool, List, length}
 use Rattle.bit_lists.specs.Bits.{item}
 use Rattle.bit_lists.specs.Count.{ones_before}
+use Rattle.bitm_tables.specs.Answers.{Right}
 use Rattle.bitm_tables.specs.declared.answer.Answer.{Answer}
 use Rattle.bitm_tables.specs.declared.answer.Answer.TheVariants.{Found, Absent, Wrong}
 
@@ -13,15 +14,11 @@ IsBitWithin n i Wrong = i < n
 
 -- bit i, and Absent exactly where there is none
 abbrev pub IsBitOf : List Bool → ℕ → Answer Bool → Type 0
-IsBitOf b i (Found x) = (i < length b) × (x ≡ item b i)
-IsBitOf b i Absent = length b ≤ i
-IsBitOf b i Wrong = ⊥
+IsBitOf b i = Right (λ x. (i < length b) × (x ≡ item b i)) (length b ≤ i)
 
 -- bit i and the number of 1 bits before it, and Absent exactly where there is no such bit
 abbrev pub IsBitAndRankOf : List Bool → ℕ → Answer (Bool × ℕ) → Type 0
-IsBitAndRankOf b i (Found (x, n)) = (i < length b) × (x ≡ item b i) × (n ≡ ones_before b i)
-IsBitAndRankOf b i Absent = length b ≤ i
-IsBitAndRankOf b i Wrong = ⊥
+IsBitAndRankOf b i = Right (λ x. (i < length b) × (x.0 ≡ item b i) × (x.1 ≡ ones_before b i)) (length b ≤ i)
 
 -- of c bits, the position of the one with rank r is one of n, and the answer is Absent exactly where there are no more
 -- than r

@@ -11,8 +11,8 @@ pub record SparseValue (S S0 : Type 0) : Type 0 where
   pub select0 : S0
 
 -- how many bytes a sequence of these numbers takes, and its two strategies
-abbrev pub bytes_of : List ℕ → ℕ → ℕ → ℕ
-bytes_of xs s s0 =
+abbrev pub bytes_taken : List ℕ → ℕ → ℕ → ℕ
+bytes_taken xs s s0 =
     let l = width_of xs in
     let words = upper_words_of xs l in
     saturated_size (8 * low_words_of xs l + 8 * words + 8 * div_ceil words (2 ^ 26) + 8 * div_ceil words 32 + s + s0)

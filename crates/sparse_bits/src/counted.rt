@@ -4,7 +4,7 @@ ghost use Rattle.std.specs.Prelude.{◌≡◌, ◌-◌, ◌<◌, ◌≤◌, ℕ,
 ghost use Rattle.bit_lists.specs.Bits.{digit_count};
 ghost use Rattle.bitm_select.specs.Answers.{IsSelected};
 ghost use Rattle.bitm_tables.specs.declared.answer.Answer.TheVariants.{Found, Wrong};
-ghost use Rattle.elias_fano.specs.Answers.{IsFirst, IsItem, IsOfPlace, IsPlaceOf};
+ghost use Rattle.elias_fano.specs.Answers.{IsItem, IsOfPlace, IsPlaceOf, IsSuccessorOf};
 ghost use Rattle.lent_tables.specs.Ranks.{IsCountWithin, IsRanked};
 ghost use Rattle.sparse_bits.specs.Answers.{IsBitAndRankOf, IsBitOf, IsBitWithin, IsSelectedWithin};
 ghost use Rattle.sparse_bits.specs.Looks.{LooksAtMost, no_looks, one_more_get, one_more_search};
@@ -99,7 +99,7 @@ impl<'a, P: Items> Ones<'a, P> {
     #[inline(always)]
     fn first_at_least(&mut self, v: u64) -> Answer<usize>
         ensures inside { IsPlaceOf (P.len self.old.positions) result }
-        ensures answer { (xs : List ℕ) → P.holds xs self.old.positions → IsFirst xs v result }
+        ensures answer { (xs : List ℕ) → P.holds xs self.old.positions → IsSuccessorOf xs v result }
         ensures counted { self.new ≡ one_more_search self.old }
     {
         self.searches.read_word();

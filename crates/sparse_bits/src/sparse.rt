@@ -5,7 +5,7 @@ ghost use Rattle.bit_lists.specs.Count.{ones_of, zeros_of, places};
 ghost use Rattle.elias_fano.specs.Parts.{width_of, low_words_of, upper_words_of};
 ghost use Rattle.sparse_bits.specs.Looks.{no_looks};
 ghost use Rattle.sparse_bits.specs.Positions.{bits_at, ArePlaces, HasNoRise, HasPast, Rises};
-ghost use Rattle.sparse_bits.specs.Value.{bytes_of};
+ghost use Rattle.sparse_bits.specs.Value.{bytes_taken};
 
 use crate::checking::{TOO_MANY, check_positions};
 use crate::counted::Ones;
@@ -212,11 +212,7 @@ impl<S: SelectForRank101111, S0: Select0ForRank101111> Access for SparseBits<S, 
     /// One search for a successor, and one position is read.
     #[inline]
     fn try_get_bit(&self, place: usize) -> Option<bool> {
-        match self.asked().bit_in(place) {
-            Answer::Found(bit) => Some(bit),
-            Answer::Absent => None,
-            Answer::Wrong => unreachable!(),
-        }
+        self.asked().bit_in(place).right()
     }
 
     /// The bit at position `place`, and the number of 1 bits before it.
@@ -259,7 +255,7 @@ impl<S: SelectForRank101111, S0: Select0ForRank101111> Select0 for SparseBits<S,
 impl<S: SelectForRank101111 + GetSize, S0: Select0ForRank101111 + GetSize> GetSize
     for SparseBits<S, S0> {
     // that of the sequence of the positions
-    ghost dyn_bytes = { λ b. bytes_of (places true 0 b.bits)
+    ghost dyn_bytes = { λ b. bytes_taken (places true 0 b.bits)
         (S.dyn_bytes b.select) (S0.dyn_bytes b.select0) };
 
     const USES_DYN_MEM: bool = true;

@@ -1,7 +1,7 @@
 -- Strings that are written one after another, in an order.
 use Rattle.std.proofs.Common.{◌≡◌, ◌≢◌, ℕ, zero, ◌+◌, ◌*◌, ◌<◌, ◌≤◌, List, length, set, get_or-set_same, get_or-set_other, length-set, slice_index, refl, sym, ap, ◌∙◌, subst, ⊎_elim, arith}
 use Rattle.std.proofs.lemmas.Bool.{cases_lt}
-use Rattle.string_block.specs.Bytes.{byte_of, AreZeroFrom, StandsAt}
+use Rattle.string_block.specs.Bytes.{byte_of, AreZeroBytesFrom, StandsAt}
 use Rattle.string_block.specs.Given.{given, len_of, total_of, AreArranged}
 use Rattle.string_block.proofs.GivenLemmas.{total_grows, total_next}
 
@@ -18,7 +18,7 @@ pub record Arranging (bytes ends order old starts to : List ℕ) (at v : ℕ) : 
   pub len : length to ≡ length old
 
 -- at first none stands there
-pub none_arranged : (bytes ends order old : List ℕ) → AreZeroFrom old 0 → Arranging bytes ends order old order old 0 0
+pub none_arranged : (bytes ends order old : List ℕ) → AreZeroBytesFrom old 0 → Arranging bytes ends order old order old 0 0
 unfolding total_of
 none_arranged bytes ends order old clear = record {
   total = refl;

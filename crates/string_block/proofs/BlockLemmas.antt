@@ -13,10 +13,10 @@ use Rattle.bitm_block.specs.declared.layout.Section.{Section}
 use Rattle.hash_levels.specs.Numbers.{number_by}
 use Rattle.hash_block.specs.Block.{hash_in, IsHashBlock}
 use Rattle.hash_block.specs.Parts.{HashParts}
-use Rattle.string_block.specs.Block.{sections_with, string_head, strings_in, AreFewOf, ArePartsOf, IsBlockOf, NumberStrings, RoundTrip, StandsIn}
-use Rattle.string_block.specs.Bytes.{stored_from, AreZeroFrom}
+use Rattle.string_block.specs.Block.{sections_for, string_head, strings_in, AreFewOf, AreStringPartsOf, IsBlockOf, NumberStrings, StandsIn, StringsRoundTrip}
+use Rattle.string_block.specs.Bytes.{stored_from, AreZeroBytesFrom}
 use Rattle.string_block.specs.Given.{given, len_of, StandsAtNumber}
-use Rattle.string_block.specs.Parts.{given_number, number_in, start_of, string_number, AreStrings, HasStarts, IsOwn, IsString, StringParts}
+use Rattle.string_block.specs.Parts.{given_number, start_of, string_number, string_number_in, AreStrings, HasStringStarts, IsOwn, IsString, StringParts}
 use Rattle.string_block.specs.SipHash.{hash_of}
 use Rattle.string_block.proofs.ViewLemmas.{only_found, same_number}
 
@@ -26,11 +26,11 @@ parts_of hash_block starts words = record { kind = 12; hash = hash_in hash_block
 
 -- parts that are written one after another stand where the sections of the strings are
 pub stands : (hash : HashParts) (bytes ends head hash_block gap starts gap2 words tail : List ℕ) → length head ≡ 32
-    → HaveLengths (sections_with hash bytes ends) (part hash_block gap ∷ part starts gap2 ∷ part words tail ∷ [])
-    → ArePartsOf hash bytes ends hash_block starts words
+    → HaveLengths (sections_for hash bytes ends) (part hash_block gap ∷ part starts gap2 ∷ part words tail ∷ [])
+    → AreStringPartsOf hash bytes ends hash_block starts words
     → StandsIn hash bytes ends (head ++ ((hash_block ++ gap) ++ ((starts ++ gap2) ++ (words ++ tail))))
 stands hash bytes ends head hash_block gap starts gap2 words tail head_len lens are =
-    let ss = sections_with hash bytes ends in
+    let ss = sections_for hash bytes ends in
     let ps : List Part = part hash_block gap ∷ part starts gap2 ∷ part words tail ∷ [] in
     let all : List ℕ = head ++ laid ps in
     let whole : all ≡ head ++ ((hash_block ++ gap) ++ ((starts ++ gap2) ++ (words ++ tail))) =
@@ -38,12 +38,12 @@ stands hash bytes ends head hash_block gap starts gap2 words tail head_len lens 
     let from : head_of (length ss) ≡ length head = omega (arith, head_len) in
     let at : (i : ℕ) → i < 3 → (get_or ps i (part [] [])).words ≡ part_in ss all i = λ i less. sym (part_is ss ps head i lens from less) in
     subst (StandsIn hash bytes ends) whole
-    (subst (λ (h : List ℕ). ArePartsOf hash bytes ends h (part_in ss all 1) (part_in ss all 2)) (at 0 (omega arith))
-    (subst (λ (s : List ℕ). ArePartsOf hash bytes ends hash_block s (part_in ss all 2)) (at 1 (omega arith))
-    (subst (λ (w : List ℕ). ArePartsOf hash bytes ends hash_block starts w) (at 2 (omega arith)) are)))
+    (subst (λ (h : List ℕ). AreStringPartsOf hash bytes ends h (part_in ss all 1) (part_in ss all 2)) (at 0 (omega arith))
+    (subst (λ (s : List ℕ). AreStringPartsOf hash bytes ends hash_block s (part_in ss all 2)) (at 1 (omega arith))
+    (subst (λ (w : List ℕ). AreStringPartsOf hash bytes ends hash_block starts w) (at 2 (omega arith)) are)))
 
 module _ (hash : HashParts) (bytes ends hash_block starts words : List ℕ) (few : AreFewOf hash bytes ends) (number : NumberStrings hash bytes ends)
-    (are : ArePartsOf hash bytes ends hash_block starts words)
+    (are : AreStringPartsOf hash bytes ends hash_block starts words)
   where
     -- the hash in the block has the numbers of the one that was given
     pub numbers_are : (string : ℕ → ℕ) (len : ℕ) → string_number (hash_in hash_block) string len ≡ string_number hash string len
@@ -81,12 +81,12 @@ module _ (hash : HashParts) (bytes ends hash_block starts words : List ℕ) (few
       first = are.stored.first;
       full = record {
         tight = are.tight ∙ ap (λ n. div_ceil n 8) (sym last_is);
-        padding = subst (λ (n : ℕ). AreZeroFrom words n) (sym last_is) are.stored.padding;
+        padding = subst (λ (n : ℕ). AreZeroBytesFrom words n) (sym last_is) are.stored.padding;
       };
       each = λ v less. own_at v (omega (arith, less, keys_are));
     }
 
-    pub has_starts : HasStarts (parts_of hash_block starts words)
+    pub has_starts : HasStringStarts (parts_of hash_block starts words)
     has_starts = record {
       kind = inl refl;
       lengths = are.hash_is.sound.hash_block.lengths;
@@ -111,11 +111,11 @@ module _ (hash : HashParts) (bytes ends hash_block starts words : List ℕ) (few
 
 -- a sealed block whose sections hold the strings is their block
 pub block_is : (hash : HashParts) (bytes ends old new : List ℕ) → AreFewOf hash bytes ends → NumberStrings hash bytes ends
-    → IsSealed (string_head (length ends)) (sections_with hash bytes ends) old new → StandsIn hash bytes ends old
+    → IsSealed (string_head (length ends)) (sections_for hash bytes ends) old new → StandsIn hash bytes ends old
     → IsBlockOf (string_number hash) bytes ends new
 block_is hash bytes ends old new few number sealed are =
     let n = length ends in
-    let ss = sections_with hash bytes ends in
+    let ss = sections_for hash bytes ends in
     let head : Head = string_head n in
     let hash_block = part_in ss old 0 in
     let starts = part_in ss old 1 in
@@ -139,7 +139,7 @@ block_is hash bytes ends old new few number sealed are =
             bytes = ap (λ (s : Section). s.role) (entry_is head ss old new sealed 2 (omega arith));
           };
           hash_block = subst (λ (h : List ℕ). IsHashBlock h) (sym (at 0 (omega arith))) are.hash_is.sound.hash_block;
-          starts = subst (λ (p : StringParts). HasStarts p) (sym parts) (has_starts hash bytes ends hash_block starts words few number are);
+          starts = subst (λ (p : StringParts). HasStringStarts p) (sym parts) (has_starts hash bytes ends hash_block starts words few number are);
           len =
               ap (λ (h : Head). h.len) sealed.head_is
               ∙ sym (keys_are hash bytes ends hash_block starts words few number are)
@@ -149,7 +149,7 @@ block_is hash bytes ends old new few number sealed are =
         strings = subst (λ (p : StringParts). AreStrings p) (sym parts) (are_strings hash bytes ends hash_block starts words few number are);
       };
       numbers = λ string len.
-          ap (λ (p : StringParts). number_in p string len) parts
+          ap (λ (p : StringParts). string_number_in p string len) parts
           ∙ numbers_are hash bytes ends hash_block starts words few number are string len;
       count = ap (λ (p : StringParts). p.hash.keys) parts ∙ keys_are hash bytes ends hash_block starts words few number are;
       all = λ i v less is.
@@ -159,7 +159,7 @@ block_is hash bytes ends old new few number sealed are =
     }
 
 -- what was written is found again
-pub round_trip : RoundTrip
+pub round_trip : StringsRoundTrip
 round_trip number bytes ends block is = (
   is.sound,
   λ i v answer less number_is found.

@@ -5,7 +5,7 @@ use Rattle.bit_lists.specs.Bits.{bits_of, item}
 use Rattle.bit_lists.specs.Number.{number_at, with_number}
 use Rattle.bit_lists.proofs.BitLaws.{bits_are_counted, number_beside_is_kept, read_after_write, zeros_are_zero}
 use Rattle.bit_lists.proofs.lemmas.BesideLemmas.{item-zeros}
-use Rattle.string_block.specs.Bytes.{byte_of, bytes_from, AreZeroFrom, StandsAt}
+use Rattle.string_block.specs.Bytes.{byte_of, bytes_from, AreZeroBytesFrom, StandsAt}
 
 -- a byte that is written stands there, and the others stay
 pub byte_written : (old new : List ℕ) (k byte : ℕ) → k < 8 * length old → byte < 2 ^ 8 → bits_of new ≡ with_number (bits_of old) (k * 8) 8 byte
@@ -25,7 +25,7 @@ byte_beside old new k byte i inside other written =
     (cases_lt i k))
 
 -- cleared words have bytes that are 0
-pub clear_bytes : (words : List ℕ) (n : ℕ) → words ≡ replicate n 0 → AreZeroFrom words 0
+pub clear_bytes : (words : List ℕ) (n : ℕ) → words ≡ replicate n 0 → AreZeroBytesFrom words 0
 clear_bytes words n is k from less = zeros_are_zero (bits_of words) (k * 8) 8 (λ p _ _. ap (λ ws. item (bits_of ws) p) is ∙ item-zeros n p)
 
 -- the first n bytes of a list from `begin` on stand in the new words from `at` on; the others are as they were

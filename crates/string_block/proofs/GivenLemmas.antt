@@ -1,7 +1,7 @@
 -- Strings that are given, and the order of their numbers.
 use Rattle.std.proofs.Common.{◌≡◌, ◌≢◌, ℕ, zero, suc, ◌+◌, ◌-◌, ◌<◌, ◌≤◌, List, ◌∷◌, length, get_or, set, get_or-set_same, get_or-set_other, slice_index, Option, Some, IsSome, refl, sym, ap, ◌∙◌, subst, ⊎_elim, arith}
 use Rattle.std.proofs.lemmas.Bool.{cases_lt}
-use Rattle.string_block.specs.Given.{len_of, piece_of, total_of, AreApart, ArePlaced}
+use Rattle.string_block.specs.Given.{len_of, piece_of, total_of, AreNumbersApart, AreStringsPlaced}
 
 -- an item after the first
 pub after_first : (xs : List ℕ) (x i : ℕ) → 0 < i → get_or (x ∷ xs) i 0 ≡ get_or xs (i - 1) 0
@@ -14,16 +14,16 @@ one_more : (i j : ℕ) → i + 1 ≡ j + 1 → i ≡ j
 one_more i j e = omega (arith, e)
 
 -- no string is placed in no order
-pub none_placed : (number : ℕ → Option ℕ) (n : ℕ) (order : List ℕ) → ((v : ℕ) → slice_index order v ≡ 0) → ArePlaced number n 0 order
+pub none_placed : (number : ℕ → Option ℕ) (n : ℕ) (order : List ℕ) → ((v : ℕ) → slice_index order v ≡ 0) → AreStringsPlaced number n 0 order
 none_placed number n order clear = record {
   each = λ i less. absurd (omega (arith, less));
   back = λ v less some. absurd (some (clear v));
 }
 
-module _ (number : ℕ → Option ℕ) (n k : ℕ) (order : List ℕ) (placed : ArePlaced number n k order) where
+module _ (number : ℕ → Option ℕ) (n k : ℕ) (order : List ℕ) (placed : AreStringsPlaced number n k order) where
   -- one more is placed
   pub placed_more : (v : ℕ) → n ≤ length order → number k ≡ Some v → v < n → slice_index order v ≡ 0
-      → ArePlaced number n (k + 1) (set order v (k + 1))
+      → AreStringsPlaced number n (k + 1) (set order v (k + 1))
   placed_more v long is inside free = record {
     each = λ i less.
         ⊎_elim
@@ -60,13 +60,13 @@ module _ (number : ℕ → Option ℕ) (n k : ℕ) (order : List ℕ) (placed : 
           (h.0, omega (arith, h.1), h.2, same ∙ h.3)
 
   -- where another string stands at its number, two have the same
-  pub not_apart : (m v : ℕ) → k < m → AreApart number m → number k ≡ Some v → v < n → slice_index order v ≢ 0 → ⊥
+  pub not_apart : (m v : ℕ) → k < m → AreNumbersApart number m → number k ≡ Some v → v < n → slice_index order v ≢ 0 → ⊥
   not_apart m v less apart is inside taken =
       let h = placed.back v inside taken in
       omega (arith, h.1, apart.apart h.0 k v (omega (arith, h.1, less)) less h.2 is)
 
   -- those that are placed are apart
-  pub apart_placed : AreApart number k
+  pub apart_placed : AreNumbersApart number k
   apart_placed = record {
     some = λ i less. let h = placed.each i less in subst (λ (o : Option ℕ). IsSome o) (sym h.1) refl;
     apart = λ i j v less_i less_j is_i is_j.

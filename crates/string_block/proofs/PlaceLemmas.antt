@@ -1,32 +1,32 @@
 -- Strings whose numbers are found and written.
 use Rattle.std.proofs.Common.{◌≡◌, ◌≢◌, ℕ, suc, ◌+◌, ◌-◌, ◌<◌, ◌≤◌, List, length, set, slice_index, Option, Some, None, IsSome, sym, ap, ◌∙◌, ⊎_elim, arith}
 use Rattle.std.proofs.lemmas.Bool.{cases_lt}
-use Rattle.string_block.specs.Given.{begin_of, piece_of, total_of, AreApart, AreArranged, AreGiven, ArePlaced, HaveNumbers}
+use Rattle.string_block.specs.Given.{piece_of, string_begin, total_of, AreArranged, AreGiven, AreNumbersApart, AreStringsPlaced, HaveNumbers}
 use Rattle.string_block.specs.Parts.{AreStored}
 use Rattle.string_block.proofs.GivenLemmas.{after_first, total_more}
 
 -- a string begins where the one before it ends
-pub begin_next : (ends : List ℕ) (i : ℕ) → begin_of ends (i + 1) ≡ slice_index ends i
+pub begin_next : (ends : List ℕ) (i : ℕ) → string_begin ends (i + 1) ≡ slice_index ends i
 begin_next ends i =
     let back : i + 1 - 1 ≡ i = omega arith in
     after_first ends 0 (i + 1) (omega arith) ∙ ap (slice_index ends) back
 
 -- with one more string there are its bytes more
 pub total_placed : (bytes ends order : List ℕ) (v i : ℕ) → AreGiven bytes ends → i < length ends → slice_index order v ≡ 0 → v < length ends
-    → length ends ≤ length order → total_of ends order (length ends) ≡ begin_of ends i
-    → total_of ends (set order v (i + 1)) (length ends) ≡ begin_of ends (i + 1)
+    → length ends ≤ length order → total_of ends order (length ends) ≡ string_begin ends i
+    → total_of ends (set order v (i + 1)) (length ends) ≡ string_begin ends (i + 1)
 total_placed bytes ends order v i are inside free less long so_far =
     let more = total_more ends order v (i + 1) (length ends) free (omega (arith, less, long)) less in
     let next : i + 1 ≡ suc i = omega arith in
     let piece = ap (piece_of ends) next in
     omega (arith, more, piece, so_far, begin_next ends i, are.rise i inside)
 
-module _ (number : ℕ → Option ℕ) (n : ℕ) (order : List ℕ) (placed : ArePlaced number n n order) where
+module _ (number : ℕ → Option ℕ) (n : ℕ) (order : List ℕ) (placed : AreStringsPlaced number n n order) where
   value : (v w : ℕ) → Some v ≡ Some w → v ≡ w
   value v w same = cc
 
   -- where each number is that of a string, the strings have numbers
-  pub numbers_of_order : AreApart number n → ((v : ℕ) → v < n → slice_index order v ≢ 0) → HaveNumbers number n
+  pub numbers_of_order : AreNumbersApart number n → ((v : ℕ) → v < n → slice_index order v ≢ 0) → HaveNumbers number n
   numbers_of_order apart some = record {
     some = apart.some;
     below = λ i v less is. let h = placed.each i less in omega (arith, h.2, value h.0 v (sym h.1 ∙ is));
@@ -42,7 +42,7 @@ module _ (number : ℕ → Option ℕ) (n : ℕ) (order : List ℕ) (placed : Ar
       omega (arith, none, h.3, ap (slice_index order) same)
 
 -- strings that are arranged in this order are stored
-pub stored_of_order : (number : ℕ → Option ℕ) (bytes ends order starts words : List ℕ) → ArePlaced number (length ends) (length ends) order
+pub stored_of_order : (number : ℕ → Option ℕ) (bytes ends order starts words : List ℕ) → AreStringsPlaced number (length ends) (length ends) order
     → ((v : ℕ) → v < length ends → slice_index order v ≢ 0) → AreArranged bytes ends order starts words → AreStored number bytes ends starts words
 stored_of_order number bytes ends order starts words placed some arranged = record {
   first = arranged.first;

@@ -13,7 +13,7 @@ use Rattle.hash_block.specs.Block.{hash_in, hash_sections, IsHashBlock, IsBlockO
 use Rattle.hash_block.specs.Parts.{HashParts, IsHash}
 use Rattle.string_block.specs.Given.{given, len_of, AreGiven, HaveNumbers}
 use Rattle.string_block.specs.Kinds.{IsStringKind}
-use Rattle.string_block.specs.Parts.{given_number, number_in, AreStored, AreStrings, HasStarts, IsFound, IsString, StringParts}
+use Rattle.string_block.specs.Parts.{given_number, string_number_in, AreStored, AreStrings, HasStringStarts, IsString, IsStringFound, StringParts}
 use Rattle.string_block.specs.declared.error.BuildError.{BuildError}
 use Rattle.string_block.specs.declared.error.BuildError.TheVariants.{TooLong, NotGiven, WrongLength, NotNumbered}
 
@@ -34,7 +34,7 @@ abbrev pub sections_of : ℕ → ℕ → ℕ → ℕ → List Section
 sections_of words levels n bytes = string_sections (hash_len words levels) n bytes
 
 -- few enough words, levels, strings and bytes
-pub record AreFew (words levels n bytes : ℕ) : Type 0 where
+pub record AreFewStrings (words levels n bytes : ℕ) : Type 0 where
   pub words_few : words < 2 ^ 57
   pub levels_few : levels ≤ 256
   pub strings_few : n < 2 ^ 57
@@ -63,7 +63,7 @@ pub record IsStringBlock (block : List ℕ) : Type 0 where
   pub is_block : IsBlock block
   pub sections : HasStringSections block
   pub hash_block : IsHashBlock (section_in block 0)
-  pub starts : HasStarts (strings_in block)
+  pub starts : HasStringStarts (strings_in block)
   pub len : slice_index block 3 ≡ (strings_in block).hash.keys
 
 -- and the sections are as they were written, and hold strings
@@ -80,14 +80,14 @@ pub record NumberStrings (hash : HashParts) (bytes ends : List ℕ) : Type 0 whe
 
 -- few enough words of levels, strings and bytes
 abbrev pub AreFewOf : HashParts → List ℕ → List ℕ → Type 0
-AreFewOf hash bytes ends = AreFew (length hash.lists.words) (length hash.sizes) (length ends) (length bytes)
+AreFewOf hash bytes ends = AreFewStrings (length hash.lists.words) (length hash.sizes) (length ends) (length bytes)
 
 -- the sections of their block, and how many words it has
-abbrev pub sections_with : HashParts → List ℕ → List ℕ → List Section
-sections_with hash bytes ends = sections_of (length hash.lists.words) (length hash.sizes) (length ends) (length bytes)
+abbrev pub sections_for : HashParts → List ℕ → List ℕ → List Section
+sections_for hash bytes ends = sections_of (length hash.lists.words) (length hash.sizes) (length ends) (length bytes)
 
 abbrev pub len_with : HashParts → List ℕ → List ℕ → ℕ
-len_with hash bytes ends = end_of (sections_with hash bytes ends)
+len_with hash bytes ends = end_of (sections_for hash bytes ends)
 
 -- strings that are given, few enough of all, and a block as long as theirs
 pub record CanHold (hash : HashParts) (bytes ends block : List ℕ) : Type 0 where
@@ -104,7 +104,7 @@ IsReason hash bytes ends block WrongLength =
 IsReason hash bytes ends block NotNumbered = CanHold hash bytes ends block × (¬ (NumberStrings hash bytes ends))
 
 -- the block of this hash, where each of the strings begins, and their bytes
-pub record ArePartsOf (hash : HashParts) (bytes ends hash_block starts words : List ℕ) : Type 0 where
+pub record AreStringPartsOf (hash : HashParts) (bytes ends hash_block starts words : List ℕ) : Type 0 where
   pub hash_is : IsHashOf hash.sizes (bits_in hash.lists) hash.seed hash_block
   pub count : length starts ≡ length ends + 1
   pub tight : length words ≡ div_ceil (length bytes) 8
@@ -113,13 +113,13 @@ pub record ArePartsOf (hash : HashParts) (bytes ends hash_block starts words : L
 -- they stand where the sections are
 abbrev pub StandsIn : HashParts → List ℕ → List ℕ → List ℕ → Type 0
 StandsIn hash bytes ends block =
-    let ss = sections_with hash bytes ends in
-    ArePartsOf hash bytes ends (part_in ss block 0) (part_in ss block 1) (part_in ss block 2)
+    let ss = sections_for hash bytes ends in
+    AreStringPartsOf hash bytes ends (part_in ss block 0) (part_in ss block 1) (part_in ss block 2)
 
 -- the block is that of the given strings, by a hash that gives strings these numbers
 pub record IsBlockOf (number : (ℕ → ℕ) → ℕ → Option ℕ) (bytes ends block : List ℕ) : Type 0 where
   pub sound : IsSoundBlock block
-  pub numbers : (string : ℕ → ℕ) (len : ℕ) → number_in (strings_in block) string len ≡ number string len
+  pub numbers : (string : ℕ → ℕ) (len : ℕ) → string_number_in (strings_in block) string len ≡ number string len
   pub count : (strings_in block).hash.keys ≡ length ends
   pub all : (i v : ℕ) → i < length ends → number (given bytes ends i) (len_of ends i) ≡ Some v
       → IsString (strings_in block) v (given bytes ends i) (len_of ends i)
@@ -127,9 +127,9 @@ pub record IsBlockOf (number : (ℕ → ℕ) → ℕ → Option ℕ) (bytes ends
 
 -- a block of strings is sound, and of each of them the only answer that `find` may give is the number that the hash gives
 -- it
-abbrev pub RoundTrip : Type 0
-RoundTrip =
+abbrev pub StringsRoundTrip : Type 0
+StringsRoundTrip =
     (number : (ℕ → ℕ) → ℕ → Option ℕ) (bytes ends block : List ℕ) → IsBlockOf number bytes ends block
     → IsSoundBlock block
     × ((i v : ℕ) (answer : Answer ℕ) → i < length ends → number (given bytes ends i) (len_of ends i) ≡ Some v
-    → IsFound (strings_in block) (given bytes ends i) (len_of ends i) answer → answer ≡ Found v)
+    → IsStringFound (strings_in block) (given bytes ends i) (len_of ends i) answer → answer ≡ Found v)

@@ -20,5 +20,5 @@ abbrev pub StandsAt : List ℕ → ℕ → (ℕ → ℕ) → ℕ → Type 0
 StandsAt words at string len = (j : ℕ) → j < len → stored_from words at j ≡ string j
 
 -- the bytes of words from `first` on are 0
-abbrev pub AreZeroFrom : List ℕ → ℕ → Type 0
-AreZeroFrom words first = (k : ℕ) → first ≤ k → k < 8 * length words → byte_of words k ≡ 0
+abbrev pub AreZeroBytesFrom : List ℕ → ℕ → Type 0
+AreZeroBytesFrom words first = (k : ℕ) → first ≤ k → k < 8 * length words → byte_of words k ≡ 0

@@ -1,6 +1,6 @@
 //! Strings written one after another, in the order of their numbers.
 ghost use Rattle.std.specs.Prelude.{◌≡◌, ◌≢◌, ◌+◌, ◌*◌, ◌^◌, ◌<◌, ◌≤◌, ◌↔◌, IsTrue, ℕ, length, slice_index};
-ghost use Rattle.string_block.specs.Bytes.{AreZeroFrom};
+ghost use Rattle.string_block.specs.Bytes.{AreZeroBytesFrom};
 ghost use Rattle.string_block.specs.Given.{total_of, AreArranged, AreGiven};
 
 use crate::bytes::write_bytes;
@@ -15,7 +15,7 @@ pub(crate) fn arrange(bytes: &[u8], ends: &[usize], starts: &mut [u64], to: &mut
     requires count { length starts.old ≡ length ends.now + 1 }
     requires short { length to.old < 2 ^ 58 }
     requires room { length bytes.now ≤ 8 * length to.old }
-    requires clear { AreZeroFrom to.old 0 }
+    requires clear { AreZeroBytesFrom to.old 0 }
     ensures some { IsTrue result
         ↔ ((v : ℕ) → v < length ends.now → slice_index starts.old v ≢ 0) }
     ensures arranged { IsTrue result

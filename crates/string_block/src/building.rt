@@ -7,7 +7,8 @@ ghost use Rattle.hash_levels.specs.Numbers.{AreSizes};
 ghost use Rattle.hash_block.specs.Block.{IsBlockOf as IsHashOf};
 ghost use Rattle.hash_block.specs.Parts.{IsHash};
 ghost use Rattle.string_block.specs.Block.{hash_len, sections_of, string_head};
-ghost use Rattle.string_block.specs.Block.{AreFew, CanHold, IsBlockOf, IsReason, NumberStrings, RoundTrip, StandsIn};
+ghost use Rattle.string_block.specs.Block.{AreFewStrings, CanHold, IsBlockOf, IsReason, NumberStrings, StandsIn};
+ghost use Rattle.string_block.specs.Block.{StringsRoundTrip};
 ghost use Rattle.string_block.specs.Parts.{string_number};
 
 use crate::error::BuildError;
@@ -55,7 +56,7 @@ fn write_parts(hash: &HashView<'_>, bytes: &[u8], ends: &[usize], block: &mut [u
 
 /// Writes the header and the directory of strings.
 fn seal_strings(words: usize, levels: usize, strings: usize, bytes: usize, block: &mut [u64])
-    requires few { AreFew words levels strings bytes }
+    requires few { AreFewStrings words levels strings bytes }
     requires room { length block.old ≡ end_of (sections_of words levels strings bytes) }
     ensures { IsSealed (string_head strings) (sections_of words levels strings bytes) block.old
         block.new }
@@ -137,5 +138,5 @@ pub fn build(
 /// round_trip();   // its clause is the law, over the clauses of `build`, `check` and `find`
 /// ```
 pub fn round_trip()
-    ensures { RoundTrip }
+    ensures { StringsRoundTrip }
 {}

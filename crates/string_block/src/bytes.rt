@@ -1,6 +1,6 @@
 //! Bytes in words: read, compared and written.
 ghost use Rattle.std.specs.Prelude.{◌≡◌, ◌≢◌, ◌+◌, ◌*◌, ◌^◌, ◌<◌, ◌≤◌, ◌↔◌, IsTrue, ℕ, length, slice_index};
-ghost use Rattle.string_block.specs.Bytes.{byte_of, bytes_from, AreZeroFrom, StandsAt};
+ghost use Rattle.string_block.specs.Bytes.{byte_of, bytes_from, AreZeroBytesFrom, StandsAt};
 
 use bit_words::words;
 
@@ -60,7 +60,7 @@ pub(crate) fn is_at(words: &[u64], at: usize, bytes: &[u8], begin: usize, len: u
 /// Whether the bytes of words from `first` on are 0.
 pub(crate) fn are_zero_from(words: &[u64], first: usize) -> bool
     requires short { length words.now < 2 ^ 58 }
-    ensures { IsTrue result ↔ AreZeroFrom words.now first }
+    ensures { IsTrue result ↔ AreZeroBytesFrom words.now first }
 {
     for k in first..8 * words.len() {
         if byte_at(words, k) != 0 {

@@ -1,13 +1,13 @@
 //! Strings that are given one after another: where each begins, and whether they take all bytes.
 ghost use Rattle.std.specs.Prelude.{◌≡◌, ◌<◌, ◌≤◌, ◌↔◌, IsTrue, length, slice_index};
-ghost use Rattle.string_block.specs.Given.{begin_of, AreGiven};
+ghost use Rattle.string_block.specs.Given.{string_begin, AreGiven};
 
 /// Where string `i` begins, of strings that end at the given places; where the last one ends, where there are `i`.
 #[inline(always)]
 #[tactic(auto, using(crate::proofs::GivenLemmas::after_first))]
 pub(crate) fn begin_at(ends: &[usize], i: usize) -> usize
     requires { i ≤ length ends.now }
-    ensures { result ≡ begin_of ends.now i }
+    ensures { result ≡ string_begin ends.now i }
 {
     if i == 0 { 0 } else { ends[i - 1] }
 }
@@ -37,7 +37,7 @@ pub fn are_given(bytes: &[u8], ends: &[usize]) -> bool
 #[inline(always)]
 fn is_given(bytes: usize, ends: &[usize], i: usize) -> bool
     requires { i < length ends.now }
-    ensures { IsTrue result ↔ (begin_of ends.now i ≤ slice_index ends.now i)
+    ensures { IsTrue result ↔ (string_begin ends.now i ≤ slice_index ends.now i)
         × (slice_index ends.now i ≤ bytes) }
 {
     begin_at(ends, i) <= ends[i] && ends[i] <= bytes

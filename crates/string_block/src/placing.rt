@@ -1,7 +1,7 @@
 //! Which string has which number.
 ghost use Rattle.std.specs.Prelude.{◌≡◌, ◌+◌, ◌*◌, ◌^◌, ◌<◌, ◌≤◌, ◌↔◌, IfSome, IsTrue, ℕ, length, slice_index};
 ghost use Rattle.hash_block.specs.Parts.{IsHash};
-ghost use Rattle.string_block.specs.Given.{total_of, AreApart, AreGiven, ArePlaced, HaveNumbers};
+ghost use Rattle.string_block.specs.Given.{total_of, AreGiven, AreNumbersApart, AreStringsPlaced, HaveNumbers};
 ghost use Rattle.string_block.specs.Parts.{given_number, AreStored};
 
 use crate::arranging::arrange;
@@ -36,8 +36,8 @@ fn place(hash: &HashView<'_>, bytes: &[u8], ends: &[usize], order: &mut [u64]) -
     requires clear { (v : ℕ) → slice_index order.old v ≡ 0 }
     requires count { length order.old ≡ length ends.now + 1 }
     ensures apart { IsTrue result
-        ↔ AreApart (given_number hash.now bytes.now ends.now) (length ends.now) }
-    ensures placed { IsTrue result → ArePlaced (given_number hash.now bytes.now ends.now)
+        ↔ AreNumbersApart (given_number hash.now bytes.now ends.now) (length ends.now) }
+    ensures placed { IsTrue result → AreStringsPlaced (given_number hash.now bytes.now ends.now)
         (length ends.now) (length ends.now) order.new }
     ensures total { IsTrue result
         → total_of ends.now order.new (length ends.now) ≡ length bytes.now }

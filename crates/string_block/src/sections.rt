@@ -2,7 +2,7 @@
 ghost use Rattle.std.specs.Prelude.{◌≡◌, ◌^◌, ◌<◌, ◌≤◌, ◌↔◌, IsTrue, SomeIff};
 ghost use Rattle.std.specs.Int.{div_ceil};
 ghost use Rattle.bitm_block.specs.Layout.{end_of};
-ghost use Rattle.string_block.specs.Block.{hash_len, sections_of, string_head, string_sections, AreFew};
+ghost use Rattle.string_block.specs.Block.{hash_len, sections_of, string_head, string_sections, AreFewStrings};
 
 use crate::kinds::STRINGS;
 use bitm_block::{Head, Section, aligned};
@@ -59,14 +59,14 @@ pub(crate) fn hash_len(words: usize, levels: usize) -> usize
 
 /// Whether there are few enough words of levels, levels, strings and bytes.
 pub(crate) fn are_few(words: usize, levels: usize, strings: usize, bytes: usize) -> bool
-    ensures { IsTrue result ↔ AreFew words levels strings bytes }
+    ensures { IsTrue result ↔ AreFewStrings words levels strings bytes }
 {
     words < 1 << 57 && levels <= 256 && strings < 1 << 57 && bytes < 1 << 60
 }
 
 /// How many words the block of strings has.
 pub(crate) fn block_len(words: usize, levels: usize, strings: usize, bytes: usize) -> usize
-    requires { AreFew words levels strings bytes }
+    requires { AreFewStrings words levels strings bytes }
     ensures { result ≡ end_of (sections_of words levels strings bytes) }
 {
     32 + aligned(hash_len(words, levels)) + aligned(strings + 1) + aligned(bytes.div_ceil(8))
@@ -80,7 +80,7 @@ pub(crate) fn block_len(words: usize, levels: usize, strings: usize, bytes: usiz
 /// size(1, 1, 3, 11);   // Some(112)
 /// ```
 pub fn size(words: usize, levels: usize, strings: usize, bytes: usize) -> Option<usize>
-    ensures { SomeIff result (AreFew words levels strings bytes)
+    ensures { SomeIff result (AreFewStrings words levels strings bytes)
         (end_of (sections_of words levels strings bytes)) }
 {
     if !are_few(words, levels, strings, bytes) {

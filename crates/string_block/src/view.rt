@@ -6,8 +6,9 @@ ghost use Rattle.perfect_hash.specs.Asking.{IsBelow, IsNumbered};
 ghost use Rattle.string_block.specs.Bytes.{bytes_from};
 ghost use Rattle.string_block.specs.Given.{given, len_of, AreGiven};
 ghost use Rattle.string_block.specs.Kinds.{IsStringKind};
-ghost use Rattle.string_block.specs.Parts.{IsFound, IsFull, IsHeld, IsKept, IsNotWrong, IsOwn, IsPiece, IsString};
-ghost use Rattle.string_block.specs.Parts.{number_in, start_of, AreStrings};
+ghost use Rattle.string_block.specs.Parts.{IsFull, IsNotWrong, IsNumberKept, IsOwn, IsPiece, IsString, IsStringFound};
+ghost use Rattle.string_block.specs.Parts.{IsStringHeld};
+ghost use Rattle.string_block.specs.Parts.{start_of, string_number_in, AreStrings};
 
 use crate::bytes::{are_zero_from, is_at};
 use crate::given::begin_at;
@@ -36,13 +37,13 @@ pub struct StringsView<'a> {
 }
 
 impl<'a> Model for StringsView<'a> {
-    ghost use Rattle.string_block.specs.Parts.{HasStarts, StringParts};
+    ghost use Rattle.string_block.specs.Parts.{HasStringStarts, StringParts};
 
     ghost Value = { StringParts };
 
     ghost view = { λ s. record { kind = s.kind; hash = s.hash; starts = s.starts.now; bytes = s.bytes.now } };
 
-    ghost invariant = { λ s. HasStarts
+    ghost invariant = { λ s. HasStringStarts
         (record { kind = s.kind; hash = s.hash; starts = s.starts.now; bytes = s.bytes.now }) };
 }
 
@@ -155,9 +156,9 @@ impl<'a> StringsView<'a> {
     /// ```
     #[inline]
     pub fn find(&self, string: &[u8]) -> Answer<usize>
-        ensures held { IsHeld self.now (slice_index string.now) (length string.now) result }
+        ensures held { IsStringHeld self.now (slice_index string.now) (length string.now) result }
         ensures found { AreStrings self.now
-            → IsFound self.now (slice_index string.now) (length string.now) result }
+            → IsStringFound self.now (slice_index string.now) (length string.now) result }
     {
         self.find_counted(string).0
     }
@@ -171,9 +172,9 @@ impl<'a> StringsView<'a> {
     /// ```
     #[inline]
     pub fn find_counted(&self, string: &[u8]) -> (Answer<usize>, ReadCounts)
-        ensures held { IsHeld self.now (slice_index string.now) (length string.now) result.0 }
+        ensures held { IsStringHeld self.now (slice_index string.now) (length string.now) result.0 }
         ensures found { AreStrings self.now
-            → IsFound self.now (slice_index string.now) (length string.now) result.0 }
+            → IsStringFound self.now (slice_index string.now) (length string.now) result.0 }
         ensures reads { ReadsAtMost none_read result.1 1 1 (length self.now.hash.sizes + 8) }
     {
         self.find_between(string, 0, string.len())
@@ -193,9 +194,9 @@ impl<'a> StringsView<'a> {
     pub fn find_given(&self, bytes: &[u8], ends: &[usize], i: usize) -> Answer<usize>
         requires given { AreGiven bytes.now ends.now }
         requires inside { i < length ends.now }
-        ensures held { IsHeld self.now (given bytes.now ends.now i) (len_of ends.now i) result }
+        ensures held { IsStringHeld self.now (given bytes.now ends.now i) (len_of ends.now i) result }
         ensures found { AreStrings self.now
-            → IsFound self.now (given bytes.now ends.now i) (len_of ends.now i) result }
+            → IsStringFound self.now (given bytes.now ends.now i) (len_of ends.now i) result }
     {
         self.find_between(bytes, begin_at(ends, i), ends[i]).0
     }
@@ -205,9 +206,9 @@ impl<'a> StringsView<'a> {
     fn find_between(&self, bytes: &[u8], begin: usize, end: usize) -> (Answer<usize>, ReadCounts)
         requires order { begin ≤ end }
         requires inside { end ≤ length bytes.now }
-        ensures held { IsHeld self.now (bytes_from bytes.now begin) (end - begin) result.0 }
+        ensures held { IsStringHeld self.now (bytes_from bytes.now begin) (end - begin) result.0 }
         ensures found { AreStrings self.now
-            → IsFound self.now (bytes_from bytes.now begin) (end - begin) result.0 }
+            → IsStringFound self.now (bytes_from bytes.now begin) (end - begin) result.0 }
         ensures reads { ReadsAtMost none_read result.1 1 1 (length self.now.hash.sizes + 8) }
     {
         let (number, reads) = self.number_of(bytes, begin, end);
@@ -221,7 +222,7 @@ impl<'a> StringsView<'a> {
         requires inside { end ≤ length bytes.now }
         ensures below { IsBelow self.now.hash.keys result.0 }
         ensures number { IsHash self.now.hash → IsNumbered
-            (number_in self.now (bytes_from bytes.now begin) (end - begin)) result.0 }
+            (string_number_in self.now (bytes_from bytes.now begin) (end - begin)) result.0 }
         ensures reads { ReadsAtMost none_read result.1 1 1 (length self.now.hash.sizes + 8) }
     {
         let sum = hash_by(self.kind, self.hash.seed(), bytes, begin, end);
@@ -239,7 +240,7 @@ impl<'a> StringsView<'a> {
     ) -> Answer<usize>
         requires inside { begin + len ≤ length bytes.now }
         requires below { IsBelow self.now.hash.keys number }
-        ensures { IsKept self.now (bytes_from bytes.now begin) len number result }
+        ensures { IsNumberKept self.now (bytes_from bytes.now begin) len number result }
     {
         match number {
             Answer::Found(number) if !self.is_string(number, bytes, begin, len) => Answer::Absent,

@@ -1,5 +1,6 @@
 -- What is answered of a trie in memory that may hold anything, and in that of a trie.
 use Rattle.std.specs.Prelude.{◌≡◌, ℕ, ◌-◌, ◌^◌, ◌<◌, ◌≤◌, ◌⊎◌, Bool, List, length, take, drop, slice_index}
+use Rattle.bitm_tables.specs.Answers.{Right}
 use Rattle.bitm_tables.specs.declared.answer.Answer.{Answer}
 use Rattle.bitm_tables.specs.declared.answer.Answer.TheVariants.{Found, Absent, Wrong}
 use Rattle.bit_lists.specs.Bits.{bits_of, item}
@@ -8,15 +9,15 @@ use Rattle.trie_block.specs.Block.{labels_of_parts, TrieParts}
 
 -- the label of node v, whatever the memory holds, and Absent exactly at the root and where v is no node
 abbrev pub IsLabelOf : TrieParts → ℕ → Answer ℕ → Type 0
-IsLabelOf parts v (Found label) = (0 < v) × (v < parts.tree.len) × (label < 2 ^ parts.width) × (label ≡ slice_index (labels_of_parts parts) v)
-IsLabelOf parts v Absent = (v ≡ 0) ⊎ (parts.tree.len ≤ v)
-IsLabelOf parts v Wrong = ⊥
+IsLabelOf parts v =
+    Right (λ label. (0 < v) × (v < parts.tree.len) × (label < 2 ^ parts.width) × (label ≡ slice_index (labels_of_parts parts) v))
+    ((v ≡ 0) ⊎ (parts.tree.len ≤ v))
 
 -- whether a word ends at node v, whatever the memory holds, and Absent exactly where v is no node or there are no ends
 abbrev pub IsEndOf : TrieParts → ℕ → Answer Bool → Type 0
-IsEndOf parts v (Found ends) = (v < parts.tree.len) × (0 < length parts.ends) × (ends ≡ item (bits_of parts.ends) v)
-IsEndOf parts v Absent = (parts.tree.len ≤ v) ⊎ (length parts.ends ≡ 0)
-IsEndOf parts v Wrong = ⊥
+IsEndOf parts v =
+    Right (λ ends. (v < parts.tree.len) × (0 < length parts.ends) × (ends ≡ item (bits_of parts.ends) v))
+    ((parts.tree.len ≤ v) ⊎ (length parts.ends ≡ 0))
 
 -- of n nodes: a word leads to node v with no more labels than v, and Absent is answered exactly where v is no node. Where
 -- there is room for the labels, the items before them are as they were
@@ -29,7 +30,6 @@ IsWordWithin n v old new Wrong = (v < n) × (length new ≡ length old)
 -- a word of k labels leads from the root to node v, and where there is room for them they are the last items of the list;
 -- Absent exactly where v is no node
 abbrev pub IsWordOf : List ℕ → List ℕ → ℕ → List ℕ → Answer ℕ → Type 0
-IsWordOf d ls v out (Found k) =
-    (word : List ℕ) × (length word ≡ k) × Leads d ls word 0 v × (k ≤ length out → drop (length out - k) out ≡ word)
-IsWordOf d ls v out Absent = length d ≤ v
-IsWordOf d ls v out Wrong = ⊥
+IsWordOf d ls v out =
+    Right (λ k. (word : List ℕ) × (length word ≡ k) × Leads d ls word 0 v × (k ≤ length out → drop (length out - k) out ≡ word))
+    (length d ≤ v)

@@ -7,11 +7,11 @@ use Rattle.bitm_block.specs.declared.head.Head.{Head}
 use Rattle.bitm_block.specs.declared.layout.Section.{Section}
 use Rattle.block_tables.specs.Sections.{section_of}
 use Rattle.louds.specs.Counted.{degrees_in, IsLouds}
-use Rattle.louds.specs.Held.{words_of}
+use Rattle.louds.specs.Held.{tree_words}
 use Rattle.louds.specs.Labels.{AreLabels, Rise}
 use Rattle.louds.specs.Tree.{IsTree}
 use Rattle.louds_block.specs.Block.{lower_of_nodes, tree_in, upper_of_nodes, HasLengths, IsTreeOf, TreeParts}
-use Rattle.trie_block.specs.Labels.{label_words, labels_of, IsShape, IsWidth}
+use Rattle.trie_block.specs.Labels.{label_words, labels_of, IsLabelWidth, IsShape}
 use Rattle.trie_block.specs.declared.error.BuildError.{BuildError}
 use Rattle.trie_block.specs.declared.error.BuildError.TheVariants.{TooLong, WrongWidth, WrongLabels, WrongEnds, WrongLength, NotATree, NotLabels}
 
@@ -20,8 +20,8 @@ abbrev pub end_words : ℕ → ℕ
 end_words n = div_ceil n 64
 
 -- no words, or a bit for each of n nodes
-abbrev pub HasEnds : List ℕ → ℕ → Type 0
-HasEnds ends n = (length ends ≡ 0) ⊎ (length ends ≡ end_words n)
+abbrev pub HasWordEnds : List ℕ → ℕ → Type 0
+HasWordEnds ends n = (length ends ≡ 0) ⊎ (length ends ≡ end_words n)
 
 -- the numbers of the header of a trie of n nodes, whose labels have `width` bits
 abbrev pub trie_head : ℕ → ℕ → Head
@@ -30,7 +30,7 @@ trie_head n width = record { kind = 9; len = n; width = width; ones_log2 = 0; ze
 -- its sections: the three of its tree, labels, and ends in the given number of words
 abbrev pub trie_sections : ℕ → ℕ → ℕ → List Section
 trie_sections n width ends =
-    section_of 1 (words_of n) ∷ section_of 2 (upper_of_nodes n) ∷ section_of 3 (lower_of_nodes n) ∷ section_of 17 (label_words n width)
+    section_of 1 (tree_words n) ∷ section_of 2 (upper_of_nodes n) ∷ section_of 3 (lower_of_nodes n) ∷ section_of 17 (label_words n width)
     ∷ section_of 18 ends ∷ []
 
 -- a tree, the words of its labels, the bits of a label, and the words of its ends: bit v of these says whether a word ends
@@ -60,7 +60,7 @@ pub record HasTrieLengths (parts : TrieParts) : Type 0 where
   pub tree : HasLengths parts.tree
   pub shape : IsShape parts.tree.len parts.width
   pub labels_len : length parts.labels ≡ label_words parts.tree.len parts.width
-  pub ends_len : HasEnds parts.ends parts.tree.len
+  pub ends_len : HasWordEnds parts.ends parts.tree.len
 
 -- the block is of the kind of a trie, and its first five sections are those of one
 pub record HasTrieSections (block : List ℕ) : Type 0 where
@@ -94,7 +94,7 @@ pub record IsTrie (degrees labels : List ℕ) (width : ℕ) (ends : List ℕ) : 
   pub shape : IsShape (length degrees) width
   pub tree : IsTree degrees
   pub are_labels : AreLabels degrees (0 ∷ labels) width
-  pub has_ends : HasEnds ends (length degrees)
+  pub has_ends : HasWordEnds ends (length degrees)
 
 -- and a block as long as theirs
 pub record CanHold (degrees labels : List ℕ) (width : ℕ) (ends block : List ℕ) : Type 0 where
@@ -105,18 +105,18 @@ pub record CanHold (degrees labels : List ℕ) (width : ℕ) (ends block : List 
 pub record HasTrieRoom (n width : ℕ) (labels ends block : List ℕ) : Type 0 where
   pub shape : IsShape n width
   pub labels_len : length labels ≡ n - 1
-  pub has_ends : HasEnds ends n
+  pub has_ends : HasWordEnds ends n
   pub block_len : length block ≡ end_of (trie_sections n width (length ends))
 
 -- why no block was written: the first of these that holds, a length before what is in the lists
 abbrev pub IsReason : List ℕ → List ℕ → ℕ → List ℕ → List ℕ → BuildError → Type 0
 IsReason d labels width ends block TooLong = 2 ^ 57 ≤ length d
-IsReason d labels width ends block WrongWidth = (length d < 2 ^ 57) × (¬ (IsWidth width))
+IsReason d labels width ends block WrongWidth = (length d < 2 ^ 57) × (¬ (IsLabelWidth width))
 IsReason d labels width ends block WrongLabels = IsShape (length d) width × (length labels ≢ length d - 1)
 IsReason d labels width ends block WrongEnds =
-    IsShape (length d) width × (length labels ≡ length d - 1) × (¬ (HasEnds ends (length d)))
+    IsShape (length d) width × (length labels ≡ length d - 1) × (¬ (HasWordEnds ends (length d)))
 IsReason d labels width ends block WrongLength =
-    IsShape (length d) width × (length labels ≡ length d - 1) × HasEnds ends (length d)
+    IsShape (length d) width × (length labels ≡ length d - 1) × HasWordEnds ends (length d)
     × (length block ≢ end_of (trie_sections (length d) width (length ends)))
 IsReason d labels width ends block NotATree = HasTrieRoom (length d) width labels ends block × (¬ (IsTree d))
 IsReason d labels width ends block NotLabels =

@@ -12,8 +12,8 @@ abbrev pub labels_of : List ℕ → ℕ → ℕ → List ℕ
 labels_of words width n = 0 ∷ numbers_of words width (n - 1)
 
 -- a label can have `width` bits
-abbrev pub IsWidth : ℕ → Type 0
-IsWidth width = (1 ≤ width) × (width ≤ 63)
+abbrev pub IsLabelWidth : ℕ → Type 0
+IsLabelWidth width = (1 ≤ width) × (width ≤ 63)
 
 -- n nodes can have labels of `width` bits
 pub record IsShape (n width : ℕ) : Type 0 where

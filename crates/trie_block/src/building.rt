@@ -3,7 +3,7 @@ ghost use Rattle.std.specs.Prelude.{◌≡◌, ◌^◌, ◌<◌, ◌↔◌, IfEr
 ghost use Rattle.bitm_block.specs.Layout.{end_of};
 ghost use Rattle.bitm_block.specs.Written.{IsSealed};
 ghost use Rattle.trie_block.specs.Block.{trie_head, trie_sections};
-ghost use Rattle.trie_block.specs.Block.{CanHold, HasEnds, IsBlockOf, IsReason, StandsIn};
+ghost use Rattle.trie_block.specs.Block.{CanHold, HasWordEnds, IsBlockOf, IsReason, StandsIn};
 ghost use Rattle.trie_block.specs.Labels.{IsShape};
 
 use crate::error::BuildError;
@@ -62,7 +62,7 @@ fn write_block(degrees: &[usize], labels: &[u64], width: u8, ends: &[u64], block
 /// Whether these are no words, or as many as a bit for each node takes.
 #[inline(always)]
 pub(crate) fn has_ends(ends: &[u64], nodes: usize) -> bool
-    ensures { IsTrue result ↔ HasEnds ends.now nodes }
+    ensures { IsTrue result ↔ HasWordEnds ends.now nodes }
 {
     ends.len() == 0 || ends.len() == nodes.div_ceil(64)
 }

@@ -5,11 +5,11 @@ use Rattle.std.specs.List.{sum}
 use Rattle.std.proofs.lemmas.Bool.{cases_lt}
 use Rattle.std.proofs.lemmas.List.{get_or-drop, get_or-take, get_or_past, length-replicate, length-take, take-replicate}
 use Rattle.louds.proofs.lemmas.ParentsLemmas.{IsCounted}
-use Rattle.trie_words.specs.Words.{word_of}
+use Rattle.trie_words.specs.Words.{dictionary_word}
 use Rattle.trie_words.proofs.StepLemmas.{no_sum}
 
 -- a letter of a word is a byte
-pub letter_fits : (bytes starts : List ℕ) → ((k : ℕ) → get_or bytes k 0 < 2 ^ 8) → (j k : ℕ) → slice_index (word_of bytes starts j) k < 2 ^ 8
+pub letter_fits : (bytes starts : List ℕ) → ((k : ℕ) → get_or bytes k 0 < 2 ^ 8) → (j k : ℕ) → slice_index (dictionary_word bytes starts j) k < 2 ^ 8
 letter_fits bytes starts small j k =
     let a = slice_index starts j in
     let n = slice_index starts (j + 1) - a in

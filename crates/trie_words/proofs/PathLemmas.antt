@@ -2,14 +2,14 @@
 use Rattle.std.proofs.Common.{◌≡◌, ℕ, zero, suc, ◌+◌, ◌<◌, ◌≤◌, ◌⊎◌, inl, inr, List, length, get_or, slice_index, sym, ap, ◌∙◌, subst, ⊎_elim, arith}
 use Rattle.std.proofs.lemmas.Bool.{cases_lt, cases_order}
 use Rattle.louds.specs.Parents.{AreParents}
-use Rattle.trie_words.specs.Levels.{above, count_at, next_at, IsNew, IsPlaced}
+use Rattle.trie_words.specs.Levels.{above, count_at, next_at, IsChildPlaced, IsNew}
 use Rattle.trie_words.specs.Words.{shared_of, AreSorted, Words}
 use Rattle.trie_words.proofs.LevelLemmas.{above_order, count_cases, count_new, count_order, next_inside, shared_first}
 use Rattle.trie_words.proofs.OrderLemmas.{count_shared, found_node, letter_less, new_inside, on_level, shared_before, shared_less, shared_same}
 
 -- all nodes that words add are placed: there are as many as above level m
 pub record AllPlaced (ws : Words) (labels parents : List ℕ) (m : ℕ) : Type 0 where
-  pub each : (k j : ℕ) → j < ws.count → IsNew ws k j → IsPlaced ws labels parents k j
+  pub each : (k j : ℕ) → j < ws.count → IsNew ws k j → IsChildPlaced ws labels parents k j
   pub labels_len : length labels + 1 ≡ above ws m
   pub parents_len : length parents + 1 ≡ above ws m
 

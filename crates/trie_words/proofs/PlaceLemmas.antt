@@ -4,7 +4,7 @@ use Rattle.std.proofs.lemmas.Bool.{cases_eq, cases_lt, cases_order, false≢true
 use Rattle.bit_lists.specs.Bits.{bits_of, item}
 use Rattle.bit_lists.specs.Number.{with_number}
 use Rattle.bit_lists.proofs.Callers.{bit_written, item-with_number_beside}
-use Rattle.trie_words.specs.Levels.{next_at, AreEnds, ArePlaced, IsNew, IsPlaced}
+use Rattle.trie_words.specs.Levels.{next_at, AreEnds, ArePlaced, IsChildPlaced, IsNew}
 use Rattle.trie_words.specs.Room.{IsWhole}
 use Rattle.trie_words.specs.Words.{nodes_of, shared_of, Words}
 use Rattle.trie_words.proofs.LevelLemmas.{above_one, above_order, next_inside}
@@ -46,7 +46,7 @@ module _ (ws : Words) (next labels parents : List ℕ) (h : IsWhole ws next labe
     earlier = λ k i less old. kept k i old (placed.earlier k i less old) (apart_from k i less old);
     own = λ k less old.
         ⊎_elim
-        (λ same. subst (λ (l : ℕ). IsPlaced ws (set labels (node - 1) x) (set parents (node - 1) p) l j) (sym same) here)
+        (λ same. subst (λ (l : ℕ). IsChildPlaced ws (set labels (node - 1) x) (set parents (node - 1) p) l j) (sym same) here)
         (λ other.
         let before : k < depth = omega (arith, less, other) in
         kept k j old (placed.own k before old)
@@ -60,7 +60,7 @@ module _ (ws : Words) (next labels parents : List ℕ) (h : IsWhole ws next labe
       some : 1 ≤ node
       some = omega (arith, is, node_some ws next labels parents h depth j)
 
-      here : IsPlaced ws (set labels (node - 1) x) (set parents (node - 1) p) depth j
+      here : IsChildPlaced ws (set labels (node - 1) x) (set parents (node - 1) p) depth j
       here v at =
           let e : v ≡ node - 1 = omega (arith, at, is) in
           let in_labels : node - 1 < length labels = omega (arith, room, some, h.labels_len) in
@@ -74,8 +74,8 @@ module _ (ws : Words) (next labels parents : List ℕ) (h : IsWhole ws next labe
             ),
           )
 
-      kept : (k i : ℕ) → IsNew ws k i → IsPlaced ws labels parents k i → (next_at ws (k + 1) i ≡ next_at ws (depth + 1) j → ⊥)
-          → IsPlaced ws (set labels (node - 1) x) (set parents (node - 1) p) k i
+      kept : (k i : ℕ) → IsNew ws k i → IsChildPlaced ws labels parents k i → (next_at ws (k + 1) i ≡ next_at ws (depth + 1) j → ⊥)
+          → IsChildPlaced ws (set labels (node - 1) x) (set parents (node - 1) p) k i
       kept k i old had apart v at =
           let other : v ≡ node - 1 → ⊥ = λ e. apart (omega (arith, e, at, is, some)) in
           let was = had v at in (
@@ -117,7 +117,7 @@ module _ (ws : Words) (labels parents : List ℕ) (j : ℕ) where
         (λ before. placed.earlier k i before new)
         (λ from.
         let e : i ≡ j = omega (arith, less, from) in
-        subst (λ (x : ℕ). IsPlaced ws labels parents k x) (sym e)
+        subst (λ (x : ℕ). IsChildPlaced ws labels parents k x) (sym e)
         (placed.own k (omega (arith, le, new.to, ap (λ x. length (ws.word x)) e))
         (subst (λ (x : ℕ). IsNew ws k x) e new)))
         (cases_lt i j);

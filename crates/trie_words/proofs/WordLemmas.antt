@@ -1,7 +1,7 @@
 -- Words that stand one after another in bytes.
 use Rattle.std.proofs.Common.{◌≡◌, ℕ, zero, suc, ◌+◌, ◌-◌, ◌<◌, ◌≤◌, List, length, drop, slice_index, sym, ap, ◌∙◌, arith, length-drop}
 use Rattle.std.proofs.lemmas.List.{length-take-le}
-use Rattle.trie_words.specs.Words.{added, common, shared_of, word_of, words_in, AreWords}
+use Rattle.trie_words.specs.Words.{added, common, dictionary_word, shared_of, words_in, AreWords}
 use Rattle.trie_words.proofs.LevelLemmas.{added_more, added_none, shared_next}
 
 module _ (bytes starts : List ℕ) (are : AreWords bytes starts) where
@@ -19,7 +19,7 @@ module _ (bytes starts : List ℕ) (are : AreWords bytes starts) where
   pub start_inside : (j : ℕ) → j < length starts → slice_index starts j ≤ length bytes
   start_inside j inside = omega (arith, are.inside, start_order j (length starts - 1) (omega arith) (omega arith))
 
-  pub word_len : (j : ℕ) → j + 1 < length starts → length (word_of bytes starts j) + slice_index starts j ≡ slice_index starts (j + 1)
+  pub word_len : (j : ℕ) → j + 1 < length starts → length (dictionary_word bytes starts j) + slice_index starts j ≡ slice_index starts (j + 1)
   word_len j inside =
       let a = slice_index starts j in
       let b = slice_index starts (j + 1) in
@@ -44,12 +44,12 @@ module _ (bytes starts : List ℕ) (are : AreWords bytes starts) where
       )
 
 -- what two words share that stand side by side
-pub shared_is : (bytes starts : List ℕ) (j r : ℕ) (u v : List ℕ) → 0 < j → u ≡ word_of bytes starts (j - 1) → v ≡ word_of bytes starts j → r ≡ common u v
+pub shared_is : (bytes starts : List ℕ) (j r : ℕ) (u v : List ℕ) → 0 < j → u ≡ dictionary_word bytes starts (j - 1) → v ≡ dictionary_word bytes starts j → r ≡ common u v
     → r ≡ shared_of (words_in bytes starts) j
 shared_is bytes starts j r u v some u_is v_is is =
     let e : j - 1 + 1 ≡ j = omega arith in
     is
     ∙ ap (λ (x : List ℕ). common x v) u_is
-    ∙ ap (λ (y : List ℕ). common (word_of bytes starts (j - 1)) y) (v_is ∙ ap (word_of bytes starts) (sym e))
+    ∙ ap (λ (y : List ℕ). common (dictionary_word bytes starts (j - 1)) y) (v_is ∙ ap (dictionary_word bytes starts) (sym e))
     ∙ sym (shared_next (words_in bytes starts) (j - 1))
     ∙ ap (shared_of (words_in bytes starts)) e

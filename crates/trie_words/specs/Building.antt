@@ -9,7 +9,7 @@ use Rattle.trie_words.specs.declared.error.WordsError.TheVariants.{NotWords, Wro
 
 -- n nodes are few enough, the scratch has as many words as they have degrees, parents and labels, and as their ends take,
 -- and the block as many as it takes
-pub record HasBlockRoom (n scratch block : ℕ) : Type 0 where
+pub record HasTrieBlockRoom (n scratch block : ℕ) : Type 0 where
   pub few : n < 2 ^ 57
   pub scratch_len : scratch + 2 ≡ 3 * n + end_words n
   pub block_len : block ≡ end_of (trie_sections n 8 (end_words n))
@@ -17,13 +17,13 @@ pub record HasBlockRoom (n scratch block : ℕ) : Type 0 where
 -- sorted words, and room for the block of their trie
 pub record CanBuild (bytes starts scratch block : List ℕ) : Type 0 where
   pub are : AreSortedWords bytes starts
-  pub room : HasBlockRoom (nodes_of (words_in bytes starts)) (length scratch) (length block)
+  pub room : HasTrieBlockRoom (nodes_of (words_in bytes starts)) (length scratch) (length block)
 
 -- why no block is written: the first of these that holds, a length before what is in the lists
 abbrev pub IsBuildReason : List ℕ → List ℕ → List ℕ → List ℕ → WordsError → Type 0
 IsBuildReason bytes starts scratch block NotWords = ¬ (AreWords bytes starts)
 IsBuildReason bytes starts scratch block WrongLength =
-    AreWords bytes starts × (¬ (HasBlockRoom (nodes_of (words_in bytes starts)) (length scratch) (length block)))
+    AreWords bytes starts × (¬ (HasTrieBlockRoom (nodes_of (words_in bytes starts)) (length scratch) (length block)))
 IsBuildReason bytes starts scratch block NotSorted =
-    AreWords bytes starts × HasBlockRoom (nodes_of (words_in bytes starts)) (length scratch) (length block)
+    AreWords bytes starts × HasTrieBlockRoom (nodes_of (words_in bytes starts)) (length scratch) (length block)
     × (¬ (AreSorted (words_in bytes starts)))

@@ -32,15 +32,15 @@ pub record IsNew (ws : Words) (k j : ℕ) : Type 0 where
   pub to : k < length (ws.word j)
 
 -- the label and the parent of that child stand where it has its number, less 1 since the root has neither
-abbrev pub IsPlaced : Words → List ℕ → List ℕ → ℕ → ℕ → Type 0
-IsPlaced ws labels parents k j =
+abbrev pub IsChildPlaced : Words → List ℕ → List ℕ → ℕ → ℕ → Type 0
+IsChildPlaced ws labels parents k j =
     (v : ℕ) → v + 1 ≡ next_at ws (k + 1) j
     → (slice_index labels v ≡ slice_index (ws.word j) k) × (slice_index parents v + 1 ≡ next_at ws k (j + 1))
 
 -- those of all nodes that the words before word j add, and of its own to nodes of levels less than `depth`
 pub record ArePlaced (ws : Words) (labels parents : List ℕ) (j depth : ℕ) : Type 0 where
-  pub earlier : (k i : ℕ) → i < j → IsNew ws k i → IsPlaced ws labels parents k i
-  pub own : (k : ℕ) → k < depth → IsNew ws k j → IsPlaced ws labels parents k j
+  pub earlier : (k i : ℕ) → i < j → IsNew ws k i → IsChildPlaced ws labels parents k i
+  pub own : (k : ℕ) → k < depth → IsNew ws k j → IsChildPlaced ws labels parents k j
 
 -- the bits that are 1 are those of the nodes to which the first j words lead
 abbrev pub AreEnds : Words → List ℕ → ℕ → Type 0

@@ -12,7 +12,7 @@ pub record AreSortedWords (bytes starts : List ℕ) : Type 0 where
   pub sorted : AreSorted (words_in bytes starts)
 
 -- a degree for each of n nodes, a label and a parent for each but the root, and a bit for each
-pub record HasRoom (n : ℕ) (degrees labels ends parents : List ℕ) : Type 0 where
+pub record HasNodeRoom (n : ℕ) (degrees labels ends parents : List ℕ) : Type 0 where
   pub degrees_len : length degrees ≡ n
   pub labels_len : length labels + 1 ≡ n
   pub ends_len : length ends ≡ div_ceil n 64
@@ -29,7 +29,7 @@ pub record IsWhole (ws : Words) (next labels parents : List ℕ) : Type 0 where
 -- sorted words, and room for the parts of their trie
 pub record CanGrow (bytes starts degrees labels ends parents : List ℕ) : Type 0 where
   pub words : AreSortedWords bytes starts
-  pub room : HasRoom (nodes_of (words_in bytes starts)) degrees labels ends parents
+  pub room : HasNodeRoom (nodes_of (words_in bytes starts)) degrees labels ends parents
 
 -- why these are no sorted words: the first of these that holds
 abbrev pub IsFault : List ℕ → List ℕ → WordsError → Type 0
@@ -41,6 +41,6 @@ IsFault bytes starts WrongLength = ⊥
 abbrev pub IsReason : List ℕ → List ℕ → List ℕ → List ℕ → List ℕ → List ℕ → WordsError → Type 0
 IsReason bytes starts degrees labels ends parents NotWords = ¬ (AreWords bytes starts)
 IsReason bytes starts degrees labels ends parents WrongLength =
-    AreWords bytes starts × (¬ (HasRoom (nodes_of (words_in bytes starts)) degrees labels ends parents))
+    AreWords bytes starts × (¬ (HasNodeRoom (nodes_of (words_in bytes starts)) degrees labels ends parents))
 IsReason bytes starts degrees labels ends parents NotSorted =
-    AreWords bytes starts × HasRoom (nodes_of (words_in bytes starts)) degrees labels ends parents × (¬ (AreSorted (words_in bytes starts)))
+    AreWords bytes starts × HasNodeRoom (nodes_of (words_in bytes starts)) degrees labels ends parents × (¬ (AreSorted (words_in bytes starts)))

@@ -8,11 +8,11 @@ pub record Words : Type 0 where
   pub count : ℕ
 
 -- the words that begin in bytes at these places: the last place is where the last word ends
-abbrev pub word_of : List ℕ → List ℕ → ℕ → List ℕ
-word_of bytes starts j = slice_range bytes (slice_index starts j) (slice_index starts (j + 1))
+abbrev pub dictionary_word : List ℕ → List ℕ → ℕ → List ℕ
+dictionary_word bytes starts j = slice_range bytes (slice_index starts j) (slice_index starts (j + 1))
 
 abbrev pub words_in : List ℕ → List ℕ → Words
-words_in bytes starts = record { word = word_of bytes starts; count = length starts - 1 }
+words_in bytes starts = record { word = dictionary_word bytes starts; count = length starts - 1 }
 
 -- there is a place, none is before the one before it, and the last one is in the bytes or where they end
 pub record AreWords (bytes starts : List ℕ) : Type 0 where
@@ -25,13 +25,13 @@ unfoldable pub common : List ℕ → List ℕ → ℕ
 common u v = common_prefix_len (λ x y. x == y) u v
 
 -- word u stands before word v in a dictionary: after the letters that they share v goes on, and u ends or has a lesser one
-pub record IsBefore (u v : List ℕ) : Type 0 where
+pub record IsWordBefore (u v : List ℕ) : Type 0 where
   pub more : common u v < length v
   pub less : common u v < length u → slice_index u (common u v) < slice_index v (common u v)
 
 -- each word stands before the next one
 abbrev pub AreSorted : Words → Type 0
-AreSorted ws = (j : ℕ) → j + 1 < ws.count → IsBefore (ws.word j) (ws.word (j + 1))
+AreSorted ws = (j : ℕ) → j + 1 < ws.count → IsWordBefore (ws.word j) (ws.word (j + 1))
 
 -- how many letters word j shares with the word before it: the first one has none before it
 unfoldable pub shared_of : Words → ℕ → ℕ

@@ -1,6 +1,6 @@
 //! The block of the trie of sorted words.
 ghost use Rattle.std.specs.Prelude.{◌≡◌, ◌≤◌, ◌↔◌, IfErr, IfOk, IsOk, IsTrue};
-ghost use Rattle.trie_words.specs.Building.{CanBuild, HasBlockRoom, IsBuildReason};
+ghost use Rattle.trie_words.specs.Building.{CanBuild, HasTrieBlockRoom, IsBuildReason};
 ghost use Rattle.trie_words.specs.Trie.{IsBlockOfWords};
 ghost use Rattle.trie_words.specs.Words.{nodes_of, words_in};
 
@@ -13,7 +13,7 @@ use trie_block::size;
 /// Whether there is room for the block of the trie of that many nodes, and to write it.
 fn has_block_room(count: usize, scratch: usize, block: usize) -> bool
     requires { 1 ≤ count }
-    ensures { IsTrue result ↔ HasBlockRoom count scratch block }
+    ensures { IsTrue result ↔ HasTrieBlockRoom count scratch block }
 {
     match size(count, 8, true) {
         Some(len) => block == len && scratch == 3 * count - 2 + count.div_ceil(64),

@@ -4,7 +4,7 @@ ghost use Rattle.louds.specs.Labels.{AreLabels};
 ghost use Rattle.louds.specs.Parents.{AreParents, HasParents};
 ghost use Rattle.louds.specs.Tree.{IsTree};
 ghost use Rattle.trie_block.specs.Block.{IsTrie};
-ghost use Rattle.trie_words.specs.Room.{CanGrow, HasRoom, IsReason};
+ghost use Rattle.trie_words.specs.Room.{CanGrow, HasNodeRoom, IsReason};
 ghost use Rattle.trie_words.specs.Trie.{HoldsWords};
 ghost use Rattle.trie_words.specs.Words.{words_in};
 
@@ -23,7 +23,7 @@ fn has_room(
     parents: &[usize],
 ) -> bool
     requires { 1 ≤ count }
-    ensures { IsTrue result ↔ HasRoom count degrees.now labels.now ends.now parents.now }
+    ensures { IsTrue result ↔ HasNodeRoom count degrees.now labels.now ends.now parents.now }
 {
     degrees.len() == count
         && labels.len() == count - 1

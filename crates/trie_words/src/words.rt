@@ -2,8 +2,8 @@
 ghost use Rattle.std.specs.Prelude.{◌≡◌, ◌+◌, ◌-◌, ◌<◌, ◌≤◌, ◌↔◌, IfErr, IfOk, IfSome, IsOk, IsSome, IsTrue};
 ghost use Rattle.std.specs.Prelude.{length, slice_index, slice_range};
 ghost use Rattle.trie_words.specs.Room.{AreSortedWords, IsFault};
-ghost use Rattle.trie_words.specs.Words.{common, nodes_of, shared_of, word_of, words_in};
-ghost use Rattle.trie_words.specs.Words.{AreSorted, AreWords, IsBefore};
+ghost use Rattle.trie_words.specs.Words.{common, dictionary_word, nodes_of, shared_of, words_in};
+ghost use Rattle.trie_words.specs.Words.{AreSorted, AreWords, IsWordBefore};
 
 use crate::error::WordsError;
 
@@ -22,7 +22,7 @@ fn between(bytes: &[u8], begin: usize, end: usize) -> &[u8]
 pub(crate) fn word_at<'a>(bytes: &'a [u8], starts: &[usize], j: usize) -> &'a [u8]
     requires words { AreWords bytes.now starts.now }
     requires inside { j + 1 < length starts.now }
-    ensures word { result.now ≡ word_of bytes.now starts.now j }
+    ensures word { result.now ≡ dictionary_word bytes.now starts.now j }
     ensures len { length result.now + slice_index starts.now j ≡ slice_index starts.now (j + 1) }
 {
     between(bytes, starts[j], starts[j + 1])
@@ -61,7 +61,7 @@ pub(crate) fn shared_len(bytes: &[u8], starts: &[usize], j: usize) -> usize
 
 /// Whether a word stands before another in the order of a dictionary.
 fn is_before(left: &[u8], right: &[u8]) -> bool
-    ensures { IsTrue result ↔ IsBefore left.now right.now }
+    ensures { IsTrue result ↔ IsWordBefore left.now right.now }
 {
     let shared = common_len(left, right);
     shared < right.len() && (shared == left.len() || left[shared] < right[shared])

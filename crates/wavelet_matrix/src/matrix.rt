@@ -7,7 +7,7 @@ ghost use Rattle.bitm_tables.specs.Reads.{none_read};
 ghost use Rattle.bitm_bits.specs.Size.{saturated_size};
 ghost use Rattle.lent_levels.specs.Laws.{Fits};
 ghost use Rattle.matrix_levels.specs.Levels.{known_of};
-ghost use Rattle.matrix_levels.specs.Matrix.{IsMatrix, items_of, numbers_in, quarters_for, words_of};
+ghost use Rattle.matrix_levels.specs.Matrix.{IsMatrix, level_items, matrix_words, numbers_in, quarters_for};
 
 use bitm::RankSelect101111;
 use bitm_bits::GetSize;
@@ -53,13 +53,13 @@ pub struct WaveletMatrix<S: SelectForRank101111, S0: Select0ForRank101111> {
 impl<S: SelectForRank101111, S0: Select0ForRank101111> Model for WaveletMatrix<S, S0> {
     ghost use Rattle.std.specs.Box.{boxed_slice_items};
     ghost use Rattle.bit_lists.specs.Bits.{bits_of};
-    ghost use Rattle.matrix_levels.specs.Matrix.{items_of, IsMatrixOf, IsTight};
+    ghost use Rattle.matrix_levels.specs.Matrix.{level_items, IsMatrixOf, IsTight};
     ghost use Rattle.wavelet_matrix.specs.MatrixValue.{Numbers};
 
     ghost Value = { Numbers S S0 };
 
     ghost view = { λ m. record {
-      items = items_of (bits_of (boxed_slice_items m.index.content)) m.levels.width m.levels.len;
+      items = level_items (bits_of (boxed_slice_items m.index.content)) m.levels.width m.levels.len;
       width = m.levels.width;
       compact = m.levels.compact;
       select = m.index.select;
@@ -67,7 +67,7 @@ impl<S: SelectForRank101111, S0: Select0ForRank101111> Model for WaveletMatrix<S
     } };
 
     ghost invariant = { λ m. let bits = bits_of (boxed_slice_items m.index.content) in
-        IsMatrixOf (items_of bits m.levels.width m.levels.len) m.levels bits
+        IsMatrixOf (level_items bits m.levels.width m.levels.len) m.levels bits
         × IsTight m.levels (boxed_slice_items m.index.content) };
 }
 
@@ -160,9 +160,9 @@ impl<S: SelectForRank101111, S0: Select0ForRank101111> WaveletMatrix<S, S0> {
         requires some { 1 ≤ width }
         requires most { width ≤ 64 }
         requires short { width * len < 2 ^ 63 }
-        requires words { length (boxed_slice_items content) ≡ words_of len width }
+        requires words { length (boxed_slice_items content) ≡ matrix_words len width }
         ensures items { IfOk result (λ made.
-            made.items ≡ items_of (bits_of (boxed_slice_items content)) width len) }
+            made.items ≡ level_items (bits_of (boxed_slice_items content)) width len) }
         ensures width { IfOk result (λ made. made.width ≡ width) }
         ensures compact { IfOk result (λ made. made.compact ≡ compact) }
     {
@@ -273,7 +273,7 @@ impl<S: SelectForRank101111 + GetSize, S0: Select0ForRank101111 + GetSize> GetSi
     for WaveletMatrix<S, S0> {
     // the words, eight bytes for each 2^26 of them, each 32 and, unless it is compact, each eight, all rounded up, the
     // two strategies, sixteen bytes for each level, and eight for each number of the known digits
-    ghost dyn_bytes = { λ m. let n = length m.items in let words = words_of n m.width in
+    ghost dyn_bytes = { λ m. let n = length m.items in let words = matrix_words n m.width in
         saturated_size (8 * words + 8 * div_ceil words (2 ^ 26) + 8 * div_ceil words 32
         + 8 * quarters_for m.compact words + S.dyn_bytes m.select + S0.dyn_bytes m.select0
         + 16 * m.width + 8 * 2 ^ known_of n m.width) };

@@ -1,6 +1,7 @@
 //! The calls of a matrix by index and by value.
 ghost use Rattle.std.specs.Prelude.{◌≡◌, ◌<◌, ◌≤◌, All, SomeIff, length, slice_index};
-ghost use Rattle.matrix_levels.specs.Numbers.{count_before, GetsEach, PicksItem, RanksEach, IsItemRank, IsItemSelect};
+ghost use Rattle.matrix_levels.specs.Numbers.{occurrences_before, GetsEach, IsItemRank, IsItemSelect, PicksItem};
+ghost use Rattle.matrix_levels.specs.Numbers.{RanksEachNumber};
 
 use crate::matrix::WaveletMatrix;
 use bitm_strategies::{Select0ForRank101111, SelectForRank101111};
@@ -31,11 +32,7 @@ impl<S: SelectForRank101111, S0: Select0ForRank101111> WaveletMatrix<S, S0> {
         ensures { SomeIff result (i < length self.now.items) (slice_index self.now.items i) }
     {
         let (levels, mut probe) = self.parts();
-        match levels.total_get_on(&mut probe, i) {
-            Answer::Found(number) => Some(number),
-            Answer::Absent => None,
-            Answer::Wrong => unreachable!(),
-        }
+        levels.total_get_on(&mut probe, i).right()
     }
 
     /// For each index the number there; they go to `numbers` in the order of the indices.
@@ -62,7 +59,7 @@ impl<S: SelectForRank101111, S0: Select0ForRank101111> WaveletMatrix<S, S0> {
     #[inline]
     pub fn rank(&self, number: u64, i: usize) -> usize
         requires { i ≤ length self.now.items }
-        ensures { result ≡ count_before self.now.items number i }
+        ensures { result ≡ occurrences_before self.now.items number i }
     {
         let (levels, mut probe) = self.parts();
         match levels.total_rank_on(&mut probe, number, i) {
@@ -77,11 +74,7 @@ impl<S: SelectForRank101111, S0: Select0ForRank101111> WaveletMatrix<S, S0> {
         ensures { IsItemRank self.now.items number i result }
     {
         let (levels, mut probe) = self.parts();
-        match levels.total_rank_on(&mut probe, number, i) {
-            Answer::Found(count) => Some(count),
-            Answer::Absent => None,
-            Answer::Wrong => unreachable!(),
-        }
+        levels.total_rank_on(&mut probe, number, i).right()
     }
 
     /// For each number and its index in `places`, how many numbers before that index equal it; the counts go to `ranks`
@@ -95,7 +88,7 @@ impl<S: SelectForRank101111, S0: Select0ForRank101111> WaveletMatrix<S, S0> {
         requires numbers { length numbers.now ≡ length places.now }
         requires ranks { length ranks.old ≡ length places.now }
         requires inside { All (λ p. p ≤ length self.now.items) places.now }
-        ensures { RanksEach self.now.items numbers.now places.now ranks.new }
+        ensures { RanksEachNumber self.now.items numbers.now places.now ranks.new }
     {
         let (levels, mut probe) = self.parts();
         let _found = levels.total_rank_list_on(&mut probe, numbers, places, ranks);
@@ -116,7 +109,7 @@ impl<S: SelectForRank101111, S0: Select0ForRank101111> WaveletMatrix<S, S0> {
     pub fn get_and_rank(&self, i: usize) -> (u64, usize)
         requires { i < length self.now.items }
         ensures number { result.0 ≡ slice_index self.now.items i }
-        ensures count { result.1 ≡ count_before self.now.items result.0 i }
+        ensures count { result.1 ≡ occurrences_before self.now.items result.0 i }
     {
         let (levels, mut probe) = self.parts();
         match levels.total_get_and_rank_on(&mut probe, i) {
@@ -133,7 +126,7 @@ impl<S: SelectForRank101111, S0: Select0ForRank101111> WaveletMatrix<S, S0> {
     /// For each level a selection, and for each that is not known from the table of starts a rank.
     #[inline]
     pub fn select(&self, number: u64, k: usize) -> usize
-        requires { k < count_before self.now.items number (length self.now.items) }
+        requires { k < occurrences_before self.now.items number (length self.now.items) }
         ensures { PicksItem self.now.items number k result }
     {
         let (levels, index, mut probe) = self.all_parts();
@@ -152,10 +145,6 @@ impl<S: SelectForRank101111, S0: Select0ForRank101111> WaveletMatrix<S, S0> {
         ensures { IsItemSelect self.now.items number k result }
     {
         let (levels, index, mut probe) = self.all_parts();
-        match levels.total_select_by(index, &mut probe, number, k) {
-            Answer::Found(place) => Some(place),
-            Answer::Absent => None,
-            Answer::Wrong => unreachable!(),
-        }
+        levels.total_select_by(index, &mut probe, number, k).right()
     }
 }

@@ -82,11 +82,9 @@ impl<S: SelectForRank101111, S0: Select0ForRank101111> WaveletMatrix<S, S0> {
         ensures { IsNextItem (slice_range self.now.items range.start range.end) bound result }
     {
         let (levels, mut probe) = self.parts();
-        match levels.total_next_value_on(&mut probe, range.start, range.end, bound) {
-            Answer::Found(number) => Some(number),
-            Answer::Absent => None,
-            Answer::Wrong => unreachable!(),
-        }
+        levels
+            .total_next_value_on(&mut probe, range.start, range.end, bound)
+            .right()
     }
 
     /// The greatest number of a range that is less than `bound`; `None` exactly where none is.
@@ -102,11 +100,9 @@ impl<S: SelectForRank101111, S0: Select0ForRank101111> WaveletMatrix<S, S0> {
         ensures { IsPreviousItem (slice_range self.now.items range.start range.end) bound result }
     {
         let (levels, mut probe) = self.parts();
-        match levels.total_previous_value_on(&mut probe, range.start, range.end, bound) {
-            Answer::Found(number) => Some(number),
-            Answer::Absent => None,
-            Answer::Wrong => unreachable!(),
-        }
+        levels
+            .total_previous_value_on(&mut probe, range.start, range.end, bound)
+            .right()
     }
 
     /// The numbers that are in both ranges, each once, rising.

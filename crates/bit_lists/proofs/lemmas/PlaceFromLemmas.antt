@@ -12,7 +12,7 @@ use Rattle.bit_lists.proofs.lemmas.CutLemmas.{bits_of-append}
 use Rattle.bit_lists.proofs.lemmas.PickLemmas.{count_before_after}
 use Rattle.bit_lists.proofs.lemmas.PlaceLemmas.{coming_end, negation, places-append, places_negated}
 use Rattle.bit_lists.specs.Bits.{low_digits, bits_of, item, digit}
-use Rattle.bit_lists.specs.Coming.{word_of, coming}
+use Rattle.bit_lists.specs.Coming.{coming, word_of_kind}
 use Rattle.bit_lists.specs.Count.{count_before, is_same, places, as_bit}
 
 -- ---- lists
@@ -62,33 +62,33 @@ places_cleared v k (suc s) (x ∷ b) (false ∷ c) within len clear same =
 -- ---- words
 
 -- a digit of the word in which the kind are ones
-kind_of_digit : (v w i : ℕ) → w < 2 ^ 64 → i < 64 → digit (word_of v w) i ≡ is_same (as_bit v) (digit w i)
+kind_of_digit : (v w i : ℕ) → w < 2 ^ 64 → i < 64 → digit (word_of_kind v w) i ≡ is_same (as_bit v) (digit w i)
 kind_of_digit zero w i fits low = negation (bit_at w i) (bit_at (bit_not w64 w) i) (bit_at-lt w i) (bit_at_not w64 w i fits low)
 kind_of_digit (suc v) w i fits low = refl
 
 -- the places of the kind from item s on, of a word: the ones that are left where the digits before s are cleared
 places_of_rest : (v k s w mask : ℕ) → w < 2 ^ 64 → s < 64 → mask ≡ 2 ^ s - 1
-    → places true k (low_digits 64 (bit_and (word_of v w) (bit_not w64 mask))) ≡ places (as_bit v) (k + s) (drop s (low_digits 64 w))
+    → places true k (low_digits 64 (bit_and (word_of_kind v w) (bit_not w64 mask))) ≡ places (as_bit v) (k + s) (drop s (low_digits 64 w))
 places_of_rest v k s w mask fits low is =
     places_cleared (as_bit v) k s (low_digits 64 w) (low_digits 64 x)
     (omega (arith, length-low_digits 64 w))
     (length-low_digits 64 x ∙ sym (length-low_digits 64 w))
     (λ i l.
     let m : bit_at mask i ≡ 1 = ap (λ y. bit_at y i) is ∙ bit_at_ones s i l in
-    let none : bit_at x i ≡ 0 = omega (arith, bit_at_and (word_of v w) (bit_not w64 mask) i, bit_at_not w64 mask i small (omega arith), m) in
+    let none : bit_at x i ≡ 0 = omega (arith, bit_at_and (word_of_kind v w) (bit_not w64 mask) i, bit_at_not w64 mask i small (omega arith), m) in
     item-low_digits 64 x i (omega arith) ∙ ap (λ d. eqb d 1) none)
     (λ i from l.
     let inside : i < 64 = omega (arith, length-low_digits 64 w) in
     let m : bit_at mask i ≡ 0 = ap (λ y. bit_at y i) is ∙ bit_at_ones_above s i from in
-    let kept : bit_at x i ≡ bit_at (word_of v w) i =
-    omega (arith, bit_at_and (word_of v w) (bit_not w64 mask) i, bit_at_not w64 mask i small inside, m, bit_at-lt (word_of v w) i) in
+    let kept : bit_at x i ≡ bit_at (word_of_kind v w) i =
+    omega (arith, bit_at_and (word_of_kind v w) (bit_not w64 mask) i, bit_at_not w64 mask i small inside, m, bit_at-lt (word_of_kind v w) i) in
     item-low_digits 64 x i inside
     ∙ ap (λ d. eqb d 1) kept
     ∙ kind_of_digit v w i fits inside
     ∙ ap (is_same (as_bit v)) (sym (item-low_digits 64 w i inside)))
   where
     x : ℕ
-    x = bit_and (word_of v w) (bit_not w64 mask)
+    x = bit_and (word_of_kind v w) (bit_not w64 mask)
 
     small : mask < 2 ^ 64
     small = omega (arith, is, pow_below s 64 (omega arith))
@@ -96,7 +96,7 @@ places_of_rest v k s w mask fits low is =
 -- from a word on, whose digits before the place are cleared, the places from there on come
 pub coming_from : (v : ℕ) (words : List ℕ) (start w mask : ℕ) → start / 64 < length words → w ≡ get_or words (start / 64) 0
     → w < 2 ^ 64 → mask ≡ 2 ^ (start % 64) - 1
-    → coming v (start / 64 * 64) (bit_and (word_of v w) (bit_not w64 mask)) (drop (start / 64 + 1) words)
+    → coming v (start / 64 * 64) (bit_and (word_of_kind v w) (bit_not w64 mask)) (drop (start / 64 + 1) words)
     ≡ drop (count_before (bits_of words) (as_bit v) start) (places (as_bit v) 0 (bits_of words))
 coming_from v words start w mask within read fits is =
     ap (λ l. l ++ places (as_bit v) (q * 64 + 64) (bits_of rest)) (places_of_rest v (q * 64) s w mask fits (omega arith) is)

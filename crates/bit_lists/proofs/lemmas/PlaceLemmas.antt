@@ -9,7 +9,7 @@ use Rattle.bit_lists.proofs.lemmas.CountLemmas.{ones_of-bits_of}
 use Rattle.bit_lists.proofs.lemmas.PickLemmas.{length-places}
 use Rattle.bit_lists.proofs.lemmas.WordLemmas.{bit_at-lowest_cleared_same, bit_at-lowest_cleared_other}
 use Rattle.bit_lists.specs.Bits.{low_digits, bits_of, item}
-use Rattle.bit_lists.specs.Coming.{word_of, coming}
+use Rattle.bit_lists.specs.Coming.{coming, word_of_kind}
 use Rattle.bit_lists.specs.Count.{count_of, places, as_bit}
 
 -- ---- lists
@@ -84,7 +84,7 @@ negation (suc zero) e l is = ap (λ x. eqb x 1) is
 negation (suc (suc d)) e l is = absurd (omega arith)
 
 -- the zeros of a word are the ones of its complement
-places_of_word : (v k w : ℕ) → w < 2 ^ 64 → places (as_bit v) k (low_digits 64 w) ≡ places true k (low_digits 64 (word_of v w))
+places_of_word : (v k w : ℕ) → w < 2 ^ 64 → places (as_bit v) k (low_digits 64 w) ≡ places true k (low_digits 64 (word_of_kind v w))
 places_of_word zero k w fits =
     places_negated k (low_digits 64 w) (low_digits 64 (bit_not w64 w)) (length-low_digits 64 (bit_not w64 w) ∙ sym (length-low_digits 64 w))
     (λ i l.
@@ -95,7 +95,7 @@ places_of_word zero k w fits =
 places_of_word (suc v) k w fits = refl
 
 -- the places in a content, by its first word
-pub places-cons : (v k w : ℕ) (rest : List ℕ) → w < 2 ^ 64 → places (as_bit v) k (bits_of (w ∷ rest)) ≡ coming v k (word_of v w) rest
+pub places-cons : (v k w : ℕ) (rest : List ℕ) → w < 2 ^ 64 → places (as_bit v) k (bits_of (w ∷ rest)) ≡ coming v k (word_of_kind v w) rest
 places-cons v k w rest fits =
     ap (places (as_bit v) k) (bits_of-cons w rest)
     ∙ places-append (as_bit v) k (low_digits 64 w) (bits_of rest)
@@ -105,7 +105,7 @@ pub places_nil : (v k : ℕ) → places (as_bit v) k (bits_of []) ≡ []
 places_nil v k = ap (places (as_bit v) k) bits_of-nil
 
 -- where nothing is left of the current word, the next word comes
-pub coming_turn : (v first w : ℕ) (rest : List ℕ) → w < 2 ^ 64 → coming v first 0 (w ∷ rest) ≡ coming v (first + 64) (word_of v w) rest
+pub coming_turn : (v first w : ℕ) (rest : List ℕ) → w < 2 ^ 64 → coming v first 0 (w ∷ rest) ≡ coming v (first + 64) (word_of_kind v w) rest
 coming_turn v first w rest fits =
     ap (λ l. l ++ places (as_bit v) (first + 64) (bits_of (w ∷ rest))) (no_places first) ∙ places-cons v (first + 64) w rest fits
 

@@ -8,10 +8,11 @@ use Rattle.bit_lists.specs.Bits.{bits_of, IsShort}
 use Rattle.bit_lists.specs.Count.{ones_before, count_of, as_bit}
 use Rattle.bitm_tables.specs.Entry.{before_in_part, field_0, lower_entry, record_field}
 use Rattle.bitm_select.specs.Answers.{told_in, IsSelected, IsSelectedFrom, SelectTold}
-use Rattle.bitm_many.specs.Many.{IsInPart, IsNear, IsInRecord, IsToldRecord}
+use Rattle.bitm_many.specs.Many.{IsInPart, IsInRecord, IsNarrowed, IsToldRecord}
 use Rattle.bitm_select.specs.Search.{sought_bits, sought_in, IsLastPart, IsLastEntry, IsPartOf}
 use Rattle.bitm_tables.specs.Tables.{Lists, HasSizes, HasTables, bits_in}
-use Rattle.bitm_select.specs.Told.{count_from_word, told_entry, told_part, told_to, wrong_for_absent, IfAbsent, TellsNone}
+use Rattle.bitm_select.specs.Told.{count_from_word, told_entry, told_part, told_to, wrong_for_absent, TellsNone}
+use Rattle.bitm_tables.specs.Answers.{IfAbsent}
 use Rattle.bitm_many.specs.declared.loaded.InRecord.{InRecord}
 use Rattle.bitm_tables.specs.declared.answer.Answer.{Answer}
 use Rattle.bitm_tables.specs.declared.answer.Answer.TheVariants.{Found, Absent, Wrong}
@@ -61,7 +62,7 @@ record_none lists v rank at sized told fits within Absent last is =
 module _ (bit : ℕ) (lists : Lists) (rank rest : ℕ) where
   -- a search begins at the part's first entry
   pub near_begins : (part : ℕ) → HasTables lists → IsShort lists.words → IsPartOf bit lists rank part rest
-      → IsNear bit lists rank rest (part * 2 ^ 21) 21
+      → IsNarrowed bit lists rank rest (part * 2 ^ 21) 21
   near_begins part t short is =
       record {
         part = part;
@@ -75,13 +76,13 @@ module _ (bit : ℕ) (lists : Lists) (rank rest : ℕ) where
         room = omega arith;
       }
 
-  module _ (at size : ℕ) (near : IsNear bit lists rank rest at (size + 1)) where
+  module _ (at size : ℕ) (near : IsNarrowed bit lists rank rest at (size + 1)) where
     doubled : 2 ^ (size + 1) ≡ 2 ^ size + 2 ^ size
     doubled = omega (arith, pow-add 2 size 1)
 
     -- where no more stand before the entry in the middle it is that one or a later one
     pub near_up : at + 2 ^ size < length lists.lower → before_in_part (sought_in bit lists.words) (at + 2 ^ size) ≤ rest
-        → IsNear bit lists rank rest (at + 2 ^ size) size
+        → IsNarrowed bit lists rank rest (at + 2 ^ size) size
     near_up inside at_most =
         let there : near.part * 2 ^ 21 + (near.low + 2 ^ size) ≡ at + 2 ^ size = omega (arith, near.place) in
         let end : near.low + 2 ^ (size + 1) ≡ near.low + 2 ^ size + 2 ^ size = omega (arith, doubled) in
@@ -102,7 +103,7 @@ module _ (bit : ℕ) (lists : Lists) (rank rest : ℕ) where
 
     -- where more stand before it, or there is no such entry, it is an earlier one
     pub near_stays : (at + 2 ^ size < length lists.lower → rest < before_in_part (sought_in bit lists.words) (at + 2 ^ size))
-        → IsNear bit lists rank rest at size
+        → IsNarrowed bit lists rank rest at size
     near_stays above =
         let there : near.part * 2 ^ 21 + (near.low + 2 ^ size) ≡ at + 2 ^ size = omega (arith, near.place) in
         record {
@@ -120,10 +121,10 @@ module _ (bit : ℕ) (lists : Lists) (rank rest : ℕ) where
         }
 
 -- in one part, an entry with no more before it, and one 2^size after it with more, have it between them
-pub near_between : (bit : ℕ) (lists : Lists) (rank rest at low size : ℕ) → HasTables lists → IsNear bit lists rank rest at 21
+pub near_between : (bit : ℕ) (lists : Lists) (rank rest at low size : ℕ) → HasTables lists → IsNarrowed bit lists rank rest at 21
     → length lists.upper ≡ 1 → low < 2 ^ 21 → low + 2 ^ size < length lists.lower → low + 2 ^ size ≤ 2 ^ 21
     → before_in_part (sought_in bit lists.words) low ≤ rest → rest < before_in_part (sought_in bit lists.words) (low + 2 ^ size)
-    → IsNear bit lists rank rest low size
+    → IsNarrowed bit lists rank rest low size
 near_between bit lists rank rest at low size t near one_part few inside room at_most next =
     let first : near.part ≡ 0 = omega (arith, near.last.inside, one_part) in
     let here : near.part * 2 ^ 21 + low ≡ low = omega (arith, first) in
@@ -141,8 +142,8 @@ near_between bit lists rank rest at low size t near one_part few inside room at_
     }
 
 -- halvings of as many entries as there are, or more, are enough
-pub near_enough : (bit : ℕ) (lists : Lists) (rank rest at size : ℕ) → IsNear bit lists rank rest at 21 → size ≤ 21
-    → (size < 21 → length lists.lower ≤ 2 ^ size) → IsNear bit lists rank rest at size
+pub near_enough : (bit : ℕ) (lists : Lists) (rank rest at size : ℕ) → IsNarrowed bit lists rank rest at 21 → size ≤ 21
+    → (size < 21 → length lists.lower ≤ 2 ^ size) → IsNarrowed bit lists rank rest at size
 near_enough bit lists rank rest at size near most enough =
     let first : near.low ≡ 0 = omega (arith, near.room) in
     let small : 2 ^ size ≤ 2 ^ 21 = pow_mono most in
@@ -166,14 +167,14 @@ near_enough bit lists rank rest at size near most enough =
     }
 
 -- the search ends at the last entry
-pub near_ends : (bit : ℕ) (lists : Lists) (rank rest at : ℕ) → (near : IsNear bit lists rank rest at 0)
+pub near_ends : (bit : ℕ) (lists : Lists) (rank rest at : ℕ) → (near : IsNarrowed bit lists rank rest at 0)
     → IsLastEntry (sought_in bit lists.words) (length lists.lower) near.part rest near.low
 near_ends bit lists rank rest at near = record { inside = near.inside; at_most = near.at_most; next = near.next }
 
 -- a search that finds the last entry of the part ends there
 pub near_found : (bit : ℕ) (lists : Lists) (rank rest part low : ℕ) → IsPartOf bit lists rank part rest
     → IsLastEntry (sought_in bit lists.words) (length lists.lower) part rest low
-    → IsNear bit lists rank rest (part * 2 ^ 21 + low) 0
+    → IsNarrowed bit lists rank rest (part * 2 ^ 21 + low) 0
 near_found bit lists rank rest part low is last =
     record {
       part = part;
@@ -209,7 +210,7 @@ part_up v lists rank rest at i is =
 
 -- the record that is chosen in the entry where the search ends
 module _ (bit : ℕ) (lists : Lists) (rank rest at packed count place before : ℕ) (t : HasTables lists)
-    (near : IsNear bit lists rank rest at 0) (packed_is : packed ≡ lower_entry (sought_in bit lists.words) at)
+    (near : IsNarrowed bit lists rank rest at 0) (packed_is : packed ≡ lower_entry (sought_in bit lists.words) at)
     (count_is : count ≡ field_0 packed) (small : place < 4) (before_is : before ≡ record_field packed place)
     (at_most : before ≤ rest - count) (next : place < 3 → rest - count < record_field packed (place + 1)) where
   there : ℕ

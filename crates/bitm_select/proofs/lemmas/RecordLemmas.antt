@@ -4,7 +4,7 @@ use Rattle.std.proofs.lemmas.Bool.{cases_lt}
 use Rattle.std.proofs.lemmas.List.{get_or-set_same, get_or-set_other}
 use Rattle.bit_lists.specs.Count.{ones_before}
 use Rattle.bit_lists.proofs.Callers.{ones_grow}
-use Rattle.bitm_select.specs.Search.{AreOnesToWords, Rise}
+use Rattle.bitm_select.specs.Search.{AreOnesToWords, CountsRise}
 
 -- the counts of the words up to word k, and of the next one
 pub counted_more : (m : List Bool) (first k v : ℕ) (counts : List ℕ) → k + 1 < length counts
@@ -21,6 +21,6 @@ counted_more m first k v counts inside old new j h =
           (omega (arith, get_or-set_same counts (k + 1) v 0 inside, new))
     ]
 
-pub counts_rise : (m : List Bool) (first : ℕ) (counts : List ℕ) → AreOnesToWords m first counts → Rise counts
+pub counts_rise : (m : List Bool) (first : ℕ) (counts : List ℕ) → AreOnesToWords m first counts → CountsRise counts
 counts_rise m first counts are i j le h =
     omega (arith, are i (omega (arith, le, h)), are j h, ones_grow m (64 * (first + i)) (64 * (first + j)) (omega (arith, le)))

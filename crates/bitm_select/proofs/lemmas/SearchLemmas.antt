@@ -4,7 +4,7 @@ use Rattle.std.proofs.Math.Pow.{pow_mono}
 use Rattle.std.proofs.lemmas.Bool.{cases_lt}
 use Rattle.bit_lists.proofs.lemmas.DigitLemmas.{digit_count-mono, digit_count_half}
 use Rattle.bit_lists.specs.Bits.{digit_count}
-use Rattle.bitm_select.specs.Search.{Between, IsLast}
+use Rattle.bitm_select.specs.Search.{Between, IsLastWithin}
 
 -- what a step adds is the step or nothing
 pub no_step : (r at step : ℕ) → r ≡ 0 → at + r * step % 18446744073709551616 ≡ at
@@ -87,7 +87,7 @@ module _ (count : ℕ → ℕ) (n r : ℕ) where
       subst P (sym down.1) rest)
       side
 
-  pub search_ends : (low left : ℕ) → Between count n r low left → left ≤ 1 → IsLast count n r low
+  pub search_ends : (low left : ℕ) → Between count n r low left → left ≤ 1 → IsLastWithin count n r low
   search_ends low left b h =
       let e : low + 1 ≡ low + left = omega (arith, b.some) in
       let next : low + 1 < n → r < count (low + 1) = λ m. subst (λ k. r < count k) (sym e) (b.above (omega arith)) in

@@ -7,7 +7,8 @@ use Rattle.bit_lists.specs.Count.{ones_before, count_of, IsSelect}
 use Rattle.bitm_select.specs.Answers.{place_in, told_in, HasBit, IsFoundFrom, IsSelected, IsSelectedFrom, SelectTold}
 use Rattle.bitm_select.specs.Search.{sought_bits}
 use Rattle.bitm_tables.specs.Tables.{HasTables, Lists, bits_in}
-use Rattle.bitm_select.specs.Told.{wrong_for_absent, IfAbsent, TellsNone}
+use Rattle.bitm_select.specs.Told.{wrong_for_absent, TellsNone}
+use Rattle.bitm_tables.specs.Answers.{IfAbsent}
 use Rattle.bitm_tables.specs.declared.answer.Answer.{Answer}
 use Rattle.bitm_tables.specs.declared.answer.Answer.TheVariants.{Found, Absent, Wrong}
 use Rattle.bitm_select.proofs.lemmas.MarkLemmas.{none_counted}

@@ -9,7 +9,8 @@ use Rattle.std.proofs.lemmas.Bool.{cases_lt}
 use Rattle.bitm_tables.specs.Entry.{FieldsFit, greatest_entry, lower_entry, record_field, entries_from, less}
 use Rattle.bitm_select.specs.Search.{entry_in, sought_bits, sought_in, IsLastEntry, IsLastFound}
 use Rattle.bitm_tables.specs.Tables.{HasSizes, HasTables, Lists}
-use Rattle.bitm_select.specs.Told.{count_from_word, told_entry, told_part, told_to, EntryTellsNone, IfAbsent, TellsNone}
+use Rattle.bitm_select.specs.Told.{count_from_word, told_entry, told_part, told_to, EntryTellsNone, TellsNone}
+use Rattle.bitm_tables.specs.Answers.{IfAbsent}
 use Rattle.bitm_tables.specs.declared.answer.Answer.{Answer}
 use Rattle.bitm_tables.specs.declared.answer.Answer.TheVariants.{Found, Absent, Wrong}
 use Rattle.bitm_tables.proofs.lemmas.EntryLemmas.{entry-fits, entry-complement}

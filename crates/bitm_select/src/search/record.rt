@@ -8,10 +8,12 @@ ghost use Rattle.bitm_select.specs.Answers.{HasBit, IsFoundFrom, IsSelected, IsS
 ghost use Rattle.bitm_tables.specs.Entry.{field_0, field_1, field_2, field_3};
 ghost use Rattle.bitm_tables.specs.Entry.{lower_entry, record_field, entries_from, less};
 ghost use Rattle.bitm_tables.specs.Reads.{word_read, ReadsAtMost};
-ghost use Rattle.bitm_select.specs.Search.{entry_in, sought_in, IsAbove, IsLast, IsLastPart, IsLastEntry, IsWord};
-ghost use Rattle.bitm_select.specs.Search.{AreOnesToWords, Rise};
+ghost use Rattle.bitm_select.specs.Search.{entry_in, sought_in, IsCountAbove, IsLastEntry, IsLastPart, IsLastWithin};
+ghost use Rattle.bitm_select.specs.Search.{IsWord};
+ghost use Rattle.bitm_select.specs.Search.{AreOnesToWords, CountsRise};
 ghost use Rattle.bitm_tables.specs.Tables.{HasSizes, HasTables, bits_in};
-ghost use Rattle.bitm_select.specs.Told.{EntryTellsNone, IfAbsent};
+ghost use Rattle.bitm_select.specs.Told.{EntryTellsNone};
+ghost use Rattle.bitm_tables.specs.Answers.{IfAbsent};
 
 use bitm_tables::answer::Answer;
 use bitm_tables::entry::{ones_to_entry, ones_to_record};
@@ -141,8 +143,8 @@ fn ones_to_words<const BIT: u8, T: TableSource>(source: &mut T, first: usize) ->
 #[inline(always)]
 fn last_at_most(counts: &[usize; 8], rank: usize) -> usize
     requires some { slice_index counts.now 0 ≤ rank }
-    requires rise { Rise counts.now }
-    ensures { IsLast (slice_index counts.now) 8 rank result }
+    requires rise { CountsRise counts.now }
+    ensures { IsLastWithin (slice_index counts.now) 8 rank result }
 {
     let mut last = 0;
     for k in 1..8 {
@@ -346,7 +348,7 @@ pub fn in_packed<const BIT: u8, const TESTS: u8, T: TableSource>(
     requires packed { HasTables (T.lists source.old) → packed
         ≡ lower_entry (sought_in BIT (T.lists source.old).words) (entry_in part entry) }
     requires above { HasTables (T.lists source.old)
-        → IsAbove BIT (T.lists source.old) part entry above }
+        → IsCountAbove BIT (T.lists source.old) part entry above }
     ensures bit { HasBit (bits_in (T.lists source.old)) (as_bit BIT) result }
     ensures answer { HasTables (T.lists source.old) →
         let m = sought_in BIT (T.lists source.old).words in

@@ -11,7 +11,8 @@ ghost use Rattle.bitm_tables.specs.Reads.{upper_read, OnlyReads, ReadsAtMost};
 ghost use Rattle.bitm_select.specs.Search.{sought_in, IsLastFound, IsLastPart, IsPartOf};
 ghost use Rattle.bitm_tables.specs.Tables.{HasSizes, HasTables, IsIndexed, Lists, bits_in};
 ghost use Rattle.bitm_tables.specs.Entry.{less};
-ghost use Rattle.bitm_select.specs.Told.{told_part, IfAbsent, TellsNone};
+ghost use Rattle.bitm_select.specs.Told.{told_part, TellsNone};
+ghost use Rattle.bitm_tables.specs.Answers.{IfAbsent};
 
 use crate::search::entries::last_entry;
 use crate::search::record::{NOT_READ, in_packed};

@@ -10,7 +10,7 @@ use Rattle.bit_lists.proofs.lemmas.CountLemmas.{ones_before-add-zeros_before}
 use Rattle.bit_lists.specs.Count.{count_of, ones_before, count_before, as_bit}
 use Rattle.bitm_tables.specs.Entry.{before_in_part, lower_entry, greatest_entry, FieldsFit, entries_from}
 use Rattle.bitm_strategies.specs.Samples.{Summarizes, part_of, entry_of, sample}
-use Rattle.bitm_select.specs.Search.{IsLast, IsLastEntry, sought_bits}
+use Rattle.bitm_select.specs.Search.{IsLastEntry, IsLastWithin, sought_bits}
 use Rattle.bitm_tables.proofs.lemmas.EntryLemmas.{entry-complement, entry-fits}
 use Rattle.bitm_select.proofs.lemmas.MarkLemmas.{as_bit_other}
 use Rattle.bitm_strategies.proofs.lemmas.PartLemmas.{length-part_of, count_of-part_of, last_same, last_alike, entry_last, count_before-between, count_in_part}
@@ -96,7 +96,7 @@ advanced b upper lower total len t v k inside item e some last =
     let n = div_ceil (length c) 2048 in
     let f : ℕ → ℕ = λ j. before_in_part (sought_bits v b) (k * 2 ^ 21 + j) in
     let g : ℕ → ℕ = λ j. count_before c v (2048 * j) in
-    let here : IsLast f n item e = subst (λ (m : ℕ). IsLast f m item e) (entries_of_part b upper lower total len t k inside) last in
+    let here : IsLastWithin f n item e = subst (λ (m : ℕ). IsLastWithin f m item e) (entries_of_part b upper lower total len t k inside) last in
     last_same g (λ i j h. count_before-between v c (2048 * i) (2048 * j) (omega arith)) n item e (entry_of c v item)
     (last_alike f g n item e (λ j h. count_in_part v b k j h) here) (entry_last c v item some)
 

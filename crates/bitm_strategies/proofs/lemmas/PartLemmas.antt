@@ -11,7 +11,7 @@ use Rattle.bit_lists.specs.Bits.{item}
 use Rattle.bit_lists.specs.Count.{count_of, ones_before, zeros_before, count_before, Picks}
 use Rattle.bitm_tables.specs.Entry.{before_in_part, negation}
 use Rattle.bitm_strategies.specs.Samples.{part_of, place, entry_of}
-use Rattle.bitm_select.specs.Search.{IsLast, sought_bits}
+use Rattle.bitm_select.specs.Search.{IsLastWithin, sought_bits}
 use Rattle.bitm_tables.proofs.lemmas.EntryLemmas.{ones_before-negation}
 use Rattle.bitm_select.proofs.lemmas.MarkLemmas.{count_before-sought_bits}
 use Rattle.bitm_tables.proofs.lemmas.StretchLemmas.{ones_before-between}
@@ -36,7 +36,7 @@ found c v t h = Picks-places c v t (length c) (omega (arith, length-places v 0 c
 
 -- the entry of an item is the last one with no more items before it
 pub entry_last : (c : List Bool) (v : Bool) (t : ℕ) → t < count_of c v
-    → IsLast (λ j. count_before c v (2048 * j)) (div_ceil (length c) 2048) t (entry_of c v t)
+    → IsLastWithin (λ j. count_before c v (2048 * j)) (div_ceil (length c) 2048) t (entry_of c v t)
 entry_last c v t h =
     let p = place c v t in
     let f = found c v t h in
@@ -49,7 +49,7 @@ entry_last c v t h =
 
 -- ---- the last one of counts that rise
 
-module _ (count : ℕ → ℕ) (rises : (i j : ℕ) → i ≤ j → count i ≤ count j) (n r e : ℕ) (last : IsLast count n r e) where
+module _ (count : ℕ → ℕ) (rises : (i j : ℕ) → i ≤ j → count i ≤ count j) (n r e : ℕ) (last : IsLastWithin count n r e) where
   pub last_least : (a : ℕ) → a < n → count a ≤ r → a ≤ e
   last_least a h le =
       elim (cases_lt e a) [
@@ -58,11 +58,11 @@ module _ (count : ℕ → ℕ) (rises : (i j : ℕ) → i ≤ j → count i ≤ 
       ]
 
 pub last_same : (count : ℕ → ℕ) (rises : (i j : ℕ) → i ≤ j → count i ≤ count j) (n r e f : ℕ)
-    → IsLast count n r e → IsLast count n r f → e ≡ f
+    → IsLastWithin count n r e → IsLastWithin count n r f → e ≡ f
 last_same count rises n r e f a b =
     omega (arith, last_least count rises n r e a f b.inside b.at_most, last_least count rises n r f b e a.inside a.at_most)
 
-pub last_alike : (f g : ℕ → ℕ) (n r e : ℕ) → ((j : ℕ) → j < n → f j ≡ g j) → IsLast f n r e → IsLast g n r e
+pub last_alike : (f g : ℕ → ℕ) (n r e : ℕ) → ((j : ℕ) → j < n → f j ≡ g j) → IsLastWithin f n r e → IsLastWithin g n r e
 last_alike f g n r e same l =
     record {
       inside = l.inside;

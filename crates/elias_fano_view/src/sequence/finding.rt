@@ -1,7 +1,7 @@
 //! The predecessor of a value, and whether a value is one of the numbers.
 ghost use Rattle.std.specs.Prelude.{◌≡◌, ◌↔◌, ℕ, false, IfSome, IsTrue, List, IsSomeAnd};
 ghost use Rattle.std.specs.List.{Contains};
-ghost use Rattle.elias_fano.specs.Answers.{IsLast, IsPlaceOf};
+ghost use Rattle.elias_fano.specs.Answers.{IsPlaceOf, IsPredecessorOf};
 ghost use Rattle.elias_fano.specs.LentParts.{Holds};
 ghost use Rattle.elias_fano.specs.Told.{IfLast, TellsAtMost, TellsLess};
 
@@ -20,7 +20,7 @@ impl<'a> LentSequence<'a> {
     pub fn last_at_most(&self, v: u64) -> Answer<usize>
         ensures inside { IsPlaceOf self.now.len result }
         ensures told { IfLast result (TellsAtMost self.now v) }
-        ensures answer { (xs : List ℕ) → Holds xs self.now → IsLast xs v result }
+        ensures answer { (xs : List ℕ) → Holds xs self.now → IsPredecessorOf xs v result }
     {
         let (source, low) = (&mut self.upper.probe(), &mut self.low_digits());
         total_last_at_most_by(source, &self.by_zeros(), low, self.len, v)

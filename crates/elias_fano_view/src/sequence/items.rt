@@ -7,7 +7,8 @@ ghost use Rattle.bitm_tables.specs.Reads.{OnlyReads, ReadsAtMost};
 ghost use Rattle.bitm_tables.specs.Tables.{bits_in};
 ghost use Rattle.elias_fano.specs.Parts.{ArePartsOf, HasFragment};
 ghost use Rattle.elias_fano.specs.LentParts.{Holds};
-ghost use Rattle.elias_fano_view.specs.Lists.{AreItemsFrom, IsKeptFrom};
+ghost use Rattle.bit_lists.specs.Kept.{IsKeptFrom};
+ghost use Rattle.elias_fano_view.specs.Lists.{AreItemsFrom};
 ghost use Rattle.elias_fano.specs.Low.{ReadsFragments};
 
 use crate::sequence::LentSequence;

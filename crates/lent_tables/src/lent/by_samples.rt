@@ -4,8 +4,9 @@ ghost use Rattle.bit_lists.specs.Count.{as_bit};
 ghost use Rattle.bitm_strategies.specs.Density.{clamped_log};
 ghost use Rattle.bitm_tables.specs.Tables.{HasTables, bits_in};
 ghost use Rattle.bitm_select.specs.Answers.{HasBit, IsSelected};
-ghost use Rattle.bitm_select.specs.Told.{IfAbsent, TellsNone};
-ghost use Rattle.lent_tables.specs.Samples.{AreSamples, HasRoom};
+ghost use Rattle.bitm_select.specs.Told.{TellsNone};
+ghost use Rattle.bitm_tables.specs.Answers.{IfAbsent};
+ghost use Rattle.lent_tables.specs.Samples.{AreSamples, HasSampleRoom};
 
 use crate::lent::Lent;
 use crate::sampled::sampled_select_on;
@@ -32,8 +33,8 @@ impl<'a> Lent<'a> {
         starts: &mut [usize],
     ) -> Option<usize>
         ensures room { MatchOption result
-            (¬ (HasRoom self.now log2 samples.old starts.old))
-            (λ used. HasRoom self.now log2 samples.old starts.old
+            (¬ (HasSampleRoom self.now log2 samples.old starts.old))
+            (λ used. HasSampleRoom self.now log2 samples.old starts.old
             × (used ≤ length samples.old)) }
         ensures made { IfSome result (λ used. HasTables self.now → AreSamples (bits_in self.now)
             (as_bit BIT) (clamped_log log2) (take used samples.new) starts.new) }

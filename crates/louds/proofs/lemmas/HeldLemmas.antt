@@ -10,8 +10,8 @@ use Rattle.bit_lists.specs.Count.{zeros_before, ones_of, zeros_of, is_same, plac
 use Rattle.bit_lists.proofs.BitLaws.{at_most_one_picked, bit_is_digit, bits_are_counted, count_after_item, counts_grow, equal_items_count_for_one, none_before_the_first, ones_and_zeros, places_are_counted, places_are_picked}
 use Rattle.bit_lists.proofs.Callers.{one_below, zero_below}
 use Rattle.louds.proofs.lemmas.TreeLemmas.{sum_all, sum_part, sum_order, zero_place_more, parent_of, one_parent}
-use Rattle.louds.specs.Held.{zero_place, IsWritten, IsHeld, degrees_of, IsOneOf, words_of}
-use Rattle.louds.specs.Tree.{IsChild, IsTree, IsFirst, IsLast, IsNextSibling}
+use Rattle.louds.specs.Held.{degrees_of, IsHeld, IsOneOf, tree_words, IsWritten, zero_place}
+use Rattle.louds.specs.Tree.{IsChild, IsFirstChild, IsLastChild, IsNextSibling, IsTree}
 
 -- what is not false
 true_of : (x : Bool) → (x ≡ false → ⊥) → x ≡ true
@@ -57,7 +57,7 @@ count_zeros d b w room (suc j) within =
 
 -- what was written holds the tree
 pub held : (d : List ℕ) (n : ℕ) (b : List Bool) → IsTree d → n ≡ length d → n < 2 ^ 60 → IsWritten d (length d) b
-    → length b ≡ 64 * words_of n → IsHeld d n b
+    → length b ≡ 64 * tree_words n → IsHeld d n b
 held d n b tree count short w tight = record {
   count = count;
   tight = tight;
@@ -209,7 +209,7 @@ module _ (d : List ℕ) (n : ℕ) (b : List Bool) (h : IsHeld d n b) where
       first : zero_place d 0 ≡ 1
       first = refl
 
-  pub last_of_one : (v p : ℕ) → v < n → IsOneOf d v p → item b (p + 1) ≡ false → IsLast d v
+  pub last_of_one : (v p : ℕ) → v < n → IsOneOf d v p → item b (p + 1) ≡ false → IsLastChild d v
   last_of_one v p less one is i k c =
       ⊎_elim
       (λ none. absurd (omega (arith, c.number)))
@@ -250,7 +250,7 @@ module _ (d : List ℕ) (n : ℕ) (b : List Bool) (h : IsHeld d n b) where
       cases_zero zero = inl refl
       cases_zero (suc k) = inr (omega arith)
 
-  pub first_of_one : (v p q : ℕ) → 0 < v → IsOneOf d v p → q + 1 ≡ p → item b q ≡ false → IsFirst d v
+  pub first_of_one : (v p q : ℕ) → 0 < v → IsOneOf d v p → q + 1 ≡ p → item b q ≡ false → IsFirstChild d v
   first_of_one v p q some one at is i k c =
       let o = one.1 some in
       let same = one_parent d i o.0 k o.1 v c o.3 in

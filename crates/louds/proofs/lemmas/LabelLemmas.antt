@@ -9,7 +9,7 @@ use Rattle.bit_lists.specs.Bits.{bits_of}
 use Rattle.bit_lists.specs.Number.{number_at, with_number, IsFragmentInRange}
 use Rattle.bit_lists.proofs.BitLaws.{bits_are_counted, number_beside_is_kept, read_after_write}
 use Rattle.louds.proofs.lemmas.TreeLemmas.{sum_all, sum_order, sum_more}
-use Rattle.louds.specs.Labels.{HasRoom, IsChildWith, Leads, Rise, numbers_of}
+use Rattle.louds.specs.Labels.{HasLabelRoom, IsChildWith, Leads, Rise, numbers_of}
 use Rattle.louds.specs.Tree.{AreChildren, IsChild, IsNextSibling, IsTree}
 
 -- ---- packed numbers
@@ -20,7 +20,7 @@ packed_at words width n i less =
     get_or-map-range_with_len (λ k. number_at (bits_of words) (k * width) width) 0 n i i 0 less (omega arith)
 
 -- its fragment stands in the words
-pub number_inside : (words : List ℕ) (width n i : ℕ) → HasRoom words width n → i < n → IsFragmentInRange words i width
+pub number_inside : (words : List ℕ) (width n i : ℕ) → HasLabelRoom words width n → i < n → IsFragmentInRange words i width
 number_inside words width n i h inside =
     let fits = row_fits i width n width inside (omega arith) in (
       omega (arith, fits, h.short, h.some),

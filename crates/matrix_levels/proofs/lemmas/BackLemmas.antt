@@ -5,7 +5,7 @@ use Rattle.bit_lists.specs.Bits.{digit, item}
 use Rattle.bit_lists.specs.Count.{count_before, ones_before, zeros_before, Picks}
 use Rattle.bit_lists.proofs.BitLaws.{counts_grow, ones_and_zeros, picked_between}
 use Rattle.matrix_levels.specs.Levels.{has_digit, partition, partition_place, level}
-use Rattle.matrix_levels.specs.Matrix.{LevelTables, IsMatrixOf, IsBitOf, digit_place}
+use Rattle.matrix_levels.specs.Matrix.{IsLevelBitOf, IsMatrixOf, LevelTables, digit_place}
 use Rattle.matrix_levels.specs.Numbers.{PicksItem}
 use Rattle.matrix_levels.proofs.lemmas.ColumnLemmas.{length-level}
 use Rattle.matrix_levels.proofs.lemmas.MatrixLemmas.{ones-to-start, place-inside, digit-is, count-level, count-whole, start-fits}
@@ -65,9 +65,9 @@ module _ (xs : List ℕ) (l : LevelTables) (b : List Bool) (h : IsMatrixOf xs l 
         PicksItem-back (digit_place l d) v (level xs l.width d) x k p t here (has-own (digit_place l d) v x is) (omega (arith, len-level)) dig
         (goes t small counted)
 
-    by-rank : (r : ℕ) → count_before b v (d * l.len) + j ≡ r → IsBitOf xs l b d x k v r
+    by-rank : (r : ℕ) → count_before b v (d * l.len) + j ≡ r → IsLevelBitOf xs l b d x k v r
     by-rank r e =
-        let P : ℕ → Type 0 = λ n. IsBitOf xs l b d x k v n in
+        let P : ℕ → Type 0 = λ n. IsLevelBitOf xs l b d x k v n in
         subst P e (record {
           some = omega (arith, few, whole, counts_grow b v (d * l.len + l.len) (length b) (place-inside xs l b h d l.len less (omega arith)));
           start = λ q bit. (in-level q bit).0;
@@ -95,7 +95,7 @@ module _ (xs : List ℕ) (l : LevelTables) (b : List Bool) (h : IsMatrixOf xs l 
             (digit-here xs l b h d x k p less picked true one),
       )
 
-  pub from-one : digit x (digit_place l d) ≡ true → (r : ℕ) → r ≡ get_or l.ones d 0 + (p - get_or l.zeros d 0) → IsBitOf xs l b d x k true r
+  pub from-one : digit x (digit_place l d) ≡ true → (r : ℕ) → r ≡ get_or l.ones d 0 + (p - get_or l.zeros d 0) → IsLevelBitOf xs l b d x k true r
   from-one one r rank =
       let zeros = h.zeros_are d less in
       let past = zeros-le-place one in
@@ -105,7 +105,7 @@ module _ (xs : List ℕ) (l : LevelTables) (b : List Bool) (h : IsMatrixOf xs l 
       ∙ omega (arith, past))
       r (omega (arith, ones-here, rank))
 
-  pub from-zero : digit x (digit_place l d) ≡ false → (r : ℕ) → r ≡ d * l.len - get_or l.ones d 0 + p → IsBitOf xs l b d x k false r
+  pub from-zero : digit x (digit_place l d) ≡ false → (r : ℕ) → r ≡ d * l.len - get_or l.ones d 0 + p → IsLevelBitOf xs l b d x k false r
   unfolding partition_place
   from-zero zero r rank =
       by-rank xs l b h d x k p less picked false zero p

@@ -12,7 +12,7 @@ use Rattle.bit_lists.specs.Bits.{digit, item}
 use Rattle.bit_lists.specs.Count.{count_before, count_of, ones_before, zeros_before, zeros_of, Picks}
 use Rattle.bit_lists.proofs.BitLaws.{one_picked_for_each_rank}
 use Rattle.matrix_levels.specs.Levels.{has_digit, partition, column, columns, level, partition_place}
-use Rattle.matrix_levels.specs.Matrix.{items_of, low_part, next_place}
+use Rattle.matrix_levels.specs.Matrix.{level_items, low_part, next_place}
 use Rattle.matrix_levels.proofs.lemmas.ColumnLemmas.{count-column, item-column, length-column, length-level}
 use Rattle.matrix_levels.proofs.lemmas.PartLemmas.{both-digits, item-moved}
 
@@ -137,7 +137,7 @@ module _ (b : List Bool) (xs : List ℕ) (w n d r : ℕ) (room : w * n ≤ lengt
 -- the low digits of each level, and the bits up to it
 module _ (b : List Bool) (w n : ℕ) (room : w * n ≤ length b) where
   abbrev xs : List ℕ
-  xs = items_of b w n
+  xs = level_items b w n
 
   pub items-len : length xs ≡ n
   items-len = length-map-range_with_len (low_part b w n w) 0 n

@@ -13,7 +13,7 @@ use Rattle.bitm_tables.specs.Tables.{IsIndexed, Lists, bits_in}
 use Rattle.bit_lists.specs.Count.{count_before, ones_before, zeros_before}
 use Rattle.bit_lists.proofs.BitLaws.{bits_are_counted, count_in_stretch, item_of_stretch, ones_and_zeros}
 use Rattle.matrix_levels.specs.Levels.{has_digit, partition, column, columns, level, known_of, level_place, partition_place}
-use Rattle.matrix_levels.specs.Matrix.{LevelTables, IsMatrix, IsMatrixOf, IsTight, quarters_for, words_of, digit_place, items_of, low_part, next_place, numbers_in}
+use Rattle.matrix_levels.specs.Matrix.{IsMatrix, IsMatrixOf, IsTight, LevelTables, digit_place, level_items, low_part, matrix_words, next_place, numbers_in, quarters_for}
 use Rattle.matrix_levels.proofs.lemmas.DecodeLemmas.{any-levels, items-fit, items-len}
 use Rattle.matrix_levels.proofs.lemmas.ColumnLemmas.{column-at, length-level, length-column, count-column, item-column}
 use Rattle.matrix_levels.proofs.lemmas.PartLemmas.{item-moved, moved-inside}
@@ -103,10 +103,10 @@ module _ (xs : List ℕ) (w n : ℕ) (b : List Bool) (count : n ≡ length xs) (
           (eqb_tells (x / 2 ^ r % 2) 1)
 
   -- so the bits hold the numbers
-  pub items_of-is : All (λ x. x < 2 ^ w) xs → items_of b w n ≡ xs
+  pub items_of-is : All (λ x. x < 2 ^ w) xs → level_items b w n ≡ xs
   unfolding level
   items_of-is fit =
-      same_number_lists (items_of b w n) xs (length-map-range_with_len (low_part b w n w) 0 n ∙ count)
+      same_number_lists (level_items b w n) xs (length-map-range_with_len (low_part b w n w) 0 n ∙ count)
       (λ i less.
       let inside : i < n = omega (arith, length-map-range_with_len (low_part b w n w) 0 n) in
       get_or-map-range_with_len (low_part b w n w) 0 n i i 0 inside (omega arith)
@@ -118,7 +118,7 @@ module _ (xs : List ℕ) (w n : ℕ) (b : List Bool) (count : n ≡ length xs) (
       first i = refl
 
 -- levels of numbers are levels of what their bits hold
-pub matrix-of-items : (xs : List ℕ) (l : LevelTables) (b : List Bool) → IsMatrixOf xs l b → IsMatrixOf (items_of b l.width l.len) l b
+pub matrix-of-items : (xs : List ℕ) (l : LevelTables) (b : List Bool) → IsMatrixOf xs l b → IsMatrixOf (level_items b l.width l.len) l b
 matrix-of-items xs l b h =
     let P : List ℕ → Type 0 = λ ys. IsMatrixOf ys l b in
     subst P (sym (items_of-is xs l.width l.len b h.count h.room h.levels h.fit)) h
@@ -185,9 +185,9 @@ made-matrix xs l b w len width some most short fit room levels ones_len zeros_le
 pub made-of-bits : (l : LevelTables) (b : List Bool) (w n : ℕ) → l.len ≡ n → l.width ≡ w → 1 ≤ w → w ≤ 64 → w * n < 2 ^ 63 → w * n ≤ length b
     → length l.ones ≡ w → length l.zeros ≡ w → l.known ≡ 0 → l.starts ≡ 0 ∷ [] → (l.compact ≡ false → AreQuartersOf b l.quarters)
     → (l.compact ≡ true → length l.quarters ≡ 0) → ((d : ℕ) → d < w → get_or l.ones d 0 ≡ ones_before b (d * n))
-    → ((d : ℕ) → d < w → zeros_before b (d * n) + get_or l.zeros d 0 ≡ zeros_before b (d * n + n)) → IsMatrixOf (items_of b w n) l b
+    → ((d : ℕ) → d < w → zeros_before b (d * n) + get_or l.zeros d 0 ≡ zeros_before b (d * n + n)) → IsMatrixOf (level_items b w n) l b
 made-of-bits l b w n len width some most short room ones_len zeros_len known starts quarters no_quarters ones zeros =
-    let xs = items_of b w n in
+    let xs = level_items b w n in
     let count : length xs ≡ n = items-len b w n room in
     let bits : w * length xs ≡ w * n = ap (λ m. w * m) count in
     made-matrix xs l b w (len ∙ sym count) width some most (omega (arith, bits, short)) (items-fit b w n room) (omega (arith, bits, room))
@@ -235,22 +235,22 @@ quarters_of_words xs l ws h = of l.compact h.quarters_are h.no_quarters
 -- over a source whose words hold the levels
 pub is-matrix : (xs : List ℕ) (l : LevelTables) (lists : Lists) (ws : List ℕ) → IsIndexed lists → lists.words ≡ ws → IsMatrixOf xs l (bits_of ws) → IsMatrix l lists
 is-matrix xs l lists ws indexed words h =
-    let P : List ℕ → Type 0 = λ v. IsMatrixOf (items_of (bits_of v) l.width l.len) l (bits_of v) in
+    let P : List ℕ → Type 0 = λ v. IsMatrixOf (level_items (bits_of v) l.width l.len) l (bits_of v) in
     record { indexed = indexed; numbers = subst P (sym words) (matrix-of-items xs l (bits_of ws) h) }
 
 -- what holds over it of other levels of the same numbers
 pub matrix-from : (xs : List ℕ) (l other : LevelTables) (lists : Lists) (ws : List ℕ) → lists.words ≡ ws → IsMatrixOf xs l (bits_of ws)
     → IsMatrixOf (numbers_in l lists) other (bits_in lists) → IsMatrixOf xs other (bits_of ws)
 matrix-from xs l other lists ws words h k =
-    let P : List ℕ → Type 0 = λ v. IsMatrixOf (items_of (bits_of v) l.width l.len) other (bits_of v) in
+    let P : List ℕ → Type 0 = λ v. IsMatrixOf (level_items (bits_of v) l.width l.len) other (bits_of v) in
     let Q : List ℕ → Type 0 = λ ys. IsMatrixOf ys other (bits_of ws) in
     subst Q (items_of-is xs l.width l.len (bits_of ws) h.count h.room h.levels h.fit) (subst P words k)
 
 -- as many words and known digits as were made
-pub tight : (n w : ℕ) (l : LevelTables) (words : List ℕ) → length words ≡ words_of n w → l.known ≡ known_of n w → l.len ≡ n → l.width ≡ w
+pub tight : (n w : ℕ) (l : LevelTables) (words : List ℕ) → length words ≡ matrix_words n w → l.known ≡ known_of n w → l.len ≡ n → l.width ≡ w
     → IsTight l words
 tight n w l words few known len width =
-    let P : ℕ → Type 0 = λ m. (length words ≡ words_of m l.width) × (l.known ≡ known_of m l.width) in
-    let Q : ℕ → Type 0 = λ v. (length words ≡ words_of n v) × (l.known ≡ known_of n v) in
+    let P : ℕ → Type 0 = λ m. (length words ≡ matrix_words m l.width) × (l.known ≡ known_of m l.width) in
+    let Q : ℕ → Type 0 = λ v. (length words ≡ matrix_words n v) × (l.known ≡ known_of n v) in
     let both = subst P (sym len) (subst Q (sym width) (few, known)) in
     record { words = both.0; known = both.1 }

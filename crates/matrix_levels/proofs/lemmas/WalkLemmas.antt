@@ -7,7 +7,7 @@ use Rattle.std.proofs.lemmas.Nat.{shr_le}
 use Rattle.std.proofs.Math.Nat.{pow-le-pow_right}
 use Rattle.bit_lists.specs.Bits.{digit}
 use Rattle.matrix_levels.specs.Levels.{level, level_place, partition_place}
-use Rattle.matrix_levels.specs.Numbers.{count_before, PicksItem}
+use Rattle.matrix_levels.specs.Numbers.{occurrences_before, PicksItem}
 use Rattle.matrix_levels.proofs.lemmas.BackLemmas.{has-own}
 use Rattle.matrix_levels.proofs.lemmas.ColumnLemmas.{length-level}
 use Rattle.matrix_levels.proofs.lemmas.CountLemmas.{count-none, count-all, get_or-range, length-range}
@@ -78,7 +78,7 @@ level_place-item xs w x (suc d) p inside is =
     )
 
 -- as many of the number stand before it
-level_place-count : (xs : List ℕ) (w x d p : ℕ) → count_before (level xs w d) x (level_place xs w x d p) ≡ count_before xs x p
+level_place-count : (xs : List ℕ) (w x d p : ℕ) → occurrences_before (level xs w d) x (level_place xs w x d p) ≡ occurrences_before xs x p
 unfolding level_place level
 level_place-count xs w x zero p = refl
 level_place-count xs w x (suc d) p =
@@ -120,7 +120,7 @@ module _ (xs : List ℕ) (w x : ℕ) (all : All (λ y. y < 2 ^ w) xs) (fit : x <
   pub rank-order : (i : ℕ) → i ≤ length xs → level_place xs w x w 0 ≤ level_place xs w x w i
   rank-order i inside = (last 0 i (omega arith) inside).order
 
-  pub rank-is : (i : ℕ) → i ≤ length xs → level_place xs w x w i - level_place xs w x w 0 ≡ count_before xs x i
+  pub rank-is : (i : ℕ) → i ≤ length xs → level_place xs w x w i - level_place xs w x w 0 ≡ occurrences_before xs x i
   rank-is i inside =
       let all_of : i - 0 ≡ i = omega arith in
       sym (length-range (level xs w w) _ _ (rank-order i inside) (within 0 i (omega arith) inside))
@@ -129,7 +129,7 @@ module _ (xs : List ℕ) (w x : ℕ) (all : All (λ y. y < 2 ^ w) xs) (fit : x <
       ∙ ap (λ k. count_by (λ y. y == x) (take k xs)) all_of
 
   -- the k-th after the first has k of its kind before it
-  pub picked-last : (k : ℕ) → k < count_before xs x (length xs) → PicksItem (level xs w w) x k (level_place xs w x w 0 + k)
+  pub picked-last : (k : ℕ) → k < occurrences_before xs x (length xs) → PicksItem (level xs w w) x k (level_place xs w x w 0 + k)
   picked-last k some =
       let f = level_place xs w x w 0 in
       let n = length xs in
@@ -158,7 +158,7 @@ module _ (xs : List ℕ) (w x : ℕ) (all : All (λ y. y < 2 ^ w) xs) (fit : x <
       }
 
 -- a number with more digits than all items is none
-pub count_before-wide : (xs : List ℕ) (w x i : ℕ) → All (λ y. y < 2 ^ w) xs → (x < 2 ^ w → ⊥) → count_before xs x i ≡ 0
+pub count_before-wide : (xs : List ℕ) (w x i : ℕ) → All (λ y. y < 2 ^ w) xs → (x < 2 ^ w → ⊥) → occurrences_before xs x i ≡ 0
 count_before-wide xs w x i fit wide =
     omega (
       arith,
@@ -168,7 +168,7 @@ count_before-wide xs w x i fit wide =
     )
 
 -- a number of which there is one has no more digits than all items
-pub fits-where-some : (xs : List ℕ) (w x k : ℕ) → All (λ y. y < 2 ^ w) xs → k < count_before xs x (length xs) → x < 2 ^ w
+pub fits-where-some : (xs : List ℕ) (w x k : ℕ) → All (λ y. y < 2 ^ w) xs → k < occurrences_before xs x (length xs) → x < 2 ^ w
 fits-where-some xs w x k all some =
     ⊎_elim
     (λ h. h)

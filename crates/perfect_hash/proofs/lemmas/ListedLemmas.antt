@@ -14,13 +14,13 @@ use Rattle.hash_levels.specs.Numbers.{AreSizes}
 use Rattle.hash_levels.proofs.lemmas.LevelLemmas.{FallsInside}
 use Rattle.hash_levels.proofs.lemmas.NumberLemmas.{IsOneBefore, place_from-one}
 use Rattle.perfect_hash.specs.Listed.{IsCode, IsCodeAt, IsNumberTold}
-use Rattle.perfect_hash.specs.Many.{told, AreInside}
+use Rattle.perfect_hash.specs.Many.{told, AreLevelsInside}
 use Rattle.perfect_hash.specs.Placed.{FitIn}
 use Rattle.perfect_hash.proofs.lemmas.GetLemmas.{one_counted, sizes_fit}
 
 -- levels that fit the words are inside their bits
 pub inside_words : (lists : Lists) (sizes : List ℕ) → HasSizes lists → FitIn (length lists.words) sizes → length sizes ≤ 256
-    → AreInside sizes (bits_in lists)
+    → AreLevelsInside sizes (bits_in lists)
 inside_words lists sizes sized fit few = record {
   some = fit.some;
   within = omega (arith, fit.within, length-bits_of lists.words);
@@ -53,7 +53,7 @@ module _ (lists : Lists) (sized : HasSizes lists) (count absent place rank code 
 
 -- of a hash by where it falls
 pub coded_hash : (lists : Lists) (fall : ℕ → ℕ → ℕ → ℕ) (falls : FallsInside fall) (sizes : List ℕ) (hash count absent place rank code : ℕ) → HasSizes lists
-    → AreInside sizes (bits_in lists) → place ≡ told (place_from (fall hash) (bits_in lists) 0 0 sizes) → RankTold true lists place rank
+    → AreLevelsInside sizes (bits_in lists) → place ≡ told (place_from (fall hash) (bits_in lists) 0 0 sizes) → RankTold true lists place rank
     → IsCode place rank count absent code → IsCodeAt (place_from (fall hash) (bits_in lists) 0 0 sizes) count absent lists code
 coded_hash lists fall falls sizes hash count absent place rank code sized inside same ranked is =
     let b = bits_in lists in

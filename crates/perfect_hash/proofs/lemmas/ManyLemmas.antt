@@ -10,7 +10,7 @@ use Rattle.bitm_tables.specs.Reads.{OnlyReads}
 use Rattle.bitm_tables.specs.Tables.{Lists}
 use Rattle.bitm_tables.specs.declared.source.counts.ReadCounts.{ReadCounts}
 use Rattle.hash_levels.specs.Levels.{place_from, GoesOn}
-use Rattle.perfect_hash.specs.Many.{told, AreLookedUp, IsLookedUp, IsRanked}
+use Rattle.perfect_hash.specs.Many.{told, AreLookedUp, IsLookedUp, IsNumberOfPlace}
 use Rattle.hash_levels.specs.Numbers.{number_in, AreSizes}
 use Rattle.hash_levels.proofs.lemmas.NumberLemmas.{IsOneBefore, place_from-one}
 use Rattle.hash_levels.proofs.lemmas.LevelLemmas.{FallsInside}
@@ -214,7 +214,7 @@ told_inside b None end old inside one is some = absurd (some is)
 told_inside b (Some p) end old inside one is some = omega (arith, is, one.1, inside)
 
 rank_is_told : (b : List Bool) (o : Option ℕ) (end old new : ℕ) → end ≤ length b → length b < 2 ^ 64 → IfSome o (IsOneBefore b end)
-    → old ≡ told o → IsRanked b old new → new ≡ told (option_map (ones_before b) o)
+    → old ≡ told o → IsNumberOfPlace b old new → new ≡ told (option_map (ones_before b) o)
 rank_is_told b None end old new inside short one is r = r.none is
 rank_is_told b (Some p) end old new inside short one is r =
     r.some (λ none. omega (arith, none, is, one.1, inside, short)) ∙ ap (ones_before b) is
@@ -233,8 +233,8 @@ module _ (fall : ℕ → ℕ → ℕ → ℕ) (falls : FallsInside fall) (sizes 
       subst (λ (c : List Bool). old ≤ length c) (sym same2)
       (told_inside b (place_from (fall hash) b 0 0 s) (0 + 64 * sum s) old (omega (arith, h.all)) one told_here some)
 
-  pub number_is_told : (new : ℕ) (b2 : List Bool) → b2 ≡ b → s ≡ sizes → IsRanked b2 old new → new ≡ told (number_in fall sizes b hash)
+  pub number_is_told : (new : ℕ) (b2 : List Bool) → b2 ≡ b → s ≡ sizes → IsNumberOfPlace b2 old new → new ≡ told (number_in fall sizes b hash)
   number_is_told new b2 same2 same_sizes ranked =
       rank_is_told b (place_from (fall hash) b 0 0 s) (0 + 64 * sum s) old new (omega (arith, h.all)) h.short one told_here
-      (subst (λ (c : List Bool). IsRanked c old new) same2 ranked)
+      (subst (λ (c : List Bool). IsNumberOfPlace c old new) same2 ranked)
       ∙ ap (λ (z : List ℕ). told (number_in fall z b hash)) same_sizes

@@ -1,6 +1,6 @@
 -- Which failure names which line.
 use Rattle.std.proofs.Common.{◌≡◌, ℕ, List, None, sym, subst, inl, inr}
-use Rattle.program_text.specs.List.{numbers_of, wrong_line, IsListError}
+use Rattle.program_text.specs.List.{numbers_in_lines, wrong_line, IsListError}
 use Rattle.program_text.specs.declared.list.ListError.{ListError}
 use Rattle.program_text.specs.declared.list.ListError.TheVariants as list
 use Rattle.program_blocks.specs.Building.{first_out, IsTextFailure}
@@ -12,7 +12,7 @@ pub line_named : (kind : Kind) (text : List ℕ) (e : ListError) (f : Failure) �
 line_named kind text (list.WrongLine line) f h k = subst (λ e. IsTextFailure kind text e) (sym k) h
 line_named kind text list.NoMemory f h k = subst (λ e. IsTextFailure kind text e) (sym k) h
 
-pub no_block : (kind : Kind) (text : List ℕ) (e : Failure) → wrong_line text ≡ None → first_out kind text ≡ None → IsBlockFailure kind (numbers_of text) e
+pub no_block : (kind : Kind) (text : List ℕ) (e : Failure) → wrong_line text ≡ None → first_out kind text ≡ None → IsBlockFailure kind (numbers_in_lines text) e
     → IsTextFailure kind text e
 no_block kind text e h o (inl k) = subst (λ e. IsTextFailure kind text e) (sym k) (h, o)
 no_block kind text e h o (inr (inl k)) = subst (λ e. IsTextFailure kind text e) (sym k) h

@@ -4,7 +4,7 @@ use Rattle.std.specs.Int.{w64, from_le_bytes}
 use Rattle.std.specs.Prelude.{slice_index}
 use Rattle.bitm_block.specs.Header.{IsMarked}
 use Rattle.program_blocks.specs.Bytes.{words_of_bytes}
-use Rattle.program_blocks.specs.Format.{format_in, format_of, version_at, version_in, version_of}
+use Rattle.program_blocks.specs.Format.{format_in, format_of, version_at, version_of, version_of_file}
 use Rattle.program_blocks.specs.declared.format.Format.TheVariants.{Block, Old}
 
 -- the version of chunks of bytes is that of the first word that they are
@@ -18,7 +18,7 @@ there : {T : Type 0} (b : Bool) (x w : T) → (if b then Some x else None) ≡ S
 there true x w is = cc
 there false x w is = cc
 
-pub word_version : (bytes words : List ℕ) → words_of_bytes bytes ≡ Some words → 1 ≤ length words → version_in bytes ≡ version_of (slice_index words 0)
+pub word_version : (bytes words : List ℕ) → words_of_bytes bytes ≡ Some words → 1 ≤ length words → version_of_file bytes ≡ version_of (slice_index words 0)
 word_version bytes words is some = first_version _ words (there _ _ words is) some
 
 -- a mark that has the letters says the version in its highest byte

@@ -1,6 +1,6 @@
 -- Files of version 2: where their parts are, and what is known of one that was opened, or was not.
 use Rattle.std.proofs.Common.{◌≡◌, ◌↔◌, ◌⊎◌, ℕ, ◌≤◌, List, Bool, Option, None, Some, Result, Ok, Err, subst, inl, inr, refl, arith, is_some, IsNone, IsTrue, SomeIff, IsSomeAnd, IfOk}
-use Rattle.bitm_abi.specs.Stored.{end_of, IsHeaded, LiesWithin}
+use Rattle.bitm_abi.specs.Stored.{end_of_span, IsHeaded, LiesWithin}
 use Rattle.bitm_abi.specs.declared.layout.Stored.{Stored}
 use Rattle.bitm_view.specs.Cut.{bits_of_cut, Cut}
 use Rattle.elias_fano.specs.LentParts.{Holds, LentParts}
@@ -16,16 +16,16 @@ use Rattle.program_blocks.specs.declared.reply.Reply.{Reply}
 use Rattle.program_blocks.proofs.lemmas.OpenedLemmas.{opened_has}
 
 -- each part ends inside the file
-pub words_inside : (h : Stored) (n : ℕ) → LiesWithin h n → end_of h.words 8 ≤ n
+pub words_inside : (h : Stored) (n : ℕ) → LiesWithin h n → end_of_span h.words 8 ≤ n
 words_inside h n l = omega (arith, l.upper, l.lower, l.low, l.starts, l.starts0, l.samples, l.samples0, l.end)
 
-pub upper_inside : (h : Stored) (n : ℕ) → LiesWithin h n → end_of h.upper 8 ≤ n
+pub upper_inside : (h : Stored) (n : ℕ) → LiesWithin h n → end_of_span h.upper 8 ≤ n
 upper_inside h n l = omega (arith, l.lower, l.low, l.starts, l.starts0, l.samples, l.samples0, l.end)
 
-pub lower_inside : (h : Stored) (n : ℕ) → LiesWithin h n → end_of h.lower 8 ≤ n
+pub lower_inside : (h : Stored) (n : ℕ) → LiesWithin h n → end_of_span h.lower 8 ≤ n
 lower_inside h n l = omega (arith, l.low, l.starts, l.starts0, l.samples, l.samples0, l.end)
 
-pub low_inside : (h : Stored) (n : ℕ) → LiesWithin h n → end_of h.low 8 ≤ n
+pub low_inside : (h : Stored) (n : ℕ) → LiesWithin h n → end_of_span h.low 8 ≤ n
 low_inside h n l = omega (arith, l.starts, l.starts0, l.samples, l.samples0, l.end)
 
 -- a file with bits or a sequence has a header

@@ -2,9 +2,9 @@
 use Rattle.std.proofs.Common.{◌≡◌, List, ℕ, Bool, Option, None, Some, Result, Ok, Err, sym, subst, SomeIff, IfSome, IsSomeAnd, IfOk}
 use Rattle.program_runs.specs.declared.form.Form.{Form}
 use Rattle.program_blocks.specs.Bytes.{words_of_bytes}
-use Rattle.program_blocks.specs.Kind.{kind_in}
+use Rattle.program_blocks.specs.Kind.{number_kind_in}
 use Rattle.program_blocks.specs.Query.{Told, WroteAnswers, WroteReplies}
-use Rattle.program_blocks.specs.Sound.{IsSoundOf}
+use Rattle.program_blocks.specs.Sound.{AreSoundNumbersOf}
 use Rattle.program_blocks.specs.declared.kind.Kind.{Kind}
 use Rattle.program_blocks.specs.declared.question.Question.{Question}
 use Rattle.program_blocks.specs.declared.reply.Reply.{Reply}
@@ -26,7 +26,7 @@ answers_kept form (Ok good) o S v R lines a b iff h = (opened_has o S v (λ view
 answers_kept form (Err e) o S v R lines a b iff h = tt
 
 pub told_of_kind : {E : Type 0} (form : Form) (r : Result Bool E) (bytes text block : List ℕ) (kind : Kind) (a b : Option (List ℕ)) → words_of_bytes bytes ≡ Some block
-    → kind_in block ≡ Some kind → IfOk r (λ good. IsSoundOf kind block) → IfOk r (λ good. WroteAnswers form kind block text a b good)
+    → number_kind_in block ≡ Some kind → IfOk r (λ good. AreSoundNumbersOf kind block) → IfOk r (λ good. WroteAnswers form kind block text a b good)
     → IfOk r (λ good. Told form bytes text a b good)
 told_of_kind form (Ok good) bytes text block kind a b words says sound wrote = record {
   block = block;

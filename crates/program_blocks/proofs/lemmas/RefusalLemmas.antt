@@ -4,7 +4,7 @@ use Rattle.bitm_block.specs.Header.{IsBlock}
 use Rattle.program_blocks.specs.Bytes.{words_of_bytes}
 use Rattle.program_blocks.specs.Format.{format_in}
 use Rattle.program_blocks.specs.Old.{IsOld, IsOldFile}
-use Rattle.program_blocks.specs.Sound.{IsSound, IsSoundFile, IsSoundOf}
+use Rattle.program_blocks.specs.Sound.{AreSoundNumbers, AreSoundNumbersOf, IsFileOfSoundNumbers}
 use Rattle.program_blocks.specs.declared.failure.Failure.{Failure}
 use Rattle.program_blocks.specs.declared.format.Format.TheVariants.{Block, Old}
 use Rattle.program_blocks.specs.declared.kind.Kind.{Kind}
@@ -13,7 +13,7 @@ use Rattle.program_blocks.proofs.lemmas.FormatLemmas.{block_format, old_format}
 use Rattle.program_blocks.proofs.lemmas.OldLemmas.{is_headed}
 
 -- header and directory of a sound block are right
-pub numbers_block : (kind : Kind) (block : List ℕ) → IsSoundOf kind block → IsBlock block
+pub numbers_block : (kind : Kind) (block : List ℕ) → AreSoundNumbersOf kind block → IsBlock block
 numbers_block Bits block h = h.bits_block.is_block
 numbers_block Sequence block h = h.sequence_block.is_block
 numbers_block Sparse block h = h.sequence.sequence_block.is_block
@@ -24,9 +24,9 @@ pub some_and : {T : Type 0} (o : Option T) (P : T → Type 0) → IsSomeAnd o P 
 some_and None P h = absurd h
 some_and (Some x) P h = (x, refl, h)
 
-sound_format : (bytes : List ℕ) → IsSoundFile bytes → format_in bytes ≡ Ok Block
+sound_format : (bytes : List ℕ) → IsFileOfSoundNumbers bytes → format_in bytes ≡ Ok Block
 sound_format bytes h =
-    let w = some_and (words_of_bytes bytes) IsSound h in
+    let w = some_and (words_of_bytes bytes) AreSoundNumbers h in
     block_format bytes w.0 w.1 (numbers_block w.2.kind w.0 w.2.sound).header.summed.marked
 
 pub old_file_format : (bytes : List ℕ) → IsOldFile bytes → format_in bytes ≡ Ok Old
@@ -35,8 +35,8 @@ old_file_format bytes h =
     let headed = is_headed w.0 w.2 in
     old_format bytes w.0 w.1 (omega (arith, headed.long)) headed.stored.laid_out.mark
 
-pub not_sound : (bytes : List ℕ) → format_in bytes ≡ Ok Old → ¬ (IsSoundFile bytes)
+pub not_sound : (bytes : List ℕ) → format_in bytes ≡ Ok Old → ¬ (IsFileOfSoundNumbers bytes)
 not_sound bytes is h = let other = sound_format bytes h in cc
 
-pub refused : (bytes : List ℕ) (e : Failure) → format_in bytes ≡ Err e → (¬ (IsSoundFile bytes)) × (¬ (IsOldFile bytes))
+pub refused : (bytes : List ℕ) (e : Failure) → format_in bytes ≡ Err e → (¬ (IsFileOfSoundNumbers bytes)) × (¬ (IsOldFile bytes))
 refused bytes e is = (λ h. let other = sound_format bytes h in cc, λ h. let other = old_file_format bytes h in cc)

@@ -8,7 +8,7 @@ use Rattle.std.specs.List.{list_all}
 use Rattle.program_runs.specs.declared.form.Form.{Form}
 use Rattle.program_blocks.specs.Query.{AreReplies, IsReplyTo, WroteReplies, WroteReply}
 use Rattle.program_blocks.specs.Question.{question_of}
-use Rattle.program_blocks.specs.Reply.{is_good, reply_in, text_of}
+use Rattle.program_blocks.specs.Reply.{is_good_reply, replies_text, reply_in}
 use Rattle.program_blocks.specs.declared.question.Question.{Question}
 use Rattle.program_blocks.specs.declared.reply.Reply.{Reply}
 
@@ -23,14 +23,14 @@ replies_more R [] (r ∷ replies) line reply h one = absurd h
 replies_more R (l ∷ lines) [] line reply h one = absurd h
 replies_more R (l ∷ lines) (r ∷ replies) line reply h one = (h.0, replies_more R lines replies line reply h.1 one)
 
-text_more : (form : Form) (replies : List Reply) (reply : Reply) → text_of form (replies ++ reply ∷ []) ≡ text_of form replies ++ (reply_in form reply ++ 10 ∷ [])
+text_more : (form : Form) (replies : List Reply) (reply : Reply) → replies_text form (replies ++ reply ∷ []) ≡ replies_text form replies ++ (reply_in form reply ++ 10 ∷ [])
 text_more form replies reply =
-    flat_map-append (λ r. reply_in form r ++ 10 ∷ []) replies (reply ∷ []) ∙ ap (λ l. text_of form replies ++ l) (append-nil (reply_in form reply ++ 10 ∷ []))
+    flat_map-append (λ r. reply_in form r ++ 10 ∷ []) replies (reply ∷ []) ∙ ap (λ l. replies_text form replies ++ l) (append-nil (reply_in form reply ++ 10 ∷ []))
 
-told_more : (replies : List Reply) (reply : Reply) (good told : Bool) → good ≡ list_all is_good replies → told ≡ is_good reply → (good && told) ≡ list_all is_good (replies ++ reply ∷ [])
+told_more : (replies : List Reply) (reply : Reply) (good told : Bool) → good ≡ list_all is_good_reply replies → told ≡ is_good_reply reply → (good && told) ≡ list_all is_good_reply (replies ++ reply ∷ [])
 told_more replies reply good told h one =
-    ap (λ b. b && told) h ∙ ap (λ b. list_all is_good replies && b) one
-    ∙ sym (list_all-append is_good replies (reply ∷ []) ∙ ap (λ b. list_all is_good replies && b) (and_true (is_good reply)))
+    ap (λ b. b && told) h ∙ ap (λ b. list_all is_good_reply replies && b) one
+    ∙ sym (list_all-append is_good_reply replies (reply ∷ []) ∙ ap (λ b. list_all is_good_reply replies && b) (and_true (is_good_reply reply)))
 
 pub wrote_more : (form : Form) (R : Question → Reply → Type 0) (lines : List (List ℕ)) (line : List ℕ) (a b c : Option (List ℕ)) (good told : Bool) → WroteReplies form R lines a b good
     → WroteReply form R line b c told → WroteReplies form R (lines ++ line ∷ []) a c (good && told)

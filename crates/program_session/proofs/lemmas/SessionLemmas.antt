@@ -8,7 +8,7 @@ use Rattle.std.specs.Io.KnownBytes.{Appends}
 use Rattle.std.specs.List.{list_all}
 use Rattle.bitm.proofs.Callers.{length-bits_of, bits_of-nil}
 use Rattle.bitm.specs.Bits.{bits_of}
-use Rattle.program_session.specs.Answer.{answer_text, text_of, is_good}
+use Rattle.program_session.specs.Answer.{answer_text, answers_text, is_good}
 use Rattle.program_session.specs.Request.{request_of}
 use Rattle.program_session.specs.Session.{State, start, Step, Answers, Wrote, WroteAnswer, with_bit}
 use Rattle.program_session.specs.declared.answer.Answer.{Answer}
@@ -31,9 +31,9 @@ answers_more s mid t [] (a ∷ answers) line answer h step = absurd h
 answers_more s mid t (l ∷ lines) [] line answer h step = absurd h
 answers_more s mid t (l ∷ lines) (a ∷ answers) line answer h step = (h.0, h.1, answers_more h.0 mid t lines answers line answer h.2 step)
 
-text_more : (answers : List Answer) (answer : Answer) → text_of (answers ++ answer ∷ []) ≡ text_of answers ++ (answer_text answer ++ 10 ∷ [])
+text_more : (answers : List Answer) (answer : Answer) → answers_text (answers ++ answer ∷ []) ≡ answers_text answers ++ (answer_text answer ++ 10 ∷ [])
 text_more answers answer =
-    flat_map-append (λ a. answer_text a ++ 10 ∷ []) answers (answer ∷ []) ∙ ap (λ l. text_of answers ++ l) (append-nil (answer_text answer ++ 10 ∷ []))
+    flat_map-append (λ a. answer_text a ++ 10 ∷ []) answers (answer ∷ []) ∙ ap (λ l. answers_text answers ++ l) (append-nil (answer_text answer ++ 10 ∷ []))
 
 told_more : (answers : List Answer) (answer : Answer) (good : Bool) → good ≡ list_all is_good answers → (good && is_good answer) ≡ list_all is_good (answers ++ answer ∷ [])
 told_more answers answer good h =

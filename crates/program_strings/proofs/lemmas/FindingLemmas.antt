@@ -8,7 +8,7 @@ use Rattle.bitm_tables.specs.declared.answer.Answer.{Answer}
 use Rattle.program_blocks.specs.Bytes.{words_of_bytes}
 use Rattle.program_runs.specs.declared.form.Form.{Form}
 use Rattle.program_text.specs.Text.{lines_of}
-use Rattle.program_strings.specs.Finding.{answer_line, is_number, AreAnswers, IsAnswer, WroteFound, WroteNumber, WroteNumbers}
+use Rattle.program_strings.specs.Finding.{answer_line, is_number_found, AreAnswers, IsLineAnswer, WroteFound, WroteNumber, WroteNumbers}
 use Rattle.string_block.specs.Block.{strings_in, IsSoundBlock}
 use Rattle.string_block.specs.Parts.{StringParts}
 
@@ -21,7 +21,7 @@ or-more true b c d h = refl
 or-more false b c d h = h
 
 answers-more : (parts : StringParts) (lines : List (List ℕ)) (answers : List (Answer ℕ)) (line : List ℕ) (answer : Answer ℕ)
-    → AreAnswers parts lines answers → IsAnswer parts line answer → AreAnswers parts (lines ++ line ∷ []) (answers ++ answer ∷ [])
+    → AreAnswers parts lines answers → IsLineAnswer parts line answer → AreAnswers parts (lines ++ line ∷ []) (answers ++ answer ∷ [])
 answers-more parts [] [] line answer h one = (one, tt)
 answers-more parts [] (a ∷ answers) line answer h one = absurd h
 answers-more parts (l ∷ lines) [] line answer h one = absurd h
@@ -29,9 +29,9 @@ answers-more parts (l ∷ lines) (a ∷ answers) line answer h one = (h.0, answe
 
 -- one of them or the next is a number
 any-more : (answers : List (Answer ℕ)) (answer : Answer ℕ)
-    → (list_any is_number answers || is_number answer) ≡ list_any is_number (answers ++ answer ∷ [])
-any-more [] answer = or-false (is_number answer)
-any-more (a ∷ answers) answer = or-more (is_number a) (list_any is_number answers) (is_number answer) _ (any-more answers answer)
+    → (list_any is_number_found answers || is_number_found answer) ≡ list_any is_number_found (answers ++ answer ∷ [])
+any-more [] answer = or-false (is_number_found answer)
+any-more (a ∷ answers) answer = or-more (is_number_found a) (list_any is_number_found answers) (is_number_found answer) _ (any-more answers answer)
 
 text-more : (form : Form) (answers : List (Answer ℕ)) (answer : Answer ℕ)
     → flat_map (answer_line form) (answers ++ answer ∷ []) ≡ flat_map (answer_line form) answers ++ answer_line form answer
@@ -42,7 +42,7 @@ pub wrote-more : (form : Form) (parts : StringParts) (lines : List (List ℕ)) (
     → WroteNumbers form parts lines a b found → WroteNumber form parts line b c one_is → WroteNumbers form parts (lines ++ line ∷ []) a c (found || one_is)
 wrote-more form parts lines line a b c found one_is h one = record {
   answers = h.answers ++ one.answer ∷ [];
-  told = ap (λ f. f || one_is) h.told ∙ ap (λ o. list_any is_number h.answers || o) one.told ∙ any-more h.answers one.answer;
+  told = ap (λ f. f || one_is) h.told ∙ ap (λ o. list_any is_number_found h.answers || o) one.told ∙ any-more h.answers one.answer;
   are = answers-more parts lines h.answers line one.answer h.are one.is;
   written = subst (λ l. Appends a c l) (sym (text-more form h.answers one.answer)) (Appends-trans a b c _ _ h.written one.written);
 }

@@ -2,7 +2,7 @@
 use Rattle.std.proofs.Common.{◌≡◌, ℕ, ◌+◌, Bool, true, List, length, sym, ap, ◌∙◌, subst}
 use Rattle.bit_lists.specs.Count.{ones_of, zeros_of, places}
 use Rattle.sparse_bits.specs.Positions.{bits_at, ArePlaces}
-use Rattle.sparse_bits.specs.Value.{SparseValue, bytes_of}
+use Rattle.sparse_bits.specs.Value.{SparseValue, bytes_taken}
 use Rattle.sparse_bits.proofs.lemmas.PositionLemmas.{bits_at-places, bits_at-length, ones_count, zeros_count}
 
 module _ {S S0 : Type 0} (n : ℕ) (xs : List ℕ) (u v : SparseValue S S0) (e : u ≡ v) (h : u.bits ≡ bits_at n 0 xs) (p : ArePlaces n 0 xs) where
@@ -21,7 +21,7 @@ module _ {S S0 : Type 0} (n : ℕ) (xs : List ℕ) (u v : SparseValue S S0) (e :
   pub zeros_are : zeros_of v.bits + length xs ≡ n
   zeros_are = ap (λ (b : List Bool). zeros_of b + length xs) bits_are ∙ zeros_count n xs p
 
-  pub size_is : (f : S → ℕ) (f0 : S0 → ℕ) → bytes_of xs (f u.select) (f0 u.select0) ≡ bytes_of (places true 0 v.bits) (f v.select) (f0 v.select0)
+  pub size_is : (f : S → ℕ) (f0 : S0 → ℕ) → bytes_taken xs (f u.select) (f0 u.select0) ≡ bytes_taken (places true 0 v.bits) (f v.select) (f0 v.select0)
   size_is f f0 =
-      subst (λ (w : SparseValue S S0). bytes_of xs (f u.select) (f0 u.select0) ≡ bytes_of (places true 0 v.bits) (f w.select) (f0 w.select0)) e
-      (ap (λ (ys : List ℕ). bytes_of ys (f u.select) (f0 u.select0)) (sym positions_are))
+      subst (λ (w : SparseValue S S0). bytes_taken xs (f u.select) (f0 u.select0) ≡ bytes_taken (places true 0 v.bits) (f w.select) (f0 w.select0)) e
+      (ap (λ (ys : List ℕ). bytes_taken ys (f u.select) (f0 u.select0)) (sym positions_are))

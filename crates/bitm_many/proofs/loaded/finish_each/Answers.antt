@@ -5,7 +5,7 @@ use Rattle.bit_lists.specs.Count.{as_bit, ones_before}
 use Rattle.bitm_select.specs.Answers.{IsSelectedFrom, SelectTold}
 use Rattle.bitm_select.specs.Search.{sought_in, IsWord}
 use Rattle.bitm_tables.specs.Tables.{Lists}
-use Rattle.bitm_select.specs.Told.{IfAbsent}
+use Rattle.bitm_tables.specs.Answers.{IfAbsent}
 use Rattle.bitm_many.proofs.lemmas.ManyLemmas.{told_record, written}
 use Rattle.bitm_many.proofs.loaded.finish_each.Goals as goal
 

@@ -2,7 +2,7 @@
 use Rattle.std.proofs.Common.{◌≡◌, ◌+◌, ◌≤◌, ◌∙◌, length, arith}
 use Rattle.bitm_view.specs.Queries.{selected_by}
 use Rattle.bitm_many.proofs.lemmas.ManyLemmas.{part_long, put_long}
-use Rattle.bitm_matrix_c.specs.Matrix.{IsRank}
+use Rattle.bitm_matrix_c.specs.Matrix.{IsRankOfNumber}
 use Rattle.bitm_matrix_c.proofs.RankListLemmas.{both_follow}
 use Rattle.bitm_matrix_c.proofs.matrix_lists.rank_each.Goals as goal
 
@@ -20,6 +20,6 @@ loop-from-preserved c =
       inside = some;
       len = put_long from n outs new inside long ∙ i.len;
       ranks =
-          both_follow (λ u v x. IsRank u v c.args.view.now (selected_by x)) from n c.args.numbers.now c.args.indices.now outs new inside long i.ranks
+          both_follow (λ u v x. IsRankOfNumber u v c.args.view.now (selected_by x)) from n c.args.numbers.now c.args.indices.now outs new inside long i.ranks
           (λ j less. c.rank_group.ensures.ranks j (omega (arith, less, part_long c.args.numbers.now from n some)));
     }

@@ -8,7 +8,7 @@ use Rattle.elias_fano.specs.Parts.{items_of, width_at}
 use Rattle.elias_fano_view.specs.Sizes.{upper_words_at}
 use Rattle.elias_fano_view.specs.declared.sizes.Sizes.{Sizes}
 use Rattle.elias_fano_view.proofs.CheckLemmas.{sizes-agree, parts}
-use Rattle.elias_fano_view.specs.Checks.{AreNumbers}
+use Rattle.elias_fano_view.specs.Checks.{AreFirstNumbers}
 use Rattle.elias_fano_view.proofs.checking.are_parts.Goals as goal
 use Rattle.elias_fano_view.proofs.checking.are_parts.Goals.{In-Some}
 
@@ -16,7 +16,7 @@ pub overflow_mul-n : goal.overflow_mul-n
 overflow_mul-n c = omega (arith, mul-le-mul_left c.args.n c.requires.some.width, c.requires.some.short)
 
 -- what was found
-found : (c : In-Some) → AreNumbers c.args.width c.args.low.now c.args.words.now c.args.n c.in-Some.last
+found : (c : In-Some) → AreFirstNumbers c.args.width c.args.low.now c.args.words.now c.args.n c.in-Some.last
     × (ones_of (bits_of c.args.words.now) ≡ c.args.n)
 found c = c.in-Some.ensures
 

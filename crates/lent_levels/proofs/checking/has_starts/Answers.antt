@@ -3,7 +3,7 @@ use Rattle.std.proofs.Common.{◌≡◌, ℕ, ◌-◌, ◌*◌, ◌%◌, ◌^◌
 use Rattle.std.proofs.lemmas.Bool.{cases_lt}
 use Rattle.bitm_tables.specs.Tables.{bits_in}
 use Rattle.matrix_levels.specs.Levels.{level_place}
-use Rattle.matrix_levels.specs.Matrix.{items_of}
+use Rattle.matrix_levels.specs.Matrix.{level_items}
 use Rattle.matrix_levels.proofs.lemmas.StartLemmas.{starts-from-begins}
 use Rattle.lent_levels.proofs.CheckLemmas.{start-found, start-is-found, starts-each}
 use Rattle.lent_levels.proofs.checking.has_starts.Goals as goal
@@ -20,7 +20,7 @@ unreachable-requires g c =
 -- where the prefix starts
 place : (g : _) (c : In-Some g)
     → let l = c.args.levels.now in
-    c.in-Some.place ≡ level_place (items_of (bits_in (g.T.TableSource.lists c.args.source.now)) l.width l.len) l.width (c.loop-begin.begin * 2 ^ (l.width - l.known)) l.known 0
+    c.in-Some.place ≡ level_place (level_items (bits_in (g.T.TableSource.lists c.args.source.now)) l.width l.len) l.width (c.loop-begin.begin * 2 ^ (l.width - l.known)) l.known 0
 place g c =
     let T = g.T.TableSource in
     let l = c.args.levels.now in
@@ -49,7 +49,7 @@ loop-begin-preserved g c =
     let l = c.args.levels.now in
     let i = c.loop-begin.invariant in
     let here : get_or l.starts c.loop-begin.begin 0
-    ≡ level_place (items_of (bits_in (g.T.TableSource.lists c.args.source.now)) l.width l.len) l.width (c.loop-begin.begin * 2 ^ (l.width - l.known)) l.known 0 =
+    ≡ level_place (level_items (bits_in (g.T.TableSource.lists c.args.source.now)) l.width l.len) l.width (c.loop-begin.begin * 2 ^ (l.width - l.known)) l.known 0 =
     omega (
       arith,
       c.if-starts-begin.false,
@@ -57,7 +57,7 @@ loop-begin-preserved g c =
       place g (goal.at.loop-begin-preserved g c).In-Some,
     ) in
     let P : ℕ → Type 0 = λ h.
-    get_or l.starts h 0 ≡ level_place (items_of (bits_in (g.T.TableSource.lists c.args.source.now)) l.width l.len) l.width (h * 2 ^ (l.width - l.known)) l.known 0 in
+    get_or l.starts h 0 ≡ level_place (level_items (bits_in (g.T.TableSource.lists c.args.source.now)) l.width l.len) l.width (h * 2 ^ (l.width - l.known)) l.known 0 in
     record {
       right = λ h less.
           ⊎_elim
@@ -70,7 +70,7 @@ loop-begin-preserved g c =
 pub returns : goal.returns
 returns g c =
     let l = c.args.levels.now in
-    let xs = items_of (bits_in (g.T.TableSource.lists c.args.source.now)) l.width l.len in (
+    let xs = level_items (bits_in (g.T.TableSource.lists c.args.source.now)) l.width l.len in (
       λ _. starts-from-begins xs l.width l.known l.starts c.width-width.ensures.levels.known_most
           (λ h less. c.loop-begin.invariant.right h
           (omega (arith, less, c.loop-begin-test.false, c.loop-begin.auto.begin-end, c.starts-begin-end.ensures.len))),

@@ -1,7 +1,7 @@
 use Rattle.std.proofs.Common.{◌≡◌, ℕ, ◌-◌, ◌*◌, ◌^◌, ◌<◌, slice_index}
 use Rattle.bitm_tables.specs.Tables.{bits_in}
 use Rattle.matrix_levels.specs.Levels.{level_place}
-use Rattle.matrix_levels.specs.Matrix.{items_of}
+use Rattle.matrix_levels.specs.Matrix.{level_items}
 use Rattle.lent_levels.proofs.checking.has_starts.Given as goal
 
 -- the starts so far are right, and the words are those that were given
@@ -12,6 +12,6 @@ invariant-loop-begin g l =
     record {
       right : (h : ℕ) → h < l.begin
           → slice_index v.starts h
-          ≡ level_place (items_of (bits_in (T.lists l.fn.source)) v.width v.len) v.width (h * 2 ^ (v.width - v.known)) v.known 0;
+          ≡ level_place (level_items (bits_in (T.lists l.fn.source)) v.width v.len) v.width (h * 2 ^ (v.width - v.known)) v.known 0;
       same : T.lists l.source ≡ T.lists l.fn.source;
     }

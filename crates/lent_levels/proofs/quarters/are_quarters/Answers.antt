@@ -4,7 +4,7 @@ use Rattle.std.specs.Int.{div_ceil}
 use Rattle.bit_lists.proofs.lemmas.BitsLemmas.{length-bits_of}
 use Rattle.bitm_tables.specs.Tables.{bits_in, Lists}
 use Rattle.bitm_tables.proofs.lemmas.QuarterLemmas.{records_of}
-use Rattle.lent_levels.specs.Quarters.{CountsTo}
+use Rattle.lent_levels.specs.Quarters.{CountsToQuarter}
 use Rattle.lent_levels.proofs.QuarterLemmas.{quarters-each, quarters-of}
 use Rattle.lent_levels.proofs.quarters.are_quarters.Goals as goal
 
@@ -29,7 +29,7 @@ returns-then-not-counts_to-clause-answer g c =
     let k = c.loop-quarter.quarter in (
       search rules,
       λ h. c.if-not-counts_to.ensures.answer.1
-          (subst (λ (s : Lists). CountsTo (bits_in s) k (slice_index c.args.quarters.now (k / 4))) (sym c.loop-quarter.invariant.same)
+          (subst (λ (s : Lists). CountsToQuarter (bits_in s) k (slice_index c.args.quarters.now (k / 4))) (sym c.loop-quarter.invariant.same)
           (quarters-each (g.T.TableSource.lists c.args.source.now).words c.args.quarters.now h k
           (omega (arith, c.loop-quarter-test.true, c.div_ceil-quarter-end.ensures, c.words_len-words.ensures)))),
     )

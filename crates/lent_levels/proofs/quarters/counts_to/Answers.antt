@@ -4,7 +4,7 @@ use Rattle.std.proofs.lemmas.Bool.{eqb-true, eq-eqb}
 use Rattle.bit_lists.specs.Count.{ones_before}
 use Rattle.bitm_tables.specs.Tables.{bits_in, Lists}
 use Rattle.bitm_tables.proofs.lemmas.StretchLemmas.{ones_before-between}
-use Rattle.lent_levels.specs.Quarters.{CountsTo}
+use Rattle.lent_levels.specs.Quarters.{CountsToQuarter}
 use Rattle.lent_levels.proofs.QuarterLemmas.{tells-quarter}
 use Rattle.lent_levels.proofs.quarters.counts_to.Goals as goal
 use Rattle.lent_levels.proofs.quarters.counts_to.Goals.{After-ones_to_quarter}
@@ -12,8 +12,8 @@ use Rattle.lent_levels.proofs.quarters.counts_to.Goals.{After-ones_to_quarter}
 told : (g : _) (c : After-ones_to_quarter g)
     → (c.ones_up_to-part.result ≤ c.ones_up_to-before.result)
     × (c.ones_to_entry.result + c.ones_to_quarter.result ≡ c.ones_up_to-before.result - c.ones_up_to-part.result
-    → CountsTo (bits_in (g.T.TableSource.lists c.args.source.now)) c.args.quarter c.args.number)
-    × (CountsTo (bits_in (g.T.TableSource.lists c.args.source.now)) c.args.quarter c.args.number
+    → CountsToQuarter (bits_in (g.T.TableSource.lists c.args.source.now)) c.args.quarter c.args.number)
+    × (CountsToQuarter (bits_in (g.T.TableSource.lists c.args.source.now)) c.args.quarter c.args.number
     → c.ones_to_entry.result + c.ones_to_quarter.result ≡ c.ones_up_to-before.result - c.ones_up_to-part.result)
 told g c =
     let b = bits_in (g.T.TableSource.lists c.args.source.now) in

@@ -4,20 +4,20 @@ use Rattle.std.proofs.lemmas.List.{length-replicate}
 use Rattle.bit_lists.specs.Bits.{bits_of, item}
 use Rattle.bit_lists.proofs.BitLaws.{bits_are_counted, zeros_have_no_ones}
 use Rattle.louds.proofs.lemmas.HeldLemmas.{degrees_of-is, held, held_degrees}
-use Rattle.louds.specs.Held.{words_of, IsHeld}
+use Rattle.louds.specs.Held.{tree_words, IsHeld}
 use Rattle.louds_block.proofs.building.write_tree.Goals as goal
 
 pub write_degrees-requires-clause-clear : goal.write_degrees-requires-clause-clear
 write_degrees-requires-clause-clear c =
     subst (λ (ws : List ℕ). (p : ℕ) → item (bits_of ws) p ≡ false) (sym c.requires.clear)
-    (λ p. zeros_have_no_ones (words_of (length c.args.degrees.now)) p)
+    (λ p. zeros_have_no_ones (tree_words (length c.args.degrees.now)) p)
 
 pub returns : goal.returns
 returns c =
     let d = c.args.degrees.now in
     let ws = c.write_degrees.new.words in
     let n = length d in
-    let len : length ws ≡ words_of n = omega (arith, c.write_degrees.auto.words, ap length c.requires.clear, length-replicate {A = ℕ} (words_of n) 0) in
+    let len : length ws ≡ tree_words n = omega (arith, c.write_degrees.auto.words, ap length c.requires.clear, length-replicate {A = ℕ} (tree_words n) 0) in
     let h : IsHeld d n (bits_of ws) =
     held d n (bits_of ws) c.requires.tree refl c.requires.short c.write_degrees.ensures (omega (arith, bits_are_counted ws, len)) in
     record {

@@ -5,14 +5,14 @@ use Rattle.bit_lists.specs.Bits.{bits_of, item}
 use Rattle.bit_lists.specs.Count.{ones_before}
 use Rattle.bit_lists.proofs.BitLaws.{bits_are_counted}
 use Rattle.bit_lists.proofs.lemmas.CountLemmas.{ones_before-bits_of_in_word}
-use Rattle.louds.specs.Held.{degrees_of, words_of, IsHeld}
-use Rattle.louds_block.specs.Check.{KeepsLead, Leads}
+use Rattle.louds.specs.Held.{degrees_of, tree_words, IsHeld}
+use Rattle.louds_block.specs.Check.{KeepsLead, OnesLead}
 use Rattle.louds_block.proofs.CheckLemmas.{digit_zero, held_of_tree, keeps_where_leads, leads_fewer, leads_on, ones_few, ones_left, tree_of_held, AreOfTree}
 use Rattle.louds_block.proofs.checking.holds_tree.Goals as goal
 use Rattle.louds_block.proofs.checking.holds_tree.Goals.{then-nodes-eq0-via-then-nodes-eq0, then-nodes-eq0-via-else-nodes-eq0+then-words-ne0}
 
 -- where the last zero stands: in digit r of word q
-module _ (words : List ℕ) (n : ℕ) (tight : length words ≡ words_of n) where
+module _ (words : List ℕ) (n : ℕ) (tight : length words ≡ tree_words n) where
   abbrev q : ℕ
   q = length words - 1
 
@@ -25,16 +25,16 @@ module _ (words : List ℕ) (n : ℕ) (tight : length words ≡ words_of n) wher
   place : 64 * q + r ≡ 2 * n
   place = omega (arith, tight)
 
-  counted : length (bits_of words) ≡ 64 * words_of n
+  counted : length (bits_of words) ≡ 64 * tree_words n
   counted = bits_are_counted words ∙ ap (λ k. 64 * k) tight
 
   tree : IsHeld (degrees_of (bits_of words) n) n (bits_of words) → AreOfTree (bits_of words) n
   tree h = tree_of_held (degrees_of (bits_of words) n) n (bits_of words) counted h
 
-  front_leads : IsHeld (degrees_of (bits_of words) n) n (bits_of words) → Leads (bits_of words) (64 * q)
+  front_leads : IsHeld (degrees_of (bits_of words) n) n (bits_of words) → OnesLead (bits_of words) (64 * q)
   front_leads h = leads_fewer (bits_of words) (64 * q) (2 * n) (omega (arith, place)) (tree h).leads
 
-  module _ (ones : ℕ) (leads : Leads (bits_of words) (64 * q)) (are : ones ≡ ones_before (bits_of words) (64 * q)) where
+  module _ (ones : ℕ) (leads : OnesLead (bits_of words) (64 * q)) (are : ones ≡ ones_before (bits_of words) (64 * q)) where
     enough : 64 * q ≤ 2 * ones
     enough = omega (arith, are, ones_left words q (omega (arith, inside)) leads)
 
@@ -45,7 +45,7 @@ module _ (words : List ℕ) (n : ℕ) (tight : length words ≡ words_of n) wher
     same = omega (arith, are, enough)
 
     keeps : IsHeld (degrees_of (bits_of words) n) n (bits_of words) → KeepsLead (get_or words q 0) r (2 * ones - 64 * q)
-    keeps h = keeps_where_leads words q r (2 * ones - 64 * q) inside (omega arith) same (subst (Leads (bits_of words)) (sym place) (tree h).leads)
+    keeps h = keeps_where_leads words q r (2 * ones - 64 * q) inside (omega arith) same (subst (OnesLead (bits_of words)) (sym place) (tree h).leads)
 
     whole : (more : ℕ) → more ≡ count_ones (get_or words q 0 % 2 ^ r) → ones + more ≡ ones_before (bits_of words) (2 * n)
     whole more e = omega (arith, are, e, ones_before-bits_of_in_word words q inside r (omega arith), ap (ones_before (bits_of words)) place)
@@ -58,7 +58,7 @@ module _ (words : List ℕ) (n : ℕ) (tight : length words ≡ words_of n) wher
     held short some second kept count last = held_of_tree (bits_of words) n short counted (record {
       some = some;
       second = (digit_zero words 0 1 (omega (arith, inside)) (omega arith)).1 second;
-      leads = subst (Leads (bits_of words)) place (leads_on words q r (2 * ones - 64 * q) inside (omega arith) same leads kept);
+      leads = subst (OnesLead (bits_of words)) place (leads_on words q r (2 * ones - 64 * q) inside (omega arith) same leads kept);
       last = ap (item (bits_of words)) (sym place) ∙ (digit_zero words q r inside (omega arith)).1 last;
       count = count;
     })

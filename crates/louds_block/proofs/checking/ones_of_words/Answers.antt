@@ -4,7 +4,7 @@ use Rattle.bit_lists.specs.Bits.{bits_of}
 use Rattle.bit_lists.specs.Count.{ones_before}
 use Rattle.bit_lists.proofs.BitLaws.{none_before_the_first}
 use Rattle.bit_lists.proofs.lemmas.CountLemmas.{ones_before-bits_of_in_word}
-use Rattle.louds_block.specs.Check.{Leads}
+use Rattle.louds_block.specs.Check.{OnesLead}
 use Rattle.louds_block.proofs.CheckLemmas.{keeps_where_leads, leads_fewer, leads_on, ones_few, ones_left}
 use Rattle.louds_block.proofs.checking.ones_of_words.Goals as goal
 
@@ -23,7 +23,7 @@ pub overflow_sub-ones : goal.overflow_sub-ones
 overflow_sub-ones c =
     omega (arith, c.loop-i.invariant.ones, ones_left c.args.words.now c.loop-i.i (omega (arith, c.loop-i-test.true, c.requires.within)) c.loop-i.invariant.leads)
 
-module _ (words : List ℕ) (i ones : ℕ) (within : i < length words) (leads : Leads (bits_of words) (64 * i)) (are : ones ≡ ones_before (bits_of words) (64 * i)) where
+module _ (words : List ℕ) (i ones : ℕ) (within : i < length words) (leads : OnesLead (bits_of words) (64 * i)) (are : ones ≡ ones_before (bits_of words) (64 * i)) where
   same : 2 * ones - 64 * i + 64 * i ≡ 2 * ones_before (bits_of words) (64 * i)
   same = omega (arith, are, ones_left words i (omega (arith, within)) leads)
 
@@ -62,7 +62,7 @@ loop-i-preserved c =
     let inside : i < length words = omega (arith, c.loop-i-test.true, c.requires.within) in
     record {
       leads =
-          subst (Leads (bits_of words)) (next words i c.loop-i.ones inside c.loop-i.invariant.leads c.loop-i.invariant.ones)
+          subst (OnesLead (bits_of words)) (next words i c.loop-i.ones inside c.loop-i.invariant.leads c.loop-i.invariant.ones)
           (leads_on words i 64 (2 * c.loop-i.ones - 64 * i) inside (omega arith) (same words i c.loop-i.ones inside c.loop-i.invariant.leads c.loop-i.invariant.ones)
           c.loop-i.invariant.leads (c.if-not-keeps_lead.ensures.0 (search rules)));
       ones = more words i c.loop-i.ones inside c.loop-i.invariant.leads c.loop-i.invariant.ones (c.type_inv.words i).fits;

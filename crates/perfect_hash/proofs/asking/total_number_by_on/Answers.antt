@@ -2,7 +2,7 @@
 use Rattle.std.proofs.Common.{◌≡◌, ℕ, ◌/◌, length, subst, arith}
 use Rattle.bit_lists.proofs.lemmas.BitsLemmas.{length-bits_of}
 use Rattle.bitm_tables.specs.Tables.{bits_in}
-use Rattle.perfect_hash.specs.Asking.{IfAbsent}
+use Rattle.bitm_tables.specs.Answers.{IfAbsent}
 use Rattle.perfect_hash.specs.Placed.{FitIn}
 use Rattle.perfect_hash.proofs.asking.total_number_by_on.Goals as goal
 

@@ -11,7 +11,7 @@ loop-count-init g c =
       joining = λ r. joining_none (map g.C.TotalCursor.left c.args.lists.now) c.args.from c.args.out.now;
       right = λ r. r;
       asked = λ j. omega arith;
-      rest = record { len = refl; behind = λ j past. refl };
+      rest = (refl, λ j past. refl);
       room = omega arith;
       sound = refl;
       same = refl;
@@ -116,12 +116,12 @@ loop-count-preserved g c =
       joining = λ r. turn_joined (map g.C.TotalCursor.left c.args.lists.now) (map g.C.TotalCursor.left c.loop-count.lists) (map g.C.TotalCursor.left c.least_from.new.lists) c.args.from c.loop-count.count c.loop-count.low c.in-Found.v c.loop-count.out (i.joining r) c.loop-count-test.true (c.in-Found.ensures.least (i.right r)) (c.least_from.ensures.keeps (i.right r));
       right = λ r. c.least_from.ensures.right (i.right r);
       asked = λ j. omega (arith, i.asked j, c.least_from.ensures.asked j);
-      rest = record {
-        len = length-set c.loop-count.out c.loop-count.count c.in-Found.v ∙ i.rest.len;
-        behind = λ j past.
+      rest = (
+        length-set c.loop-count.out c.loop-count.count c.in-Found.v ∙ i.rest.0,
+        λ j past.
             let other : j ≢ c.loop-count.count = λ e. omega (arith, e, past) in
-            get_or-set_other c.loop-count.out c.loop-count.count j c.in-Found.v 0 other ∙ i.rest.behind j (omega (arith, past));
-      };
+            get_or-set_other c.loop-count.out c.loop-count.count j c.in-Found.v 0 other ∙ i.rest.1 j (omega (arith, past)),
+      );
       room = room;
       sound = c.in-Found.ensures.sound ∙ i.sound;
       same = c.least_from.ensures.same ∙ i.same;

@@ -1,5 +1,6 @@
 use Rattle.std.proofs.Common.{◌≡◌, All, length, map, ◌-◌, ◌≤◌}
-use Rattle.postings.specs.Shared.{AskedAtMost, IsKeptFrom}
+use Rattle.bit_lists.specs.Kept.{IsKeptFrom}
+use Rattle.postings.specs.Shared.{AskedAtMost}
 use Rattle.postings.specs.Joined.{IsJoining}
 use Rattle.postings.proofs.joining.total_union.Given as goal
 

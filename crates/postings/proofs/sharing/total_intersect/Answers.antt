@@ -13,7 +13,7 @@ loop-count-init g c =
     record {
       sharing = λ r. sharing_none (map g.C.TotalCursor.left c.args.lists.now) (map g.C.TotalCursor.calls c.args.lists.now) c.args.from c.args.out.now;
       right = λ r. r;
-      kept = record { len = refl; behind = λ j past. refl };
+      kept = (refl, λ j past. refl);
       room = omega arith;
       sound = refl;
       same = refl;
@@ -214,12 +214,12 @@ loop-count-preserved g c =
           let e = (c.in-All.ensures.asked (stays g w r)) in
           turned_all g.C.TotalCursor.left g.C.TotalCursor.calls c.args.lists.now c.loop-count.lists c.args.from c.loop-count.count c.loop-count.low (length c.args.out.now) c.loop-count.out c.index-lists-0.result c.total_next_geq.new.self (c.loop-count.invariant.sharing r) c.loop-count.invariant.room (inside g w) c.loop-count.auto.lists c.total_next_geq.ensures.counted c.in-Found.v (c.in-Found.ensures.next (was_right g w r)) c.ask_others.new.lists _ e c.loop-count-test.true e.agreed;
       right = λ r. c.ask_others.ensures.right (stays g w r);
-      kept = record {
-        len = length-set c.loop-count.out c.loop-count.count c.in-Found.v ∙ i.kept.len;
-        behind = λ j past.
+      kept = (
+        length-set c.loop-count.out c.loop-count.count c.in-Found.v ∙ i.kept.0,
+        λ j past.
             let other : j ≢ c.loop-count.count = λ e. omega (arith, e, past) in
-            get_or-set_other c.loop-count.out c.loop-count.count j c.in-Found.v 0 other ∙ i.kept.behind j (omega (arith, past));
-      };
+            get_or-set_other c.loop-count.out c.loop-count.count j c.in-Found.v 0 other ∙ i.kept.1 j (omega (arith, past)),
+      );
       room = room;
       sound = c.in-All.ensures.sound ∙ sound_on g w c.in-Found.ensures.sound;
       same = c.ask_others.ensures.same ∙ same_on g w;

@@ -1,5 +1,6 @@
 use Rattle.std.proofs.Common.{◌≡◌, All, length, map, ◌-◌, ◌^◌, ◌≤◌}
-use Rattle.postings.specs.Shared.{IsKeptFrom, IsSharing}
+use Rattle.bit_lists.specs.Kept.{IsKeptFrom}
+use Rattle.postings.specs.Shared.{IsSharing}
 use Rattle.postings.proofs.sharing.total_intersect.Given as goal
 
 -- where all lists are right, they stay so, and what was written is what they share

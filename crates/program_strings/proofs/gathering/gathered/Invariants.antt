@@ -1,7 +1,7 @@
 use Rattle.std.proofs.Common.{◌≡◌, map}
-use Rattle.program_strings.specs.Lines.{ends_of, joined}
+use Rattle.program_strings.specs.Lines.{ends_of, joined_lines}
 use Rattle.program_strings.proofs.gathering.gathered.Given as goal
 
 abbrev pub invariant-loop-line : goal.invariant-loop-line
 invariant-loop-line l =
-    (l.bytes.items ≡ joined (map (λ x. x.now) l.yielded)) × (l.ends.items ≡ ends_of (map (λ x. x.now) l.yielded))
+    (l.bytes.items ≡ joined_lines (map (λ x. x.now) l.yielded)) × (l.ends.items ≡ ends_of (map (λ x. x.now) l.yielded))

@@ -2,7 +2,7 @@ use Rattle.std.proofs.Common.{◌++◌, ap, ◌∙◌, rules, tests}
 use Rattle.std.proofs.lemmas.Iterator.Adapters.{items_from_extend}
 use Rattle.std.proofs.lemmas.Iterator.Consumers.{YieldsList-from_filter_map, YieldsList-from_first, YieldsList-at}
 use Rattle.std.specs.Str.Lines.{lines}
-use Rattle.program_text.specs.List.{numbers_of}
+use Rattle.program_text.specs.List.{numbers_in_lines}
 use Rattle.program_text.specs.Text.{decimal_of}
 use Rattle.program_text.proofs.list.collect_numbers.Goals as goal
 
@@ -14,4 +14,4 @@ returns c =
     (YieldsList-at c.filter_map.ensures.source (YieldsList-from_first (λ line. line.now) (λ l. l) (lines c.args.text.now) c.new.ensures))
     c.filter_map.ensures.closure (λ x r q k. search (rules, tests))) in
     let all = rw c.in_ok-extend.was at pushed in
-    all.0 ∙ ap (λ xs. xs ++ numbers_of c.args.text.now) c.new-numbers.ensures.items
+    all.0 ∙ ap (λ xs. xs ++ numbers_in_lines c.args.text.now) c.new-numbers.ensures.items

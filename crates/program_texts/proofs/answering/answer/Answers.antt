@@ -1,7 +1,7 @@
 use Rattle.std.proofs.Common.{◌≡◌, Err, Some, ap, subst, rules}
 use Rattle.program_blocks.specs.Bytes.{words_of_bytes}
 use Rattle.text_block.specs.Block.{TextParts}
-use Rattle.program_texts.specs.Answers.{AreAnswers, AreWithin}
+use Rattle.program_texts.specs.Answers.{ArePatternAnswers, AreWithin}
 use Rattle.program_texts.specs.Lines.{bytes_in}
 use Rattle.program_texts.proofs.lemmas.FileLemmas.{failure_is, holds, opens, text_of}
 use Rattle.program_texts.proofs.answering.answer.Goals as goal
@@ -29,7 +29,7 @@ returns-clause-written g c =
       words = words;
       opened = rw c.as_slice.ensures.value at c.in-Some-opened.ensures.0;
       numbers = numbers;
-      answers = λ text is. subst (λ t. AreAnswers c.args.asked t patterns numbers)
+      answers = λ text is. subst (λ t. ArePatternAnswers c.args.asked t patterns numbers)
           (text_of c.args.file.now text c.in-Some.words.items _ is words same)
           (c.in-Ok.ensures.answer (holds c.args.file.now text c.in-Some.words.items _ is words same));
       within = subst (λ (p : TextParts). AreWithin c.args.asked p.tables.letters.len patterns numbers) same c.in-Ok.ensures.within;

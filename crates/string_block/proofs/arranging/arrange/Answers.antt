@@ -1,7 +1,7 @@
 -- One more string is written after those so far.
 use Rattle.std.proofs.Common.{◌≡◌, ◌+◌, ◌-◌, ℕ, set, slice_index, sym, ap, subst, arith}
 use Rattle.string_block.specs.Bytes.{bytes_from, StandsAt}
-use Rattle.string_block.specs.Given.{begin_of, len_of}
+use Rattle.string_block.specs.Given.{len_of, string_begin}
 use Rattle.string_block.proofs.ArrangeLemmas.{all_arranged, arranged_more, next_fits, none_arranged, Arranging}
 use Rattle.string_block.proofs.arranging.arrange.Goals as goal
 
@@ -34,8 +34,8 @@ loop-v-preserved c =
     let is : slice_index c.args.starts.now v ≡ i + 1 = omega (arith, c.loop-v.invariant.rest v (omega arith), c.if-next-eq0.false) in
     let len : slice_index ends i - c.begin_at-begin.result ≡ len_of ends i = ap (λ (b : ℕ). slice_index ends i - b) c.begin_at-begin.ensures in
     let done = c.write_bytes.ensures in
-    let written : StandsAt c.write_bytes.new.to c.loop-v.at (bytes_from c.args.bytes.now (begin_of ends i)) (len_of ends i) =
-    subst (λ (n : ℕ). StandsAt c.write_bytes.new.to c.loop-v.at (bytes_from c.args.bytes.now (begin_of ends i)) n) len
+    let written : StandsAt c.write_bytes.new.to c.loop-v.at (bytes_from c.args.bytes.now (string_begin ends i)) (len_of ends i) =
+    subst (λ (n : ℕ). StandsAt c.write_bytes.new.to c.loop-v.at (bytes_from c.args.bytes.now (string_begin ends i)) n) len
     (subst (λ (b : ℕ). StandsAt c.write_bytes.new.to c.loop-v.at (bytes_from c.args.bytes.now b) (slice_index ends i - c.begin_at-begin.result))
     c.begin_at-begin.ensures done.written) in
     subst (λ (n : ℕ). Arranging c.args.bytes.now ends c.args.starts.now c.args.to.now (set c.loop-v.starts v c.loop-v.at) c.write_bytes.new.to (c.loop-v.at + n) (v + 1))

@@ -1,6 +1,6 @@
 -- One more string is placed, or the strings do not have numbers of their own.
 use Rattle.std.proofs.Common.{◌≡◌, ℕ, ◌<◌, ◌≤◌, length, slice_index, Some, refl, sym, ◌∙◌, subst, arith, rules}
-use Rattle.string_block.specs.Given.{ArePlaced}
+use Rattle.string_block.specs.Given.{AreStringsPlaced}
 use Rattle.string_block.specs.Parts.{given_number}
 use Rattle.string_block.proofs.GivenLemmas.{apart_placed, none_placed, not_apart, placed_more, total_none}
 use Rattle.string_block.proofs.PlaceLemmas.{is_none, total_placed}
@@ -51,6 +51,6 @@ returns-clause-apart c =
     let number = given_number c.args.hash.now c.args.bytes.now c.args.ends.now in
     let all : c.loop-i.i ≡ n = omega (arith, c.loop-i-test.false, c.loop-i.auto.i-end) in (
       (λ _. apart_placed number n n c.loop-i.order
-          (subst (λ (k : ℕ). ArePlaced number n k c.loop-i.order) all c.loop-i.invariant.placed)),
+          (subst (λ (k : ℕ). AreStringsPlaced number n k c.loop-i.order) all c.loop-i.invariant.placed)),
       (λ _. refl),
     )

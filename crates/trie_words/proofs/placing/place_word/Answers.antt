@@ -1,7 +1,7 @@
 -- One node more is placed.
 use Rattle.std.proofs.Common.{◌≡◌, ◌+◌, ◌-◌, ◌<◌, ◌≤◌, ℕ, List, length, get_or, set, sym, ap, subst, arith}
 use Rattle.trie_words.specs.Levels.{IsNew}
-use Rattle.trie_words.specs.Words.{word_of, words_in}
+use Rattle.trie_words.specs.Words.{dictionary_word, words_in}
 use Rattle.trie_words.proofs.PlacingLemmas.{node_high, node_low, parent_low, placing_begin, placing_end, placing_more, room, IsPlacing}
 use Rattle.trie_words.proofs.placing.place_word.Goals as goal
 use Rattle.trie_words.proofs.placing.place_word.Goals.{In-loop-depth}
@@ -69,7 +69,7 @@ pub returns-clause-next : goal.returns-clause-next
 returns-clause-next c =
     let up : c.shared_len-shared.result ≤ length c.word_at-word.result.now =
     omega (arith, c.shared_len-shared.ensures.fits, c.word_at-word.ensures.len) in
-    let all : c.loop-depth.depth ≡ length (word_of c.args.bytes.now c.args.starts.now c.args.j) =
+    let all : c.loop-depth.depth ≡ length (dictionary_word c.args.bytes.now c.args.starts.now c.args.j) =
     omega (arith, c.loop-depth-test.false, c.loop-depth.auto.depth-end up, ap length c.word_at-word.ensures.word) in
     (placing_end (words_in c.args.bytes.now c.args.starts.now) c.loop-depth.next c.loop-depth.labels c.loop-depth.parents c.args.j
     c.loop-depth.depth c.loop-depth.invariant all).0
@@ -78,7 +78,7 @@ pub returns-clause-placed : goal.returns-clause-placed
 returns-clause-placed c =
     let up : c.shared_len-shared.result ≤ length c.word_at-word.result.now =
     omega (arith, c.shared_len-shared.ensures.fits, c.word_at-word.ensures.len) in
-    let all : c.loop-depth.depth ≡ length (word_of c.args.bytes.now c.args.starts.now c.args.j) =
+    let all : c.loop-depth.depth ≡ length (dictionary_word c.args.bytes.now c.args.starts.now c.args.j) =
     omega (arith, c.loop-depth-test.false, c.loop-depth.auto.depth-end up, ap length c.word_at-word.ensures.word) in
     (placing_end (words_in c.args.bytes.now c.args.starts.now) c.loop-depth.next c.loop-depth.labels c.loop-depth.parents c.args.j
     c.loop-depth.depth c.loop-depth.invariant all).1

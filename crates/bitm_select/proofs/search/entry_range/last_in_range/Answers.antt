@@ -2,7 +2,7 @@
 use Rattle.std.proofs.Common.{◌≡◌, ℕ, ◌+◌, ◌*◌, ◌-◌, ◌/◌, ◌^◌, ◌<◌, ◌≤◌, length, ap, sym, ◌∙◌, subst, arith, ◌⊎◌, inl, inr}
 use Rattle.bit_lists.specs.Count.{as_bit}
 use Rattle.bitm_tables.specs.Entry.{before_in_part, lower_entry, entries_from}
-use Rattle.bitm_select.specs.Search.{IsAmong, sought_in}
+use Rattle.bitm_select.specs.Search.{IsEntryAmong, sought_in}
 use Rattle.bitm_tables.specs.Tables.{HasTables, Lists}
 use Rattle.bitm_select.specs.Told.{told_entry}
 use Rattle.bitm_tables.specs.declared.source.counts.ReadCounts.{ReadCounts}
@@ -52,7 +52,7 @@ module _ (g : _) (c : Joined-ones_to_entry-rank g) (t : HasTables (g.T.TableSour
 -- ---- the side of it that is left
 
 among : (g : _) (c : Joined-ones_to_entry-rank g) → HasTables (g.T.TableSource.lists c.args.source.now)
-    → IsAmong (sought_in g.row.BIT (g.T.TableSource.lists c.args.source.now).words)
+    → IsEntryAmong (sought_in g.row.BIT (g.T.TableSource.lists c.args.source.now).words)
     (length (g.T.TableSource.lists c.args.source.now).lower) c.args.part c.args.rank c.if-ones_to_entry-rank.low
     (c.loop-left.left - c.loop-left.left / 2)
 among g c t =

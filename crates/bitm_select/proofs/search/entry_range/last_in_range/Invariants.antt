@@ -1,7 +1,7 @@
 use Rattle.std.proofs.Common.{◌≡◌, ◌+◌, ◌-◌, ◌*◌, ◌^◌, ◌<◌, ◌≤◌, length}
 use Rattle.bit_lists.specs.Bits.{digit_count}
 use Rattle.bit_lists.specs.Count.{as_bit}
-use Rattle.bitm_select.specs.Search.{IsAmong, sought_in}
+use Rattle.bitm_select.specs.Search.{IsEntryAmong, sought_in}
 use Rattle.bitm_tables.specs.Tables.{HasTables}
 use Rattle.bitm_select.specs.Told.{told_entry}
 use Rattle.bitm_select.proofs.search.entry_range.last_in_range.Given as goal
@@ -17,7 +17,7 @@ invariant-loop-left g l =
       some : 0 < l.left;
       from : l.fn.range.low ≤ l.low;
       to : l.low + l.left ≤ l.fn.range.low + l.fn.range.left;
-      among : HasTables lists → IsAmong m (length lists.lower) l.part l.rank l.low l.left;
+      among : HasTables lists → IsEntryAmong m (length lists.lower) l.part l.rank l.low l.left;
       packed : 0 < l.low → l.packed ≡ told_entry (as_bit g.row.BIT) lists (l.part * 2 ^ 21 + l.low);
       lower : (T.reads l.source).lower + digit_count (l.left - 1) ≤ (T.reads l.fn.source).lower + digit_count (l.fn.range.left - 1);
       lower_kept : (T.reads l.fn.source).lower ≤ (T.reads l.source).lower;

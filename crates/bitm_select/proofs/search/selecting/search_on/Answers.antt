@@ -6,7 +6,8 @@ use Rattle.bit_lists.specs.Count.{as_bit, ones_before}
 use Rattle.bitm_select.specs.Answers.{IsSelected}
 use Rattle.bitm_tables.specs.Entry.{entries_from}
 use Rattle.bitm_select.specs.Search.{entry_in, sought_in, IsLastPart}
-use Rattle.bitm_select.specs.Told.{told_entry, EntryTellsNone, IfAbsent}
+use Rattle.bitm_select.specs.Told.{told_entry, EntryTellsNone}
+use Rattle.bitm_tables.specs.Answers.{IfAbsent}
 use Rattle.bitm_tables.specs.Tables.{HasTables, Lists}
 use Rattle.bitm_select.proofs.lemmas.MarkLemmas.{none_in_nothing}
 use Rattle.bitm_select.proofs.lemmas.ToldLemmas.{all_none, nothing_tells}

@@ -4,7 +4,7 @@ use Rattle.std.proofs.lemmas.Bool.{true≢false}
 use Rattle.std.proofs.lemmas.Option.{none-some, same_Some}
 use Rattle.bitm_tables.specs.Tables.{Lists}
 use Rattle.matrix_levels.specs.Matrix.{numbers_in, IsMatrix}
-use Rattle.matrix_levels.specs.Numbers.{count_before}
+use Rattle.matrix_levels.specs.Numbers.{occurrences_before}
 use Rattle.matrix_levels.proofs.lemmas.WalkLemmas.{count_before-wide}
 use Rattle.lent_levels.proofs.PairLemmas.{few-before, rank-between}
 use Rattle.lent_levels.specs.Walk.{AreBothOnTheWay}
@@ -28,7 +28,7 @@ returns-then-not-fits c = λ lists w.
 counted : (c : After-difference) (lists : Lists)
     → (c.args.number < 2 ^ c.args.self.now.width
     → AreBothOnTheWay c.args.self.now lists c.args.self.now.width c.args.number 0 c.args.end c.args.first c.args.last)
-    → IsMatrix c.args.self.now lists → c.difference.result ≡ Some (count_before (numbers_in c.args.self.now lists) c.args.number c.args.end)
+    → IsMatrix c.args.self.now lists → c.difference.result ≡ Some (occurrences_before (numbers_in c.args.self.now lists) c.args.number c.args.end)
 counted c lists w h =
     let l = c.args.self.now in
     let xs = numbers_in l lists in
@@ -37,7 +37,7 @@ counted c lists w h =
     let P : ℕ → Type 0 = λ k. x < 2 ^ k in
     let fit : x < 2 ^ l.width = subst P c.width.ensures.width (c.fits.ensures.0 c.if-not-fits.false) in
     let inside : i ≤ length xs = omega (arith, c.if-end-len.false, c.len.ensures.len, h.numbers.count) in
-    c.difference.ensures.answer (count_before xs x i)
+    c.difference.ensures.answer (occurrences_before xs x i)
     (rank-between xs l.width x i c.args.first c.args.last h.numbers.fit fit inside ((w fit).first h) ((w fit).last h))
     (few-before xs x i inside)
 

@@ -2,7 +2,7 @@
 use Rattle.std.proofs.Common.{◌≤◌, length, ap, arith}
 use Rattle.std.proofs.lemmas.Option.{same_Some}
 use Rattle.matrix_levels.specs.Matrix.{numbers_in}
-use Rattle.matrix_levels.specs.Numbers.{count_before}
+use Rattle.matrix_levels.specs.Numbers.{occurrences_before}
 use Rattle.lent_levels.proofs.PairLemmas.{few-before, rank-between}
 use Rattle.lent_levels.proofs.levels.LevelsView.total_count_on.Goals as goal
 
@@ -14,6 +14,6 @@ returns-clause-answer g c = λ h.
     let i = c.args.end in
     let stretch = same_Some _ _ (c.in_ok-first.ensures.stretch h) in
     let inside : i ≤ length xs = omega (arith, c.requires.end, h.numbers.count) in
-    c.difference.ensures.answer (count_before xs x i)
+    c.difference.ensures.answer (occurrences_before xs x i)
     (rank-between xs l.width x i c.in_ok-first.first c.in_ok-first.last h.numbers.fit c.requires.fit inside (ap (λ p. p.0) stretch) (ap (λ p. p.1) stretch))
     (few-before xs x i inside)

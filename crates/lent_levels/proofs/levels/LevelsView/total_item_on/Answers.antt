@@ -5,7 +5,7 @@ use Rattle.std.specs.Prelude.{slice_index}
 use Rattle.bitm_tables.specs.Tables.{Lists}
 use Rattle.matrix_levels.specs.Levels.{level_place}
 use Rattle.matrix_levels.specs.Matrix.{IsMatrix, numbers_in}
-use Rattle.matrix_levels.specs.Numbers.{count_before}
+use Rattle.matrix_levels.specs.Numbers.{occurrences_before}
 use Rattle.matrix_levels.proofs.lemmas.ManyLemmas.{IsAtLevel, level-first}
 use Rattle.lent_levels.proofs.PairLemmas.{few-before, rank-between}
 use Rattle.lent_levels.proofs.levels.LevelsView.total_item_on.Goals as goal
@@ -33,7 +33,7 @@ between : (g : _) (c : After-difference g) → IsMatrix c.args.self.now (g.T.Tab
     → IsAtLevel (numbers_in c.args.self.now (g.T.TableSource.lists c.args.source.now)) c.args.self.now.width c.args.self.now.known c.args.i
     c.in_ok-number.place c.in_ok-number.number
     → (let xs = numbers_in c.args.self.now (g.T.TableSource.lists c.args.source.now) in let x = slice_index xs c.args.i in
-    (c.in_ok-found.found ≡ x) × (c.in_ok-found.first + count_before xs x c.args.i ≡ c.in_ok-found.at) × (count_before xs x c.args.i ≤ c.args.i))
+    (c.in_ok-found.found ≡ x) × (c.in_ok-found.first + occurrences_before xs x c.args.i ≡ c.in_ok-found.at) × (occurrences_before xs x c.args.i ≤ c.args.i))
 between g c h at =
     let l = c.args.self.now in
     let m = h.numbers in
@@ -59,7 +59,7 @@ returns-clause-answer g c = λ h.
     let both = between g (goal.at.returns-clause-answer g c).After-difference h (stands g (goal.at.returns-clause-answer g c).After-total_ways_on h) in (
       omega (arith, c.requires.inside, h.numbers.count),
       both.0,
-      same_Some _ _ (c.in_ok-rank.ensures.answer (count_before xs (slice_index xs i) i) both.1 both.2) ∙ ap (λ y. count_before xs y i) (sym both.0),
+      same_Some _ _ (c.in_ok-rank.ensures.answer (occurrences_before xs (slice_index xs i) i) both.1 both.2) ∙ ap (λ y. occurrences_before xs y i) (sym both.0),
     )
 
 pub returns-in_err-number-clause-answer : goal.returns-in_err-number-clause-answer
@@ -83,4 +83,4 @@ returns-in_err-rank-clause-answer g c = λ h.
     let xs = numbers_in c.args.self.now (g.T.TableSource.lists c.args.source.now) in
     let i = c.args.i in
     let both = between g (goal.at.returns-in_err-rank-clause-answer g c).After-difference h (stands g (goal.at.returns-in_err-rank-clause-answer g c).After-total_ways_on h) in
-    absurd (none-some _ (c.in_err-rank.ensures.answer (count_before xs (slice_index xs i) i) both.1 both.2))
+    absurd (none-some _ (c.in_err-rank.ensures.answer (occurrences_before xs (slice_index xs i) i) both.1 both.2))

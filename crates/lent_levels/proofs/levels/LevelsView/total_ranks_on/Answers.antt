@@ -3,7 +3,7 @@ use Rattle.std.proofs.Common.{◌≡◌, ℕ, ◌^◌, ◌<◌, ◌≤◌, Some,
 use Rattle.std.proofs.lemmas.Bool.{true≢false}
 use Rattle.std.proofs.lemmas.Option.{none-some, same_Some}
 use Rattle.matrix_levels.specs.Matrix.{IsMatrix, numbers_in}
-use Rattle.matrix_levels.specs.Numbers.{count_before}
+use Rattle.matrix_levels.specs.Numbers.{occurrences_before}
 use Rattle.matrix_levels.proofs.lemmas.WalkLemmas.{count_before-wide}
 use Rattle.lent_levels.proofs.PairLemmas.{few-before, rank-between}
 use Rattle.lent_levels.proofs.levels.LevelsView.total_ranks_on.Goals as goal
@@ -33,24 +33,24 @@ fit : (g : _) (c : After-difference-2 g) → c.args.number < 2 ^ c.args.self.now
 fit g c = let P : ℕ → Type 0 = λ w. c.args.number < 2 ^ w in subst P c.width.ensures.width (c.fits.ensures.0 c.if-not-fits.false)
 
 before : (g : _) (c : After-difference-2 g) → IsMatrix c.args.self.now (g.T.TableSource.lists c.args.source.now)
-    → c.difference.result ≡ Some (count_before (numbers_in c.args.self.now (g.T.TableSource.lists c.args.source.now)) c.args.number c.args.start)
+    → c.difference.result ≡ Some (occurrences_before (numbers_in c.args.self.now (g.T.TableSource.lists c.args.source.now)) c.args.number c.args.start)
 before g c h =
     let l = c.args.self.now in
     let xs = numbers_in l (g.T.TableSource.lists c.args.source.now) in
     let places = c.in-Some.ensures.places h in
     let within = start g c h in
-    c.difference.ensures.answer (count_before xs c.args.number c.args.start)
+    c.difference.ensures.answer (occurrences_before xs c.args.number c.args.start)
     (rank-between xs l.width c.args.number c.args.start c.in-Some.base c.in-Some.first h.numbers.fit (fit g c) within places.0 places.1)
     (few-before xs c.args.number c.args.start within)
 
 through : (g : _) (c : After-difference-2 g) → IsMatrix c.args.self.now (g.T.TableSource.lists c.args.source.now)
-    → c.difference-2.result ≡ Some (count_before (numbers_in c.args.self.now (g.T.TableSource.lists c.args.source.now)) c.args.number c.args.end)
+    → c.difference-2.result ≡ Some (occurrences_before (numbers_in c.args.self.now (g.T.TableSource.lists c.args.source.now)) c.args.number c.args.end)
 through g c h =
     let l = c.args.self.now in
     let xs = numbers_in l (g.T.TableSource.lists c.args.source.now) in
     let places = c.in-Some.ensures.places h in
     let within = end g c h in
-    c.difference-2.ensures.answer (count_before xs c.args.number c.args.end)
+    c.difference-2.ensures.answer (occurrences_before xs c.args.number c.args.end)
     (rank-between xs l.width c.args.number c.args.end c.in-Some.base c.in-Some.last h.numbers.fit (fit g c) within places.0 places.2)
     (few-before xs c.args.number c.args.end within)
 

@@ -1,6 +1,6 @@
 use Rattle.std.proofs.Common.{◌-◌, ◌^◌, ◌≤◌, slice_range}
 use Rattle.matrix_block.specs.Block.{items_in, HoldsMatrix}
-use Rattle.matrix_block.specs.RangeLists.{AreCounts, AreRising}
+use Rattle.matrix_block.specs.RangeLists.{AreRisingFrom, AreTallyCounts}
 use Rattle.matrix_block.proofs.TallyLemmas.{AreSoFar}
 use Rattle.matrix_block.proofs.matrix.MatrixView.distinct.Given as goal
 
@@ -9,8 +9,8 @@ abbrev pub invariant-loop-less : goal.invariant-loop-less
 invariant-loop-less l = record {
   order : l.start ≤ l.end;
   inside : l.end ≤ l.self.levels.len;
-  numbers : AreRising l.self.levels.width l.from l.written l.fn.numbers l.numbers;
-  counts : AreCounts (l.end - l.start) l.written l.fn.counts l.counts;
+  numbers : AreRisingFrom l.self.levels.width l.from l.written l.fn.numbers l.numbers;
+  counts : AreTallyCounts (l.end - l.start) l.written l.fn.counts l.counts;
   right : HoldsMatrix l.self
       → AreSoFar (slice_range (items_in l.self) l.start l.end) (2 ^ l.self.levels.width) l.from l.less l.written l.numbers l.counts;
 }

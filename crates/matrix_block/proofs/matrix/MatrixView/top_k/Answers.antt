@@ -4,7 +4,7 @@ use Rattle.std.proofs.lemmas.List.Elements.{All-contains, All-drop, All-take, Al
 use Rattle.std.proofs.lemmas.List.Sorted.{All-permutation}
 use Rattle.matrix_levels.proofs.lemmas.CountLemmas.{length-range}
 use Rattle.matrix_block.specs.Block.{items_in, HoldsMatrix, MatrixParts}
-use Rattle.matrix_block.specs.RangeLists.{tallies_in, AreCounts, AreNarrow}
+use Rattle.matrix_block.specs.RangeLists.{tallies_in, AreNarrow, AreTallyCounts}
 use Rattle.matrix_block.proofs.FrequentLemmas.{fit-counts, fit-numbers, fit-pairs, kept-all, kept-more, written-more, AreFit}
 use Rattle.matrix_block.proofs.matrix.MatrixView.top_k.Goals as goal
 use Rattle.matrix_block.proofs.matrix.MatrixView.top_k.Goals.{At-loop-less}
@@ -17,8 +17,8 @@ narrow parts s e h =
 -- numbers and counts that are written, from what is true of the pairs
 written : (old old_counts now now_counts new new_counts : List ℕ) (w most k end : ℕ) → length now_counts ≡ length now → length new_counts ≡ length new
     → length new ≡ length now → k ≤ end → end ≤ length new
-    → AreNarrow w k old now → AreCounts most k old_counts now_counts → drop end new ≡ drop end now → drop end new_counts ≡ drop end now_counts
-    → All (AreFit (2 ^ w) most) (tallies_in new new_counts end) → AreNarrow w end old new × AreCounts most end old_counts new_counts
+    → AreNarrow w k old now → AreTallyCounts most k old_counts now_counts → drop end new ≡ drop end now → drop end new_counts ≡ drop end now_counts
+    → All (AreFit (2 ^ w) most) (tallies_in new new_counts end) → AreNarrow w end old new × AreTallyCounts most end old_counts new_counts
 written old old_counts now now_counts new new_counts w most k end same same2 len more room narrow counts behind counts_behind all =
     let each = fit-counts new new_counts (2 ^ w) most end same2 room all in (
       record {

@@ -1,7 +1,7 @@
 use Rattle.std.proofs.Common.{◌≡◌, ◌-◌, ◌^◌, length, slice_range}
 use Rattle.number_lists.specs.Frequent.{pair_at, IsHeapFrom}
 use Rattle.matrix_block.specs.Block.{items_in, HoldsMatrix}
-use Rattle.matrix_block.specs.RangeLists.{AreCounts, AreNarrow}
+use Rattle.matrix_block.specs.RangeLists.{AreNarrow, AreTallyCounts}
 use Rattle.matrix_block.proofs.FrequentLemmas.{AreKept}
 use Rattle.matrix_block.proofs.matrix.MatrixView.top_k.Given as goal
 
@@ -9,7 +9,7 @@ use Rattle.matrix_block.proofs.matrix.MatrixView.top_k.Given as goal
 abbrev pub invariant-loop-less : goal.invariant-loop-less
 invariant-loop-less l = record {
   numbers : AreNarrow l.self.levels.width l.kept l.fn.numbers l.numbers;
-  counts : AreCounts (l.end - l.start) l.kept l.fn.counts l.counts;
+  counts : AreTallyCounts (l.end - l.start) l.kept l.fn.counts l.counts;
   heap : l.kept ≡ length l.numbers → IsHeapFrom (pair_at l.numbers l.counts) (length l.numbers) 0;
   right : HoldsMatrix l.self
       → AreKept (slice_range (items_in l.self) l.start l.end) (2 ^ l.self.levels.width) l.less l.kept l.numbers l.counts;

@@ -3,7 +3,7 @@ use Rattle.std.proofs.Common.{◌≡◌, drop, ap, ◌∙◌}
 use Rattle.elias_fano.specs.Parts.{items_of}
 use Rattle.postings.proofs.HeldLemmas.{same_parts, held_first}
 use Rattle.postings.proofs.PartLemmas.{has_lengths}
-use Rattle.postings.specs.Held.{IsHeld}
+use Rattle.postings.specs.Held.{IsSpotHeld}
 use Rattle.postings.proofs.sequence.Seeker.start.Goals as goal
 
 pub total_start_on-requires-clause-lengths : goal.total_start_on-requires-clause-lengths
@@ -19,7 +19,7 @@ invariant_of-result c =
     let s = c.args.source.lists in
     let f = c.total_start_on.ensures.fragments in
     let is : items_of c.args.len c.args.low.width c.args.low.words s.words ≡ xs = c.parts_hold_items.ensures xs c.args.len c.args.low.width c.args.low.words s.words h.are in
-    same_parts (λ w ws l. IsHeld c.args.len w ws l c.in-Some.spot) c.args.low c.total_start_on.new.low s c.total_start_on.new.source.lists f.words f.width c.total_start_on.ensures.reads.same
+    same_parts (λ w ws l. IsSpotHeld c.args.len w ws l c.in-Some.spot) c.args.low c.total_start_on.new.low s c.total_start_on.new.source.lists f.words f.width c.total_start_on.ensures.reads.same
     (held_first xs c.args.len c.args.low.width c.args.low.words s c.in-Some.spot h is c.requires.sizes (c.in-Some.ensures.started xs h).0)
 
 pub returns-clause-left : goal.returns-clause-left

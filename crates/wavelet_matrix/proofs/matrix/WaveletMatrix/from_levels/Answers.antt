@@ -4,7 +4,7 @@ use Rattle.std.specs.Box.{boxed_slice_items}
 use Rattle.bit_lists.specs.Bits.{bits_of}
 use Rattle.bitm_tables.specs.Quarters.{AreQuartersOf}
 use Rattle.bit_lists.proofs.BitLaws.{bits_are_counted}
-use Rattle.matrix_levels.specs.Matrix.{items_of, IsMatrixOf}
+use Rattle.matrix_levels.specs.Matrix.{level_items, IsMatrixOf}
 use Rattle.matrix_levels.proofs.lemmas.MakeLemmas.{words-enough}
 use Rattle.matrix_levels.proofs.lemmas.MatrixLemmas.{is-matrix, made-of-bits, matrix-from, matrix-of-items, tight}
 use Rattle.wavelet_matrix.proofs.matrix.WaveletMatrix.from_levels.Goals as goal
@@ -39,7 +39,7 @@ no_quarters g c compact =
     ap (λ (qs : List ℕ). length qs) c.in_ok-levels.ensures.quarters ∙ c.in_ok-quarters.ensures.none (sym c.in_ok-levels.ensures.compact ∙ compact)
 
 made : (g : _) (c : In_ok-levels g)
-    → IsMatrixOf (items_of (bits_of (boxed_slice_items c.in-Ok.index.content)) c.args.width c.args.len) c.in_ok-levels.levels
+    → IsMatrixOf (level_items (bits_of (boxed_slice_items c.in-Ok.index.content)) c.args.width c.args.len) c.in_ok-levels.levels
     (bits_of (boxed_slice_items c.in-Ok.index.content))
 made g c =
     let made = c.in_ok-levels.ensures in
@@ -75,6 +75,6 @@ invariant_of-result g c = (
 pub returns-clause-items : goal.returns-clause-items
 returns-clause-items g c =
     let l = c.keep_starts.new.self in
-    ap (λ (ws : List ℕ). items_of (bits_of ws) l.width l.len) (ap boxed_slice_items c.in-Ok.ensures.kept)
-    ∙ ap (λ w. items_of (bits_of (boxed_slice_items c.args.content)) w l.len) (c.in_ok-keep_starts.ensures.width ∙ c.in_ok-levels.ensures.width)
-    ∙ ap (λ n. items_of (bits_of (boxed_slice_items c.args.content)) c.args.width n) (c.in_ok-keep_starts.ensures.len ∙ c.in_ok-levels.ensures.len)
+    ap (λ (ws : List ℕ). level_items (bits_of ws) l.width l.len) (ap boxed_slice_items c.in-Ok.ensures.kept)
+    ∙ ap (λ w. level_items (bits_of (boxed_slice_items c.args.content)) w l.len) (c.in_ok-keep_starts.ensures.width ∙ c.in_ok-levels.ensures.width)
+    ∙ ap (λ n. level_items (bits_of (boxed_slice_items c.args.content)) c.args.width n) (c.in_ok-keep_starts.ensures.len ∙ c.in_ok-levels.ensures.len)

@@ -1,7 +1,7 @@
 -- In a matrix each rank before an index that is not past the end is answered, so all are.
 use Rattle.std.proofs.Common.{◌<◌, ◌≤◌, List, ℕ, length, slice_index, subst, ap, ◌∙◌, ⊎_elim, arith}
 use Rattle.std.proofs.lemmas.Bool.{cases_lt}
-use Rattle.matrix_levels.specs.Numbers.{count_before}
+use Rattle.matrix_levels.specs.Numbers.{occurrences_before}
 use Rattle.wavelet_matrix.proofs.matrix.WaveletMatrix.rank_many.Goals as goal
 
 pub returns : goal.returns
@@ -21,4 +21,4 @@ returns g c = λ k less.
     (λ reached. reached)
     (cases_lt found (length numbers)) in
     let here = (c.total_rank_list_on-found.ensures.ranks k (omega (arith, less, all, c.requires.numbers))).right m in
-    here.1 ∙ ap (λ (xs : List ℕ). count_before xs (slice_index numbers k) (slice_index places k)) c.parts-levels.ensures.items
+    here.1 ∙ ap (λ (xs : List ℕ). occurrences_before xs (slice_index numbers k) (slice_index places k)) c.parts-levels.ensures.items
