@@ -4,7 +4,7 @@ ghost use Rattle.bitm_abi.specs.Lists.{AreAnswersCounted};
 ghost use Rattle.bitm_abi.specs.Tree.{tree_parts};
 ghost use Rattle.bitm_view.specs.Queries.{selected_by};
 ghost use Rattle.louds_block.specs.Block.{HasLengths};
-ghost use Rattle.bitm_block_c.specs.Tree.{IsChild, IsDegree, IsParent, IsTreeAnswer};
+ghost use Rattle.bitm_block_c.specs.Tree.{IsChildAnswer, IsDegree, IsParent, IsTreeAnswer};
 
 use bitm_abi::{BAD_SIZE, ListCounts, Tree, report_list};
 use louds_block::LoudsView;
@@ -96,7 +96,7 @@ pub extern "C" fn bitm_tree_degree_list(
 fn child_each(view: &LoudsView<'_>, nodes: &[usize], ks: &[usize], out: &mut [usize])
     requires room { length out.old ≡ length nodes.now }
     requires ks { length ks.now ≡ length nodes.now }
-    ensures { (j : ℕ) → j < length nodes.now → IsChild (slice_index nodes.now j)
+    ensures { (j : ℕ) → j < length nodes.now → IsChildAnswer (slice_index nodes.now j)
         (slice_index ks.now j) view.now (selected_by (slice_index out.new j)) }
 {
     let _ = view.len(); // its clause makes the limit of the length known to the proof
@@ -115,7 +115,7 @@ pub extern "C" fn bitm_tree_child_list(
     ensures ok { (result ≡ 0) ↔ HasLengths (tree_parts tree.now)
         × (length ks.now ≡ length nodes.now) × (length out.old ≡ length nodes.now) }
     ensures kept { result ≢ 0 → (result ≡ 2) × (out.new ≡ out.old) × (counts.new ≡ counts.old) }
-    ensures children { result ≡ 0 → (j : ℕ) → j < length nodes.now → IsChild
+    ensures children { result ≡ 0 → (j : ℕ) → j < length nodes.now → IsChildAnswer
         (slice_index nodes.now j) (slice_index ks.now j) (tree_parts tree.now)
         (selected_by (slice_index out.new j)) }
     ensures counts { result ≡ 0 → AreAnswersCounted out.new counts.new }
