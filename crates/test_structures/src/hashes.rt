@@ -4,174 +4,116 @@ use perfect_hash::{
     BuildError, Dictionary, Grouped, KeyHash, PerfectHash, Placing, Plain, Seeded, SeededBytes,
     build, build_by,
 };
-use std::alloc::{AllocError, Global};
+use std::alloc::Global;
 use std::process::Abort;
-use std::test::Fail;
 
-/// The given number of keys, no two of them the same.
-fn keys_of(alloc: Global, count: u64) -> Result<Vec<u64>, AllocError> {
-    let mut keys = Vec::new(alloc);
-    for i in 0..count {
-        keys.push(i.wrapping_mul(i).wrapping_add(i.wrapping_mul(17)))?;
+/// More keys than any test takes.
+const MOST: usize = 9000;
+
+type Numbers<H, P> = PerfectHash<H, ArrayWithRank101111, P>;
+
+/// Keys, no two of them the same.
+fn some_keys() -> [u64; MOST] {
+    let mut keys = [0u64; MOST];
+    for i in 0..MOST {
+        let key = i as u64;
+        keys[i] = key.wrapping_mul(key).wrapping_add(key.wrapping_mul(17));
     }
-    Ok(keys)
+    keys
 }
 
-type Numbers<P> = PerfectHash<Seeded, ArrayWithRank101111, P>;
+/// Whether two answers are the same.
+fn are_equal(found: Option<usize>, wanted: Option<usize>) -> bool {
+    found == wanted
+}
 
-type Found = Dictionary<Seeded, ArrayWithRank101111, Plain>;
-
-/// Whether the keys have numbers of their own below their count, which are noted in as many entries.
-fn differ<P: Placing>(numbers: &Numbers<P>, keys: &[u64], seen: &mut [bool]) -> bool {
-    for key in keys {
-        match numbers.get(key) {
-            Some(number) if number < seen.len() && !seen[number] => seen[number] = true,
-            _ => return false,
+/// Whether the keys have numbers of their own below their count, by single calls and by one call for all.
+fn differ<H: KeyHash<u64>, P: Placing>(numbers: &Numbers<H, P>, keys: &[u64]) -> bool {
+    if keys.len() > MOST {
+        return false;
+    }
+    let mut many = [0usize; MOST];
+    let mut seen = [false; MOST];
+    numbers.get_many(keys, &mut many[..keys.len()]);
+    for i in 0..keys.len() {
+        let number = many[i];
+        if number >= keys.len() || seen[number] || !are_equal(numbers.get(&keys[i]), Some(number)) {
+            return false;
         }
+        seen[number] = true;
     }
     true
 }
 
-/// Whether one call for all keys answers the same numbers, into as many entries.
-fn many_agree<P: Placing>(numbers: &Numbers<P>, keys: &[u64], many: &mut [usize]) -> bool {
-    if many.len() != keys.len() {
-        return false;
-    }
-    numbers.get_many(keys, many);
-    let mut agrees = true;
-    for (key, number) in keys.iter().zip(many.iter()) {
-        agrees &= numbers.get(key) == Some(*number);
-    }
-    agrees
-}
-
-/// Whether each key has its own number, by single calls.
-fn each_differs<P: Placing>(
-    alloc: Global,
-    numbers: &Numbers<P>,
-    keys: &[u64],
-) -> Result<bool, AllocError> {
-    let mut seen = vec![in alloc; false; keys.len()]?;
-    Ok(differ(numbers, keys, seen.as_mut_slice()))
-}
-
-/// Whether one call for all answers the same numbers.
-fn all_agree<P: Placing>(
-    alloc: Global,
-    numbers: &Numbers<P>,
-    keys: &[u64],
-) -> Result<bool, AllocError> {
-    let mut many = vec![in alloc; 0usize; keys.len()]?;
-    Ok(many_agree(numbers, keys, many.as_mut_slice()))
-}
-
-/// Whether each key has its own number, by single calls and by one call for all.
-fn agree<P: Placing>(
-    alloc: Global,
-    numbers: &Numbers<P>,
-    keys: &[u64],
-) -> Result<bool, AllocError> {
-    Ok(each_differs(alloc, numbers, keys)? && all_agree(alloc, numbers, keys)?)
-}
-
-/// A perfect hash of these keys; `None` where they are refused.
-fn built<P: Placing>(alloc: Global, placing: P, keys: &[u64], percent: u16) -> Option<Numbers<P>> {
-    match build_by(alloc, placing, Seeded { seed: 1 }, keys, percent) {
-        Ok(numbers) => Some(numbers),
-        Err(_) => None,
-    }
-}
-
-/// How many bytes a perfect hash takes, by which each of these keys has its own number.
-fn bytes_of<P: Placing + GetSize>(
-    alloc: Global,
-    numbers: &Numbers<P>,
-    keys: &[u64],
-) -> Result<usize, Fail> {
-    if agree(alloc, numbers, keys)? {
-        Ok(numbers.size_bytes_dyn())
-    } else {
-        Err("two keys have one number".into())
-    }
-}
-
-/// How many bytes the perfect hash of these keys takes, each of which has its own number below their count.
-fn are_numbered_by<P: Placing + GetSize>(
-    alloc: Global,
-    placing: P,
-    keys: &[u64],
-    percent: u16,
-) -> Result<usize, Fail> {
-    match built(alloc, placing, keys, percent) {
-        Some(numbers) => bytes_of(alloc, &numbers, keys),
-        None => Err("refused".into()),
-    }
-}
-
-/// Whether each of the given number of keys has its own number below their count, and how many bytes the perfect hash
-/// takes.
-fn are_numbered<P: Placing + GetSize>(
-    alloc: Global,
-    placing: P,
-    count: u64,
-    percent: u16,
-) -> Result<usize, Fail> {
-    let keys = keys_of(alloc, count)?;
-    are_numbered_by(alloc, placing, keys.as_slice(), percent)
-}
-
-/// The same with this number of seeds for each group of keys.
-fn are_grouped(alloc: Global, tries: u16, count: u64) -> Result<usize, Fail> {
-    are_numbered(alloc, Grouped::new(alloc, tries), count, 100)
-}
-
-#[test]
-fn keys_get_numbers_of_their_own(rt: HostRuntime) -> Result<(), Fail> {
-    for count in [0u64, 1, 2, 3, 64, 65, 1000, 5000] {
-        for percent in [0u16, 50, 100, 200] {
-            are_numbered(rt.alloc(), Plain, count, percent)?;
-        }
-    }
-    Ok(())
-}
-
-#[test]
-fn by_seeds_keys_get_numbers_of_their_own(rt: HostRuntime) -> Result<(), Fail> {
-    for count in [0u64, 1, 2, 64, 65, 5000] {
-        for tries in [0u16, 1, 16, 300] {
-            are_grouped(rt.alloc(), tries, count)?;
-        }
-    }
-    let bytes = are_grouped(rt.alloc(), 64, 9000)?;
-    // Under 2.4 bits a key.
-    assert!(rt; bytes < 9000 * 24 / 80);
-    Ok(())
-}
-
-/// Why keys are refused; `None` where they are not.
-fn refused_by<H: KeyHash<u64> + Drop, P: Placing>(
+/// How many bytes the perfect hash of these keys takes, each of which has its own number below their count; `None`
+/// where they are refused, or two of them have one number.
+fn numbered<H: KeyHash<u64> + Drop, P: Placing + GetSize>(
     alloc: Global,
     placing: P,
     hasher: H,
     keys: &[u64],
-) -> Option<BuildError> {
-    match build_by(alloc, placing, hasher, keys, 100) {
-        Ok(_) => None,
-        Err(refused) => Some(refused.error),
+    percent: u16,
+) -> Option<usize> {
+    match build_by(alloc, placing, hasher, keys, percent) {
+        Ok(numbers) => differ(&numbers, keys).then_some(numbers.size_bytes_dyn()),
+        Err(_) => None,
+    }
+}
+
+/// The same without seeds for each group of keys.
+fn are_numbered(alloc: Global, keys: &[u64], percent: u16) -> bool {
+    numbered(alloc, Plain, Seeded { seed: 1 }, keys, percent).is_some()
+}
+
+/// The same with this number of seeds for each group of keys.
+fn grouped(alloc: Global, keys: &[u64], tries: u16) -> Option<usize> {
+    let placing = Grouped::new(alloc, tries);
+    numbered(alloc, placing, Seeded { seed: 1 }, keys, 100)
+}
+
+#[test]
+fn keys_get_numbers_of_their_own(rt: HostRuntime) {
+    let keys = some_keys();
+    for count in [0usize, 1, 2, 3, 64, 65, 1000, 5000] {
+        for percent in [0u16, 50, 100, 200] {
+            assert!(rt; are_numbered(rt.alloc(), &keys[..count.min(MOST)], percent));
+        }
     }
 }
 
 #[test]
-fn by_seeds_equal_keys_collide(rt: HostRuntime) -> Result<(), Fail> {
+fn by_seeds_keys_get_numbers_of_their_own(rt: HostRuntime) {
+    let keys = some_keys();
+    for count in [0usize, 1, 2, 64, 65, 5000] {
+        for tries in [0u16, 1, 16, 300] {
+            assert!(rt; grouped(rt.alloc(), &keys[..count.min(MOST)], tries).is_some());
+        }
+    }
+    // Under 2.4 bits a key.
+    let bytes = grouped(rt.alloc(), keys.as_slice(), 64);
+    assert!(rt; bytes.unwrap_or(usize::MAX) < 9000 * 24 / 80);
+}
+
+/// Whether keys are refused for this reason.
+fn is_refused_by<H: KeyHash<u64> + Drop, P: Placing>(
+    alloc: Global,
+    placing: P,
+    hasher: H,
+    keys: &[u64],
+    error: BuildError,
+) -> bool {
+    match build_by(alloc, placing, hasher, keys, 100) {
+        Ok(_) => false,
+        Err(refused) => refused.error == error,
+    }
+}
+
+#[test]
+fn by_seeds_equal_keys_collide(rt: HostRuntime) {
     let placing = Grouped::new(rt.alloc(), 16);
-    let refused = refused_by(
-        rt.alloc(),
-        placing,
-        Seeded { seed: 1 },
-        [1u64, 2, 1].as_slice(),
-    );
-    assert!(rt; refused == Some(BuildError::KeysCollide(2)));
-    Ok(())
+    let (hasher, keys) = (Seeded { seed: 1 }, [1u64, 2, 1]);
+    let error = BuildError::KeysCollide(2);
+    assert!(rt; is_refused_by(rt.alloc(), placing, hasher, keys.as_slice(), error));
 }
 
 /// Gives all keys one hash.
@@ -186,28 +128,32 @@ impl KeyHash<u64> for Same {
     }
 }
 
-/// Why keys are refused without seeds; `None` where they are not.
-fn refused<H: KeyHash<u64> + Drop>(alloc: Global, hasher: H, keys: &[u64]) -> Option<BuildError> {
+/// Whether keys are refused for this reason without seeds.
+fn is_refused<H: KeyHash<u64> + Drop>(
+    alloc: Global,
+    hasher: H,
+    keys: &[u64],
+    error: BuildError,
+) -> bool {
     match build(alloc, hasher, keys, 100) {
-        Ok(_) => None,
-        Err(refused) => Some(refused.error),
+        Ok(_) => false,
+        Err(refused) => refused.error == error,
     }
 }
 
 #[test]
-fn equal_keys_and_bad_hashes_collide(rt: HostRuntime) -> Result<(), Fail> {
-    let twice = refused(rt.alloc(), Seeded { seed: 1 }, [1u64, 2, 1].as_slice());
-    assert!(rt; twice == Some(BuildError::KeysCollide(2)));
-    let same = refused(rt.alloc(), Same, [1u64, 2, 3].as_slice());
-    assert!(rt; same == Some(BuildError::KeysCollide(3)));
-    Ok(())
+fn equal_keys_and_bad_hashes_collide(rt: HostRuntime) {
+    let (twice, two) = ([1u64, 2, 1], BuildError::KeysCollide(2));
+    assert!(rt; is_refused(rt.alloc(), Seeded { seed: 1 }, twice.as_slice(), two));
+    let (keys, three) = ([1u64, 2, 3], BuildError::KeysCollide(3));
+    assert!(rt; is_refused(rt.alloc(), Same, keys.as_slice(), three));
 }
 
 /// Words of bytes.
 const WORDS: [&[u8]; 5] = [b"one", b"two", b"three", b"", b"four"];
 
 /// Whether the words have numbers of their own below their count, by calls that count.
-fn words_differ(numbers: &PerfectHash<SeededBytes, ArrayWithRank101111, Plain>) -> bool {
+fn words_differ<H: KeyHash<&'static [u8]>>(numbers: &Numbers<H, Plain>) -> bool {
     let mut seen = [false; 5];
     for key in WORDS {
         match numbers.get_counted(&key).0 {
@@ -218,74 +164,63 @@ fn words_differ(numbers: &PerfectHash<SeededBytes, ArrayWithRank101111, Plain>) 
     true
 }
 
-#[test]
-fn words_of_bytes_get_numbers_of_their_own(rt: HostRuntime) -> Result<(), Fail> {
-    match build(rt.alloc(), SeededBytes { seed: 1 }, WORDS.as_slice(), 100) {
-        Ok(numbers) => {
-            assert!(rt; words_differ(&numbers));
-            Ok(())
-        }
-        Err(_) => Err("refused".into()),
+/// Whether the words are taken, and have such numbers.
+fn words_are_numbered<H: KeyHash<&'static [u8]> + Drop>(alloc: Global, hasher: H) -> bool {
+    match build(alloc, hasher, WORDS.as_slice(), 100) {
+        Ok(numbers) => words_differ(&numbers),
+        Err(_) => false,
     }
 }
 
-/// Stops where a dictionary of these keys numbers them otherwise than their perfect hash, or finds a stranger.
-fn expect_found(rt: &impl Abort, found: &Found, numbers: &Numbers<Plain>, keys: &[u64]) {
+#[test]
+fn words_of_bytes_get_numbers_of_their_own(rt: HostRuntime) {
+    assert!(rt; words_are_numbered(rt.alloc(), SeededBytes { seed: 1 }));
+}
+
+/// Whether a dictionary of these keys numbers them as their perfect hash, and finds no stranger, and the bytes of the
+/// perfect hash are its levels' words, its two tables of an entry each, and its sizes.
+fn agree<H: KeyHash<u64>>(
+    found: &Dictionary<H, ArrayWithRank101111, Plain>,
+    numbers: &Numbers<H, Plain>,
+    keys: &[u64],
+) -> bool {
+    let words = numbers.index().content().len();
+    let mut agrees = numbers.size_bytes_dyn() == 8 * (words + 2 + numbers.levels());
     for key in keys {
-        assert!(rt; found.get(key) == numbers.get(key));
-        assert!(rt; found.get(key).is_some());
+        let number = numbers.get(key);
+        agrees &= are_equal(found.get(key), number) & !are_equal(number, None);
     }
     for stranger in 100..1100u64 {
-        assert!(rt; found.get(&stranger).is_none());
+        agrees &= are_equal(found.get(&stranger), None);
+    }
+    agrees
+}
+
+/// Whether a dictionary of these keys and a clone of its perfect hash do so.
+fn copy_agrees<H: KeyHash<u64> + Copy>(
+    alloc: Global,
+    found: &Dictionary<H, ArrayWithRank101111, Plain>,
+    keys: &[u64],
+) -> bool {
+    match found.numbers().try_clone(alloc) {
+        Ok(copy) => agree(found, &copy, keys),
+        Err(_) => false,
     }
 }
 
-/// Stops where the bytes of a perfect hash are not its levels' words, its two tables of an entry each, and its sizes.
-fn expect_bytes(rt: &impl Abort, numbers: &Numbers<Plain>) {
-    let words = numbers.index().content().len();
-    assert!(rt; numbers.size_bytes_dyn() == 8 * (words + 2 + numbers.levels()));
-}
-
-/// A perfect hash of these keys.
-fn numbers_of(alloc: Global, keys: &[u64]) -> Result<Numbers<Plain>, Fail> {
-    match build(alloc, Seeded { seed: 1 }, keys, 100) {
-        Ok(numbers) => Ok(numbers),
-        Err(_) => Err("refused".into()),
-    }
-}
-
-/// A clone of one.
-fn copy_of(alloc: Global, keys: &[u64]) -> Result<Numbers<Plain>, Fail> {
-    let numbers = numbers_of(alloc, keys)?;
-    Ok(numbers.try_clone(alloc)?)
-}
-
-/// A dictionary of them.
-fn found_of(alloc: Global, keys: &[u64]) -> Result<Found, Fail> {
-    let Ok(numbers) = build(alloc, Seeded { seed: 1 }, keys, 100) else {
-        return Err("refused".into());
+/// Whether a dictionary is made of these keys, and that holds of it.
+fn dictionary_agrees<H: KeyHash<u64> + Copy>(alloc: Global, hasher: H, keys: &[u64]) -> bool {
+    let Ok(numbers) = build(alloc, hasher, keys, 100) else {
+        return false;
     };
     match Dictionary::build(alloc, numbers, keys, 32) {
-        Ok(found) => Ok(found),
-        Err(_) => Err("no fingerprints".into()),
+        Ok(found) => copy_agrees(alloc, &found, keys),
+        Err(_) => false,
     }
-}
-
-/// Stops where a dictionary of these keys and this perfect hash of them do not agree.
-fn expect_dictionary(
-    rt: &(impl Abort + AllocGlobal),
-    numbers: &Numbers<Plain>,
-    keys: &[u64],
-) -> Result<(), Fail> {
-    let found = found_of(rt.alloc(), keys)?;
-    expect_found(rt, &found, numbers, keys);
-    Ok(())
 }
 
 #[test]
-fn a_dictionary_finds_its_keys_and_no_strangers(rt: HostRuntime) -> Result<(), Fail> {
+fn a_dictionary_finds_its_keys_and_no_strangers(rt: HostRuntime) {
     let keys = [3u64, 1, 4, 15, 9, 26, 5, 35];
-    let copy = copy_of(rt.alloc(), keys.as_slice())?;
-    expect_bytes(&rt, &copy);
-    expect_dictionary(&rt, &copy, keys.as_slice())
+    assert!(rt; dictionary_agrees(rt.alloc(), Seeded { seed: 1 }, keys.as_slice()));
 }

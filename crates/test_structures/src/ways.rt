@@ -1,9 +1,9 @@
 //! Ways up and down trees, compared with lists of parents, and answers worked by hand.
+use bitm::{Select0ForRank101111, SelectForRank101111};
 use louds::counted::{child_on, degree_on, is_leaf_on, next_sibling_on, parent_on};
-use louds::{BinaryLouds, LoudsError, are_parents};
+use louds::{BinaryLouds, Louds, LoudsError, are_parents};
 use std::alloc::Global;
 use std::process::Abort;
-use std::test::Fail;
 
 /// The parent of a node.
 fn parent_in(parents: &[usize], node: usize) -> Option<usize> {
@@ -33,53 +33,49 @@ fn lowest(parents: &[usize], one: usize, other: usize) -> usize {
     low
 }
 
-/// Whether what a tree says of two nodes is what the list of parents says.
-fn two_agree(tree: &BinaryLouds, parents: &[usize], one: usize, other: usize) -> bool {
-    if one >= tree.len() || other >= tree.len() {
-        return false;
-    }
-    let is_above = tree.is_ancestor(one, other) == steps(parents, other, one).is_some();
-    is_above && tree.lowest_common_ancestor(one, other) == lowest(parents, one, other)
+/// Whether two answers are the same.
+fn same(found: Option<usize>, wanted: Option<usize>) -> bool {
+    found == wanted
 }
 
-/// Whether what a tree says of one node is what the list of parents says.
-fn one_agrees(tree: &BinaryLouds, parents: &[usize], one: usize) -> bool {
+/// Whether what a tree says of one node, and of it and each of its nodes, is what the list of parents says.
+fn node_agrees<S: SelectForRank101111, S0: Select0ForRank101111>(
+    tree: &Louds<S, S0>,
+    parents: &[usize],
+    one: usize,
+) -> bool {
     if one >= tree.len() {
         return false;
     }
-    let is_below = tree.parent(one) == parent_in(parents, one);
-    is_below && Some(tree.depth(one)) == steps(parents, one, 0)
-}
-
-/// Whether what a tree says of one node and each of its nodes is what the list of parents says.
-fn all_agree(tree: &BinaryLouds, parents: &[usize], one: usize) -> bool {
-    let mut agrees = one_agrees(tree, parents, one);
+    let mut agrees = same(tree.parent(one), parent_in(parents, one));
+    agrees &= same(Some(tree.depth(one)), steps(parents, one, 0));
     for other in 0..tree.len() {
-        agrees &= two_agree(tree, parents, one, other);
+        agrees &= tree.is_ancestor(one, other) != same(steps(parents, other, one), None);
+        agrees &= tree.lowest_common_ancestor(one, other) == lowest(parents, one, other);
     }
     agrees
 }
 
-/// Whether what a tree says of each two of its nodes is what the list of parents says.
-fn agrees(tree: &BinaryLouds, parents: &[usize]) -> bool {
+/// Whether a list of parents is taken, and what the tree says of each two of its nodes is what the list says; `None`
+/// where they differ, or where it is not taken, though it should be.
+fn taken<S: SelectForRank101111, S0: Select0ForRank101111>(
+    built: &Result<Louds<S, S0>, LoudsError>,
+    parents: &[usize],
+) -> Option<bool> {
+    let Ok(tree) = built else {
+        let is_right = matches!(built, Err(LoudsError::NotATree)) && !are_parents(parents);
+        return is_right.then_some(false);
+    };
     let mut agrees = tree.len() == parents.len().saturating_add(1);
     for one in 0..tree.len() {
-        agrees &= all_agree(tree, parents, one);
+        agrees &= node_agrees(tree, parents, one);
     }
-    agrees
+    agrees.then_some(true)
 }
 
-/// The tree of a list of parents.
-fn tree_of(alloc: Global, parents: &[usize]) -> Result<BinaryLouds, LoudsError> {
-    BinaryLouds::from_parents(alloc, parents)
-}
-
-/// Whether a list of parents is taken, and the tree agrees with it; `None` where it is not taken, though it should be.
-fn taken(alloc: Global, parents: &[usize]) -> Option<bool> {
-    match tree_of(alloc, parents) {
-        Ok(tree) => agrees(&tree, parents).then_some(true),
-        Err(error) => (error == LoudsError::NotATree && !are_parents(parents)).then_some(false),
-    }
+/// The same of the tree of a list of parents.
+fn is_taken(alloc: Global, parents: &[usize]) -> Option<bool> {
+    taken(&BinaryLouds::from_parents(alloc, parents), parents)
 }
 
 /// The next list of parents in the order of a dictionary; `false` after the last one.
@@ -103,7 +99,7 @@ fn all_trees_of_nine_nodes_agree_with_their_parents(rt: HostRuntime) {
     let mut parents = [0usize; 8];
     let mut trees = 1u32;
     for _ in 0..2000 {
-        assert!(rt; taken(rt.alloc(), parents.as_slice()) == Some(true));
+        assert!(rt; is_taken(rt.alloc(), parents.as_slice()) == Some(true));
         if !go_on(&mut parents) {
             break;
         }
@@ -118,7 +114,7 @@ fn all_lists_of_four_parents_give_trees_or_none(rt: HostRuntime) {
     let mut trees = 0u32;
     for code in 0..4096usize {
         let parents = [code % 8, code / 8 % 8, code / 64 % 8, code / 512];
-        match taken(rt.alloc(), parents.as_slice()) {
+        match is_taken(rt.alloc(), parents.as_slice()) {
             Some(is_tree) => trees = trees.wrapping_add(is_tree as u32),
             None => panic!(&rt; "{code} does not agree"),
         }
@@ -129,9 +125,17 @@ fn all_lists_of_four_parents_give_trees_or_none(rt: HostRuntime) {
 /// Two nodes of a tree in which 0 has the children 1 2 3, 1 has 4 5, and 3 has 6; and the lowest node above both.
 const LOWEST: [(usize, usize, usize); 3] = [(4, 5, 1), (5, 6, 0), (3, 6, 3)];
 
-/// Whether the lowest nodes above two nodes are those by hand.
-fn lowest_are_by_hand(tree: &BinaryLouds) -> bool {
-    let mut agrees = true;
+/// Whether a tree's ways are those by hand.
+fn leads_as_by_hand<S: SelectForRank101111, S0: Select0ForRank101111>(tree: &Louds<S, S0>) -> bool {
+    if tree.len() != 7 {
+        return false;
+    }
+    let mut agrees = (tree.degree(0) == 3) & (tree.degree(3) == 1) & (tree.depth(6) == 2);
+    agrees &= tree.is_ancestor(3, 6) & !tree.is_ancestor(1, 6);
+    agrees &= same(tree.previous_sibling(5), Some(4));
+    agrees &= same(tree.previous_sibling(4), None) & same(tree.previous_sibling(0), None);
+    let below = tree.children_of_range(1..3);
+    agrees &= (below.start == 4) & (below.end == 6);
     for (one, other, low) in LOWEST {
         agrees &= one < tree.len() && other < tree.len();
         agrees = agrees && tree.lowest_common_ancestor(one, other) == low;
@@ -139,66 +143,35 @@ fn lowest_are_by_hand(tree: &BinaryLouds) -> bool {
     agrees
 }
 
-/// Whether a tree's other ways are those by hand.
-fn leads_as_by_hand(tree: &BinaryLouds) -> bool {
-    if tree.len() != 7 {
-        return false;
-    }
-    let mut agrees = tree.degree(0) == 3 && tree.degree(3) == 1 && tree.depth(6) == 2;
-    agrees &= tree.is_ancestor(3, 6) && !tree.is_ancestor(1, 6);
-    agrees &= tree.previous_sibling(5) == Some(4);
-    agrees &= tree.previous_sibling(4) == None && tree.previous_sibling(0) == None;
-    agrees
-}
-
-/// Whether the children of a range of its nodes are those by hand.
-fn range_is_by_hand(tree: &BinaryLouds) -> bool {
-    if tree.len() != 7 {
-        return false;
-    }
-    let below = tree.children_of_range(1..3);
-    below.start == 4 && below.end == 6
-}
-
-/// Whether a counted walk down the same tree is that by hand.
-fn counts_down_as_by_hand(tree: &BinaryLouds) -> bool {
+/// Whether counted walks down the same tree, and up it and across it, are those by hand.
+fn counts_as_by_hand<S: SelectForRank101111, S0: Select0ForRank101111>(
+    tree: &Louds<S, S0>,
+) -> bool {
     let len = tree.len();
     if len != 7 {
         return false;
     }
     let probe = &mut tree.probe();
-    let (degree, is_leaf) = (degree_on(probe, len, 1), is_leaf_on(probe, len, 2));
-    let child = child_on(probe, len, 3, 0);
-    degree == 2 && is_leaf && child == Some(6)
+    let mut agrees = (degree_on(probe, len, 1) == 2) & is_leaf_on(probe, len, 2);
+    agrees &= same(child_on(probe, len, 3, 0), Some(6));
+    agrees &= same(parent_on(probe, len, 5), Some(1));
+    agrees &= same(next_sibling_on(probe, len, 4), Some(5));
+    agrees & same(next_sibling_on(probe, len, 5), None)
 }
 
-/// Whether a counted walk up it and across it is that by hand.
-fn counts_up_as_by_hand(tree: &BinaryLouds) -> bool {
-    let len = tree.len();
-    if len != 7 {
-        return false;
+/// Whether parents are taken, and all ways of their tree are those by hand.
+fn is_by_hand<S: SelectForRank101111, S0: Select0ForRank101111>(
+    built: &Result<Louds<S, S0>, LoudsError>,
+) -> bool {
+    match built {
+        Ok(tree) => leads_as_by_hand(tree) & counts_as_by_hand(tree),
+        Err(_) => false,
     }
-    let probe = &mut tree.probe();
-    let parent = parent_on(probe, len, 5);
-    let (next, none) = (
-        next_sibling_on(probe, len, 4),
-        next_sibling_on(probe, len, 5),
-    );
-    parent == Some(1) && next == Some(5) && none == None
-}
-
-/// Whether all ways of the tree of these parents are those by hand.
-fn is_by_hand(alloc: Global, parents: &[usize]) -> bool {
-    let Ok(tree) = tree_of(alloc, parents) else {
-        return false;
-    };
-    let mut agrees = lowest_are_by_hand(&tree) && leads_as_by_hand(&tree);
-    agrees &= range_is_by_hand(&tree);
-    agrees && counts_down_as_by_hand(&tree) && counts_up_as_by_hand(&tree)
 }
 
 #[test]
-fn ways_are_those_worked_by_hand(rt: HostRuntime) -> Result<(), Fail> {
-    assert!(rt; is_by_hand(rt.alloc(), [0usize, 0, 0, 1, 1, 3].as_slice()));
-    Ok(())
+fn ways_are_those_worked_by_hand(rt: HostRuntime) {
+    let parents = [0usize, 0, 0, 1, 1, 3];
+    let agrees = is_by_hand(&BinaryLouds::from_parents(rt.alloc(), parents.as_slice()));
+    assert!(rt; agrees);
 }
