@@ -6,6 +6,47 @@ use std::time::CpuClock;
 #[derive(Clone, Copy)]
 pub(crate) struct Label<'a>(pub(crate) &'a str, pub(crate) &'a str);
 
+/// A batch of calls that is timed.
+pub(crate) trait Batch {
+    /// Makes the calls, and answers a sum of their answers. Not inlined, so that nothing but the calls is timed.
+    fn run(&self) -> usize;
+}
+
+/// Adds up the answers of a call for each query, or what is said of each answer.
+macro_rules! sum {
+    ($asked:expr, $it:ident => $call:expr) => {
+        sum!($asked, $it => $call, answer => answer as usize)
+    };
+    ($asked:expr, $it:ident => $call:expr, $answer:ident => $number:expr) => {{
+        let mut sum = 0usize;
+        for $it in $asked {
+            if let Some($answer) = $call {
+                sum = sum.wrapping_add($number);
+            }
+        }
+        sum
+    }};
+}
+
+/// The last answer, where each call waits for the one before.
+macro_rules! chain {
+    ($asked:expr, $it:ident => $call:expr) => {{
+        // Nothing is chained by a zero that the compiler knows.
+        let zero = $asked.len() >> 63;
+        let mut last = 0usize;
+        for it in $asked {
+            let $it = *it ^ (last & zero);
+            if let Some(answer) = $call {
+                last = answer;
+            }
+        }
+        last
+    }};
+}
+
+pub(crate) use chain;
+pub(crate) use sum;
+
 /// What rows are printed to and timed by.
 #[derive(Clone, Copy)]
 pub(crate) struct Bench<'a> {
@@ -77,75 +118,19 @@ impl<'a> Bench<'a> {
     }
 
     /// Times a batch of calls, and adds its row: the least of the rounds.
-    pub(crate) fn least<F: Fn() -> usize>(&mut self, label: Label<'a>, calls: usize, batch: F)
-        requires { F.IsAlwaysCallable batch }
-    {
+    pub(crate) fn least<B: Batch>(&mut self, label: Label<'a>, calls: usize, batch: &B) {
         let mut least = u64::MAX;
         let mut check = 0;
         for _ in 0..self.rounds {
             let begun = self.used();
-            check = batch();
+            check = batch.run();
             least = least.min(self.used().saturating_sub(begun));
         }
         self.add_time(label, least, calls, check);
-    }
-
-    /// Times a call for each query, and adds its row.
-    pub(crate) fn each<T: Copy, F: Fn(T) -> Option<usize>>(
-        &mut self,
-        label: Label<'a>,
-        asked: &[T],
-        call: F,
-    )
-        requires { F.IsAlwaysCallable call }
-    {
-        self.least(label, asked.len(), || sum(asked, &call));
-    }
-
-    /// The same, where each call waits for the answer before.
-    pub(crate) fn chained<F: Fn(usize) -> Option<usize>>(
-        &mut self,
-        label: Label<'a>,
-        asked: &[usize],
-        call: F,
-    )
-        requires { F.IsAlwaysCallable call }
-    {
-        self.least(label, asked.len(), || chain(asked, &call));
     }
 
     /// How often a batch is timed.
     pub(crate) fn rounds(&self) -> u32 {
         self.rounds
     }
-}
-
-/// Adds up the answers of a call for each query. Not inlined, so that nothing but the calls is timed.
-#[inline(never)]
-fn sum<T: Copy, F: Fn(T) -> Option<usize>>(asked: &[T], call: &F) -> usize
-    requires { F.IsAlwaysCallable call.now }
-{
-    let mut sum = 0usize;
-    for it in asked {
-        if let Some(answer) = call(*it) {
-            sum = sum.wrapping_add(answer);
-        }
-    }
-    sum
-}
-
-/// The last answer, where each call waits for the one before.
-#[inline(never)]
-fn chain<F: Fn(usize) -> Option<usize>>(asked: &[usize], call: &F) -> usize
-    requires { F.IsAlwaysCallable call.now }
-{
-    // Nothing is chained by a zero that the compiler knows.
-    let zero = asked.len() >> 63;
-    let mut last = 0usize;
-    for it in asked {
-        if let Some(answer) = call(*it ^ (last & zero)) {
-            last = answer;
-        }
-    }
-    last
 }

@@ -1,5 +1,5 @@
 //! Rows of perfect hashes: bits a key, and the time of a key to build, of a query, and of one of many.
-use crate::bench::{Bench, Label};
+use crate::bench::{Batch, Bench, Label, sum};
 use bitm::{ArrayWithRank101111, GetSize};
 use perfect_hash::{Grouped, PerfectHash, Placing, Plain, Seeded, build_by};
 use std::alloc::{AllocError, Global};
@@ -23,7 +23,6 @@ fn keys(alloc: Global, count: usize) -> Result<Vec<u64>, AllocError> {
 }
 
 /// Adds up the numbers of the keys, `AT_ONCE` of which one call looks up.
-#[inline(never)]
 fn sum_of_many<P: Placing>(made: &Hash<P>, keys: &[u64]) -> usize {
     let mut numbers = [0usize; AT_ONCE];
     let mut sum = 0usize;
@@ -39,6 +38,39 @@ fn sum_of_many<P: Placing>(made: &Hash<P>, keys: &[u64]) -> usize {
     sum
 }
 
+/// The keys to be looked up, one by one or many at once.
+#[derive(Drop)]
+struct LookUps<'a, P: Placing> {
+    made: &'a Hash<P>,
+    keys: &'a [u64],
+    many: bool,
+}
+
+impl<'a, P: Placing> Batch for LookUps<'a, P> {
+    #[inline(never)]
+    fn run(&self) -> usize {
+        if self.many {
+            sum_of_many(self.made, self.keys)
+        } else {
+            sum!(self.keys, key => self.made.get(key))
+        }
+    }
+}
+
+/// Adds the rows of what was made: its bits, and the time of a query, and of one of many.
+fn add_calls<'a, P: Placing + GetSize>(
+    bench: &mut Bench<'a>,
+    by: &'a str,
+    made: &Hash<P>,
+    keys: &[u64],
+) {
+    let bytes = made.size_bytes_dyn();
+    bench.add_space(Label("hash_space_a_key", by), bytes, keys.len());
+    for (name, many) in [("hash_get", false), ("hash_get_many", true)] {
+        bench.least(Label(name, by), keys.len(), &LookUps { made, keys, many });
+    }
+}
+
 /// Adds the rows of one form: what places the keys, and how many bits a level has for each hundred of them.
 fn add_form<'a, P: Placing + GetSize>(
     bench: &mut Bench<'a>,
@@ -48,31 +80,27 @@ fn add_form<'a, P: Placing + GetSize>(
     percent: u16,
 ) -> Result<(), AllocError> {
     let begun = bench.used();
-    let Ok(made) = build_by(bench.alloc(), placing, Seeded { seed: 1 }, keys, percent) else {
-        return Err(AllocError);
-    };
-    bench.add_since(begun, Label("hash_build_a_key", by), keys.len());
-    bench.add_space(
-        Label("hash_space_a_key", by),
-        made.size_bytes_dyn(),
-        keys.len(),
-    );
-    bench.each(Label("hash_get", by), keys, |key: u64| made.get(&key));
-    bench.least(
-        Label("hash_get_many", by),
-        keys.len(),
-        || sum_of_many(&made, keys),
-    );
-    Ok(())
+    match build_by(bench.alloc(), placing, Seeded { seed: 1 }, keys, percent) {
+        Ok(made) => {
+            bench.add_since(begun, Label("hash_build_a_key", by), keys.len());
+            add_calls(bench, by, &made, keys);
+            Ok(())
+        }
+        Err(_) => Err(AllocError),
+    }
 }
 
-/// Adds the rows of the given number of keys: with levels of as many bits as the keys that are left, of twice as many,
-/// and with seeds.
-pub(crate) fn add_rows(bench: &mut Bench<'_>, count: usize) -> Result<(), AllocError> {
-    let kept = keys(bench.alloc(), count)?;
-    let keys = kept.as_slice();
+/// Adds the rows of these keys: with levels of as many bits as the keys that are left, of twice as many, and with
+/// seeds.
+fn add_forms(bench: &mut Bench<'_>, keys: &[u64]) -> Result<(), AllocError> {
     add_form(bench, "100 per cent", Plain, keys, 100)?;
     add_form(bench, "200 per cent", Plain, keys, 200)?;
     let seeds = Grouped::new(bench.alloc(), 64);
     add_form(bench, "64 seeds", seeds, keys, 100)
+}
+
+/// Adds the rows of the given number of keys.
+pub(crate) fn add_rows(bench: &mut Bench<'_>, count: usize) -> Result<(), AllocError> {
+    let kept = keys(bench.alloc(), count)?;
+    add_forms(bench, kept.as_slice())
 }

@@ -2,7 +2,7 @@
 ghost use Rattle.bitm.specs.Bits.{IsShort};
 ghost use Rattle.bitm.specs.Simple.{HasFewOnes};
 
-use crate::bench::{Bench, Label};
+use crate::bench::{Batch, Bench, Label, chain, sum};
 use crate::many::add_many;
 use bitm::{
     AdaptiveCombinedSamplingDensity, CombinedSampling, GetSize, Rank, RankSelect101111, RankSimple,
@@ -21,6 +21,20 @@ pub(crate) struct Asked<'a> {
     pub(crate) zeros: &'a [usize],
 }
 
+/// Ranks of a simple index.
+#[derive(Drop)]
+struct SimpleRanks<'a> {
+    index: &'a RankSimple<&'a [u64]>,
+    places: &'a [usize],
+}
+
+impl<'a> Batch for SimpleRanks<'a> {
+    #[inline(never)]
+    fn run(&self) -> usize {
+        sum!(self.places, place => self.index.try_rank(*place))
+    }
+}
+
 /// Builds a simple index, and adds the rows of its ranks.
 pub(crate) fn add_simple(bench: &mut Bench<'_>, content: &[u64], places: &[usize])
     requires short { IsShort content.now }
@@ -29,17 +43,46 @@ pub(crate) fn add_simple(bench: &mut Bench<'_>, content: &[u64], places: &[usize
     let begun = bench.used();
     if let Ok((index, _ones)) = RankSimple::build(bench.alloc(), content) {
         bench.add_since(begun, Label("build_a_word", "simple"), content.len());
-        add_ranks(bench, &index, places);
+        let ranks = SimpleRanks {
+            index: &index,
+            places,
+        };
+        bench.least(Label("rank", "simple"), places.len(), &ranks);
     }
 }
 
-/// Adds the row of ranks of a simple index.
-fn add_ranks(bench: &mut Bench<'_>, index: &RankSimple<&[u64]>, places: &[usize]) {
-    bench.each(
-        Label("rank", "simple"),
-        places,
-        |place| Some(index.try_rank(place)? as usize),
-    );
+/// A call of an index, whose queries wait for one another or do not.
+#[derive(Clone, Copy)]
+enum Call {
+    Rank,
+    RankChained,
+    Select,
+    SelectChained,
+    Select0,
+    Select0Chained,
+}
+
+/// Calls of an index.
+#[derive(Drop)]
+struct Calls<'a, 'c, S: SelectForRank101111, S0: Select0ForRank101111> {
+    call: Call,
+    index: &'a RankSelect101111<S, S0, &'c [u64]>,
+    asked: &'a [usize],
+}
+
+impl<'a, 'c, S: SelectForRank101111, S0: Select0ForRank101111> Batch for Calls<'a, 'c, S, S0> {
+    #[inline(never)]
+    fn run(&self) -> usize {
+        let (index, asked) = (self.index, self.asked);
+        match self.call {
+            Call::Rank => sum!(asked, place => index.try_rank(*place)),
+            Call::RankChained => chain!(asked, place => index.try_rank(place)),
+            Call::Select => sum!(asked, rank => index.try_select(*rank)),
+            Call::SelectChained => chain!(asked, rank => index.try_select(rank)),
+            Call::Select0 => sum!(asked, rank => index.try_select0(*rank)),
+            Call::Select0Chained => chain!(asked, rank => index.try_select0(rank)),
+        }
+    }
 }
 
 /// Adds the rows of an index's size, of ranks and of selections, single and chained.
@@ -49,49 +92,24 @@ fn add_calls<'a, S: SelectForRank101111 + GetSize, S0: Select0ForRank101111 + Ge
     index: &RankSelect101111<S, S0, &[u64]>,
     asked: Asked<'_>,
 ) {
-    let words = index.content().len();
     let entries = index.l1ranks().len().saturating_add(index.l2ranks().len());
-    bench.add_space(Label("space_tables", by), entries.saturating_mul(8), words);
-    bench.add_space(
-        Label("space_ones", by),
-        index.select_support().size_bytes_dyn(),
-        words,
-    );
-    bench.add_space(
-        Label("space_zeros", by),
-        index.select0_support().size_bytes_dyn(),
-        words,
-    );
-    bench.each(
-        Label("rank", by),
-        asked.places,
-        |place| index.try_rank(place),
-    );
-    bench.chained(
-        Label("rank_chained", by),
-        asked.places,
-        |place| index.try_rank(place),
-    );
-    bench.each(
-        Label("select", by),
-        asked.ones,
-        |rank| index.try_select(rank),
-    );
-    bench.chained(
-        Label("select_chained", by),
-        asked.ones,
-        |rank| index.try_select(rank),
-    );
-    bench.each(
-        Label("select0", by),
-        asked.zeros,
-        |rank| index.try_select0(rank),
-    );
-    bench.chained(
-        Label("select0_chained", by),
-        asked.zeros,
-        |rank| index.try_select0(rank),
-    );
+    for (name, bytes) in [
+        ("space_tables", entries.saturating_mul(8)),
+        ("space_ones", index.select_support().size_bytes_dyn()),
+        ("space_zeros", index.select0_support().size_bytes_dyn()),
+    ] {
+        bench.add_space(Label(name, by), bytes, index.content().len());
+    }
+    for (name, call, asked) in [
+        ("rank", Call::Rank, asked.places),
+        ("rank_chained", Call::RankChained, asked.places),
+        ("select", Call::Select, asked.ones),
+        ("select_chained", Call::SelectChained, asked.ones),
+        ("select0", Call::Select0, asked.zeros),
+        ("select0_chained", Call::Select0Chained, asked.zeros),
+    ] {
+        bench.least(Label(name, by), asked.len(), &Calls { call, index, asked });
+    }
 }
 
 /// Builds an index and adds its rows.
@@ -104,15 +122,16 @@ pub(crate) fn add_rows<'a, S: SelectForRank101111 + GetSize, S0: Select0ForRank1
     requires { IsShort content.now }
 {
     let begun = bench.used();
-    let built = RankSelect101111::<S, S0, &[u64]>::build(bench.alloc(), content);
-    let Ok((index, _ones)) = built else {
-        return Err(AllocError);
-    };
-    bench.add_since(begun, Label("build_a_word", by), content.len());
-    add_calls(bench, by, &index, asked);
-    // Calls for many queries at once use no strategy.
-    if by == "binary" {
-        add_many(bench, &index, asked)?;
+    match RankSelect101111::<S, S0, &[u64]>::build(bench.alloc(), content) {
+        Ok((index, _ones)) => {
+            bench.add_since(begun, Label("build_a_word", by), content.len());
+            add_calls(bench, by, &index, asked);
+            // Calls for many queries at once use no strategy.
+            if by == "binary" {
+                return add_many(bench, &index, asked);
+            }
+            Ok(())
+        }
+        Err(_) => Err(AllocError),
     }
-    Ok(())
 }

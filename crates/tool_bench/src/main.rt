@@ -15,6 +15,7 @@
 //! many were wrong. With other arguments the program prints its usage.
 #![tactic(auto)]
 
+ghost use Rattle.bitm.specs.Bits.{IsShort};
 ghost use Rattle.std.specs.Prelude.{◌<◌};
 
 // What is in each file:
@@ -67,6 +68,42 @@ fn add_numbers(bench: &mut Bench<'_>, count: usize, width: u8) -> Result<(), All
     Ok(())
 }
 
+/// The queries of a bit vector.
+#[derive(Drop)]
+struct Drawn {
+    places: Vec<usize>,
+    zeros: Vec<usize>,
+    ones: Vec<usize>,
+}
+
+/// Draws the queries of this many bits, with this many 1 bits.
+fn draw_queries(alloc: Global, bits: usize, ones: usize) -> Result<Drawn, AllocError> {
+    let places = queries(alloc, bits)?;
+    let zeros = queries(alloc, bits.saturating_sub(ones))?;
+    Ok(Drawn {
+        places,
+        zeros,
+        ones: queries(alloc, ones)?,
+    })
+}
+
+/// Adds the rows of words and indexes over a bit vector, with these queries.
+fn add_calls(bench: &mut Bench<'_>, content: &[u64], drawn: &Drawn) -> Result<(), AllocError>
+    requires { IsShort content.now }
+{
+    let asked = Asked {
+        places: drawn.places.as_slice(),
+        ones: drawn.ones.as_slice(),
+        zeros: drawn.zeros.as_slice(),
+    };
+    words::add_rows(bench, content, asked.places);
+    if bitm::words::count_bit_ones(content) < 1 << 32 {
+        index::add_simple(bench, content, asked.places);
+    }
+    index::add_rows::<BinaryRankSearch, BinaryRankSearch>(bench, "binary", content, asked)?;
+    index::add_rows::<Sampled, Sampled>(bench, "sampled", content, asked)
+}
+
 /// Adds the rows of words and indexes over a bit vector.
 fn add_content(bench: &mut Bench<'_>, kind: Kind, len: usize) -> Result<(), AllocError> {
     let kept = content(bench.alloc(), kind, len)?;
@@ -75,21 +112,8 @@ fn add_content(bench: &mut Bench<'_>, kind: Kind, len: usize) -> Result<(), Allo
         return Ok(());
     }
     let ones = bitm::words::count_bit_ones(content);
-    let bits = content.len() * 64;
-    let places = queries(bench.alloc(), bits)?;
-    let of_zeros = queries(bench.alloc(), bits.saturating_sub(ones))?;
-    let of_ones = queries(bench.alloc(), ones)?;
-    let asked = Asked {
-        places: places.as_slice(),
-        ones: of_ones.as_slice(),
-        zeros: of_zeros.as_slice(),
-    };
-    words::add_rows(bench, content, asked.places);
-    if ones < 1 << 32 {
-        index::add_simple(bench, content, asked.places);
-    }
-    index::add_rows::<BinaryRankSearch, BinaryRankSearch>(bench, "binary", content, asked)?;
-    index::add_rows::<Sampled, Sampled>(bench, "sampled", content, asked)
+    let drawn = draw_queries(bench.alloc(), content.len() * 64, ones)?;
+    add_calls(bench, content, &drawn)
 }
 
 /// Adds the rows of a bit vector of 2^log2 bits, and, for the kind `even`, of sequences, trees and numbers of its size.

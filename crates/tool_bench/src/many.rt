@@ -88,26 +88,12 @@ pub(crate) fn add_many<S: SelectForRank101111, S0: Select0ForRank101111>(
 ) -> Result<(), AllocError> {
     let mut kept = Vec::from_slice(bench.alloc(), asked.places)?;
     let answers = kept.as_mut_slice();
-    add_call(
-        bench,
-        ("rank_many", Call::Rank),
-        index,
-        asked.places,
-        answers,
-    );
-    add_call(
-        bench,
-        ("select_many", Call::Select),
-        index,
-        asked.ones,
-        answers,
-    );
-    add_call(
-        bench,
-        ("select0_many", Call::Select0),
-        index,
-        asked.zeros,
-        answers,
-    );
+    for (name, call, queries) in [
+        ("rank_many", Call::Rank, asked.places),
+        ("select_many", Call::Select, asked.ones),
+        ("select0_many", Call::Select0, asked.zeros),
+    ] {
+        add_call(bench, (name, call), index, queries, answers);
+    }
     Ok(())
 }

@@ -2,7 +2,7 @@
 //! and by binary search, and of compact matrices, by samples.
 ghost use Rattle.std.specs.Prelude.{◌^◌, ◌<◌, ◌≤◌, All, length};
 
-use crate::bench::{Bench, Label};
+use crate::bench::{Batch, Bench, Label, sum};
 use crate::content::{draw, queries};
 use bitm::{GetSize, Select0ForRank101111, SelectForRank101111};
 use std::alloc::{AllocError, Global};
@@ -42,73 +42,77 @@ pub(crate) fn numbers(alloc: Global, count: usize, width: u8) -> Result<Vec<u64>
 /// A number, with an index before which it is counted or with the rank among equal numbers that is sought.
 type Pair = (u64, usize);
 
-/// Pairs each index with the number at another index.
-fn ranked<S: SelectForRank101111, S0: Select0ForRank101111>(
+/// A call of a matrix.
+#[derive(Clone, Copy)]
+enum Call {
+    Get,
+    Rank,
+    Select,
+}
+
+/// Pairs each index with the number at another index, or the number there with how many equal numbers come before.
+fn pairs<S: SelectForRank101111, S0: Select0ForRank101111>(
     alloc: Global,
     matrix: &WaveletMatrix<S, S0>,
     places: &[usize],
+    selected: bool,
 ) -> Result<Vec<Pair>, AllocError> {
-    let mut ranked = Vec::with_capacity(alloc, places.len())?;
+    let mut pairs = Vec::with_capacity(alloc, places.len())?;
     for place in places {
-        let other = place.wrapping_add(1) % matrix.len().max(1);
-        ranked.push((matrix.try_get(other).unwrap_or(0), *place))?;
+        let pair = if selected {
+            let number = matrix.try_get(*place).unwrap_or(0);
+            (number, matrix.try_rank(number, *place).unwrap_or(0))
+        } else {
+            let other = place.wrapping_add(1) % matrix.len().max(1);
+            (matrix.try_get(other).unwrap_or(0), *place)
+        };
+        pairs.push(pair)?;
     }
-    Ok(ranked)
+    Ok(pairs)
 }
 
-/// Pairs the number at each index with how many equal numbers come before.
-fn selected<S: SelectForRank101111, S0: Select0ForRank101111>(
-    alloc: Global,
-    matrix: &WaveletMatrix<S, S0>,
-    places: &[usize],
-) -> Result<Vec<Pair>, AllocError> {
-    let mut selected = Vec::with_capacity(alloc, places.len())?;
-    for place in places {
-        let number = matrix.try_get(*place).unwrap_or(0);
-        selected.push((number, matrix.try_rank(number, *place).unwrap_or(0)))?;
+/// Calls of a matrix: numbers are got from places, and ranked and selected by pairs.
+#[derive(Drop)]
+struct Calls<'a, S: SelectForRank101111, S0: Select0ForRank101111> {
+    call: Call,
+    matrix: &'a WaveletMatrix<S, S0>,
+    places: &'a [usize],
+    pairs: &'a [Pair],
+}
+
+impl<'a, S: SelectForRank101111, S0: Select0ForRank101111> Batch for Calls<'a, S, S0> {
+    #[inline(never)]
+    fn run(&self) -> usize {
+        let matrix = self.matrix;
+        match self.call {
+            Call::Get => sum!(self.places, place => matrix.try_get(*place)),
+            Call::Rank => sum!(self.pairs, it => matrix.try_rank(it.0, it.1)),
+            Call::Select => sum!(self.pairs, it => matrix.try_select(it.0, it.1)),
+        }
     }
-    Ok(selected)
 }
 
-/// Adds the row of numbers by their indices.
-fn add_get<'a, S: SelectForRank101111, S0: Select0ForRank101111>(
+/// Adds the row of a call.
+fn add_call<'a, S: SelectForRank101111, S0: Select0ForRank101111>(
     bench: &mut Bench<'a>,
     label: Label<'a>,
     matrix: &WaveletMatrix<S, S0>,
     places: &[usize],
-) {
-    bench.each(label, places, |place| Some(matrix.try_get(place)? as usize));
-}
-
-/// Adds the row of ranks.
-fn add_rank<'a, S: SelectForRank101111, S0: Select0ForRank101111>(
-    bench: &mut Bench<'a>,
-    label: Label<'a>,
-    matrix: &WaveletMatrix<S, S0>,
-    places: &[usize],
+    call: Call,
 ) -> Result<(), AllocError> {
-    let ranked = ranked(bench.alloc(), matrix, places)?;
-    bench.each(
-        label,
-        ranked.as_slice(),
-        |it: Pair| matrix.try_rank(it.0, it.1),
-    );
-    Ok(())
-}
-
-/// Adds the row of selections.
-fn add_select<'a, S: SelectForRank101111, S0: Select0ForRank101111>(
-    bench: &mut Bench<'a>,
-    label: Label<'a>,
-    matrix: &WaveletMatrix<S, S0>,
-    places: &[usize],
-) -> Result<(), AllocError> {
-    let selected = selected(bench.alloc(), matrix, places)?;
-    bench.each(
-        label,
-        selected.as_slice(),
-        |it: Pair| matrix.try_select(it.0, it.1),
-    );
+    let asked = if matches!(call, Call::Get) {
+        &places[..0]
+    } else {
+        places
+    };
+    let kept = pairs(bench.alloc(), matrix, asked, matches!(call, Call::Select))?;
+    let calls = Calls {
+        call,
+        matrix,
+        places,
+        pairs: kept.as_slice(),
+    };
+    bench.least(label, places.len(), &calls);
     Ok(())
 }
 
@@ -147,7 +151,9 @@ fn add_calls<'a, S: SelectForRank101111, S0: Select0ForRank101111>(
     matrix: &WaveletMatrix<S, S0>,
 ) -> Result<(), AllocError> {
     let places = queries(bench.alloc(), matrix.len())?;
-    add_get(bench, get, matrix, places.as_slice());
-    add_rank(bench, rank, matrix, places.as_slice())?;
-    add_select(bench, select, matrix, places.as_slice())
+    let places = places.as_slice();
+    for (name, call) in [(get, Call::Get), (rank, Call::Rank), (select, Call::Select)] {
+        add_call(bench, name, matrix, places, call)?;
+    }
+    Ok(())
 }

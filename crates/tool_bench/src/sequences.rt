@@ -1,5 +1,5 @@
 //! Rows of sequences: access, successor and going in order, by samples, by binary search and in a sorted array.
-use crate::bench::{Bench, Label};
+use crate::bench::{Batch, Bench, Label, sum};
 use crate::content::{draw, queries};
 use crate::index::Sampled;
 use bitm::{BinaryRankSearch, Select0ForRank101111, SelectForRank101111};
@@ -16,16 +16,6 @@ fn numbers(alloc: Global, count: usize) -> Result<Vec<u64>, AllocError> {
         numbers.push(last)?;
     }
     Ok(numbers)
-}
-
-/// Adds up all numbers.
-#[inline(never)]
-fn in_order<S: SelectForRank101111, S0: Select0ForRank101111>(sequence: &Sequence<S, S0>) -> usize {
-    let mut sum = 0usize;
-    for number in sequence.iter() {
-        sum = sum.wrapping_add(number as usize);
-    }
-    sum
 }
 
 /// The index of the first of rising numbers that is at least the value, by binary search.
@@ -75,17 +65,47 @@ fn add_sequence<'a, S: SelectForRank101111, S0: Select0ForRank101111>(
     list: &[u64],
     asked: &Asked,
 ) -> Result<(), AllocError> {
-    let Ok(sequence) = Sequence::<S, S0>::build(bench.alloc(), list) else {
-        return Err(AllocError);
-    };
-    add_calls(
-        bench,
-        by,
-        &sequence,
-        asked.places.as_slice(),
-        asked.values.as_slice(),
-    );
-    Ok(())
+    match Sequence::<S, S0>::build(bench.alloc(), list) {
+        Ok(sequence) => {
+            add_calls(
+                bench,
+                by,
+                &sequence,
+                asked.places.as_slice(),
+                asked.values.as_slice(),
+            );
+            Ok(())
+        }
+        Err(_) => Err(AllocError),
+    }
+}
+
+/// A call of a sequence.
+#[derive(Clone, Copy)]
+enum Call {
+    Get,
+    FirstAtLeast,
+    InOrder,
+}
+
+/// Calls of a sequence.
+#[derive(Drop)]
+struct Calls<'a, S: SelectForRank101111, S0: Select0ForRank101111> {
+    call: Call,
+    sequence: &'a Sequence<S, S0>,
+    asked: &'a [usize],
+}
+
+impl<'a, S: SelectForRank101111, S0: Select0ForRank101111> Batch for Calls<'a, S, S0> {
+    #[inline(never)]
+    fn run(&self) -> usize {
+        let (sequence, asked) = (self.sequence, self.asked);
+        match self.call {
+            Call::Get => sum!(asked, place => sequence.try_get(*place)),
+            Call::FirstAtLeast => sum!(asked, value => sequence.first_at_least(*value as u64)),
+            Call::InOrder => sum!(sequence.iter(), number => Some(number)),
+        }
+    }
 }
 
 /// Adds the rows of a sequence.
@@ -96,39 +116,57 @@ fn add_calls<'a, S: SelectForRank101111, S0: Select0ForRank101111>(
     places: &[usize],
     values: &[usize],
 ) {
-    bench.each(
-        Label("sequence_get", by),
-        places,
-        |place| Some(sequence.try_get(place)? as usize),
-    );
-    bench.each(
-        Label("sequence_first_at_least", by),
-        values,
-        |value| sequence.first_at_least(value as u64),
-    );
-    bench.least(
-        Label("sequence_in_order", by),
-        sequence.len(),
-        || in_order(sequence),
-    );
+    for (name, call, asked, calls) in [
+        ("sequence_get", Call::Get, places, places.len()),
+        (
+            "sequence_first_at_least",
+            Call::FirstAtLeast,
+            values,
+            values.len(),
+        ),
+        ("sequence_in_order", Call::InOrder, values, sequence.len()),
+    ] {
+        let batch = Calls {
+            call,
+            sequence,
+            asked,
+        };
+        bench.least(Label(name, by), calls, &batch);
+    }
+}
+
+/// Searches in a sorted array.
+#[derive(Drop)]
+struct Searches<'a> {
+    list: &'a [u64],
+    values: &'a [usize],
+}
+
+impl<'a> Batch for Searches<'a> {
+    #[inline(never)]
+    fn run(&self) -> usize {
+        sum!(self.values, value => Some(halves(self.list, *value as u64)))
+    }
 }
 
 /// Adds the row of a sorted array.
 fn add_array(bench: &mut Bench<'_>, list: &[u64], values: &[usize]) {
-    bench.each(
-        Label("sequence_first_at_least", "sorted array"),
-        values,
-        |value| Some(halves(list, value as u64)),
-    );
+    let label = Label("sequence_first_at_least", "sorted array");
+    bench.least(label, values.len(), &Searches { list, values });
+}
+
+/// Adds the rows of these numbers and queries.
+fn add_all(bench: &mut Bench<'_>, list: &[u64], asked: &Asked) -> Result<(), AllocError> {
+    add_array(bench, list, asked.values.as_slice());
+    add_sequence::<Sampled, Sampled>(bench, "sampled", list, asked)?;
+    add_sequence::<BinaryRankSearch, BinaryRankSearch>(bench, "binary", list, asked)
 }
 
 /// Adds the rows of `count` numbers.
 pub(crate) fn add_rows(bench: &mut Bench<'_>, count: usize) -> Result<(), AllocError> {
     let drawn = numbers(bench.alloc(), count)?;
     let list = drawn.as_slice();
-    let last = list.last().map_or(0, |last| *last as usize);
+    let last = list.last().copied().unwrap_or(0) as usize;
     let asked = draw_asked(bench.alloc(), list.len(), last)?;
-    add_array(bench, list, asked.values.as_slice());
-    add_sequence::<Sampled, Sampled>(bench, "sampled", list, &asked)?;
-    add_sequence::<BinaryRankSearch, BinaryRankSearch>(bench, "binary", list, &asked)
+    add_all(bench, list, &asked)
 }

@@ -3,7 +3,7 @@
 ghost use Rattle.std.specs.Prelude.{All, IfOk};
 ghost use Rattle.louds.specs.Node.{IsNode};
 
-use crate::bench::{Bench, Label};
+use crate::bench::{Batch, Bench, Label, sum};
 use crate::content::{draw, queries};
 use bitm::{GetSize, Select0ForRank101111, SelectForRank101111};
 use louds::{BinaryLouds, Louds, Node, SampledLouds};
@@ -25,6 +25,41 @@ pub(crate) fn degrees(alloc: Global, count: usize) -> Result<Vec<usize>, AllocEr
     Ok(degrees)
 }
 
+/// A call of a tree.
+#[derive(Clone, Copy)]
+enum Call {
+    Parent,
+    Child,
+    Degree,
+}
+
+/// Calls of a tree, by the numbers of nodes.
+#[derive(Drop)]
+struct Calls<'a, S: SelectForRank101111, S0: Select0ForRank101111> {
+    call: Call,
+    tree: &'a Louds<S, S0>,
+    nodes: &'a [usize],
+}
+
+impl<'a, S: SelectForRank101111, S0: Select0ForRank101111> Batch for Calls<'a, S, S0> {
+    #[inline(never)]
+    fn run(&self) -> usize {
+        let (tree, nodes) = (self.tree, self.nodes);
+        let len = tree.len();
+        match self.call {
+            Call::Parent => {
+                sum!(nodes, node => if *node < len { tree.parent(*node) } else { None })
+            }
+            Call::Child => {
+                sum!(nodes, node => if *node < len { tree.child(*node, 0) } else { None })
+            }
+            Call::Degree => {
+                sum!(nodes, node => if *node < len { Some(tree.degree(*node)) } else { None })
+            }
+        }
+    }
+}
+
 /// Adds the rows of a tree.
 fn add_tree<'a, S: SelectForRank101111 + GetSize, S0: Select0ForRank101111 + GetSize>(
     bench: &mut Bench<'a>,
@@ -33,27 +68,13 @@ fn add_tree<'a, S: SelectForRank101111 + GetSize, S0: Select0ForRank101111 + Get
     nodes: &[usize],
 ) {
     bench.add_space(Label("tree_space", by), tree.size_bytes_dyn(), tree.len());
-    bench.each(Label("tree_parent", by), nodes, |node| {
-        if node < tree.len() {
-            tree.parent(node)
-        } else {
-            None
-        }
-    });
-    bench.each(Label("tree_child", by), nodes, |node| {
-        if node < tree.len() {
-            tree.child(node, 0)
-        } else {
-            None
-        }
-    });
-    bench.each(Label("tree_degree", by), nodes, |node| {
-        if node < tree.len() {
-            Some(tree.degree(node))
-        } else {
-            None
-        }
-    });
+    for (name, call) in [
+        ("tree_parent", Call::Parent),
+        ("tree_child", Call::Child),
+        ("tree_degree", Call::Degree),
+    ] {
+        bench.least(Label(name, by), nodes.len(), &Calls { call, tree, nodes });
+    }
 }
 
 /// The nodes of these numbers, with their positions.
@@ -85,41 +106,35 @@ fn child_of(tree: &SampledLouds, node: Node) -> Option<Node>
     tree.first_child_of(node)
 }
 
-/// Adds up the parents of nodes.
-fn sum_of_parents(tree: &SampledLouds, nodes: &[Node]) -> usize
+/// Adds up the parents, the first children or the degrees of nodes that carry their positions.
+fn walk(call: Call, tree: &SampledLouds, nodes: &[Node]) -> usize
     requires { All (λ n. IsNode tree.now.degrees n) nodes.now }
 {
-    let mut sum = 0usize;
-    for node in nodes {
-        if let Some(parent) = parent_of(tree, *node) {
-            sum = sum.wrapping_add(parent.number());
-        }
+    match call {
+        Call::Parent => sum!(nodes, node => parent_of(tree, *node), found => found.number()),
+        Call::Child => sum!(nodes, node => child_of(tree, *node), found => found.number()),
+        Call::Degree => sum!(nodes, node => Some(tree.degree_of(*node))),
     }
-    sum
 }
 
-/// Adds up the first children of nodes.
-fn sum_of_children(tree: &SampledLouds, nodes: &[Node]) -> usize
+/// Times one of these walks, and adds its row.
+fn add_walk(
+    bench: &mut Bench<'_>,
+    name: &'static str,
+    call: Call,
+    tree: &SampledLouds,
+    nodes: &[Node],
+)
     requires { All (λ n. IsNode tree.now.degrees n) nodes.now }
 {
-    let mut sum = 0usize;
-    for node in nodes {
-        if let Some(child) = child_of(tree, *node) {
-            sum = sum.wrapping_add(child.number());
-        }
+    let mut least = u64::MAX;
+    let mut check = 0;
+    for _ in 0..bench.rounds() {
+        let begun = bench.used();
+        check = walk(call, tree, nodes);
+        least = least.min(bench.used().saturating_sub(begun));
     }
-    sum
-}
-
-/// Adds up the degrees of nodes.
-fn sum_of_degrees(tree: &SampledLouds, nodes: &[Node]) -> usize
-    requires { All (λ n. IsNode tree.now.degrees n) nodes.now }
-{
-    let mut sum = 0usize;
-    for node in nodes {
-        sum = sum.wrapping_add(tree.degree_of(*node));
-    }
-    sum
+    bench.add_time(Label(name, "sampled"), least, nodes.len(), check);
 }
 
 /// Adds the rows of nodes that carry their positions.
@@ -129,13 +144,27 @@ fn add_walks(
     numbers: &[usize],
 ) -> Result<(), AllocError> {
     let kept = nodes_of(bench.alloc(), tree, numbers)?;
-    let nodes = kept.as_slice();
-    let label = Label("tree_parent_of_node", "sampled");
-    bench.least(label, nodes.len(), || sum_of_parents(tree, nodes));
-    let label = Label("tree_child_of_node", "sampled");
-    bench.least(label, nodes.len(), || sum_of_children(tree, nodes));
-    let label = Label("tree_degree_of_node", "sampled");
-    bench.least(label, nodes.len(), || sum_of_degrees(tree, nodes));
+    for (name, call) in [
+        ("tree_parent_of_node", Call::Parent),
+        ("tree_child_of_node", Call::Child),
+        ("tree_degree_of_node", Call::Degree),
+    ] {
+        add_walk(bench, name, call, tree, kept.as_slice());
+    }
+    Ok(())
+}
+
+/// Adds the rows of a tree of these degrees.
+fn add_trees(bench: &mut Bench<'_>, degrees: &[usize], nodes: &[usize]) -> Result<(), AllocError> {
+    let begun = bench.used();
+    if let Ok(sampled) = SampledLouds::build(bench.alloc(), degrees) {
+        bench.add_since(begun, Label("tree_build", "sampled"), degrees.len());
+        add_tree(bench, "sampled", &sampled, nodes);
+        add_walks(bench, &sampled, nodes)?;
+    }
+    if let Ok(binary) = BinaryLouds::build(bench.alloc(), degrees) {
+        add_tree(bench, "binary", &binary, nodes);
+    }
     Ok(())
 }
 
@@ -143,14 +172,5 @@ fn add_walks(
 pub(crate) fn add_rows(bench: &mut Bench<'_>, count: usize) -> Result<(), AllocError> {
     let drawn = degrees(bench.alloc(), count)?;
     let nodes = queries(bench.alloc(), count)?;
-    let begun = bench.used();
-    if let Ok(sampled) = SampledLouds::build(bench.alloc(), drawn.as_slice()) {
-        bench.add_since(begun, Label("tree_build", "sampled"), count);
-        add_tree(bench, "sampled", &sampled, nodes.as_slice());
-        add_walks(bench, &sampled, nodes.as_slice())?;
-    }
-    if let Ok(binary) = BinaryLouds::build(bench.alloc(), drawn.as_slice()) {
-        add_tree(bench, "binary", &binary, nodes.as_slice());
-    }
-    Ok(())
+    add_trees(bench, drawn.as_slice(), nodes.as_slice())
 }

@@ -1,7 +1,5 @@
 //! Rows of calls over words alone.
-ghost use Rattle.bitm.specs.Bits.{IsShort};
-
-use crate::bench::{Bench, Label};
+use crate::bench::{Batch, Bench, Label, sum};
 use bitm::{select64, words};
 
 /// The position of the 1 bit of a word with this rank, 0 where it has none.
@@ -33,35 +31,55 @@ fn scanned_rank(content: &[u64], place: usize) -> Option<usize> {
     Some(ones)
 }
 
+/// A call over words.
+#[derive(Clone, Copy)]
+enum Call {
+    Bit,
+    Bits,
+    Ones,
+    Scan,
+    Select,
+}
+
+/// Calls over words.
+#[derive(Drop)]
+struct Calls<'a> {
+    call: Call,
+    content: &'a [u64],
+    places: &'a [usize],
+}
+
+impl<'a> Batch for Calls<'a> {
+    #[inline(never)]
+    fn run(&self) -> usize {
+        let (content, places) = (self.content, self.places);
+        match self.call {
+            Call::Bit => sum!(places, place => words::try_get_bit(content, *place)),
+            Call::Bits => sum!(places, place => words::try_get_bits(content, *place, 13)),
+            Call::Ones if content.len() < 1 << 58 => words::count_bit_ones(content),
+            Call::Ones => 0,
+            Call::Scan => sum!(places, place => scanned_rank(content, *place)),
+            Call::Select => sum!(places, place => select_in_word(content, *place)),
+        }
+    }
+}
+
 /// Adds the rows of words: of single bits and of numbers of 13 bits, of all ones counted, of four ranks by a scan, and
 /// of selections in words.
-pub(crate) fn add_rows(bench: &mut Bench<'_>, content: &[u64], places: &[usize])
-    requires { IsShort content.now }
-{
-    bench.each(
-        Label("get_bit", "words"),
-        places,
-        |place| Some(words::try_get_bit(content, place)? as usize),
-    );
-    bench.each(
-        Label("get_bits_13", "words"),
-        places,
-        |place| Some(words::try_get_bits(content, place, 13)? as usize),
-    );
-    bench.least(
-        Label("count_bit_ones_a_word", "words"),
-        content.len(),
-        || words::count_bit_ones(content),
-    );
+pub(crate) fn add_rows(bench: &mut Bench<'_>, content: &[u64], places: &[usize]) {
     let some = &places[..places.len().min(4)];
-    bench.each(
-        Label("rank_scan", "words"),
-        some,
-        |place| scanned_rank(content, place),
-    );
-    bench.each(
-        Label("select64", "words"),
-        places,
-        |place| select_in_word(content, place),
-    );
+    for (name, call, places, calls) in [
+        ("get_bit", Call::Bit, places, places.len()),
+        ("get_bits_13", Call::Bits, places, places.len()),
+        ("count_bit_ones_a_word", Call::Ones, places, content.len()),
+        ("rank_scan", Call::Scan, some, some.len()),
+        ("select64", Call::Select, places, places.len()),
+    ] {
+        let batch = Calls {
+            call,
+            content,
+            places,
+        };
+        bench.least(Label(name, "words"), calls, &batch);
+    }
 }
