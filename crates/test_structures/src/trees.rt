@@ -4,10 +4,10 @@ use louds::{BinaryLouds, Louds, LoudsError, Node, SampledLouds, is_tree};
 use std::alloc::Global;
 use std::process::Abort;
 
-/// The parent of a node, which child it is, and its next sibling, where it has them.
+/// What is known of a node from its parent: the parent, which child it is, and its next sibling, where it has them.
 type Place = (Option<usize>, Option<usize>, Option<usize>);
 
-/// The place of a node, by the definition.
+/// The parent, the rank among its children and the next sibling of a node, by the definition.
 fn place_of(degrees: &[usize], node: usize) -> Place {
     let mut number = 1usize;
     for (i, degree) in degrees.iter().enumerate() {
