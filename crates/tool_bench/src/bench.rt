@@ -44,7 +44,22 @@ macro_rules! chain {
     }};
 }
 
+/// Times what answers a sum, as often as there are rounds, and adds the row of the least time.
+macro_rules! least {
+    ($bench:expr, $label:expr, $calls:expr, $run:expr) => {{
+        let mut least = u64::MAX;
+        let mut check = 0;
+        for _ in 0..$bench.rounds() {
+            let begun = $bench.used();
+            check = $run;
+            least = least.min($bench.used().saturating_sub(begun));
+        }
+        $bench.add_time($label, least, $calls, check);
+    }};
+}
+
 pub(crate) use chain;
+pub(crate) use least;
 pub(crate) use sum;
 
 /// What rows are printed to and timed by.
@@ -119,14 +134,7 @@ impl<'a> Bench<'a> {
 
     /// Times a batch of calls, and adds its row: the least of the rounds.
     pub(crate) fn least<B: Batch>(&mut self, label: Label<'a>, calls: usize, batch: &B) {
-        let mut least = u64::MAX;
-        let mut check = 0;
-        for _ in 0..self.rounds {
-            let begun = self.used();
-            check = batch.run();
-            least = least.min(self.used().saturating_sub(begun));
-        }
-        self.add_time(label, least, calls, check);
+        least!(self, label, calls, batch.run());
     }
 
     /// How often a batch is timed.

@@ -1,7 +1,7 @@
 //! Rows of calls of many queries at once.
 ghost use Rattle.std.specs.Prelude.{◌<◌, All, IsTrue};
 
-use crate::bench::{Bench, Label};
+use crate::bench::{Bench, Label, least};
 use crate::index::Asked;
 use bitm::{Rank, RankSelect101111, Select0ForRank101111, SelectForRank101111};
 use std::alloc::AllocError;
@@ -70,14 +70,12 @@ fn add_call<S: SelectForRank101111, S0: Select0ForRank101111>(
     queries: &[usize],
     answers: &mut [usize],
 ) {
-    let mut least = u64::MAX;
-    let mut check = 0;
-    for _ in 0..bench.rounds() {
-        let begun = bench.used();
-        check = ask(call, index, queries, answers);
-        least = least.min(bench.used().saturating_sub(begun));
-    }
-    bench.add_time(Label(name, "binary"), least, queries.len(), check);
+    least!(
+        bench,
+        Label(name, "binary"),
+        queries.len(),
+        ask(call, index, queries, answers)
+    );
 }
 
 /// Times the calls of many queries at once, and adds their rows.

@@ -3,7 +3,7 @@
 ghost use Rattle.std.specs.Prelude.{All, IfOk};
 ghost use Rattle.louds.specs.Node.{IsNode};
 
-use crate::bench::{Batch, Bench, Label, sum};
+use crate::bench::{Batch, Bench, Label, least, sum};
 use crate::content::{draw, queries};
 use bitm::{GetSize, Select0ForRank101111, SelectForRank101111};
 use louds::{BinaryLouds, Louds, Node, SampledLouds};
@@ -107,6 +107,7 @@ fn child_of(tree: &SampledLouds, node: Node) -> Option<Node>
 }
 
 /// Adds up the parents, the first children or the degrees of nodes that carry their positions.
+#[inline(never)]
 fn walk(call: Call, tree: &SampledLouds, nodes: &[Node]) -> usize
     requires { All (λ n. IsNode tree.now.degrees n) nodes.now }
 {
@@ -127,14 +128,12 @@ fn add_walk(
 )
     requires { All (λ n. IsNode tree.now.degrees n) nodes.now }
 {
-    let mut least = u64::MAX;
-    let mut check = 0;
-    for _ in 0..bench.rounds() {
-        let begun = bench.used();
-        check = walk(call, tree, nodes);
-        least = least.min(bench.used().saturating_sub(begun));
-    }
-    bench.add_time(Label(name, "sampled"), least, nodes.len(), check);
+    least!(
+        bench,
+        Label(name, "sampled"),
+        nodes.len(),
+        walk(call, tree, nodes)
+    );
 }
 
 /// Adds the rows of nodes that carry their positions.
