@@ -4,8 +4,8 @@ Such a call is a public function that makes a probe of its tables, or that has a
 `total_find_on`, `find_on`, `find_by` or `find_counted`, with a clause on reads, in its crate or below. It calls its
 twin once, and besides only what hands that its arguments (HANDED): no loop, and no branch but by whether there are
 samples, and in the form of a trait's default, where None is unreachable, or of an owner's call of a body whose answer is
-an `Answer`, where Wrong is, as it is in `right`. PLAIN has those whose body has another name, or that call one thing more; OTHERS those that
-do otherwise, and why."""
+an `Answer`, where Wrong is, as it is in `right`. PLAIN has those whose body has another name, or that call one thing
+more; OTHERS those that do otherwise, and why."""
 import collections
 import functools
 import re
