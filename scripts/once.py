@@ -5,7 +5,8 @@ A question has one body, over memory that may hold anything: `total_get_on`. Wha
 their names say, most call another one. Where one is a `total_`, two that call none are a twin if the crate of one stands
 on the other's. LEFT has those that there are, and why; no other may come, and one that is gone has to go there too.
 
-A name of a definition stands in one crate. SHARED has the names that stand in several, each for one idea."""
+A name of a definition stands in one crate. SHARED has the names that stand in several, and the idea of which each is an
+instance there."""
 import collections
 import functools
 import re
@@ -21,16 +22,16 @@ LEFT = {
     ("louds", "children_on"): "an index finds both ends by its strategies",
     ("text_index", "longer_on"): "for the check, where the letters are a matrix, and nothing else is known",
 }
-# The names of definitions that stand in several crates, by the idea of which each is an instance there.
 SHARED = {
     "a block of a kind": "CanHold IsBlockOf IsSoundBlock StandsIn AreParts HasLengths parts_of sections_of",
     "why nothing was made": "IsReason",
     "the text of an error": "build_error_text error_text failure_text",
     "what a call of C answers":
         "FindAnswered RankAnswered SelectAnswered NextAnswered PreviousAnswered ChildAnswered",
-    "a command of the program": "command_in IsDone",
+    "a command of the program": "command_in IsDone Did DidAsAsked",
+    "not one idea: each stands in two crates, and has to get two names": "AreBest AreShared IsIndexOf IsWithin StandsAt",
 }
-DEFINED = re.compile(r"^(?:abbrev )?pub (?:record |data )?([A-Za-z]\w*)(?: \([^)]*\)| \{[^}]*\})* : ", re.M)
+DEFINED = re.compile(r"^(?:abbrev )?pub (?:record |data )?([A-Za-z]\w*)(?= [({:])", re.M)
 
 
 @functools.cache
