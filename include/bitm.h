@@ -1,6 +1,6 @@
 /* Succinct bit vectors with rank and select: words, and two tables of counts beside them. And monotone integer
- * sequences (Elias-Fano), sparse bits, minimal perfect hashes and dictionaries of numbers and strings, trees (LOUDS) and
- * tries, lists of numbers in any order (wavelet matrices) and indexes of texts, in words with such tables.
+ * sequences (Elias-Fano), sparse bits, minimal perfect hashes and dictionaries of numbers and strings, trees (LOUDS)
+ * and tries, lists of numbers in any order (wavelet matrices) and indexes of texts, in words with such tables.
  *
  * Bit i is bit i % 64, lowest first, of words[i / 64]. You own the memory of words and tables, which may be a mapped
  * file. No call allocates, keeps a pointer or has state, so any number of threads may query at once.
@@ -23,25 +23,26 @@
  * is at most 64 * words_len. What lies past the first bits_len bits is neither counted nor found nor changed.
  *
  * Promised, and proved of each call, for all arguments that keep the duties below:
- *   - it returns, and reads and writes only the memory that it is passed, WHATEVER the tables hold;
- *   - a status other than BITM_OK leaves all that the call could have written unchanged, but for cursors, which may have
- *     moved, for memory that is said to be overwritten (scratch of words, room of shards), for the numbers at a list of
- *     indices, which are written up to the first that has none, and, where it is BITM_WRONG, for the numbers of a
- *     sequence in order, the lists of positions or letters of a text, of ranges of a matrix and of cursors, the word of
- *     a node of a trie, the fingerprints of keys, and the block of strings;
+ *   - it returns, and reads and writes only the memory that it is passed, WHATEVER tables and hints hold;
+ *   - a status other than BITM_OK leaves all that the call could have written unchanged, except for cursors, which may
+ *     have moved, for memory that is said to be overwritten (scratch of words, room of shards), for the numbers at a
+ *     list of indices, which are written up to the first that has none, and, where it is BITM_WRONG, for the numbers of
+ *     a sequence in order, the lists of positions or letters of a text, of ranges of a matrix and of cursors, the word
+ *     of a node of a trie, the fingerprints of keys, and the block of strings;
  *   - a call that builds a block compares lengths before it looks at what the lists hold: BITM_BAD_SIZE comes before
  *     BITM_UNSORTED, and that before BITM_WRONG;
- *   - over any tables, stale and hostile ones too, a rank is at most its position and a selection finds a position that
- *     is inside and holds the requested bit; BITM_WRONG means that the tables do not match the words, but BITM_OK does
- *     not mean that they do;
- *   - if the tables are those of the words, the answer is that of plain counting, and a query of words and tables never
- *     returns BITM_WRONG. They are if bitm_index_build wrote them or bitm_index_check passes them, as long as neither
- *     words nor tables change afterwards. Samples never change an answer, whatever they hold;
- *   - sequences likewise: over parts that bitm_sequence_build wrote or bitm_sequence_check passes, the answers are
- *     those of one sequence of numbers.
+ *   - over any tables and hints, stale and hostile ones too, a rank is at most its position and a selection finds a
+ *     position that is inside and holds the requested bit; BITM_WRONG means that the tables do not match the words, but
+ *     BITM_OK does not mean that they do;
+ *   - if the tables match the words, the answer is what plain counting gives, and a query of words and tables never
+ *     returns BITM_WRONG. They do if bitm_index_build wrote them or bitm_index_check passes them, as long as neither
+ *     words nor tables change afterwards. Samples never change an answer, whatever they hold; wrong hints may, as wrong
+ *     tables do;
+ *   - sequences likewise: over parts that bitm_sequence_build wrote or bitm_sequence_check passes, the answers agree
+ *     with one sequence of numbers.
  *
  * Cost: the reads that are named below are upper bounds for all tables, right or wrong. Time is not proved. Queries are
- * fastest where words and tables begin at multiples of 64 bytes, a line of the cache, and where those of many MiB lie in
+ * fastest where words and tables begin at multiples of 64 bytes, a line of the cache, and where many MiB of them lie in
  * huge pages: on Linux by madvise(.., MADV_HUGEPAGE) before they are written first (docs/PERFORMANCE.md has figures).
  *
  * Your duties, as for any C function that takes pointers (nothing here can test them):
@@ -53,8 +54,8 @@
  *   - memory that a call reads (const) is not written during the call;
  *   - a mapped file is not truncated while a call runs: the system would end the process;
  *   - a bool is 0 or 1, as a C compiler ensures; the processor counts bits in hardware (x86-64-v2).
- * What a call does where a duty is broken is undefined, as with C's own functions: it may answer wrongly, end the process
- * (SIGILL), or read and write outside the memory that it is passed. */
+ * What a call does where a duty is broken is undefined, as with C's own functions: it may answer wrongly, end the
+ * process (SIGILL), or read and write outside the memory that it is passed. */
 #ifndef BITM_H
 #define BITM_H
 
@@ -123,10 +124,10 @@ enum bitm_status {
     BITM_OK = 0,       /* the answer was written */
     BITM_NONE = 1,     /* there is no such position, bit, number, node, key or word */
     BITM_BAD_SIZE = 2, /* a length is wrong: see each call; bitm_index_fault, bitm_tree_fault, .. say which one */
-    BITM_WRONG = 3,    /* the tables or samples do not match the words, the parts do not form a sequence, the header or
-                        * the block is not one, the degrees do not form a tree, the labels are invalid for a tree, a
-                        * number has more bits than the width, a letter is outside its alphabet, a position is bits_len
-                        * or more, a key does not stand at its number, or two strings are equal */
+    BITM_WRONG = 3,    /* the tables, samples or hints do not match the words, the parts do not form a sequence, the
+                        * header or the block is not one, the degrees do not form a tree, the labels are invalid for a
+                        * tree, a number has more bits than the width, a letter is outside its alphabet, a position is
+                        * bits_len or more, a key does not stand at its number, or two strings are equal */
     BITM_UNSORTED = 4  /* a number is less than the one before it, a position is not greater than the one before it, or
                         * a word does not stand after the one before it */
 };
@@ -146,8 +147,8 @@ static inline const char *bitm_status_text(uint32_t status)
     }
 }
 
-/* In a list of answers: there is no such position, bit or number; the tables are not those of the words. No position,
- * and no rank where the tables are right, is one of these. */
+/* In a list of answers: there is no such position, bit or number; the tables do not match the words. No position, and
+ * no rank where the tables are right, is one of these. */
 #define BITM_NO_ANSWER UINT64_MAX
 #define BITM_WRONG_TABLES (UINT64_MAX - 1)
 
@@ -168,6 +169,18 @@ struct bitm_list_counts {
  *
  *     if (bitm_bits_words_len(100) != 2) return 1; */
 size_t bitm_bits_words_len(uint64_t bits_len);
+
+/* How many words the hints take of words_len words of a sequence, sparse bits, a tree or a trie, which have that many
+ * numbers, 1 bits or nodes: 0 if words_len is 2^26 or more. Hints are the positions of each 128th 1 bit, and after
+ * these of each 128th 0 bit, two in a word (docs/FORMAT.md).
+ *
+ *     if (bitm_hints_len(1000, 40) != 11) return 1; // 4 words for 1000 1 bits, and 7 for 1560 0 bits */
+static inline size_t bitm_hints_len(size_t ones, size_t words_len)
+{
+    if (words_len >= (size_t)1 << 26) return 0;
+    const size_t bits = 64 * words_len, of_ones = ones < bits ? ones : bits;
+    return (of_ones + 255) / 256 + (bits - of_ones + 255) / 256;
+}
 
 /* Faults. Which length is wrong where a call returns BITM_BAD_SIZE, in words and in memory that stays; NULL if none is.
  * Each looks at the lengths of one struct, or of words, which are the same for all calls that take these; where it
@@ -235,8 +248,8 @@ BITM_MUST_USE uint32_t bitm_bits_set_number(uint64_t *words, size_t words_len, u
 BITM_MUST_USE uint32_t bitm_bits_xor_number(uint64_t *words, size_t words_len, uint64_t bits_len, uint64_t begin,
                                             uint32_t width, uint64_t value);
 
-/* Fragments: the bits as an array of numbers of width bits, of which number index begins at bit index * width. Reads
- * one; replaces one by the width lowest bits of value; exchanges two; replaces each of the first count. BITM_NONE if a
+/* Fragments: the bits as an array of numbers of width bits: number index begins at bit index * width. Reads one;
+ * replaces one by the width lowest bits of value; exchanges two; replaces each of the first count. BITM_NONE if a
  * fragment ends past bits_len or width is above 64. Fragments of width 0 are 0 and take no bits.
  *
  *     uint64_t nibbles[1] = {0};
@@ -308,8 +321,8 @@ BITM_MUST_USE uint32_t bitm_bits_flip_range(uint64_t *words, size_t words_len, u
 BITM_MUST_USE uint32_t bitm_bits_copy_range(uint64_t *to, size_t to_len, uint64_t to_begin, const uint64_t *from,
                                             size_t from_len, uint64_t from_begin, uint64_t count);
 
-/* Whether count bits of a, from position a_begin on, equal those of b from position b_begin on, as 0 or 1. BITM_NONE if
- * a range is not inside its words. a and b may overlap.
+/* Whether count bits of a, from position a_begin on, equal count bits of b from position b_begin on, as 0 or 1.
+ * BITM_NONE if a range is not inside its words. a and b may overlap.
  *
  *     if (bitm_bits_equal_range(copy, 1, 2, words, n, 3, 4, &value) != BITM_OK || value != 1) return 1; */
 BITM_MUST_USE uint32_t bitm_bits_equal_range(const uint64_t *a, size_t a_len, uint64_t a_begin, const uint64_t *b,
@@ -417,7 +430,7 @@ struct bitm_index {
 };
 
 /* The lengths of the tables for the given number of words: one entry for each upper block (2^26 words) and one for each
- * lower block (32 words), the last of which may be shorter.
+ * lower block (32 words); the last block may be shorter.
  *
  *     if (bitm_index_upper_len(1000) != 1 || bitm_index_lower_len(1000) != 32) return 1; */
 size_t bitm_index_upper_len(size_t words_len);
@@ -456,46 +469,45 @@ uint32_t bitm_optimal_log2(uint64_t items, uint64_t bits_len, uint32_t most);
 BITM_MUST_USE uint32_t bitm_index_build(const uint64_t *words, size_t words_len, uint64_t *upper, size_t upper_len,
                                         uint64_t *lower, size_t lower_len, uint64_t *ones);
 
-/* Whether the tables (not the samples) are those of the words: BITM_OK, BITM_WRONG or BITM_BAD_SIZE. Reads each word at
- * most once.
+/* Whether the tables (not the samples) match the words: BITM_OK, BITM_WRONG or BITM_BAD_SIZE. Reads each word at most
+ * once.
  *
  *     if (bitm_index_check(&index) != BITM_OK) return 1; */
 BITM_MUST_USE uint32_t bitm_index_check(const struct bitm_index *index);
 
 /* Writes the samples of the 1 bits, or 0 bits, of all the words, for each upper block the number of samples before it,
- * and to used how many samples there are; items past these stay as they were. If the tables are those of the words, so
- * are the samples; else they are arbitrary numbers. BITM_BAD_SIZE also if samples_len is less than
- * bitm_index_samples_len says or starts_len is not upper_len. samples, starts and used may not overlap one another, nor
- * what the struct points to. Reads both tables once, up to two lower entries again for each sample, and at most eight
- * words (evident from the code). */
+ * and to used how many samples there are; items past these stay as they were. If the tables match the words, so do the
+ * samples; else they are arbitrary numbers. BITM_BAD_SIZE also if samples_len is less than bitm_index_samples_len says
+ * or starts_len is not upper_len. samples, starts and used may not overlap one another, nor what the struct points to.
+ * Reads both tables once, up to two lower entries again for each sample, and at most eight words (evident from the
+ * code). */
 BITM_MUST_USE uint32_t bitm_index_build_samples(const struct bitm_index *index, bool one, uint32_t log2,
                                                 uint32_t *samples, size_t samples_len, uint64_t *starts,
                                                 size_t starts_len, uint64_t *used);
 
-/* Whether index->ones, or index->zeros, are the samples that bitm_index_build_samples writes, where the tables are
- * those of the words: BITM_OK or BITM_WRONG; over other tables either of these. BITM_BAD_SIZE as for all.
+/* Whether index->ones, or index->zeros, are the samples that bitm_index_build_samples writes, where the tables match
+ * the words: BITM_OK or BITM_WRONG; over other tables either of these. BITM_BAD_SIZE as for all.
  *
  *     if (bitm_index_check_samples(&index, true) != BITM_OK) return 1; */
 BITM_MUST_USE uint32_t bitm_index_check_samples(const struct bitm_index *index, bool one);
 
 /* How many 1 bits, or 0 bits, there are before a position; for position bits_len, of all. At most position. BITM_NONE
- * exactly if position is above bits_len; BITM_WRONG if the tables turn out not to be those of the words. Reads at most
- * one upper entry, one lower entry and eight words.
+ * exactly if position is above bits_len; BITM_WRONG if the tables turn out not to match the words. Reads at most one
+ * upper entry, one lower entry and eight words.
  *
  *     if (bitm_index_rank(&index, true, 5, &value) != BITM_OK || value != 3) return 1; // bits 1, 3 and 4 */
 BITM_MUST_USE uint32_t bitm_index_rank(const struct bitm_index *index, bool one, uint64_t position, uint64_t *out);
 
 /* The position of the 1 bit, or 0 bit, with the given rank. BITM_NONE if there is none; BITM_WRONG if the tables turn
- * out not to be those of the words. Reads at most D + 1 upper entries, where D is the number of binary digits of
- * upper_len, 23 lower entries and eight words; with samples 28 lower entries, and 51 if these are not those of the
- * words.
+ * out not to match the words. Reads at most D + 1 upper entries, where D is the number of binary digits of upper_len,
+ * 23 lower entries and eight words; with samples 28 lower entries, and 51 if the samples do not match the words.
  *
  *     if (bitm_index_select(&index, false, 2, &position) != BITM_OK || position != 5) return 1; // after 0 and 2 */
 BITM_MUST_USE uint32_t bitm_index_select(const struct bitm_index *index, bool one, uint64_t rank, uint64_t *out);
 
 /* out[i] answers query i as the call of one query does, or is BITM_NO_ANSWER for BITM_NONE and BITM_WRONG_TABLES for
- * BITM_WRONG; counts says how many of each there are. Selections are searched side by side, so over tables that are not
- * those of the words a list may find another position of the kind than the call of one query, or none where that finds
+ * BITM_WRONG; counts says how many of each there are. Selections are searched side by side, so over tables that do not
+ * match the words a list may find another position of the kind than the call of one query, or none where that finds
  * one. BITM_BAD_SIZE also if out_len is not the number of queries. out and counts may overlap neither each other nor
  * the queries.
  *
@@ -522,9 +534,9 @@ BITM_MUST_USE uint32_t bitm_index_positions(const struct bitm_index *index, bool
                                             size_t out_len, uint64_t *written);
 
 /* The position of the first 1 bit, or 0 bit, at or after position from; of the last one at or before it, where from may
- * be past the end. BITM_NONE if there is none; BITM_WRONG if the tables turn out not to be those of the words. Any
- * position returned is on that side of from, whatever the tables hold. By the tables, however far it lies: reads what a
- * rank and a selection read.
+ * be past the end. BITM_NONE if there is none; BITM_WRONG if the tables turn out not to match the words. Any position
+ * returned is on that side of from, whatever the tables hold. By the tables, however far it lies: reads what a rank and
+ * a selection read.
  *
  *     if (bitm_index_next(&index, true, 7, &position) != BITM_OK || position != 64 ||
  *         bitm_index_previous(&index, true, 63, &position) != BITM_OK || position != 6) return 1; */
@@ -547,30 +559,15 @@ BITM_MUST_USE uint32_t bitm_index_previous(const struct bitm_index *index, bool 
  *     if (bitm_sequence_first_at_least(&primes, 6, &at) != BITM_OK || at != 3) return 1; */
 
 /* The parts of a sequence of len numbers: the width low bits of each number in low, the high bits as 1 bits in words,
- * and the two tables of these words. Calls that take one return BITM_BAD_SIZE if len is 2^56 or more, width is above
- * 63, low does not have as many words as len * width bits take, words_len is 2^58 or more, or a table is not as long as
- * bitm_index_upper_len and bitm_index_lower_len say.
+ * the two tables of these words, and their hints or none. Calls that take one return BITM_BAD_SIZE if len is 2^56 or
+ * more, width is above 63, low does not have as many words as len * width bits take, words_len is 2^58 or more, a table
+ * is not as long as bitm_index_upper_len and bitm_index_lower_len say, or hints_len is neither 0 nor
+ * bitm_hints_len(len, words_len).
  *
- * Queries select in words: a number by a 1 bit, a successor by up to two 0 bits. samples makes that faster in long
- * sequences: item 0 has the samples of the 1 bits of words, item 1 those of the 0 bits, and a list may end before either.
- * bitm_index_build_samples writes them, as for any index. They may hold anything: samples shorten a search, never change
- * an answer, and never lead to a read outside. A selection then reads up to 51 lower entries in place of 23, and at most
- * 28 where the samples are those of the words (evident from the code). A cursor selects without them.
- *
- *     const struct bitm_index high_bits = {.words = high, .words_len = of.words_len, .upper = high_upper,
- *                                          .upper_len = of.upper_len, .lower = high_lower, .lower_len = of.lower_len,
- *                                          .bits_len = 64 * of.words_len};
- *     uint32_t samples_of_ones[1], samples_of_zeros[1]; // bitm_index_samples_len(1, 7) is 1
- *     uint64_t starts_of_ones[1], starts_of_zeros[1], ones_used, zeros_used;
- *     if (of.words_len != 1 ||
- *         bitm_index_build_samples(&high_bits, true, 7, samples_of_ones, 1, starts_of_ones, 1, &ones_used) != BITM_OK ||
- *         bitm_index_build_samples(&high_bits, false, 7, samples_of_zeros, 1, starts_of_zeros, 1, &zeros_used) != BITM_OK)
- *         return 1;
- *     const struct bitm_samples two_kinds[2] = {{samples_of_ones, ones_used, starts_of_ones, 1, 7, 0},
- *                                               {samples_of_zeros, zeros_used, starts_of_zeros, 1, 7, 0}};
- *     primes.samples = two_kinds;
- *     primes.samples_len = 2;
- *     if (bitm_sequence_get(&primes, 4, &item) != BITM_OK || item != 11) return 1; */
+ * Queries select in words: a number by a 1 bit, a successor by a 0 bit. Such a selection reads one hint and at most
+ * nine words; where there is no hint, or the bit is not in the eight words from its hint's word on, it reads also what
+ * bitm_index_select reads without samples. Cursors and calls for a list select without hints. A block has hints, and
+ * bitm_sequence_block_open finds them; the parts that bitm_sequence_build writes have none. */
 struct bitm_sequence {
     size_t len;
     uint64_t width;
@@ -582,8 +579,8 @@ struct bitm_sequence {
     size_t upper_len;
     const uint64_t *lower;
     size_t lower_len;
-    const struct bitm_samples *samples; /* NULL: none */
-    size_t samples_len;                 /* 0, 1 or 2: items after the second are not looked at */
+    const uint64_t *hints; /* NULL: none */
+    size_t hints_len;      /* 0, or bitm_hints_len(len, words_len) */
 };
 
 /* Faults of a sequence: see bitm_bits_fault.
@@ -595,7 +592,11 @@ static inline const char *bitm_sequence_fault(const struct bitm_sequence *sequen
     if (sequence->width > 63) return "width is above 63";
     if (sequence->low_len != bitm_bits_words_len(sequence->len * sequence->width))
         return "low_len is not bitm_bits_words_len(len * width)";
-    return bitm_tables_fault(sequence->words_len, sequence->upper_len, sequence->lower_len);
+    const char *const fault = bitm_tables_fault(sequence->words_len, sequence->upper_len, sequence->lower_len);
+    if (fault) return fault;
+    if (sequence->hints_len != 0 && sequence->hints_len != bitm_hints_len(sequence->len, sequence->words_len))
+        return "hints_len is neither 0 nor bitm_hints_len(len, words_len)";
+    return NULL;
 }
 
 /* How many low bits each number has, and how many items each part. */
@@ -607,9 +608,9 @@ struct bitm_sequence_lens {
     uint64_t lower_len;
 };
 
-/* The lengths for len numbers, of which the last, and so the largest, is largest (0 if there are none). BITM_BAD_SIZE
- * if len is 2^56 or more, or len is 0 and largest is not. low and words together have at most len * (width + 3) + 126
- * bits. */
+/* The lengths for len numbers, where the last number, and so the largest, is `largest` (0 if there are none).
+ * BITM_BAD_SIZE if len is 2^56 or more, or len is 0 and largest is not. low and words together have at most len *
+ * (width + 3) + 126 bits. */
 BITM_MUST_USE uint32_t bitm_sequence_sizes(size_t len, uint64_t largest, struct bitm_sequence_lens *out);
 
 /* Writes the parts of a sequence of the items, and width. BITM_BAD_SIZE if a length is not what bitm_sequence_sizes
@@ -620,46 +621,65 @@ BITM_MUST_USE uint32_t bitm_sequence_build(const uint64_t *items, size_t items_l
                                            uint64_t *words, size_t words_len, uint64_t *upper, size_t upper_len,
                                            uint64_t *lower, size_t lower_len, uint64_t *width);
 
-/* Whether the parts are those of some sequence, as bitm_sequence_build writes them: BITM_OK, BITM_WRONG or
- * BITM_BAD_SIZE. Passes twice over the words, and of low reads only the fragments of numbers next to one another with
- * the same high bits, each at most twice, and the last number's (evident from the code).
+/* Where a list of numbers stops ascending: BITM_OK with the index of the first number that is less than the number
+ * before it or, if `strictly`, equal to it; BITM_NONE exactly if there is none. A caller whose numbers a call refused as
+ * BITM_UNSORTED can name this one. Reads each number up to there at most twice (evident from the code).
+ *
+ *     const uint64_t fallen[4] = {2, 5, 5, 3};
+ *     if (bitm_numbers_unsorted(fallen, 4, false, &value) != BITM_OK || value != 3 || // 3 is less than 5
+ *         bitm_numbers_unsorted(fallen, 4, true, &value) != BITM_OK || value != 2 ||
+ *         bitm_numbers_unsorted(fallen, 3, false, &value) != BITM_NONE) return 1; */
+BITM_MUST_USE uint32_t bitm_numbers_unsorted(const uint64_t *numbers, size_t numbers_len, bool strictly, uint64_t *out);
+
+/* The index of the first number above `most`: BITM_OK; BITM_NONE exactly if there is none. Reads each number up to
+ * there once (evident from the code).
+ *
+ *     if (bitm_numbers_above(fallen, 4, 4, &value) != BITM_OK || value != 1 ||
+ *         bitm_numbers_above(fallen, 4, 5, &value) != BITM_NONE) return 1; */
+BITM_MUST_USE uint32_t bitm_numbers_above(const uint64_t *numbers, size_t numbers_len, uint64_t most, uint64_t *out);
+
+/* Whether the parts form a sequence, as bitm_sequence_build writes them, and the hints match its words: BITM_OK,
+ * BITM_WRONG or BITM_BAD_SIZE. Passes twice over the words, of low reads only the fragments of numbers next to one
+ * another with the same high bits, each at most twice, and the last number's, and selects by the tables for each hint
+ * (evident from the code).
  *
  *     if (bitm_sequence_check(&primes) != BITM_OK) return 1; */
 BITM_MUST_USE uint32_t bitm_sequence_check(const struct bitm_sequence *sequence);
 
 /* The number at an index, counted from 0. BITM_NONE exactly if index is len or more; BITM_WRONG if the parts turn out
- * not to be those of a sequence. Reads what a selection reads, and at most one fragment of low.
+ * to form no sequence. Reads what a selection reads, and at most one fragment of low.
  *
  *     if (bitm_sequence_get(&primes, 4, &item) != BITM_OK || item != 11) return 1; */
 BITM_MUST_USE uint32_t bitm_sequence_get(const struct bitm_sequence *sequence, uint64_t index, uint64_t *out);
 
 /* Successor: the least index whose number is at least value, and so how many numbers are less. BITM_NONE if every
- * number is less; BITM_WRONG if the parts turn out not to be those of a sequence. Any index returned is below len,
- * whatever the parts hold. Reads what two selections read, and one fragment of low for each binary digit of how many
- * numbers share the high bits of value; over parts of no sequence for each digit of len.
+ * number is less; BITM_WRONG if the parts turn out to form no sequence. Any index returned is below len, whatever the
+ * parts hold. Reads what a selection reads, then the words in which the numbers end that share the high bits of value,
+ * or, where these are many, what a second selection reads; at most 42 words in all. Reads one fragment of low for each
+ * binary digit of how many these numbers are, over parts of no sequence for each digit of len.
  *
  *     if (bitm_sequence_first_at_least(&primes, 6, &at) != BITM_OK || at != 3) return 1; // 7 */
 BITM_MUST_USE uint32_t bitm_sequence_first_at_least(const struct bitm_sequence *sequence, uint64_t value,
                                                     uint64_t *out);
 
 /* Predecessor: the greatest index whose number is at most value. BITM_NONE if every number is more; BITM_WRONG if the
- * parts turn out not to be those of a sequence. Any index returned is below len, whatever the parts hold. Reads what
+ * parts turn out to form no sequence. Any index returned is below len, whatever the parts hold. Reads what
  * bitm_sequence_first_at_least reads for value + 1, and nothing if value is 2^64 - 1.
  *
  *     if (bitm_sequence_last_at_most(&primes, 6, &at) != BITM_OK || at != 2) return 1; // 5 */
 BITM_MUST_USE uint32_t bitm_sequence_last_at_most(const struct bitm_sequence *sequence, uint64_t value, uint64_t *out);
 
-/* Whether value is one of the numbers, as 0 or 1. BITM_WRONG if the parts turn out not to be those of a sequence. Reads
- * what bitm_sequence_first_at_least reads, and where that finds an index what bitm_sequence_get reads.
+/* Whether value is one of the numbers, as 0 or 1. BITM_WRONG if the parts turn out to form no sequence. Reads what
+ * bitm_sequence_first_at_least reads, and one fragment of low more.
  *
  *     if (bitm_sequence_contains(&primes, 7, &value) != BITM_OK || value != 1) return 1; */
 BITM_MUST_USE uint32_t bitm_sequence_contains(const struct bitm_sequence *sequence, uint64_t value, uint64_t *out);
 
 /* Writes the numbers from index from on, in order, until out is full or there are no more, and to written how many; the
- * rest of out stays as it was. If the parts are not those of a sequence, the numbers are arbitrary, and only then may
- * there be fewer than both out_len and len - from: BITM_WRONG exactly if there are. out and written may not overlap
- * each other or the parts. Reads what a selection reads, passes over the words from there on, and reads at most one
- * fragment of low for each number (evident from the code).
+ * rest of out stays as it was. If the parts form no sequence, the numbers are arbitrary, and only then may there be
+ * fewer than both out_len and len - from: BITM_WRONG exactly if there are. out and written may not overlap each other
+ * or the parts. Reads what a selection reads, passes over the words from there on, and reads at most one fragment of
+ * low for each number (evident from the code).
  *
  *     if (bitm_sequence_items(&primes, 2, found, 8, &written) != BITM_OK || written != 3 || found[0] != 5) return 1; */
 BITM_MUST_USE uint32_t bitm_sequence_items(const struct bitm_sequence *sequence, uint64_t from, uint64_t *out,
@@ -668,9 +688,9 @@ BITM_MUST_USE uint32_t bitm_sequence_items(const struct bitm_sequence *sequence,
 /* Writes the numbers at a list of indices, as bitm_sequence_get answers them, up to the first index that has none, and
  * to written how many; the rest of out stays as it was. BITM_OK exactly if all are written. Else the status says why
  * the call stopped at indices[written]: BITM_NONE exactly if that is not below len, and BITM_WRONG exactly if it is, as
- * it may be only if the parts are not those of a sequence. BITM_BAD_SIZE, and nothing is written, also if out_len is not
- * indices_len. 1 bits are selected side by side, so if the parts are not those of a sequence, a number may differ from
- * that of bitm_sequence_get. out and written may not overlap each other, the indices or the parts.
+ * it may be only if the parts form no sequence. BITM_BAD_SIZE, and nothing is written, also if out_len is not
+ * indices_len. 1 bits are selected side by side, so if the parts form no sequence, a number may differ from the one
+ * that bitm_sequence_get finds. out and written may not overlap each other, the indices or the parts.
  *
  *     const uint64_t indices[3] = {4, 0, 5};
  *     if (bitm_sequence_get_list(&primes, indices, 2, found, 2, &written) != BITM_OK || found[0] != 11 ||
@@ -680,9 +700,9 @@ BITM_MUST_USE uint32_t bitm_sequence_get_list(const struct bitm_sequence *sequen
                                               size_t indices_len, uint64_t *out, size_t out_len, uint64_t *written);
 
 /* out[i] answers values[i] as the call of one value does, or is BITM_NO_ANSWER for BITM_NONE and BITM_WRONG_TABLES for
- * BITM_WRONG; counts says how many of each there are. Over parts that are not those of a sequence it may be another
- * answer than the call of one value gives. BITM_BAD_SIZE also if out_len is not values_len. out and counts may
- * overlap neither each other nor the values.
+ * BITM_WRONG; counts says how many of each there are. Over parts that form no sequence it may be another answer than
+ * the call of one value gives. BITM_BAD_SIZE also if out_len is not values_len. out and counts may overlap neither each
+ * other nor the values.
  *
  *     const uint64_t values[3] = {6, 1, 7};
  *     if (bitm_sequence_first_at_least_list(&primes, values, 3, answers, 3, &counts) != BITM_OK || answers[0] != 3 ||
@@ -726,8 +746,8 @@ static inline uint64_t bitm_sequence_walk_index(const struct bitm_sequence_walk 
 
 /* Moves to the number at an index, to the next one, or to the first from here on that is at least value: never back.
  * Each writes that number. BITM_NONE if there is none: the walk is at its end then, and stays there but for an index.
- * BITM_WRONG if the parts turn out not to be those of a sequence. A call reads what bitm_sequence_items reads for 64
- * numbers, or nothing if the block holds the number; to a value also what bitm_sequence_first_at_least reads. */
+ * BITM_WRONG if the parts turn out to form no sequence. A call reads what bitm_sequence_items reads for 64 numbers, or
+ * nothing if the block holds the number; to a value also what bitm_sequence_first_at_least reads. */
 BITM_MUST_USE BITM_SELDOM static inline uint32_t bitm_sequence_walk_from(struct bitm_sequence_walk *walk,
                                                                          uint64_t index, uint64_t *out)
 {
@@ -785,7 +805,7 @@ BITM_MUST_USE static inline uint32_t bitm_sequence_walk_to(struct bitm_sequence_
 /* A position in a sequence, which moves forward only: at a number, or at the end, where index belongs to no number. You
  * give the sequence, and bitm_cursor_start the rest. A cursor keeps a copy of the struct of the sequence, and is memory
  * of yours as any other: it is for one thread. Over parts of one sequence, with a cursor that these calls alone moved,
- * the answers are those of the numbers; whatever parts and cursor hold, each call returns. */
+ * the answers are right for the numbers; whatever parts and cursor hold, each call returns. */
 struct bitm_cursor {
     struct bitm_sequence sequence;
     size_t index;    /* of the number at the cursor */
@@ -794,25 +814,25 @@ struct bitm_cursor {
 };
 
 /* Sets a cursor to the first number of its sequence, or to the end if there is none. BITM_WRONG if the parts turn out
- * not to be those of a sequence. Reads what three selections read, and low as bitm_sequence_first_at_least does. */
+ * to form no sequence. Reads what three selections read, and low as bitm_sequence_first_at_least does. */
 BITM_MUST_USE uint32_t bitm_cursor_start(struct bitm_cursor *cursor);
 
 /* Moves a cursor to the first number from there on that is at least at_least, and writes the number; a cursor whose
  * number is stays. BITM_NONE if each is less: the cursor is at the end then, and remains there. BITM_WRONG if the parts
- * turn out not to be those of a sequence: the cursor stays. Any number that is written is at least at_least, whatever
- * parts and cursor hold. Reads nothing if the cursor stays. Else reads up to 25 words, and 8 fragments of low; and also
- * what bitm_cursor_start reads, unless the number is near: one of the eight after the 0 bits to skip, which end in the
- * eight words from position on. */
+ * turn out to form no sequence: the cursor stays. Any number that is written is at least at_least, whatever parts and
+ * cursor hold. Reads nothing if the cursor stays. Else reads up to 25 words, and 8 fragments of low; and also what
+ * bitm_cursor_start reads, unless the number is near: one of the eight after the 0 bits to skip, which end in the eight
+ * words from position on. */
 BITM_MUST_USE uint32_t bitm_cursor_next(struct bitm_cursor *cursor, uint64_t at_least, uint64_t *out);
 
 /* Writes the numbers from from on that stand in each of the sequences, or in any of them, from the cursors on: rising,
- * each once, as many as there are and out has room for, and to written how many; the rest of out stays as it was. If out
- * is full, a call with one more than its last number for from goes on. BITM_WRONG if a sequence has a wrong length, and
- * then no cursor moves and out stays; or if the parts of a sequence turn out wrong as its cursor moves, and then out may
- * have some of the numbers: BITM_OK says that no move was BITM_WRONG. BITM_BAD_SIZE if there is no cursor to intersect.
- * The sequences of the cursors stay. Moves each cursor at most once for each number that is written and once more; the
- * intersection for each number of the first sequence and once more, so the shortest is best first. The cursors, out and
- * written may not overlap one another or the parts; cursors may share parts. */
+ * each once, until none is left or out is full, and to written how many; the rest of out stays as it was. If out is
+ * full, a call with one more than its last number for from goes on. BITM_WRONG if a sequence has a wrong length, and
+ * then no cursor moves and out stays; or if the parts of a sequence turn out wrong as its cursor moves, and then out
+ * may have some of the numbers: BITM_OK says that no move was BITM_WRONG. BITM_BAD_SIZE if there is no cursor to
+ * intersect. The sequences of the cursors stay. Moves each cursor at most once for each number that is written and once
+ * more; the intersection for each number of the first sequence and once more, so the shortest is best first. The
+ * cursors, out and written may not overlap one another or the parts; cursors may share parts. */
 BITM_MUST_USE uint32_t bitm_cursors_intersect(struct bitm_cursor *cursors, size_t cursors_len, uint64_t from,
                                               uint64_t *out, size_t out_len, uint64_t *written);
 BITM_MUST_USE uint32_t bitm_cursors_union(struct bitm_cursor *cursors, size_t cursors_len, uint64_t from,
@@ -877,11 +897,11 @@ BITM_MUST_USE uint32_t bitm_hash_build(uint64_t *hashes, size_t hashes_len, uint
                                        size_t sizes_len, uint64_t *levels, uint64_t *used_words, uint64_t *left);
 
 /* The number of a hash: BITM_OK with a number below keys, WHATEVER tables and sizes hold; BITM_NONE where it falls on
- * no 1 bit of a level; BITM_WRONG where tables or sizes are not those of the words, or there are more numbers than
- * keys; BITM_BAD_SIZE if words_len is 2^58 or more, a table is not as long as for an index, or sizes_len is above 256.
- * Over right tables, and levels of these sizes with no more 1 bits than keys, it is the number of the hash, and
- * BITM_WRONG is not returned. A hash of no key may get any number below keys. Reads at most one word a level, and what
- * a rank reads. */
+ * no 1 bit of a level; BITM_WRONG where tables or sizes do not match the words, or there are more numbers than keys;
+ * BITM_BAD_SIZE if words_len is 2^58 or more, a table is not as long as for an index, or sizes_len is above 256. Over
+ * right tables, and levels of these sizes with no more 1 bits than keys, it is the number of the hash, and BITM_WRONG
+ * is not returned. A hash of no key may get any number below keys. Reads at most one word a level, and what a rank
+ * reads. */
 BITM_MUST_USE uint32_t bitm_hash_get(const struct bitm_hash *hash, uint64_t key_hash, uint64_t *out);
 
 /* out[i] is the number of key_hashes[i], or BITM_NO_ANSWER for BITM_NONE and BITM_WRONG_TABLES for BITM_WRONG; counts
@@ -896,9 +916,9 @@ BITM_MUST_USE uint32_t bitm_hash_get_list(const struct bitm_hash *hash, const ui
                                           size_t key_hashes_len, uint64_t *out, size_t out_len,
                                           struct bitm_list_counts *counts);
 
-/* Writes the fingerprint of each key at its number: number k of the fingerprints, of width bits each, is the lowest bits
- * of the fingerprint of the key with number k. By it bitm_hash_find answers BITM_NONE for almost all that are no keys.
- * A fingerprint is any number that you compute from the key beside its hash. Over right tables and sizes, as
+/* Writes the fingerprint of each key at its number: number k of the fingerprints, of width bits each, is the lowest
+ * bits of the fingerprint of the key with number k. By it bitm_hash_find answers BITM_NONE for almost all that are no
+ * keys. A fingerprint is any number that you compute from the key beside its hash. Over right tables and sizes, as
  * bitm_hash_get says, a number that several keys have gets the fingerprint of the last of them, a number that none has
  * keeps its own, and BITM_WRONG says that a key has no number, or its number no place among the words; the others are
  * written. Over other tables the same holds by some number that a look-up of each key may answer. BITM_BAD_SIZE, and
@@ -923,9 +943,9 @@ BITM_MUST_USE uint32_t bitm_hash_set_prints(const struct bitm_hash *hash, const 
 BITM_MUST_USE uint32_t bitm_hash_find(const struct bitm_hash *hash, const uint64_t *prints, size_t prints_len,
                                       uint32_t width, uint64_t key_hash, uint64_t key_print, uint64_t *out);
 
-/* out[i] is the number of the key with hash key_hashes[i] and fingerprint key_prints[i], or BITM_NO_ANSWER for BITM_NONE
- * and BITM_WRONG_TABLES for BITM_WRONG; counts says how many of each there are. BITM_BAD_SIZE also if key_prints_len or
- * out_len is not key_hashes_len. out and counts may overlap nothing else.
+/* out[i] is the number of the key with hash key_hashes[i] and fingerprint key_prints[i], or BITM_NO_ANSWER for
+ * BITM_NONE and BITM_WRONG_TABLES for BITM_WRONG; counts says how many of each there are. BITM_BAD_SIZE also if
+ * key_prints_len or out_len is not key_hashes_len. out and counts may overlap nothing else.
  *
  *     const uint64_t claimed[3] = {7, 12, 13};
  *     if (bitm_hash_find_list(&hash, prints, 1, 8, three, 3, claimed, 3, answers, 3, &counts) != BITM_OK ||
@@ -937,9 +957,9 @@ BITM_MUST_USE uint32_t bitm_hash_find_list(const struct bitm_hash *hash, const u
 
 /* ---- minimal perfect hashes with a seed for each word
  *
- * Where each word of the levels has a seed, more of its hashes fall on a bit alone, and all takes fewer bits a key: 2.26
- * with 64 tries at 100 per cent, seeds and tables included. A seed is a byte. Building takes more time, for each seed
- * that is tried. Queries take a hash with its seeds, and answer as those above:
+ * Where each word of the levels has a seed, more of its hashes fall on a bit alone, and all takes fewer bits a key:
+ * 2.26 with 64 tries at 100 per cent, seeds and tables included. A seed is a byte. Building takes more time, for each
+ * seed that is tried. Queries take a hash with its seeds, and answer as those above:
  *
  *     uint64_t keyed[3] = {0x243f6a8885a308d3, 0x13198a2e03707344, 0xa4093822299f31d0}, in_order[3];
  *     uint64_t of_hash_words[64], hit_twice[64], heights[256], beside_words[3];
@@ -974,14 +994,29 @@ static inline const char *bitm_seeded_hash_fault(const struct bitm_seeded_hash *
 
 /* Builds as bitm_hash_build, and writes a seed for each word to the start of seeds: of the first `tries`, at most 256,
  * the first by which most of the hashes that fall in the word fall on a bit alone. again and sorted hold arbitrary
- * numbers then, and so do seeds past the levels. BITM_BAD_SIZE also if seeds_len is below words_len, or sorted_len below
- * hashes_len. Each level is four passes over the hashes that are left, and one for each seed that is tried (evident from
- * the code). */
+ * numbers then, and so do seeds past the levels. BITM_BAD_SIZE also if seeds_len is below words_len, or sorted_len
+ * below hashes_len. Each level is four passes over the hashes that are left, and one for each seed that is tried
+ * (evident from the code). */
 BITM_MUST_USE uint32_t bitm_hash_build_seeded(uint64_t *hashes, size_t hashes_len, uint32_t percent, uint16_t tries,
                                               uint64_t *words, size_t words_len, uint8_t *seeds, size_t seeds_len,
                                               uint64_t *again, size_t again_len, uint64_t *sorted, size_t sorted_len,
                                               uint64_t *sizes, size_t sizes_len, uint64_t *levels,
                                               uint64_t *used_words, uint64_t *left);
+
+/* Writes the words of a level as bitm_hash_level, and a seed for each of them: of the first `tries`, at most 256, the
+ * first by which most of the hashes that fall in the word fall on a bit alone. So a caller that builds level by level
+ * can say how far it is. sorted holds arbitrary numbers then. BITM_BAD_SIZE also if seeds_len is not ones_len, or
+ * sorted_len is below hashes_len. Four passes over the hashes, and one for each seed that is tried (evident from the
+ * code).
+ *
+ *     uint64_t first_keys[3] = {0x243f6a8885a308d3, 0x13198a2e03707344, 0xa4093822299f31d0}, grouped[3];
+ *     uint8_t seed_of_word[1];
+ *     if (bitm_hash_level_seeded(first_keys, 3, 0, 64, level, 1, seed_of_word, 1, twice, 1, grouped, 3, &left) !=
+ *             BITM_OK || bitm_bits_count(level, 1, 64, true, &value) != BITM_OK || value + left != 3) return 1; */
+BITM_MUST_USE uint32_t bitm_hash_level_seeded(uint64_t *hashes, size_t hashes_len, uint32_t level, uint16_t tries,
+                                              uint64_t *ones, size_t ones_len, uint8_t *seeds, size_t seeds_len,
+                                              uint64_t *again, size_t again_len, uint64_t *sorted, size_t sorted_len,
+                                              uint64_t *left);
 
 /* As the calls without _seeded; BITM_BAD_SIZE exactly if these return it, or seeds_len is neither 0 nor words_len. For
  * each level one seed is read too (evident from the code).
@@ -1120,7 +1155,7 @@ static inline uint64_t *bitm_stored_room(uint64_t *file, struct bitm_span part)
     return file + part.at / 8;
 }
 
-/* The parts of a file, where bitm_stored_read returned BITM_OK: they lie inside it.
+/* The parts of a file, where bitm_stored_read returned BITM_OK: they lie inside it. A sequence has no hints there.
  *
  *     primes = bitm_stored_sequence_of(numbers, &header);
  *     stored = bitm_stored_index_of(file, &s);
@@ -1174,8 +1209,8 @@ static inline struct bitm_sequence bitm_stored_sequence_of(const uint64_t *file,
     sequence.upper_len = s->upper.len;
     sequence.lower = bitm_stored_items(file, s->lower);
     sequence.lower_len = s->lower.len;
-    sequence.samples = NULL;
-    sequence.samples_len = 0;
+    sequence.hints = NULL;
+    sequence.hints_len = 0;
     return sequence;
 }
 
@@ -1219,9 +1254,9 @@ BITM_MUST_USE static inline uint32_t bitm_stored_open_index(const uint64_t *file
 
 /* ---- shards: bits in several indexes, one after the other, queried as one
  *
- * Beside the shards stand prefix counts: for each shard how many bits, and how many 1 bits, there are before it, and
- * last those of all. Which shard holds a position, or the bit with a rank, is answered by these alone, so that shards
- * may lie in other files or on other machines:
+ * Beside the shards stand prefix counts: for each shard how many bits, and how many 1 bits, there are before it, and at
+ * the end how many there are in all. Which shard holds a position, or the bit with a rank, is answered by these alone,
+ * so that shards may lie in other files or on other machines:
  *
  *     const uint64_t bits_of[2] = {1000, 700}, ones_of[2] = {480, 351};
  *     uint64_t bits_before[3], ones_before[3];
@@ -1234,7 +1269,7 @@ BITM_MUST_USE static inline uint32_t bitm_stored_open_index(const uint64_t *file
  *
  * The position of that bit is bits_before[place.shard] + its position in the shard; the rank of a position is
  * ones_before[place.shard] + its rank in the shard. Both, and that place.within is a rank (a position) which the shard
- * has, are proved for any number of shards, empty ones too, and fewer than 2^64 bits, where the counts are those of the
+ * has, are proved for any number of shards, empty ones too, and fewer than 2^64 bits, where the counts match the
  * shards. */
 
 /* What is numbered. */
@@ -1260,8 +1295,7 @@ struct bitm_shard_place {
 /* The shards themselves with their counts, where all lie in this process. Calls that take them return BITM_BAD_SIZE
  * also if counts.bits_len is not shards_len + 1. Over any counts and tables, a rank is at most its position and a
  * selection finds a position below the claimed number of bits that in some shard holds the requested bit; if the counts
- * are those of the shards, and each shard's tables those of its words, the answer is that of counting in the joined
- * bits. */
+ * match the shards, and each shard's tables match its words, the answer is what counting in the joined bits gives. */
 struct bitm_shards {
     struct bitm_prefixes counts;
     const struct bitm_index *shards;
@@ -1269,7 +1303,7 @@ struct bitm_shards {
     uint64_t reserved[2]; /* 0: not given */
 };
 
-/* Faults of prefix counts, and of shards: see bitm_bits_fault. Those of a shard are bitm_index_fault.
+/* Faults of prefix counts, and of shards: see bitm_bits_fault. bitm_index_fault names the faults of one shard.
  *
  *     if (bitm_prefixes_fault(&prefixes) != NULL) return 1; */
 static inline const char *bitm_prefixes_fault(const struct bitm_prefixes *counts)
@@ -1286,8 +1320,8 @@ static inline const char *bitm_shards_fault(const struct bitm_shards *shards)
     return NULL;
 }
 
-/* Writes the sum of the numbers before each number, and last that of all. BITM_BAD_SIZE if out_len is not numbers_len +
- * 1, or the sum is 2^64 or more. numbers and out may not overlap. */
+/* Writes the sum of the numbers before each number, and at the end the sum of all. BITM_BAD_SIZE if out_len is not
+ * numbers_len + 1, or the sum is 2^64 or more. numbers and out may not overlap. */
 BITM_MUST_USE uint32_t bitm_prefix_sums(const uint64_t *numbers, size_t numbers_len, uint64_t *out, size_t out_len);
 
 /* Whether sums are those that bitm_prefix_sums writes: BITM_OK or BITM_WRONG.
@@ -1298,19 +1332,19 @@ BITM_MUST_USE uint32_t bitm_prefix_sums_check(const uint64_t *numbers, size_t nu
 
 /* The shard that holds a position, or the bit of a kind with a rank, and the position or rank in it. BITM_NONE exactly
  * if the counts claim no more in all; BITM_WRONG only if they claim more than number before the first shard, and so
- * never if they are those of the shards. BITM_BAD_SIZE also if kind is none of the three. Reads a pair of counts for
- * each halving of their number, and three more (evident from the code). */
+ * never if they match the shards. BITM_BAD_SIZE also if kind is none of the three. Reads a pair of counts for each
+ * halving of their number, and three more (evident from the code). */
 BITM_MUST_USE uint32_t bitm_shards_find(const struct bitm_prefixes *counts, uint32_t kind, uint64_t number,
                                         struct bitm_shard_place *out);
 
 /* bitm_index_rank and bitm_index_select of the joined bits: one search among the counts, and one query of a shard.
- * BITM_NONE exactly if position is above the number of all bits that the counts claim, or rank is not below that of the
- * bits of its kind. BITM_WRONG if counts or tables turn out to be wrong.
+ * BITM_NONE exactly if position is above the number of all bits that the counts claim, or rank is not below the number
+ * of bits of its kind. BITM_WRONG if counts or tables turn out to be wrong.
  *
  *     const struct bitm_index both[2] = {index, index};
  *     const uint64_t bits_of_each[2] = {100, 100}, ones_of_each[2] = {5, 5};
  *     struct bitm_shards shards = {.counts = prefixes, .shards = both, .shards_len = 2};
- *     if (bitm_prefix_sums(bits_of_each, 2, bits_before, 3) != BITM_OK ||
+ *     if (bitm_shards_fault(&shards) != NULL || bitm_prefix_sums(bits_of_each, 2, bits_before, 3) != BITM_OK ||
  *         bitm_prefix_sums(ones_of_each, 2, ones_before, 3) != BITM_OK ||
  *         bitm_shards_rank(&shards, true, 104, &value) != BITM_OK || value != 7 ||
  *         bitm_shards_select(&shards, true, 7, &position) != BITM_OK || position != 104) return 1; */
@@ -1353,9 +1387,10 @@ BITM_MUST_USE uint32_t bitm_shards_select_list(const struct bitm_shards *shards,
 /* ---- trees: each in one block of memory
  *
  * A block is one piece of memory, and also one file: it holds no pointer, and can be mapped by many processes
- * (docs/FORMAT.md). A tree of n nodes takes 2 n + 1 bits (LOUDS: Jacobson, FOCS 1989) and their tables, about 2.1 bits a
- * node. Nodes are numbered level by level: the root is node 0, and the children of a node follow one another, after
- * those of the node before it. A tree is built from the degree of each node, which is how many children it has:
+ * (docs/FORMAT.md). A tree of n nodes takes 2 n + 1 bits (LOUDS: Jacobson, FOCS 1989), their tables and their hints,
+ * about 2.6 bits a node. Nodes are numbered level by level: the root is node 0, and the children of a node follow one
+ * another, after the children of the node before it. A tree is built from the degree of each node, which is how many
+ * children it has:
  *
  *     const uint64_t degrees[4] = {2, 0, 1, 0}; // the root has the children 1 and 2, and node 2 has the child 3
  *     uint64_t block_len, node;
@@ -1368,8 +1403,13 @@ BITM_MUST_USE uint32_t bitm_shards_select_list(const struct bitm_shards *shards,
  *
  * Over any block that bitm_tree_open takes, a stale or hostile one too, a query returns within the reads that are named
  * below, a parent is less than its child, a child is less than tree.len, and a degree too. If bitm_tree_build wrote the
- * block or bitm_tree_check passes it, and it did not change afterwards, the answers are those of one tree, and no query
- * returns BITM_WRONG. */
+ * block or bitm_tree_check passes it, and it did not change afterwards, the answers agree with one tree, and no query
+ * returns BITM_WRONG.
+ *
+ * Queries select in words: the bit of a node, and the ends of its children. Such a selection reads one hint and at most
+ * nine words; where there is no hint, or the bit is not in the eight words from its hint's word on, it reads also what
+ * bitm_index_select reads without samples. Calls for a list select without hints. A block that was written before there
+ * were hints opens without them. */
 struct bitm_tree {
     size_t len; /* how many nodes */
     const uint64_t *words;
@@ -1378,7 +1418,8 @@ struct bitm_tree {
     size_t upper_len;
     const uint64_t *lower;
     size_t lower_len;
-    uint64_t reserved[2]; /* 0: not read */
+    const uint64_t *hints; /* NULL: none */
+    size_t hints_len;      /* 0, or bitm_hints_len(len, words_len) */
 };
 
 /* Faults of a tree: see bitm_bits_fault.
@@ -1389,20 +1430,31 @@ static inline const char *bitm_tree_fault(const struct bitm_tree *tree)
     if (tree->len >= (size_t)1 << 60) return "len is 2^60 or more";
     if (tree->words_len != bitm_bits_words_len(2 * tree->len + 1))
         return "words_len is not bitm_bits_words_len(2 * len + 1)";
-    return bitm_tables_fault(tree->words_len, tree->upper_len, tree->lower_len);
+    const char *const fault = bitm_tables_fault(tree->words_len, tree->upper_len, tree->lower_len);
+    if (fault) return fault;
+    if (tree->hints_len != 0 && tree->hints_len != bitm_hints_len(tree->len, tree->words_len))
+        return "hints_len is neither 0 nor bitm_hints_len(len, words_len)";
+    return NULL;
 }
 
 /* How many words the block of a tree of that many nodes takes. BITM_BAD_SIZE if there are 2^60 or more. */
 BITM_MUST_USE uint32_t bitm_tree_size(size_t nodes, uint64_t *out);
 
-/* Writes the block of the tree whose nodes have these degrees. BITM_BAD_SIZE if bitm_tree_size does not take degrees_len,
- * or block_len is not what it says; else BITM_WRONG if the degrees are those of no tree: in a tree there is one child for
- * each node but the root, and the first i nodes have at least i children, for each i from 1 to n - 1. Allocates nothing,
- * and needs no other memory. degrees and block may not overlap.
+/* Writes the block of the tree whose nodes have these degrees. BITM_BAD_SIZE if bitm_tree_size does not take
+ * degrees_len, or block_len is not the size that it gives; else BITM_WRONG if the degrees form no tree: in a tree there
+ * is one child for each node but the root, and the first i nodes have at least i children, for each i from 1 to n - 1.
+ * Allocates nothing, and needs no other memory. degrees and block may not overlap.
  *
  *     const uint64_t of_none[2] = {0, 1}; // node 1 would be its own parent
  *     if (bitm_tree_build(of_none, 2, block, block_len) != BITM_WRONG) return 1; */
 BITM_MUST_USE uint32_t bitm_tree_build(const uint64_t *degrees, size_t degrees_len, uint64_t *block, size_t block_len);
+
+/* The first node at which degrees form no tree: BITM_OK with a node that is a child of no node before it, or with whose
+ * children there are more nodes than degrees; BITM_NONE exactly if the degrees form a tree, or there are none. Reads
+ * each degree up to there once (evident from the code).
+ *
+ *     if (bitm_tree_misfit(of_none, 2, &value) != BITM_OK || value != 1) return 1; */
+BITM_MUST_USE uint32_t bitm_tree_misfit(const uint64_t *degrees, size_t degrees_len, uint64_t *out);
 
 /* Opens a block: writes the tree that queries take, which points into the block. BITM_WRONG exactly if the header or
  * the directory of the block is not right, or belongs to no tree, or block_len is not as they say. Reads at most 80
@@ -1411,9 +1463,9 @@ BITM_MUST_USE uint32_t bitm_tree_build(const uint64_t *degrees, size_t degrees_l
  *     if (bitm_tree_open(block, block_len - 1, &tree) != BITM_WRONG || tree.len != 4) return 1; */
 BITM_MUST_USE uint32_t bitm_tree_open(const uint64_t *block, size_t block_len, struct bitm_tree *tree);
 
-/* Whether a block is as it was written and holds a tree: BITM_OK, or BITM_WRONG as bitm_tree_open, if a checksum is not
- * that of its words, or if words and tables are not those of a tree. So a block in which one word was changed is
- * refused. Three passes over the words of the block (evident from the code).
+/* Whether a block is as it was written and holds a tree: BITM_OK, or BITM_WRONG as bitm_tree_open, if a checksum does
+ * not match its words, or if words, tables and hints form no tree. So a block in which one word was changed is refused.
+ * Three passes over the words of the block, and a selection by the tables for each hint (evident from the code).
  *
  *     block[40] ^= 1;
  *     if (bitm_tree_check(block, block_len) != BITM_WRONG) return 1;
@@ -1421,20 +1473,21 @@ BITM_MUST_USE uint32_t bitm_tree_open(const uint64_t *block, size_t block_len, s
  *     if (bitm_tree_check(block, block_len) != BITM_OK) return 1; */
 BITM_MUST_USE uint32_t bitm_tree_check(const uint64_t *block, size_t block_len);
 
-/* Each of these calls returns BITM_BAD_SIZE if a length in *tree is not that of its number of nodes, and BITM_WRONG only
- * where the block is not that of a tree.
+/* Each of these calls returns BITM_BAD_SIZE if a length in *tree does not fit its number of nodes, and BITM_WRONG only
+ * where the block holds no tree.
  *
  * The parent of a node. BITM_NONE exactly at the root and if there is no such node. Reads what one selection does. */
 BITM_MUST_USE uint32_t bitm_tree_parent(const struct bitm_tree *tree, size_t node, uint64_t *out);
 
-/* Child k of a node, counted from 0. BITM_NONE exactly if the node has no more than k children, or there is no such node.
- * Reads what two selections do.
+/* Child k of a node, counted from 0. BITM_NONE exactly if the node has no more than k children, or there is no such
+ * node. Reads what one selection does and two words if k is below 64, and what two selections do otherwise.
  *
  *     if (bitm_tree_child(&tree, 0, 1, &node) != BITM_OK || node != 2 ||
  *         bitm_tree_child(&tree, 0, 2, &node) != BITM_NONE) return 1; */
 BITM_MUST_USE uint32_t bitm_tree_child(const struct bitm_tree *tree, size_t node, size_t k, uint64_t *out);
 
-/* How many children a node has. BITM_NONE exactly if there is no such node. Reads what two selections do.
+/* How many children a node has. BITM_NONE exactly if there is no such node. Reads what one selection does and two
+ * words, and what a second selection does only if the end of the children is not in these: if there are 64 or more.
  *
  *     if (bitm_tree_degree(&tree, 0, &value) != BITM_OK || value != 2) return 1; */
 BITM_MUST_USE uint32_t bitm_tree_degree(const struct bitm_tree *tree, size_t node, uint64_t *out);
@@ -1464,8 +1517,8 @@ BITM_MUST_USE uint32_t bitm_tree_child_rank(const struct bitm_tree *tree, size_t
 /* bitm_tree_parent, bitm_tree_degree and bitm_tree_child of each node of a list, the last with child ks[i] of nodes[i]:
  * out[i] is the answer, or BITM_NO_ANSWER for BITM_NONE and BITM_WRONG_TABLES for BITM_WRONG; counts says how many of
  * each there are. BITM_BAD_SIZE also if out_len or ks_len is not nodes_len. Bits of nodes are selected side by side, so
- * over words that hold no tree an answer may differ from that of the call for one node. out and counts may overlap neither
- * each other nor what the call reads.
+ * over words that hold no tree an answer may differ from the answer of the call for one node. out and counts may
+ * overlap neither each other nor what the call reads.
  *
  *     const uint64_t nodes[3] = {0, 3, 4}, ks[3] = {1, 0, 0};
  *     uint64_t of_each[3];
@@ -1485,11 +1538,11 @@ BITM_MUST_USE uint32_t bitm_tree_child_list(const struct bitm_tree *tree, const 
 
 /* ---- tries: sets of words, each in one block of memory
  *
- * A trie is a tree in which each node but the root has a label, and the labels of the children of a node rise. A
- * word, a list of labels, leads from the root to at most one node. Labels are numbers of `width` bits each, 1 to 63:
- * bytes, say. Ends are a bit for each node, lowest bit first, which says whether a word ends there; a trie may have
- * none. A node takes about 2.1 bits, its label and its end. A block is written and opened as that of a tree;
- * labels[0] is that of node 1, since the root has none:
+ * A trie is a tree in which each node but the root has a label, and the labels of the children of a node rise. A word,
+ * a list of labels, leads from the root to at most one node. Labels are numbers of `width` bits each, 1 to 63: bytes,
+ * say. Ends are a bit for each node, lowest bit first, which says whether a word ends there; a trie may have none. A
+ * node takes about 2.6 bits, its label and its end. A block is written and opened like a tree's; labels[0] is the label
+ * of node 1, since the root has none:
  *
  *     const uint64_t children[4] = {2, 0, 1, 0}, node_labels[3] = {'a', 'b', 'e'}, node_ends[1] = {14}; // a, b and be
  *     uint64_t trie_len, matched, word[4];
@@ -1504,11 +1557,11 @@ BITM_MUST_USE uint32_t bitm_tree_child_list(const struct bitm_tree *tree, const 
  *
  *     if (bitm_tree_parent(&trie.tree, 3, &node) != BITM_OK || node != 2) return 1;
  *
- * Over any block that bitm_trie_open takes, a stale or hostile one too, a query returns within the reads that are
- * named below, a node that is found is less than trie.tree.len, and a child more than its node; a label has no more
- * than trie.width bits, and the word of a node no more labels than the number of the node. If bitm_trie_build wrote
- * the block or bitm_trie_check passes it, and it did not change afterwards, the answers are those of one trie, and no
- * query returns BITM_WRONG. */
+ * Over any block that bitm_trie_open takes, a stale or hostile one too, a query returns within the reads that are named
+ * below, a node that is found is less than trie.tree.len, and a child more than its node; a label has no more than
+ * trie.width bits, and the word of a node no more labels than the number of the node. If bitm_trie_build wrote the
+ * block or bitm_trie_check passes it, and it did not change afterwards, the answers agree with one trie, and no query
+ * returns BITM_WRONG. */
 struct bitm_trie {
     struct bitm_tree tree; /* the nodes */
     uint64_t width;        /* how many bits a label has */
@@ -1541,9 +1594,10 @@ BITM_MUST_USE uint32_t bitm_trie_size(size_t nodes, uint32_t width, bool has_end
 /* Writes the block of the trie of these degrees and labels. ends are no words, or ceil(degrees_len / 64); they are
  * copied as they are. BITM_BAD_SIZE if bitm_trie_size does not take degrees_len and width, labels_len is not
  * degrees_len - 1 (0 if there are no degrees), ends_len is neither of these, or block_len is not what bitm_trie_size
- * says; else BITM_WRONG if the degrees are those of no tree (bitm_tree_build), a label has more than `width` bits, or the
+ * says; else BITM_WRONG if the degrees form no tree (bitm_tree_build), a label has more than `width` bits, or the
  * labels of the children of a node do not rise. Allocates nothing, and needs no other memory. block may overlap nothing
- * that is read. Three passes over degrees and labels, and four over the block (evident from the code).
+ * that is read. Three passes over degrees and labels, four over the block, and a selection for each hint (evident from
+ * the code).
  *
  *     const uint64_t of_fall[3] = {'b', 'a', 'e'};
  *     if (bitm_trie_build(children, 4, of_fall, 3, 8, node_ends, 1, of_words, trie_len) != BITM_WRONG) return 1; */
@@ -1553,11 +1607,11 @@ BITM_MUST_USE uint32_t bitm_trie_build(const uint64_t *degrees, size_t degrees_l
 
 /* How many nodes the trie of sorted words has, whose labels are bytes: the root, and one for each byte that a word does
  * not share with the word before it, from their first on. The words stand one after another in bytes: starts says where
- * each begins, and at last where the last one ends. They rise in the order of a dictionary, by their bytes, a word before
- * a longer one that it begins, and none is twice there; the empty word may be one. BITM_BAD_SIZE exactly if there are no
- * starts, one is less than the one before it, or the last one is more than bytes_len; else BITM_UNSORTED exactly if a
- * word does not stand after the one before it. Three passes over the starts, and two over the bytes (evident from the
- * code).
+ * each begins, and at last where the last one ends. They rise in the order of a dictionary, by their bytes, a word
+ * before a longer one that it begins, and none is twice there; the empty word may be one. BITM_BAD_SIZE exactly if
+ * there are no starts, one is less than the one before it, or the last one is more than bytes_len; else BITM_UNSORTED
+ * exactly if a word does not stand after the one before it. Three passes over the starts, and two over the bytes
+ * (evident from the code).
  *
  *     const uint8_t *letters_of = (const uint8_t *)"aabeb"; // a, abe and b
  *     const uint64_t starts_of[4] = {0, 1, 4, 5};
@@ -1567,14 +1621,24 @@ BITM_MUST_USE uint32_t bitm_trie_build(const uint64_t *degrees, size_t degrees_l
 BITM_MUST_USE uint32_t bitm_trie_nodes_of_words(const uint8_t *bytes, size_t bytes_len, const uint64_t *starts,
                                                 size_t starts_len, uint64_t *out);
 
-/* Writes the block of the trie of sorted words, which are given as to bitm_trie_nodes_of_words, with labels of 8 bits and
- * ends: bitm_trie_find_bytes of a word finds a node, and bitm_trie_is_end says that a word ends there, exactly if it is
- * one of them. Let n be the number of nodes: one, and one for each byte that a word does not share with the word before
- * it, also where words do not rise. BITM_BAD_SIZE if bitm_trie_nodes_of_words returns it, scratch_len is not
- * 3 n - 2 + ceil(n / 64), or bitm_trie_size(n, 8, true, ..) does not say block_len; else BITM_UNSORTED if a word does not
- * stand after the one before it. What scratch holds is overwritten. Allocates nothing. scratch and block may overlap
- * neither each other nor what is read. Five passes over the starts, four over the bytes, and those of bitm_trie_build
- * (evident from the code).
+/* The first word that does not stand after the word before it: BITM_OK with its number; BITM_NONE exactly if the words
+ * are sorted; BITM_BAD_SIZE as bitm_trie_nodes_of_words. Two passes over the starts and one over the bytes (evident from
+ * the code).
+ *
+ *     const uint64_t swapped[4] = {1, 4, 4, 5}; // abe, the empty word and b
+ *     if (bitm_trie_unsorted_word(letters_of, 5, swapped, 4, &value) != BITM_OK || value != 1 ||
+ *         bitm_trie_unsorted_word(letters_of, 5, starts_of, 4, &value) != BITM_NONE) return 1; */
+BITM_MUST_USE uint32_t bitm_trie_unsorted_word(const uint8_t *bytes, size_t bytes_len, const uint64_t *starts,
+                                               size_t starts_len, uint64_t *out);
+
+/* Writes the block of the trie of sorted words, which are given as to bitm_trie_nodes_of_words, with labels of 8 bits
+ * and ends: bitm_trie_find_bytes of a word finds a node, and bitm_trie_is_end says that a word ends there, exactly if
+ * it is one of them. Let n be the number of nodes: one, and one for each byte that a word does not share with the word
+ * before it, also where words do not rise. BITM_BAD_SIZE if bitm_trie_nodes_of_words returns it, if scratch_len is not
+ * 3 n - 2 + ceil(n / 64), or if bitm_trie_size(n, 8, true, ..) does not give block_len; else BITM_UNSORTED if a word
+ * does not stand after the one before it. What scratch holds is overwritten. Allocates nothing. scratch and block may
+ * overlap neither each other nor what is read. Five passes over the starts, four over the bytes, and the passes of
+ * bitm_trie_build (evident from the code).
  *
  *     uint64_t parts_of[14], grown_len;
  *     if (bitm_trie_size(5, 8, true, &grown_len) != BITM_OK) return 1;
@@ -1599,10 +1663,10 @@ BITM_MUST_USE uint32_t bitm_trie_build_words(const uint8_t *bytes, size_t bytes_
  *     if (bitm_trie_open(of_words, trie_len - 1, &trie) != BITM_WRONG || trie.tree.len != 4) return 1; */
 BITM_MUST_USE uint32_t bitm_trie_open(const uint64_t *block, size_t block_len, struct bitm_trie *trie);
 
-/* Whether a block is as it was written and holds a trie: BITM_OK, or BITM_WRONG as bitm_trie_open, if a checksum is
- * not that of its words, if words and tables are not those of a tree, or if the labels of the children of a node do
- * not rise. So a block in which one word was changed is refused. Four passes over the words of the block (evident
- * from the code).
+/* Whether a block is as it was written and holds a trie: BITM_OK, or BITM_WRONG as bitm_trie_open, if a checksum does
+ * not match its words, if words, tables and hints form no tree, or if the labels of the children of a node do not rise.
+ * So a block in which one word was changed is refused. Four passes over the words of the block, and a selection by the
+ * tables for each hint (evident from the code).
  *
  *     of_words[40] ^= 1;
  *     if (bitm_trie_check(of_words, trie_len) != BITM_WRONG) return 1;
@@ -1610,8 +1674,8 @@ BITM_MUST_USE uint32_t bitm_trie_open(const uint64_t *block, size_t block_len, s
  *     if (bitm_trie_check(of_words, trie_len) != BITM_OK) return 1; */
 BITM_MUST_USE uint32_t bitm_trie_check(const uint64_t *block, size_t block_len);
 
-/* Each of these calls returns BITM_BAD_SIZE if a length in *trie is not that of its number of nodes and its width,
- * and BITM_WRONG only where the block is not that of a trie.
+/* Each of these calls returns BITM_BAD_SIZE if a length in *trie does not fit its number of nodes and its width, and
+ * BITM_WRONG only where the block holds no trie.
  *
  * The label of a node. BITM_NONE exactly at the root and if there is no such node. Reads at most two words (evident
  * from the code).
@@ -1626,7 +1690,7 @@ BITM_MUST_USE uint32_t bitm_trie_label(const struct bitm_trie *trie, size_t node
 BITM_MUST_USE uint32_t bitm_trie_is_end(const struct bitm_trie *trie, size_t node, uint64_t *out);
 
 /* The child of a node with the given label. BITM_NONE exactly if none has it, or there is no such node. Reads what
- * two selections do, and a label for each binary digit of the number of nodes, and one.
+ * bitm_tree_degree does, and a label for each binary digit of the number of nodes, and one.
  *
  *     if (bitm_trie_child(&trie, 0, 'b', &node) != BITM_OK || node != 2 ||
  *         bitm_trie_child(&trie, 0, 'e', &node) != BITM_NONE) return 1; */
@@ -1673,7 +1737,7 @@ BITM_MUST_USE uint32_t bitm_trie_word(const struct bitm_trie *trie, size_t node,
  * A wavelet matrix (Claude, Navarro and Ordonez, Information Systems 47, 2015) holds n numbers of at most `width` bits
  * each in about 1.03 * width bits a number, and answers where and how often a number is in the list, and which numbers
  * of a range are the least. With quarters it takes about 1.16 * width bits, and most queries read fewer words (evident
- * from the code, where a query does not say how many). A block of numbers is written and opened as that of a tree:
+ * from the code, where a query does not say how many). A block of numbers is written and opened like a tree's:
  *
  *     const uint64_t any_order[6] = {3, 1, 4, 1, 5, 1};
  *     uint64_t matrix_len, scratch[12]; // two words for each number
@@ -1686,9 +1750,9 @@ BITM_MUST_USE uint32_t bitm_trie_word(const struct bitm_trie *trie, size_t node,
  *         bitm_matrix_rank(&matrix, 1, 4, &value) != BITM_OK || value != 2) return 1; // 1 is among 3, 1, 4, 1 twice
  *
  * Over any block that bitm_matrix_open takes, a stale or hostile one too, a query returns within the reads that are
- * named below, a number has no more than matrix.width bits, a count is at most that of the numbers asked about, and an
+ * named below, a number has no more than matrix.width bits, a count is at most the number of items asked about, and an
  * index that is found is less than matrix.len. If bitm_matrix_build wrote the block or bitm_matrix_check passes it, and
- * it did not change afterwards, the answers are those of one list of numbers, and no query returns BITM_WRONG. */
+ * it did not change afterwards, the answers agree with one list of numbers, and no query returns BITM_WRONG. */
 struct bitm_matrix {
     size_t len;     /* how many numbers */
     uint64_t width; /* how many bits each has at most */
@@ -1726,16 +1790,42 @@ static inline const char *bitm_matrix_fault(const struct bitm_matrix *matrix)
  * not 1 to 64, or len * width is 2^63 or more. */
 BITM_MUST_USE uint32_t bitm_matrix_size(size_t len, uint32_t width, bool quarters, uint64_t *out);
 
-/* Writes the block of these numbers of `width` bits, with quarters or without. BITM_BAD_SIZE if bitm_matrix_size does not
- * take numbers_len and width, block_len is not what it says, or scratch_len is not 2 * numbers_len; else BITM_WRONG if a
- * number has more bits than the width. What scratch holds is overwritten. Allocates nothing. Numbers, scratch and block
- * may not overlap one another. For each bit of the width two passes over the numbers, then three over the block, and with
- * quarters a fourth (evident from the code).
+/* Writes the block of these numbers of `width` bits, with quarters or without. BITM_BAD_SIZE if bitm_matrix_size does
+ * not take numbers_len and width, block_len is not the size that it gives, or scratch_len is not 2 * numbers_len; else
+ * BITM_WRONG if a number has more bits than the width. What scratch holds is overwritten. Allocates nothing. Numbers,
+ * scratch and block may not overlap one another. For each bit of the width two passes over the numbers, then three over
+ * the block, and with quarters a fourth (evident from the code).
  *
  *     // 4 has 3 bits:
  *     if (bitm_matrix_build(any_order, 6, 2, false, scratch, 12, of_numbers, matrix_len) != BITM_WRONG) return 1; */
 BITM_MUST_USE uint32_t bitm_matrix_build(const uint64_t *numbers, size_t numbers_len, uint32_t width, bool quarters,
                                          uint64_t *scratch, size_t scratch_len, uint64_t *block, size_t block_len);
+
+/* Writes one level of the block of a matrix, for a caller that builds level by level, to say how far it is: levels 0 to
+ * width - 1 of the numbers and then bitm_matrix_seal write their block, as bitm_matrix_build does. The call reads bit
+ * width - 1 - depth of each number, and sorts the numbers by that bit, without changing the order of those with the
+ * same bit: the next level takes them so. Higher bits are not read: bitm_numbers_above finds a number that has more
+ * than width bits. BITM_BAD_SIZE if bitm_matrix_size does not take numbers_len and width, block_len is not the size
+ * that it gives, scratch_len is not numbers_len, or depth is not below width. What scratch holds is overwritten.
+ * Numbers, scratch and block may not overlap one another. Two passes over the numbers, and at level 0 one over the
+ * words of the block's bits (evident from the code).
+ *
+ *     uint64_t by_levels[6] = {2, 3, 0, 1, 1, 3}, half[6];
+ *     uint64_t *built = malloc(8 * matrix_len);
+ *     if (!built ||
+ *         bitm_matrix_write_level(by_levels, 6, 2, false, 0, half, 6, built, matrix_len) != BITM_OK ||
+ *         bitm_matrix_write_level(by_levels, 6, 2, false, 1, half, 6, built, matrix_len) != BITM_OK ||
+ *         bitm_matrix_seal(6, 2, false, built, matrix_len) != BITM_OK ||
+ *         bitm_matrix_check(built, matrix_len) != BITM_OK) return 1;
+ *     free(built); */
+BITM_MUST_USE uint32_t bitm_matrix_write_level(uint64_t *numbers, size_t numbers_len, uint32_t width, bool quarters,
+                                               uint32_t depth, uint64_t *scratch, size_t scratch_len, uint64_t *block,
+                                               size_t block_len);
+
+/* Completes the block whose levels bitm_matrix_write_level wrote: tables, header and directory. BITM_BAD_SIZE if
+ * bitm_matrix_size does not take len and width, or block_len is not the size that it gives. Three passes over the
+ * block, and with quarters a fourth (evident from the code). */
+BITM_MUST_USE uint32_t bitm_matrix_seal(size_t len, uint32_t width, bool quarters, uint64_t *block, size_t block_len);
 
 /* Opens a block: writes the matrix that queries take, which points into the block. BITM_WRONG exactly if the header or
  * the directory of the block is not right, or belongs to no matrix, or block_len is not as they say. Reads at most 80
@@ -1744,9 +1834,9 @@ BITM_MUST_USE uint32_t bitm_matrix_build(const uint64_t *numbers, size_t numbers
  *     if (bitm_matrix_open(of_numbers, matrix_len - 1, &matrix) != BITM_WRONG || matrix.len != 6) return 1; */
 BITM_MUST_USE uint32_t bitm_matrix_open(const uint64_t *block, size_t block_len, struct bitm_matrix *matrix);
 
-/* Whether a block is as it was written and holds a matrix: BITM_OK, or BITM_WRONG as bitm_matrix_open, if a checksum is
- * not that of its words, or if words and tables are not those of a matrix. So a block in which one word was changed is
- * refused. Two passes over the block, and with quarters two ranks for every two words (evident from the code).
+/* Whether a block is as it was written and holds a matrix: BITM_OK, or BITM_WRONG as bitm_matrix_open, if a checksum
+ * does not match its words, or if words and tables form no matrix. So a block in which one word was changed is refused.
+ * Two passes over the block, and with quarters two ranks for every two words (evident from the code).
  *
  *     of_numbers[40] ^= 1;
  *     if (bitm_matrix_check(of_numbers, matrix_len) != BITM_WRONG) return 1;
@@ -1754,8 +1844,8 @@ BITM_MUST_USE uint32_t bitm_matrix_open(const uint64_t *block, size_t block_len,
  *     if (bitm_matrix_check(of_numbers, matrix_len) != BITM_OK) return 1; */
 BITM_MUST_USE uint32_t bitm_matrix_check(const uint64_t *block, size_t block_len);
 
-/* Each of these calls returns BITM_BAD_SIZE if a length in *matrix is not that of its numbers and their width, and
- * BITM_WRONG only where the block is not that of a matrix.
+/* Each of these calls returns BITM_BAD_SIZE if a length in *matrix does not fit its numbers and their width, and
+ * BITM_WRONG only where the block holds no matrix.
  *
  * The number at an index. BITM_NONE exactly if index is len or more. Reads for each bit of the width at most one upper
  * entry, one lower entry and eight words; with quarters no lower entry and two words, and one number of the quarters
@@ -1772,8 +1862,8 @@ BITM_MUST_USE uint32_t bitm_matrix_get(const struct bitm_matrix *matrix, size_t 
 BITM_MUST_USE uint32_t bitm_matrix_rank(const struct bitm_matrix *matrix, uint64_t number, size_t index, uint64_t *out);
 
 /* The index of this number with exactly `rank` such numbers before it. BITM_NONE if there are no more than rank; over a
- * block that is not that of a matrix it may be that of any number. Reads what bitm_matrix_rank does, and for each bit
- * of the width what bitm_index_select reads without samples.
+ * block that holds no matrix it may be the answer for any number. Reads what bitm_matrix_rank does, and for each bit of
+ * the width what bitm_index_select reads without samples.
  *
  *     if (bitm_matrix_select(&matrix, 1, 2, &value) != BITM_OK || value != 5 ||
  *         bitm_matrix_select(&matrix, 1, 3, &value) != BITM_NONE) return 1; */
@@ -1783,9 +1873,9 @@ BITM_MUST_USE uint32_t bitm_matrix_select(const struct bitm_matrix *matrix, uint
 /* Writes the numbers at a list of indices, as bitm_matrix_get answers them, up to the first index that has none, and to
  * written how many; the rest of out stays as it was. BITM_OK exactly if all are written. Else the status says why the
  * call stopped at indices[written]: BITM_NONE exactly if that is not below len, and BITM_WRONG exactly if it is, as it
- * may be only if the block is not that of a matrix. BITM_BAD_SIZE, and nothing is written, also if out_len is not
- * indices_len. out and written may not overlap each other or what the call reads. 32 of them go from level to level
- * together, so that they wait for memory side by side (evident from the code).
+ * may be only if the block holds no matrix. BITM_BAD_SIZE, and nothing is written, also if out_len is not indices_len.
+ * out and written may not overlap each other or what the call reads. 32 of them go from level to level together, so
+ * that they wait for memory side by side (evident from the code).
  *
  *     const uint64_t at_each[3] = {4, 0, 6};
  *     if (bitm_matrix_get_list(&matrix, at_each, 3, of_each, 3, &written) != BITM_NONE || written != 2 ||
@@ -1865,11 +1955,11 @@ BITM_MUST_USE uint32_t bitm_matrix_top(const struct bitm_matrix *matrix, size_t 
                                        size_t numbers_len, uint64_t *counts, size_t counts_len, uint64_t *written);
 
 /* The numbers that are in both ranges and at least `from`, each once, rising: as many as there is room for; *written is
- * how many these are. So go on at the last number and 1. BITM_NONE exactly if there is no such range. Whatever the block
- * holds, the numbers rise from `from` on, and the items after them stay as they were; only where BITM_WRONG is returned,
- * items may have been written. numbers and written may not overlap each other or what the call reads. Makes at most
- * first_end - first_start queries as bitm_matrix_next_value of either range, whatever the block holds (evident from the
- * code): so give the shorter range first.
+ * how many these are. So go on at the last number and 1. BITM_NONE exactly if there is no such range. Whatever the
+ * block holds, the numbers rise from `from` on, and the items after them stay as they were; only where BITM_WRONG is
+ * returned, items may have been written. numbers and written may not overlap each other or what the call reads. Makes
+ * at most first_end - first_start queries as bitm_matrix_next_value of either range, whatever the block holds (evident
+ * from the code): so give the shorter range first.
  *
  *     if (bitm_matrix_intersect(&matrix, 0, 3, 3, 6, 0, kinds, 4, &written) != BITM_OK || written != 1 ||
  *         kinds[0] != 1) return 1; // 3, 1, 4 and 1, 5, 1 share 1
@@ -1880,7 +1970,7 @@ BITM_MUST_USE uint32_t bitm_matrix_intersect(const struct bitm_matrix *matrix, s
 
 /* ---- an index, and a sequence, in one block of memory
  *
- * A block as that of a tree, from which struct bitm_index is opened without samples, or struct bitm_sequence: every
+ * A block like a tree's, from which struct bitm_index is opened without samples, or struct bitm_sequence: every
  * bitm_index_ or bitm_sequence_ call then works over a mapped file. bitm_index_build_samples adds samples to an index
  * that was opened, in memory of yours, or to be kept in its block ("sections of your own", below).
  *
@@ -1909,12 +1999,12 @@ BITM_MUST_USE uint32_t bitm_index_block_build(const uint64_t *words, size_t word
 BITM_MUST_USE uint32_t bitm_index_block_open(const uint64_t *block, size_t block_len, struct bitm_index *index);
 
 /* Whether a block is as it was written and holds bits with their tables: BITM_OK, or BITM_WRONG as
- * bitm_index_block_open, if a checksum is not that of its words, or if the tables are not those of the words. Two
- * passes over the block (evident from the code). */
+ * bitm_index_block_open, if a checksum does not match its words, or if the tables do not match the words. Two passes
+ * over the block (evident from the code). */
 BITM_MUST_USE uint32_t bitm_index_block_check(const uint64_t *block, size_t block_len);
 
-/* How many words the block of len numbers takes, of which the last, and so the largest, is largest (0 if there are
- * none). BITM_BAD_SIZE as bitm_sequence_sizes.
+/* How many words the block of len numbers takes, where the last number, and so the largest, is `largest` (0 if there
+ * are none). BITM_BAD_SIZE as bitm_sequence_sizes.
  *
  *     if (bitm_sequence_block_size(5, 11, &block_words) != BITM_OK) return 1;
  *     uint64_t *of_items = malloc(8 * block_words); // or a mapped file
@@ -1928,27 +2018,29 @@ BITM_MUST_USE uint32_t bitm_sequence_block_size(size_t len, uint64_t largest, ui
 
 /* Writes the block of a sequence of the items. BITM_BAD_SIZE if there are 2^56 or more, or block_len is not what
  * bitm_sequence_block_size says for items_len and the last item; else BITM_UNSORTED if an item is less than the one
- * before it. items and block may not overlap. Four passes over the items, and three over the block (evident from the
- * code). */
+ * before it. items and block may not overlap. Four passes over the items, three over the block, and a selection for
+ * each hint (evident from the code). */
 BITM_MUST_USE uint32_t bitm_sequence_block_build(const uint64_t *items, size_t items_len, uint64_t *block,
                                                  size_t block_len);
 
-/* Opens a block: writes the sequence that queries take, which points into the block. BITM_WRONG exactly if the header
- * or the directory of the block is not right, or belongs to no sequence, or block_len is not as they say. Reads at
- * most 80 words, however long the block is (evident from the code); what its other words hold is not looked at. */
+/* Opens a block: writes the sequence that queries take, which points into the block, with its hints; without them if
+ * the block was written before there were hints. BITM_WRONG exactly if the header or the directory of the block is not
+ * right, or belongs to no sequence, or block_len is not as they say. Reads at most 80 words, however long the block is
+ * (evident from the code); what its other words hold is not looked at. */
 BITM_MUST_USE uint32_t bitm_sequence_block_open(const uint64_t *block, size_t block_len,
                                                 struct bitm_sequence *sequence);
 
 /* Whether a block is as it was written and holds a sequence: BITM_OK, or BITM_WRONG as bitm_sequence_block_open, if a
- * checksum is not that of its words, or if the parts are not those of a sequence. Three passes over the words of the
- * block (evident from the code). */
+ * checksum does not match its words, or if parts and hints form no sequence. Three passes over the words of the block,
+ * and a selection by the tables for each hint (evident from the code). */
 BITM_MUST_USE uint32_t bitm_sequence_block_check(const uint64_t *block, size_t block_len);
 
 /* ---- sections of your own: notes, samples and the like, in a block of any kind
  *
- * A block may have sections of yours after those of its kind: of a role from 65536 on, whose items are bytes, eight in a
- * word. Readers of the kind step over them, so a block of any kind opens as what it was. A block has at most 16 sections;
- * docs/FORMAT.md says which roles the kinds have, what they mean, and when a section of role 5 or 6 is one of the kind's.
+ * A block may have sections of yours after the sections of its kind: of a role from 65536 on, whose items are bytes,
+ * eight in a word. Readers of the kind skip them, so a block of any kind opens as before. A block has at most 16
+ * sections; docs/FORMAT.md says which roles the kinds have, what they mean, and when a section of role 5, 6 or 22 is
+ * the kind's.
  *
  *     uint64_t plain_words, noted_words;
  *     if (bitm_sequence_block_size(5, 11, &plain_words) != BITM_OK) return 1;
@@ -1963,38 +2055,37 @@ BITM_MUST_USE uint32_t bitm_sequence_block_check(const uint64_t *block, size_t b
  *     if (!noted_block ||
  *         bitm_block_extend(plain_block, plain_words, 65536, 15, note_in_words, 2, noted_block, noted_words) != BITM_OK ||
  *         bitm_sequence_block_check(noted_block, noted_words) != BITM_OK ||
- *         bitm_block_section(noted_block, noted_words, 4, &its_note) != BITM_OK || its_note.role != 65536 ||
+ *         bitm_block_section(noted_block, noted_words, 5, &its_note) != BITM_OK || its_note.role != 65536 ||
  *         its_note.count != 15 || memcmp(its_note.words, "primes below 13", 15) != 0) return 1;
  *
- * SAMPLES of a sequence (struct bitm_sequence) are kept so too: those of 1 bits have role 7, those of 0 bits role 8, two
- * in a word. As long as words_len is at most 2^26 there is one upper block, and its start is 0; the starts of more of
- * them may be a section of your own. Over 5 numbers samples gain nothing; this shows how they are kept.
+ * SAMPLES of an index are kept so too: the samples of 1 bits have role 7, the samples of 0 bits role 8, two in a word.
+ * As long as words_len is at most 2^26 there is one upper block, and its start is 0; the starts of more of them may be
+ * a section of your own. Over 100 bits samples gain nothing; this shows how they are kept.
  *
- *     struct bitm_sequence to_sample = {0}, with_samples = {0};
- *     if (bitm_sequence_block_open(noted_block, noted_words, &to_sample) != BITM_OK || to_sample.words_len != 1) return 1;
- *     const struct bitm_index its_high_bits = {.words = to_sample.words, .words_len = to_sample.words_len,
- *                                              .upper = to_sample.upper, .upper_len = to_sample.upper_len,
- *                                              .lower = to_sample.lower, .lower_len = to_sample.lower_len,
- *                                              .bits_len = 64 * to_sample.words_len};
- *     uint32_t kept_samples[2] = {0, 0}; // room for bitm_index_samples_len(1, 7) samples, in whole words
- *     uint64_t kept_start[1], kept_len, kept_in_words[1], sampled_words;
- *     if (bitm_index_build_samples(&its_high_bits, true, 7, kept_samples, 1, kept_start, 1, &kept_len) != BITM_OK ||
- *         bitm_block_extended_size(noted_block, noted_words, 7, kept_len, &sampled_words) != BITM_OK) return 1;
+ *     uint64_t index_words, sampled_words, kept_start[1], kept_len, kept_in_words[1];
+ *     if (bitm_index_block_size(100, &index_words) != BITM_OK) return 1;
+ *     uint64_t *index_block = malloc(8 * index_words);
+ *     struct bitm_index to_sample = {0}, with_samples = {0};
+ *     uint32_t kept_samples[2] = {0, 0}; // room for bitm_index_samples_len(2, 7) samples, in whole words
+ *     if (!index_block || bitm_index_block_build(words, n, 100, index_block, index_words) != BITM_OK ||
+ *         bitm_index_block_open(index_block, index_words, &to_sample) != BITM_OK || to_sample.words_len != 2 ||
+ *         bitm_index_build_samples(&to_sample, true, 7, kept_samples, 1, kept_start, 1, &kept_len) != BITM_OK ||
+ *         bitm_block_extended_size(index_block, index_words, 7, kept_len, &sampled_words) != BITM_OK) return 1;
  *     memcpy(kept_in_words, kept_samples, 8);
  *     uint64_t *sampled_block = malloc(8 * sampled_words);
  *     struct bitm_section its_samples = {0};
  *     if (!sampled_block ||
- *         bitm_block_extend(noted_block, noted_words, 7, kept_len, kept_in_words, (kept_len + 1) / 2, sampled_block,
+ *         bitm_block_extend(index_block, index_words, 7, kept_len, kept_in_words, (kept_len + 1) / 2, sampled_block,
  *                           sampled_words) != BITM_OK ||
- *         bitm_sequence_block_open(sampled_block, sampled_words, &with_samples) != BITM_OK ||
- *         bitm_block_section(sampled_block, sampled_words, 5, &its_samples) != BITM_OK) return 1;
+ *         bitm_index_block_open(sampled_block, sampled_words, &with_samples) != BITM_OK ||
+ *         bitm_block_section(sampled_block, sampled_words, 3, &its_samples) != BITM_OK) return 1;
  *     const uint64_t zero_start[1] = {0};
- *     const struct bitm_samples of_its_ones = {(const uint32_t *)its_samples.words, its_samples.count, zero_start, 1, 7, 0};
- *     with_samples.samples = &of_its_ones;
- *     with_samples.samples_len = 1;
- *     if (bitm_sequence_get(&with_samples, 4, &item) != BITM_OK || item != 11) return 1;
+ *     with_samples.ones =
+ *         (struct bitm_samples){(const uint32_t *)its_samples.words, its_samples.count, zero_start, 1, 7, 0};
+ *     if (bitm_index_select(&with_samples, true, 4, &position) != BITM_OK || position != 64) return 1;
  *     free(plain_block);
  *     free(noted_block);
+ *     free(index_block);
  *     free(sampled_block); */
 struct bitm_section {
     uint64_t role;  /* what the items are */
@@ -2003,20 +2094,21 @@ struct bitm_section {
     size_t words_len;
 };
 
-/* How many words a block takes with one section more, of `count` items of a role: four bytes each for the roles 7 and 8,
- * one each for role 15 and those from 65536 on, eight each for all others. BITM_WRONG exactly if header or directory of
- * the block are not right, or block_len is not as they say; else BITM_BAD_SIZE exactly if it has 16 sections already,
- * count is 2^58 or more, or there would be 2^60 words or more. Reads at most 160 words (evident from the code). */
+/* How many words a block takes with one section more, of `count` items of a role: four bytes each for the roles 7 and
+ * 8, one each for role 15 and those from 65536 on, eight each for all others. BITM_WRONG exactly if header or directory
+ * of the block are not right, or block_len is not as they say; else BITM_BAD_SIZE exactly if it has 16 sections
+ * already, count is 2^58 or more, or there would be 2^60 words or more. Reads at most 160 words (evident from the
+ * code). */
 BITM_MUST_USE uint32_t bitm_block_extended_size(const uint64_t *block, size_t block_len, uint64_t role, uint64_t count,
                                                 uint64_t *out);
 
 /* Writes to `to` a copy of the block with one section more, after its own: the same numbers, the same words in each
  * section, these words in the new one, and all checksums right. Where the items do not fill the last word, its other
- * bytes have to be 0 if equal sections are to make equal blocks. BITM_WRONG exactly if the block is none, or all lengths
- * are right and a section of it does not have its checksum: what was spoiled gets no right one. Else BITM_BAD_SIZE
- * exactly if bitm_block_extended_size returns it, words_len is not what the items take, or to_len is not what that call
- * writes. to may not overlap the block or the words. Two passes over the block, one over the words, and two over what is
- * written (evident from the code). */
+ * bytes have to be 0 if equal sections are to make equal blocks. BITM_WRONG exactly if the block is none, or all
+ * lengths are right and a section of it does not have its checksum: what was spoiled gets no right one. Else
+ * BITM_BAD_SIZE exactly if bitm_block_extended_size returns it, words_len is not what the items take, or to_len is not
+ * what that call writes. to may not overlap the block or the words. Two passes over the block, one over the words, and
+ * two over what is written (evident from the code). */
 BITM_MUST_USE uint32_t bitm_block_extend(const uint64_t *block, size_t block_len, uint64_t role, uint64_t count,
                                          const uint64_t *words, size_t words_len, uint64_t *to, size_t to_len);
 
@@ -2027,9 +2119,9 @@ BITM_MUST_USE uint32_t bitm_block_section(const uint64_t *block, size_t block_le
                                           struct bitm_section *section);
 
 /* Whether a block of any kind is as it was written: BITM_OK, or BITM_WRONG as bitm_block_extended_size, or if the
- * checksum of a section is not that of its words, or a word between two sections is not 0. Two lists of words that differ
- * in one word have different checksums. Whether the sections hold a structure is for the check of its kind to say. One
- * pass over the block (evident from the code).
+ * checksum of a section does not match its words, or a word between two sections is not 0. Two lists of words that
+ * differ in one word have different checksums. Whether the sections hold a structure is for the check of its kind to
+ * say. One pass over the block (evident from the code).
  *
  *     uint64_t unsealed[24] = {0};
  *     if (bitm_block_check(unsealed, 24) != BITM_WRONG) return 1; */
@@ -2037,10 +2129,11 @@ BITM_MUST_USE uint32_t bitm_block_check(const uint64_t *block, size_t block_len)
 
 /* ---- sparse bits: in one block of memory
  *
- * Of n bits of which only m are 1 bits the positions of these are kept, as a monotone sequence (Okanohara and Sadakane,
- * ALENEX 2007): about 2 + log2(n / m) bits for each 1 bit, however many 0 bits there are. The queries are those of an
- * index, and so are their answers; bitm_index_ calls are faster, and take space for each bit. A block is written and
- * opened as that of a sequence:
+ * Where only m of n bits are 1 bits, the positions of the 1 bits are kept, as a monotone sequence (Okanohara and
+ * Sadakane, ALENEX 2007): about 2.6 + log2(n / m) bits for each 1 bit, however many 0 bits there are. The queries and
+ * their answers are the same as of an index; bitm_index_ calls are faster, and take space for each bit. A block is
+ * written and opened like a sequence's, with its hints, and a selection reads what it reads in a sequence (struct
+ * bitm_sequence):
  *
  *     const uint64_t where[4] = {3, 100, 101, 4000};
  *     uint64_t sparse_len;
@@ -2053,7 +2146,7 @@ BITM_MUST_USE uint32_t bitm_block_check(const uint64_t *block, size_t block_len)
  *
  * Over any block that bitm_sparse_open takes, a stale or hostile one too, a query returns, a rank is at most its
  * position, and a position that is found is less than sparse.bits_len. If bitm_sparse_build wrote the block or
- * bitm_sparse_check passes it, and it did not change afterwards, the answers are those of counting, and no query
+ * bitm_sparse_check passes it, and it did not change afterwards, the answers are what counting gives, and no query
  * returns BITM_WRONG. */
 struct bitm_sparse {
     struct bitm_sequence positions; /* of the 1 bits */
@@ -2069,14 +2162,15 @@ static inline const char *bitm_sparse_fault(const struct bitm_sparse *sparse)
     return bitm_sequence_fault(&sparse->positions);
 }
 
-/* How many words the block of that many 1 bits takes, the last of which is at position `last` (0 if there are none).
+/* How many words the block of that many 1 bits takes, where the last 1 bit is at position `last` (0 if there are none).
  * BITM_BAD_SIZE as bitm_sequence_sizes. */
 BITM_MUST_USE uint32_t bitm_sparse_size(size_t ones, uint64_t last, uint64_t *out);
 
-/* Writes the block of bits_len bits, of which those at the given positions are 1 bits. BITM_BAD_SIZE if there are 2^56
+/* Writes the block of bits_len bits, with 1 bits at the given positions alone. BITM_BAD_SIZE if there are 2^56
  * positions or more, or block_len is not what bitm_sparse_size says for positions_len and the last position; else
  * BITM_UNSORTED if a position is not greater than the one before it; else BITM_WRONG if one is not less than bits_len.
- * positions and block may not overlap. Six passes over the positions, and three over the block (evident from the code).
+ * positions and block may not overlap. Six passes over the positions, three over the block, and a selection for each
+ * hint (evident from the code).
  *
  *     const uint64_t no_rise[4] = {3, 3, 100, 4000};
  *     if (bitm_sparse_build(no_rise, 4, 5000, of_few, sparse_len) != BITM_UNSORTED ||
@@ -2092,9 +2186,9 @@ BITM_MUST_USE uint32_t bitm_sparse_build(const uint64_t *positions, size_t posit
 BITM_MUST_USE uint32_t bitm_sparse_open(const uint64_t *block, size_t block_len, struct bitm_sparse *sparse);
 
 /* Whether a block is as it was written and holds sparse bits: BITM_OK, or BITM_WRONG as bitm_sparse_open, if a checksum
- * is not that of its words, if the parts are not those of a sequence, or if its numbers are not positions of 1 bits.
- * So a block in which one word was changed is refused. Five passes over the block, and one selection (evident from the
- * code).
+ * does not match its words, if parts and hints form no sequence, or if its numbers are not positions of 1 bits. So a
+ * block in which one word was changed is refused. Five passes over the block, one selection, and another by the tables
+ * for each hint (evident from the code).
  *
  *     of_few[40] ^= 1;
  *     if (bitm_sparse_check(of_few, sparse_len) != BITM_WRONG) return 1;
@@ -2103,7 +2197,7 @@ BITM_MUST_USE uint32_t bitm_sparse_open(const uint64_t *block, size_t block_len,
 BITM_MUST_USE uint32_t bitm_sparse_check(const uint64_t *block, size_t block_len);
 
 /* Each of these calls returns BITM_BAD_SIZE if a length in sparse->positions is not right (struct bitm_sequence), and
- * BITM_WRONG only where the block is not that of sparse bits.
+ * BITM_WRONG only where the block holds no sparse bits.
  *
  * The bit at a position, as 0 or 1. BITM_NONE exactly if position is bits_len or more. Reads what
  * bitm_sequence_contains reads of the positions.
@@ -2118,8 +2212,8 @@ BITM_MUST_USE uint32_t bitm_sparse_get(const struct bitm_sparse *sparse, uint64_
 BITM_MUST_USE uint32_t bitm_sparse_rank(const struct bitm_sparse *sparse, bool one, uint64_t position, uint64_t *out);
 
 /* The position of the 1 bit, or 0 bit, with the given rank. BITM_NONE if there is none. Reads for a 1 bit what
- * bitm_sequence_get reads of the positions, for a 0 bit that for each binary digit of how many 1 bits there are (evident
- * from the code).
+ * bitm_sequence_get reads of the positions, for a 0 bit that for each binary digit of how many 1 bits there are
+ * (evident from the code).
  *
  *     if (bitm_sparse_select(&sparse, true, 3, &position) != BITM_OK || position != 4000 ||
  *         bitm_sparse_select(&sparse, false, 3, &position) != BITM_OK || position != 4) return 1; // after 0 to 2 */
@@ -2186,10 +2280,10 @@ BITM_MUST_USE uint32_t bitm_sparse_select_list(const struct bitm_sparse *sparse,
  *         bitm_dictionary_find(&dictionary, 49, &number) != BITM_OK || dictionary.keys[number] != 49 ||
  *         bitm_dictionary_find(&dictionary, 50, &number) != BITM_NONE) return 1;
  *
- * Over any block that bitm_dictionary_open takes, a stale or hostile one too, a query returns, and the key stands at the
- * number that is found: dictionary.keys[number]. If bitm_dictionary_build wrote the block or bitm_dictionary_check
+ * Over any block that bitm_dictionary_open takes, a stale or hostile one too, a query returns, and the key stands at
+ * the number that is found: dictionary.keys[number]. If bitm_dictionary_build wrote the block or bitm_dictionary_check
  * passes it, and it did not change afterwards, what is BITM_NONE is none of the keys, and no query returns BITM_WRONG.
- * The same holds of the parts of which the block is made. */
+ * The same holds for the parts that the block is made of. */
 struct bitm_dictionary {
     struct bitm_hash hash; /* of the sums of each key and the seed */
     const uint64_t *keys;  /* in the order of their numbers: as many as hash.keys */
@@ -2212,9 +2306,9 @@ static inline const char *bitm_dictionary_fault(const struct bitm_dictionary *di
 BITM_MUST_USE uint32_t bitm_dictionary_size(size_t words, size_t levels, size_t keys, uint64_t *out);
 
 /* Writes the block of a dictionary. BITM_BAD_SIZE if bitm_dictionary_fault names a fault, there are 2^58 keys or more,
- * or block_len is not what bitm_dictionary_size says; else BITM_WRONG if the tables are not those of the words, the
- * sizes not those of levels with a 1 bit for each key, or a key does not stand at its number. The block may overlap none
- * of the parts. Four passes over the words of the levels, two look-ups for each key, and one pass over the block
+ * or block_len is not what bitm_dictionary_size says; else BITM_WRONG if the tables do not match the words, the sizes
+ * are not the sizes of levels with a 1 bit for each key, or a key does not stand at its number. The block may overlap
+ * none of the parts. Four passes over the words of the levels, two look-ups for each key, and one pass over the block
  * (evident from the code).
  *
  *     placed[0]++; // 5, 10 or 50
@@ -2231,9 +2325,9 @@ BITM_MUST_USE uint32_t bitm_dictionary_open(const uint64_t *block, size_t block_
                                             struct bitm_dictionary *dictionary);
 
 /* Whether a block is as it was written and holds a dictionary: BITM_OK, or BITM_WRONG as bitm_dictionary_open, if a
- * checksum is not that of its words, if the parts are not those of a hash, or if a key does not stand at its number. So
- * a block in which one word was changed is refused. Two passes over the words of the block, and one look-up for each key
- * (evident from the code).
+ * checksum does not match its words, if the parts form no hash, or if a key does not stand at its number. So a block in
+ * which one word was changed is refused. Two passes over the words of the block, and one look-up for each key (evident
+ * from the code).
  *
  *     of_squares[40] ^= 1;
  *     if (bitm_dictionary_check(of_squares, len_of) != BITM_WRONG) return 1;
@@ -2241,16 +2335,16 @@ BITM_MUST_USE uint32_t bitm_dictionary_open(const uint64_t *block, size_t block_
  *     if (bitm_dictionary_check(of_squares, len_of) != BITM_OK) return 1; */
 BITM_MUST_USE uint32_t bitm_dictionary_check(const uint64_t *block, size_t block_len);
 
-/* The number of a key: BITM_OK with where it stands in dictionary->keys, WHATEVER tables, sizes and keys hold; BITM_NONE
- * if it is no key; BITM_WRONG only where the parts are not those of a dictionary; BITM_BAD_SIZE exactly if
+/* The number of a key: BITM_OK with where it stands in dictionary->keys, WHATEVER tables, sizes and keys hold;
+ * BITM_NONE if it is no key; BITM_WRONG only where the parts form no dictionary; BITM_BAD_SIZE exactly if
  * bitm_dictionary_fault names a fault. Reads what bitm_hash_get reads, and at most one key (evident from the code).
  *
  *     if (bitm_dictionary_find(&dictionary, 4, &number) != BITM_OK || number > 2) return 1; */
 BITM_MUST_USE uint32_t bitm_dictionary_find(const struct bitm_dictionary *dictionary, uint64_t key, uint64_t *out);
 
-/* out[i] is the number of keys[i], or BITM_NO_ANSWER for BITM_NONE and BITM_WRONG_TABLES for BITM_WRONG; counts says how
- * many of each there are. BITM_BAD_SIZE also if out_len is not keys_len. out and counts may overlap neither each other
- * nor what the call reads.
+/* out[i] is the number of keys[i], or BITM_NO_ANSWER for BITM_NONE and BITM_WRONG_TABLES for BITM_WRONG; counts says
+ * how many of each there are. BITM_BAD_SIZE also if out_len is not keys_len. out and counts may overlap neither each
+ * other nor what the call reads.
  *
  *     if (bitm_dictionary_find_list(&dictionary, squares, 3, answers, 3, &counts) != BITM_OK || counts.missing > 0 ||
  *         dictionary.keys[answers[1]] != 9) return 1;
@@ -2283,20 +2377,20 @@ BITM_MUST_USE uint32_t bitm_hash_block_size(size_t words, size_t levels, uint64_
 BITM_MUST_USE uint32_t bitm_hash_block_build(const uint64_t *words, size_t words_len, const uint64_t *sizes,
                                              size_t sizes_len, uint64_t seed, uint64_t *block, size_t block_len);
 
-/* Opens a block, that of a dictionary too: writes the hash that bitm_hash_get takes, which points into the block, and
- * its seed. BITM_WRONG exactly if the header or the directory of the block is not right, or belongs to no hash without
+/* Opens a block, a dictionary's too: writes the hash that bitm_hash_get takes, which points into the block, and its
+ * seed. BITM_WRONG exactly if the header or the directory of the block is not right, or belongs to no hash without
  * seeds, or block_len is not as they say. Reads at most 80 words, however long the block is (evident from the code);
  * what its other words hold is not looked at. */
 BITM_MUST_USE uint32_t bitm_hash_block_open(const uint64_t *block, size_t block_len, struct bitm_hash *hash,
                                             uint64_t *seed);
 
 /* Whether a block is as it was written and holds a hash: BITM_OK, or BITM_WRONG as bitm_hash_block_open, if a checksum
- * is not that of its words, or if the tables are not those of the words or the sizes not those of levels. Two passes
- * over the words of the block (evident from the code). */
+ * does not match its words, if the tables do not match the words, or if the sizes are not the sizes of levels. Two
+ * passes over the words of the block (evident from the code). */
 BITM_MUST_USE uint32_t bitm_hash_block_check(const uint64_t *block, size_t block_len);
 
-/* The same four calls for a hash with a seed for each word. Each block of it is refused by those above, and each block of
- * a hash without seeds by these, since the other placing would give other numbers:
+/* The same four calls for a hash with a seed for each word. Each block of it is refused by those above, and each block
+ * of a hash without seeds by these, since the other placing would give other numbers:
  *
  *     uint64_t seeded_len;
  *     if (bitm_hash_block_size_seeded(filled, levels, &seeded_len) != BITM_OK) return 1;
@@ -2321,11 +2415,11 @@ BITM_MUST_USE uint32_t bitm_hash_block_build_seeded(const uint64_t *words, size_
                                                     uint64_t seed, uint64_t *block, size_t block_len);
 
 /* Opens a block, which is passed as words and once more as bytes: writes the hash that bitm_hash_get_seeded takes,
- * whose parts point into the block and whose seeds point into the bytes, and its seed. BITM_WRONG exactly if the
- * header or the directory of the block is not right, or belongs to no hash with seeds, or block_len is not as they
- * say; else BITM_BAD_SIZE exactly if bytes_len is not 8 * block_len. Where the bytes are those of the block, the seeds
- * are those that were built. Reads at most 80 words, however long the block is (evident from the code); what its other
- * words hold is not looked at. */
+ * whose parts point into the block and whose seeds point into the bytes, and its seed. BITM_WRONG exactly if the header
+ * or the directory of the block is not right, or belongs to no hash with seeds, or block_len is not as they say; else
+ * BITM_BAD_SIZE exactly if bytes_len is not 8 * block_len. Where the bytes are the block's, the seeds are the ones that
+ * were built. Reads at most 80 words, however long the block is (evident from the code); what its other words hold is
+ * not looked at. */
 BITM_MUST_USE uint32_t bitm_hash_block_open_seeded_bytes(const uint64_t *block, size_t block_len, const uint8_t *bytes,
                                                          size_t bytes_len, struct bitm_seeded_hash *hash,
                                                          uint64_t *seed);
@@ -2338,17 +2432,18 @@ BITM_MUST_USE static inline uint32_t bitm_hash_block_open_seeded(const uint64_t 
 }
 
 /* Whether a block is as it was written and holds a hash with seeds: BITM_OK, or BITM_WRONG as
- * bitm_hash_block_open_seeded, if a checksum is not that of its words, or if the tables are not those of the words or the
- * sizes not those of levels. Any seeds are right. Two passes over the words of the block (evident from the code). */
+ * bitm_hash_block_open_seeded, if a checksum does not match its words, if the tables do not match the words, or if the
+ * sizes are not the sizes of levels. Any seeds are right. Two passes over the words of the block (evident from the
+ * code). */
 BITM_MUST_USE uint32_t bitm_hash_block_check_seeded(const uint64_t *block, size_t block_len);
 
 /* ---- strings: in one block of memory
  *
- * A dictionary of strings of bytes is the block of a minimal perfect hash of their hashes, and the strings themselves, one
- * after another in the order of their numbers: so what is none of the strings has no number. The hash of a string is
- * SipHash-1-3 with a seed of 64 bits as its key, so that whether two strings have one hash depends on the whole seed. Who
- * knows the seed can search for such strings: where others choose the strings, draw the seed at random and keep it to
- * yourself. Strings are passed one after another, with where each of them ends:
+ * A dictionary of strings of bytes is the block of a minimal perfect hash of their hashes, and the strings themselves,
+ * one after another in the order of their numbers: so what is none of the strings has no number. The hash of a string
+ * is SipHash-1-3 with a seed of 64 bits as its key, so that whether two strings have one hash depends on the whole
+ * seed. Who knows the seed can search for such strings: where others choose the strings, draw the seed at random and
+ * keep it to yourself. Strings are passed one after another, with where each of them ends:
  *
  *     const uint8_t *spelled = (const uint8_t *)"adabobeve";
  *     const uint64_t ends_of[3] = {3, 6, 9}, seed_of = 7; // take another seed if hashes are left or build refuses
@@ -2370,16 +2465,16 @@ BITM_MUST_USE uint32_t bitm_hash_block_check_seeded(const uint64_t *block, size_
  *         bitm_strings_find(&names, (const uint8_t *)"bob", 3, &number) != BITM_OK || number > 2 ||
  *         bitm_strings_find(&names, (const uint8_t *)"bo", 2, &value) != BITM_NONE) return 1;
  *
- * Over any block that bitm_strings_open takes, a stale or hostile one too, a query returns, and the string stands at the
- * number that is found. If bitm_strings_build wrote the block or bitm_strings_check passes it, and it did not change
- * afterwards, what is BITM_NONE is none of the strings, and no query returns BITM_WRONG. */
+ * Over any block that bitm_strings_open takes, a stale or hostile one too, a query returns, and the string stands at
+ * the number that is found. If bitm_strings_build wrote the block or bitm_strings_check passes it, and it did not
+ * change afterwards, what is BITM_NONE is none of the strings, and no query returns BITM_WRONG. */
 struct bitm_strings {
     struct bitm_hash hash;  /* of the hash of each string */
     const uint64_t *starts; /* where the string of each number begins, and where the last one ends: hash.keys + 1 */
     size_t starts_len;
     const uint64_t *bytes;  /* the bytes of all strings, as words: the first byte is the lowest of the first word */
     size_t bytes_len;       /* how many words */
-    uint64_t seed;          /* that of the hashes */
+    uint64_t seed;          /* the seed of the hashes */
     uint64_t kind;          /* of the block: 12, where SipHash-1-3 hashes strings, or 10, where FNV-1a does */
     uint64_t reserved[1];   /* 0: not read */
 };
@@ -2395,11 +2490,24 @@ static inline const char *bitm_strings_fault(const struct bitm_strings *strings)
     return bitm_hash_fault(&strings->hash);
 }
 
-/* The hash of a string by a seed: BITM_OK. It is SipHash-1-3 with the key (seed, 0) of the bytes of the string. Reads each
- * byte once (evident from the code).
+/* The hash of a string by a seed: BITM_OK. It is SipHash-1-3 with the key (seed, 0) of the bytes of the string. Reads
+ * each byte once (evident from the code).
  *
  *     if (bitm_strings_hash((const uint8_t *)"foobar", 6, 0, &value) != BITM_OK || value != 0x7738ae0a5df09b34) return 1; */
 BITM_MUST_USE uint32_t bitm_strings_hash(const uint8_t *string, size_t string_len, uint64_t seed, uint64_t *out);
+
+/* The hash and the fingerprint of a key of a perfect hash, as the packages for C++, Rust, Python and JavaScript hash
+ * theirs, so that each reads the files of the others: BITM_OK. The hash is SipHash-1-3 with the key (seed, kind) of the
+ * bytes: kind 1 is text in UTF-8, kind 2 bytes, kind 3 a whole number of 64 bits with its sign as eight bytes, the
+ * lowest first, and kind 4 a larger one, as few bytes as it and its sign take. The fingerprint is the hash x mixed: x =
+ * (x ^ x >> 33) * 0xff51afd7ed558ccd, x = (x ^ x >> 33) * 0xc4ceb9fe1a85ec53, and x ^ x >> 33. hash and print may
+ * overlap neither each other nor the key. Reads each byte once (evident from the code).
+ *
+ *     uint64_t key_print;
+ *     if (bitm_key_hash((const uint8_t *)"foobar", 6, 0, 0, &value, &key_print) != BITM_OK ||
+ *         value != 0x7738ae0a5df09b34) return 1; // kind 0: the hash of a string by seed 0 */
+BITM_MUST_USE uint32_t bitm_key_hash(const uint8_t *key, size_t key_len, uint64_t seed, uint64_t kind, uint64_t *hash,
+                                     uint64_t *print);
 
 /* out[i] is the hash of string i, of those that stand one after another in bytes, string i up to ends[i].
  * BITM_BAD_SIZE if an end is less than the one before it, the last one is not bytes_len (0 if there are none), or
@@ -2409,18 +2517,18 @@ BITM_MUST_USE uint32_t bitm_strings_hash(const uint8_t *string, size_t string_le
 BITM_MUST_USE uint32_t bitm_strings_hashes(const uint8_t *bytes, size_t bytes_len, const uint64_t *ends, size_t ends_len,
                                            uint64_t seed, uint64_t *out, size_t out_len);
 
-/* How many words the block of that many strings takes, which have that many bytes together, and the levels of whose hash
- * have that many words together. BITM_BAD_SIZE if there are 2^57 words or strings or more, more than 256 levels, or 2^60
- * bytes or more. */
+/* How many words the block of that many strings takes, which have that many bytes together, and the levels of whose
+ * hash have that many words together. BITM_BAD_SIZE if there are 2^57 words or strings or more, more than 256 levels,
+ * or 2^60 bytes or more. */
 BITM_MUST_USE uint32_t bitm_strings_size(size_t words, size_t levels, size_t strings, size_t bytes, uint64_t *out);
 
 /* Writes the block of the strings that stand one after another in bytes, string i up to ends[i], by a hash of their
- * hashes, as bitm_hash_build makes it of what bitm_strings_hashes writes: a block of kind 12. BITM_BAD_SIZE if bitm_hash_fault names a fault,
- * the ends are not as that call takes them, or block_len is not what bitm_strings_size says; else BITM_WRONG if the parts
- * of the hash are not those of one, or it does not give each string a number of its own: two strings are equal, or have
- * one hash, which they may not have with another seed. The block may hold anything after BITM_WRONG. It may overlap
- * nothing that is read. Three passes over the words of the levels, two over the bytes, one over the block, and a look-up
- * for each string (evident from the code).
+ * hashes, as bitm_hash_build makes it of what bitm_strings_hashes writes: a block of kind 12. BITM_BAD_SIZE if
+ * bitm_hash_fault names a fault, the ends are not as that call takes them, or block_len is not what bitm_strings_size
+ * says; else BITM_WRONG if the parts form no hash, or it does not give each string a number of its own: two strings are
+ * equal, or have one hash, which they may not have with another seed. The block may hold anything after BITM_WRONG. It
+ * may overlap nothing that is read. Three passes over the words of the levels, two over the bytes, one over the block,
+ * and a look-up for each string (evident from the code).
  *
  *     if (bitm_strings_build(&of_sums, seed_of, (const uint8_t *)"adabobada", 9, ends_of, 3, of_names, len_of_names) !=
  *             BITM_WRONG ||
@@ -2429,20 +2537,19 @@ BITM_MUST_USE uint32_t bitm_strings_build(const struct bitm_hash *hash, uint64_t
                                           size_t bytes_len, const uint64_t *ends, size_t ends_len, uint64_t *block,
                                           size_t block_len);
 
-/* Opens a block: writes the strings that queries take, which point into the block. A block of kind 10, whose strings are
- * hashed by FNV-1a, is opened, checked and queried as one of kind 12 is; no call writes it. BITM_WRONG exactly if the
- * header or the directory of the block is not right, or belongs to no strings, the first section is not the block of a
- * hash of as many keys as the header says, there is not a start more, or block_len is not as they say. Reads at most 160
- * words, however long the block is (evident from the code); what its other words hold is not looked at.
+/* Opens a block: writes the strings that queries take, which point into the block. A block of kind 10, whose strings
+ * are hashed by FNV-1a, is opened, checked and queried as one of kind 12 is; no call writes it. BITM_WRONG exactly if
+ * the header or the directory of the block is not right, or belongs to no strings, the first section is not the block
+ * of a hash of as many keys as the header says, there is not a start more, or block_len is not as they say. Reads at
+ * most 160 words, however long the block is (evident from the code); what its other words hold is not looked at.
  *
  *     if (bitm_strings_open(of_names, len_of_names - 1, &names) != BITM_WRONG) return 1; */
 BITM_MUST_USE uint32_t bitm_strings_open(const uint64_t *block, size_t block_len, struct bitm_strings *strings);
 
-/* Whether a block is as it was written and holds strings: BITM_OK, or BITM_WRONG as bitm_strings_open, if a checksum is
- * not that of its words, if the parts of the hash are not those of one, if a string does not have its number, if strings
- * do not stand one after another, or if a byte after the last one is not 0. So a block in which one word was changed is
- * refused. Two passes over the words of the block, one more over the bytes, and one look-up for each string (evident from
- * the code).
+/* Whether a block is as it was written and holds strings: BITM_OK, or BITM_WRONG as bitm_strings_open, if a checksum
+ * does not match its words, if the parts form no hash, if a string does not have its number, if strings do not stand
+ * one after another, or if a byte after the last one is not 0. So a block in which one word was changed is refused. Two
+ * passes over the words of the block, one more over the bytes, and one look-up for each string (evident from the code).
  *
  *     of_names[32] ^= 1;
  *     if (bitm_strings_check(of_names, len_of_names) != BITM_WRONG) return 1;
@@ -2450,10 +2557,10 @@ BITM_MUST_USE uint32_t bitm_strings_open(const uint64_t *block, size_t block_len
  *     if (bitm_strings_check(of_names, len_of_names) != BITM_OK) return 1; */
 BITM_MUST_USE uint32_t bitm_strings_check(const uint64_t *block, size_t block_len);
 
-/* The number of a string: BITM_OK, and the string stands at that number, WHATEVER hash, starts and bytes hold; BITM_NONE
- * if it is none of the strings; BITM_WRONG only where the parts are not those of strings; BITM_BAD_SIZE exactly if
- * bitm_strings_fault names a fault. Reads what bitm_hash_get reads, at most two starts, and at most as many bytes as the
- * string has (evident from the code).
+/* The number of a string: BITM_OK, and the string stands at that number, WHATEVER hash, starts and bytes hold;
+ * BITM_NONE if it is none of the strings; BITM_WRONG only where the parts hold no strings; BITM_BAD_SIZE exactly if
+ * bitm_strings_fault names a fault. Reads what bitm_hash_get reads, at most two starts, and at most as many bytes as
+ * the string has (evident from the code).
  *
  *     if (bitm_strings_find(&names, (const uint8_t *)"eve", 3, &number) != BITM_OK || number > 2) return 1; */
 BITM_MUST_USE uint32_t bitm_strings_find(const struct bitm_strings *strings, const uint8_t *string, size_t string_len,
@@ -2461,8 +2568,8 @@ BITM_MUST_USE uint32_t bitm_strings_find(const struct bitm_strings *strings, con
 
 /* out[i] is the number of string i, of those that stand one after another in bytes, string i up to ends[i], or
  * BITM_NO_ANSWER for BITM_NONE and BITM_WRONG_TABLES for BITM_WRONG; counts says how many of each there are.
- * BITM_BAD_SIZE also if the ends are not as bitm_strings_hashes takes them, or out_len is not ends_len. out and counts may
- * overlap neither each other nor what the call reads.
+ * BITM_BAD_SIZE also if the ends are not as bitm_strings_hashes takes them, or out_len is not ends_len. out and counts
+ * may overlap neither each other nor what the call reads.
  *
  *     if (bitm_strings_find_list(&names, spelled, 9, ends_of, 3, answers, 3, &counts) != BITM_OK ||
  *         counts.missing > 0 || answers[2] != number) return 1; */
@@ -2470,10 +2577,9 @@ BITM_MUST_USE uint32_t bitm_strings_find_list(const struct bitm_strings *strings
                                               const uint64_t *ends, size_t ends_len, uint64_t *out, size_t out_len,
                                               struct bitm_list_counts *counts);
 
-/* Where the string of a number begins among the bytes, and how many it has: they are those from
- * (const uint8_t *)strings->bytes + *begin on, which stand there WHATEVER the starts hold. BITM_NONE exactly if there is
- * no such number; BITM_WRONG exactly if the starts there are those of no string in the bytes; BITM_BAD_SIZE exactly if
- * bitm_strings_fault names a fault. begin and len may not overlap.
+/* Where the string of a number begins in strings->bytes, taken as bytes, and how many bytes it has. They stand there
+ * WHATEVER the starts hold. BITM_NONE exactly if there is no such number; BITM_WRONG exactly if the starts there mark
+ * no string in the bytes; BITM_BAD_SIZE exactly if bitm_strings_fault names a fault. begin and len may not overlap.
  *
  *     if (bitm_strings_get(&names, number, &letters_begin, &letters_len) != BITM_OK || letters_len != 3 ||
  *         ((const uint8_t *)names.bytes)[letters_begin] != 'e') return 1;
@@ -2483,12 +2589,12 @@ BITM_MUST_USE uint32_t bitm_strings_get(const struct bitm_strings *strings, size
 
 /* ---- texts: where a pattern stands, by an index in one block of memory
  *
- * The index of a text (an FM-index: Ferragina and Manzini, FOCS 2000) is all that is needed: the text can be put away. A
- * pattern is counted in two ranks for each of its letters, however long the text is.
+ * The index of a text (an FM-index: Ferragina and Manzini, FOCS 2000) is all that is needed: the text can be put away.
+ * A pattern is counted in two ranks for each of its letters, however long the text is.
  *
- * Letters are numbers below a bound, the alphabet, each of as many bits as the largest letter of the alphabet has. A text
- * of bytes keeps which bytes it uses, so that a letter has no more bits than these need, two for the four letters of a
- * genome: letter c is the c-th byte of those that are used, and calls that end in _bytes take and write the bytes.
+ * Letters are numbers below a bound, the alphabet, each of as many bits as the largest letter of the alphabet has. A
+ * text of bytes keeps which bytes it uses, so that a letter has no more bits than these need, two for the four letters
+ * of a genome: letter c is the c-th byte of those that are used, and calls that end in _bytes take and write the bytes.
  *
  *     uint64_t text_len, scratch_len;
  *     const uint8_t *const banana = (const uint8_t *)"banana"; // a letter takes 2 bits: a, b and n are 0, 1 and 2
@@ -2506,8 +2612,9 @@ BITM_MUST_USE uint32_t bitm_strings_get(const struct bitm_strings *strings, size
  *
  * Over any block that bitm_text_open takes, a stale or hostile one too, a query returns within the reads that are named
  * below, a count is at most one more than the text has letters, a position is one of the text's, or its end, and a
- * letter has no more bits than the width. If bitm_text_build or bitm_text_build_bytes wrote the block or bitm_text_check
- * passes it, and it did not change afterwards, the answers are those of one text, and no query returns BITM_WRONG. */
+ * letter has no more bits than the width. If bitm_text_build or bitm_text_build_bytes wrote the block or
+ * bitm_text_check passes it, and it did not change afterwards, the answers agree with one text, and no query returns
+ * BITM_WRONG. */
 struct bitm_text {
     struct bitm_matrix letters; /* the letters of the text, in another order */
     struct bitm_matrix marks;   /* which of their places are sampled */
@@ -2538,25 +2645,26 @@ static inline const char *bitm_text_fault(const struct bitm_text *text)
 }
 
 /* How many words the block of `len` letters of `width` bits takes, of an alphabet of that many letters, with a sample
- * each `step` letters. BITM_BAD_SIZE if len is 2^32 - 1 or more, width is not 1 to 64, letters is 2^58 or more, or step is 0.
+ * each `step` letters. BITM_BAD_SIZE if len is 2^32 - 1 or more, width is not 1 to 64, letters is 2^58 or more, or step
+ * is 0.
  *
  *     if (bitm_text_size(6, 2, 3, 32, &value) != BITM_OK) return 1; // six letters that are 0, 1 or 2 */
 BITM_MUST_USE uint32_t bitm_text_size(size_t len, uint32_t width, size_t letters, uint32_t step, uint64_t *out);
 
 /* How many words the block of a text of `len` letters below `letters` takes, with a sample each `step` letters, and how
- * many numbers of 32 bits bitm_text_build needs while it works: two for each letter and two more, and of a short text with
- * a large alphabet more, which is two for each letter of the alphabet. BITM_BAD_SIZE if len is 2^32 - 1 or more, or step
- * is 0. block_len and scratch_len may not overlap.
+ * many numbers of 32 bits bitm_text_build needs while it works: two for each letter and two more, and of a short text
+ * with a large alphabet more, which is two for each letter of the alphabet. BITM_BAD_SIZE if len is 2^32 - 1 or more,
+ * or step is 0. block_len and scratch_len may not overlap.
  *
  *     if (bitm_text_size_letters(6, 3, 32, &value, &scratch_len) != BITM_OK || scratch_len != 14) return 1; */
 BITM_MUST_USE uint32_t bitm_text_size_letters(size_t len, uint32_t letters, uint32_t step, uint64_t *block_len,
                                               uint64_t *scratch_len);
 
-/* Writes the block of the index of a text of letters below `letters`, with a sample each `step` letters: the more letters
- * apart, the less memory, and the more steps for each position and each part of the text. BITM_BAD_SIZE if
- * bitm_text_size_letters does not take text_len and step, or block_len or scratch_len is not what it says; else BITM_WRONG
- * if a letter is not below `letters`. What scratch holds is overwritten. Allocates nothing. Text, scratch and block may
- * not overlap one another. Time grows linearly with the text (tested, not proved).
+/* Writes the block of the index of a text of letters below `letters`, with a sample each `step` letters: the more
+ * letters apart, the less memory, and the more steps for each position and each part of the text. BITM_BAD_SIZE if
+ * bitm_text_size_letters does not take text_len and step, or block_len or scratch_len is not the size that it gives;
+ * else BITM_WRONG if a letter is not below `letters`. What scratch holds is overwritten. Allocates nothing. Text,
+ * scratch and block may not overlap one another. Time grows linearly with the text (tested, not proved).
  *
  *     const uint64_t as_numbers[6] = {1, 0, 2, 0, 2, 0}; // banana
  *     uint32_t working[14];
@@ -2572,17 +2680,63 @@ BITM_MUST_USE uint32_t bitm_text_build(const uint64_t *text, size_t text_len, ui
                                        uint32_t *scratch, size_t scratch_len, uint64_t *block, size_t block_len);
 
 /* How many words the block of a text of bytes takes, with a sample each `step` bytes, and how many numbers of 32 bits
- * bitm_text_build_bytes needs while it works: eight bytes for each byte of the text, and 2 KiB more for a short one. The
- * text is read twice, to see which bytes it uses (evident from the code). BITM_BAD_SIZE if text_len is 2^32 - 1 or more, or step is 0. */
+ * bitm_text_build_bytes needs while it works: eight bytes for each byte of the text, and 2 KiB more for a short one.
+ * The text is read twice, to see which bytes it uses (evident from the code). BITM_BAD_SIZE if text_len is 2^32 - 1 or
+ * more, or step is 0. */
 BITM_MUST_USE uint32_t bitm_text_size_bytes(const uint8_t *text, size_t text_len, uint32_t step, uint64_t *block_len,
                                             uint64_t *scratch_len);
 
-/* bitm_text_build of bytes, of which those are kept that the text uses. BITM_BAD_SIZE exactly if bitm_text_size_bytes does
- * not take the text and the step, or a length is not what it says.
+/* bitm_text_build of bytes: only bytes that occur in the text become letters. BITM_BAD_SIZE exactly if
+ * bitm_text_size_bytes does not take the text and the step, or a length is not the size that it gives.
  *
  *     if (bitm_text_build_bytes(banana, 6, 32, working, 13, of_text, text_len) != BITM_BAD_SIZE) return 1; */
 BITM_MUST_USE uint32_t bitm_text_build_bytes(const uint8_t *text, size_t text_len, uint32_t step, uint32_t *scratch,
                                              size_t scratch_len, uint64_t *block, size_t block_len);
+
+/* Building in two steps, for a caller that wants to say how far it is. Writes the order of the text's suffixes to the
+ * first text_len + 1 numbers of scratch: number k is where the suffix with rank k begins, and the empty suffix has rank
+ * 0. The rest of scratch holds arbitrary numbers then. BITM_BAD_SIZE if bitm_text_size_letters does not take text_len,
+ * or scratch_len is not the size that it gives; else BITM_WRONG if a letter is not below `letters`. scratch and text may
+ * not overlap. */
+BITM_MUST_USE uint32_t bitm_text_order(const uint64_t *text, size_t text_len, uint32_t letters, uint32_t *scratch,
+                                       size_t scratch_len);
+
+/* bitm_text_order of bytes. BITM_BAD_SIZE exactly if bitm_text_size_bytes does not take text_len, or scratch_len is not
+ * the size that it gives. */
+BITM_MUST_USE uint32_t bitm_text_order_bytes(const uint8_t *text, size_t text_len, uint32_t *scratch,
+                                             size_t scratch_len);
+
+/* Writes the block of the index of a text, as bitm_text_build does, from the order that bitm_text_order wrote to
+ * scratch. BITM_BAD_SIZE as bitm_text_build; else BITM_WRONG exactly if a letter is not below `letters`, or the first
+ * text_len + 1 numbers of scratch are not the order of the text's suffixes: each is looked at. What scratch holds is
+ * overwritten. Text, scratch and block may not overlap one another.
+ *
+ *     uint32_t ranked[14];
+ *     uint64_t in_two_len;
+ *     if (bitm_text_size_letters(6, 3, 32, &in_two_len, &scratch_len) != BITM_OK) return 1;
+ *     uint64_t *in_two = malloc(8 * in_two_len);
+ *     if (!in_two || bitm_text_order(as_numbers, 6, 3, ranked, 14) != BITM_OK || ranked[1] != 5 || // the last a
+ *         bitm_text_build_ordered(as_numbers, 6, 3, 32, ranked, 14, in_two, in_two_len) != BITM_OK ||
+ *         bitm_text_check(in_two, in_two_len) != BITM_OK) return 1;
+ *     free(in_two); */
+BITM_MUST_USE uint32_t bitm_text_build_ordered(const uint64_t *text, size_t text_len, uint32_t letters, uint32_t step,
+                                               uint32_t *scratch, size_t scratch_len, uint64_t *block,
+                                               size_t block_len);
+
+/* bitm_text_build_ordered of bytes, from the order that bitm_text_order_bytes wrote. BITM_BAD_SIZE exactly as
+ * bitm_text_build_bytes; else BITM_WRONG exactly if the order is not that of the text's suffixes.
+ *
+ *     uint64_t by_bytes_len;
+ *     if (bitm_text_size_bytes(banana, 6, 32, &by_bytes_len, &scratch_len) != BITM_OK) return 1;
+ *     uint64_t *by_bytes = malloc(8 * by_bytes_len);
+ *     uint32_t *ranked_bytes = malloc(4 * scratch_len);
+ *     if (!by_bytes || !ranked_bytes || bitm_text_order_bytes(banana, 6, ranked_bytes, scratch_len) != BITM_OK ||
+ *         bitm_text_build_ordered_bytes(banana, 6, 32, ranked_bytes, scratch_len, by_bytes, by_bytes_len) != BITM_OK ||
+ *         bitm_text_check(by_bytes, by_bytes_len) != BITM_OK) return 1;
+ *     free(by_bytes), free(ranked_bytes); */
+BITM_MUST_USE uint32_t bitm_text_build_ordered_bytes(const uint8_t *text, size_t text_len, uint32_t step,
+                                                     uint32_t *scratch, size_t scratch_len, uint64_t *block,
+                                                     size_t block_len);
 
 /* Opens a block: writes the index that queries take, which points into the block. BITM_WRONG exactly if the header or
  * the directory of the block is not right, or belongs to no text, or block_len is not as they say. Reads at most 80
@@ -2592,8 +2746,8 @@ BITM_MUST_USE uint32_t bitm_text_build_bytes(const uint8_t *text, size_t text_le
 BITM_MUST_USE uint32_t bitm_text_open(const uint64_t *block, size_t block_len, struct bitm_text *text);
 
 /* Whether a block is as it was written and holds the index of a text: BITM_OK, or BITM_WRONG as bitm_text_open, if a
- * checksum is not that of its words, or if they are not what an index keeps of a text. So a block in which one word was
- * changed is refused. Three passes over the block, and a walk through all letters (evident from the code).
+ * checksum does not match its words, or if the words are not what an index keeps of a text. So a block in which one
+ * word was changed is refused. Three passes over the block, and a walk through all letters (evident from the code).
  *
  *     of_text[100] ^= 1;
  *     if (bitm_text_check(of_text, text_len) != BITM_WRONG) return 1;
@@ -2601,8 +2755,8 @@ BITM_MUST_USE uint32_t bitm_text_open(const uint64_t *block, size_t block_len, s
  *     if (bitm_text_check(of_text, text_len) != BITM_OK) return 1; */
 BITM_MUST_USE uint32_t bitm_text_check(const uint64_t *block, size_t block_len);
 
-/* Each of these calls returns BITM_BAD_SIZE if a length in *text is not that of a text, and BITM_WRONG only where the
- * block is not that of a text.
+/* Each of these calls returns BITM_BAD_SIZE if a length in *text fits no text, and BITM_WRONG only where the block
+ * holds no text.
  *
  * How many letters the text has. */
 BITM_MUST_USE uint32_t bitm_text_len(const struct bitm_text *text, uint64_t *out);
@@ -2618,13 +2772,12 @@ BITM_MUST_USE uint32_t bitm_text_count(const struct bitm_text *text, const uint6
 BITM_MUST_USE uint32_t bitm_text_count_bytes(const struct bitm_text *text, const uint8_t *pattern, size_t pattern_len,
                                              uint64_t *out);
 
-/* Writes positions at which a pattern stands, in the order of the suffixes that begin there: without the first `from` of
- * them, as many as there is room for; and to *written how many these are. Items of out after them stay as they were.
+/* Writes positions at which a pattern stands, in the order of the suffixes that begin there: without the first `from`
+ * of them, as many as there is room for; and to *written how many these are. Items of out after them stay as they were.
  * Where BITM_WRONG is returned, out may have been written to; *written is as it was. Reads what bitm_text_count reads;
- * and for each position, with n for the step or, if it is less, the text's length and 1, what bitm_text_extract reads for
- * n - 1 letters, and of the marks at most n + 2 upper entries, as many lower entries, eight times as many words, and a
- * sample.
- * out and written may overlap neither each other nor what the call reads.
+ * and for each position, with n for the step or, if it is less, the text's length and 1, what bitm_text_extract reads
+ * for n - 1 letters, and of the marks at most n + 2 upper entries, as many lower entries, eight times as many words,
+ * and a sample. out and written may overlap neither each other nor what the call reads.
  *
  *     uint64_t places[4];
  *     if (bitm_text_locate(&text, ana, 3, 0, places, 4, &value) != BITM_OK || value != 2 || places[0] != 3 ||
@@ -2635,10 +2788,11 @@ BITM_MUST_USE uint32_t bitm_text_locate(const struct bitm_text *text, const uint
 BITM_MUST_USE uint32_t bitm_text_locate_bytes(const struct bitm_text *text, const uint8_t *pattern, size_t pattern_len,
                                               size_t from, uint64_t *out, size_t out_len, uint64_t *written);
 
-/* Writes the out_len letters of the text from position `from` on. BITM_NONE exactly if the text has fewer, and out is as
- * it was then. Where BITM_WRONG is returned, out may have been written to. BITM_BAD_SIZE for bytes also if letters are
- * numbers that may have more than 8 bits. Reads for each letter, and for at most `step` - 1 more, or if that is less the
- * text's length, two upper entries, two lower entries and 16 words for each bit of the width, and at most a sample.
+/* Writes the out_len letters of the text from position `from` on. BITM_NONE exactly if the text has fewer, and out is
+ * as it was then. Where BITM_WRONG is returned, out may have been written to. BITM_BAD_SIZE for bytes also if letters
+ * are numbers that may have more than 8 bits. Reads for each letter, and for at most `step` - 1 more, or if that is
+ * less the text's length, two upper entries, two lower entries and 16 words for each bit of the width, and at most a
+ * sample.
  *
  *     uint8_t nan[3];
  *     if (bitm_text_extract_bytes(&text, 2, nan, 3) != BITM_OK || nan[0] != 'n' || nan[1] != 'a' ||

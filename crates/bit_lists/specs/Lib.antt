@@ -1,6 +1,7 @@
 pub mod Bits
 pub mod Coming
 pub mod Count
+pub mod First
 pub mod Kept
 pub mod Laws
 pub mod Number

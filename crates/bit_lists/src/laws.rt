@@ -54,13 +54,13 @@ pub fn digits_bound_powers()
     ensures { DigitsBoundPowers }
 {}
 
-/// The 1 bits and the 0 bits before a position are together as many as the positions before it.
+/// The 1 bits and the 0 bits before a position add up to the number of positions before it.
 #[tactic(auto, using(crate::proofs::BitLaws::ones_and_zeros))]
 pub fn ones_and_zeros()
     ensures { OnesAndZeros }
 {}
 
-/// The 1 bits and the 0 bits of words are together as many as their bits.
+/// The 1 bits and the 0 bits of words add up to the number of their bits.
 #[tactic(auto, using(crate::proofs::BitLaws::ones_and_zeros_of_content))]
 pub fn ones_and_zeros_of_content()
     ensures { OnesAndZerosOfContent }
@@ -149,13 +149,13 @@ pub fn no_bits_come()
     ensures { NoBitsCome }
 {}
 
-/// The bits of a range are the bit at its start and then those of the range after it.
+/// The bits of a range are the bit at its start and then the bits from the next position on.
 #[tactic(auto, using(crate::proofs::BitLaws::bits_come_from_the_front))]
 pub fn bits_come_from_the_front()
     ensures { BitsComeFromTheFront }
 {}
 
-/// The bits of a range are those of the range before its last position and then the bit there.
+/// The bits of a range are the bits before its last position and then the bit there.
 #[tactic(auto, using(crate::proofs::BitLaws::bits_come_from_the_back))]
 pub fn bits_come_from_the_back()
     ensures { BitsComeFromTheBack }

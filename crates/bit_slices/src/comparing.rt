@@ -15,8 +15,8 @@ fn has_in_word<const BIT: u8>(a: u64, b: u64) -> bool
     if BIT == 0 { a & b == 0 } else { a & !b == 0 }
 }
 
-/// Whether the first `len` bits of `b` are bits `BIT` wherever those of `a` are 1 bits: with `BIT` 1 those of `a` are a
-/// subset, and with 0 none is in both.
+/// Whether the first `len` bits of `b` are bits `BIT` wherever the bits of `a` are 1 bits: with `BIT` 1 the 1 bits of
+/// `a` are a subset, and with 0 no 1 bit is in both.
 ///
 /// # Conditions
 /// Both have `len` bits.

@@ -22,7 +22,7 @@ fn copy_bits(to: &mut [u64], to_begin: usize, from: &[u64], from_begin: usize, w
     words::set_bits(to, to_begin, value, width);
 }
 
-/// Copies 64 bits into word `at`; those of one word where `SHIFTED` is 0.
+/// Copies 64 bits into word `at`; where `SHIFTED` is 0, they are one word.
 #[inline(always)]
 fn copy_word<const SHIFTED: u8>(to: &mut [u64], at: usize, from: &[u64], from_begin: usize)
     requires to_inside { at < length to.old }
@@ -87,7 +87,7 @@ fn copy_words(to: &mut [u64], first: usize, from: &[u64], from_begin: usize, cou
     }
 }
 
-/// Replaces the `count` bits of `to` from `to_begin` on by those of `from` from `from_begin` on.
+/// Replaces the `count` bits of `to` from `to_begin` on by the bits of `from` from `from_begin` on.
 ///
 /// # Conditions
 /// Both ranges are inside their words, and end at positions that a `usize` holds.

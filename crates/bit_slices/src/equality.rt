@@ -27,7 +27,7 @@ fn are_equal_words(a: &[u64], a_begin: usize, b: &[u64], b_begin: usize) -> bool
     words::get_bits_unmasked(a, a_begin, 64) == words::get_bits_unmasked(b, b_begin, 64)
 }
 
-/// Whether the `count` bits of `a` from `a_begin` on are those of `b` from `b_begin` on.
+/// Whether the `count` bits of `a` from `a_begin` on equal the bits of `b` from `b_begin` on.
 ///
 /// # Conditions
 /// Both ranges are inside their words, and end at positions that a `usize` holds.

@@ -6,8 +6,7 @@ ghost use Rattle.bit_slices.specs.Listed.{outside_of, IsSetAt};
 
 use bit_words::words;
 
-/// Makes the bits at those of the positions that are among the first `len` bits equal to `one`, and answers how many of
-/// the positions are not.
+/// Makes the bits at the positions below `len` equal to `one`, and answers how many positions are not below `len`.
 ///
 /// # Conditions
 /// There are `len` bits.

@@ -21,7 +21,7 @@ fn load8(bytes: &[u8], at: usize) -> u64
     ])
 }
 
-/// Replaces the eight bytes from byte `at` on by those of `word`, the lowest first.
+/// Replaces the eight bytes from byte `at` on by the bytes of `word`, the lowest first.
 #[inline(always)]
 fn store8(bytes: &mut [u8], at: usize, word: u64)
     requires { at + 8 ≤ length bytes.old }
@@ -39,7 +39,7 @@ fn load4(bytes: &[u8], at: usize) -> u32
     u32::from_le_bytes([bytes[at], bytes[at + 1], bytes[at + 2], bytes[at + 3]])
 }
 
-/// Replaces the four bytes from byte `at` on by those of `word`, the lowest first.
+/// Replaces the four bytes from byte `at` on by the bytes of `word`, the lowest first.
 #[inline(always)]
 fn store4(bytes: &mut [u8], at: usize, word: u32)
     requires { at + 4 ≤ length bytes.old }

@@ -10,8 +10,8 @@ use crate::writing::set_bits;
 /// answers what replaces them, or `None` where they stay.
 ///
 /// # Conditions
-/// The bits are in range; `s` is 0 to 63; the closure may be called on their number, and what it may answer is below
-/// 2^`s`.
+/// The bits are in range; `s` is 0 to 63; the closure may be called on their number, and whatever answer it gives is
+/// below 2^`s`.
 #[inline(always)]
 pub fn conditionally_change_bits<F: FnOnce(u64) -> Option<u64>>(
     words: &mut [u64],
@@ -40,8 +40,8 @@ pub fn conditionally_change_bits<F: FnOnce(u64) -> Option<u64>>(
 /// answers what replaces it, or `None` where it stays.
 ///
 /// # Conditions
-/// The fragment is in range; `s` is 0 to 63; the closure may be called on its number, and what it may answer is below
-/// 2^`s`.
+/// The fragment is in range; `s` is 0 to 63; the closure may be called on its number, and whatever answer it gives is
+/// below 2^`s`.
 #[inline(always)]
 pub fn conditionally_change_fragment<F: FnOnce(u64) -> Option<u64>>(
     words: &mut [u64],
@@ -62,8 +62,8 @@ pub fn conditionally_change_fragment<F: FnOnce(u64) -> Option<u64>>(
     conditionally_change_bits(words, new_value, index * s as usize, s)
 }
 
-/// Replaces the `s` bits from `begin` on by those of `src` at the same position, where `predicate`, called once on the
-/// two numbers, the old one first, answers true.
+/// Replaces the `s` bits from `begin` on by the bits of `src` at the same position, where `predicate`, called once on
+/// the two numbers, the old one first, answers true.
 ///
 /// # Conditions
 /// The bits are in range in both; `s` is 0 to 63; the closure may be called on the two numbers.
@@ -92,8 +92,8 @@ pub fn conditionally_copy_bits<F: FnOnce(u64, u64) -> bool>(
     }
 }
 
-/// Replaces fragment `index` of width `s` by that of `src`, where `predicate`, called once on the two numbers, the old
-/// one first, answers true.
+/// Replaces fragment `index` of width `s` by the same fragment of `src`, where `predicate`, called once on the two
+/// numbers, the old one first, answers true.
 ///
 /// # Conditions
 /// The fragment is in range in both; `s` is 0 to 63; the closure may be called on the two numbers.

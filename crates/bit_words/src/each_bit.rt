@@ -44,7 +44,7 @@ impl<'bv> BitIterator<'bv> {
     /// The bits of the range; none where it is reversed.
     ///
     /// # Conditions
-    /// The range ends inside or at the end of the words, of which there are fewer than 2^58.
+    /// The range ends inside or at the end of the words, which are fewer than 2^58.
     #[inline]
     pub fn with_range(words: &'bv [u64], range: Range<usize>) -> Self
         requires inside { range.end ≤ 64 * length words.now }
@@ -57,7 +57,7 @@ impl<'bv> BitIterator<'bv> {
     /// The bits of the range, as `with_range`.
     ///
     /// # Conditions
-    /// The range ends inside or at the end of the words, of which there are fewer than 2^58.
+    /// The range ends inside or at the end of the words, which are fewer than 2^58.
     #[inline(always)]
     pub fn with_range_unchecked(words: &'bv [u64], range: Range<usize>) -> Self
         requires inside { range.end ≤ 64 * length words.now }

@@ -1,4 +1,4 @@
-//! Numbers of which the lowest bits are set, how many binary digits a number has, and division that rounds up.
+//! Numbers whose lowest bits are set, how many binary digits a number has, and division that rounds up.
 ghost use Rattle.std.specs.Prelude.{◌≡◌, ℕ, ◌-◌, ◌*◌, ◌^◌, ◌<◌, ◌≤◌, min};
 ghost use Rattle.bit_lists.specs.Bits.{digit_count};
 

@@ -11,8 +11,8 @@ use broadword::{count_bit_ones, count_bit_zeros};
 use std::iter::{ExactSizeIterator, FusedIterator, Iterator};
 use std::marker::Model;
 
-/// The positions of the 0 bits where `BIT` is 0, and otherwise of the 1 bits, rising, seen as the list of those still
-/// to come.
+/// The positions of the 0 bits where `BIT` is 0, and otherwise of the 1 bits, rising, seen as the list of positions
+/// still to come.
 #[derive(Drop)]
 pub struct BitBIterator<'a, const BIT: u8> {
     // The words after the current one.
@@ -70,7 +70,8 @@ impl<'a, const BIT: u8> BitBIterator<'a, BIT> {
         }
     }
 
-    /// The positions of this kind of bit from `start` on: all but those before it; none where `start` is outside.
+    /// The positions of this kind of bit from `start` on: all but the positions before it; none where `start` is
+    /// outside.
     ///
     /// # Conditions
     /// There are fewer than 2^58 words.

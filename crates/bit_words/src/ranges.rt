@@ -25,7 +25,7 @@ fn ones_in_word(words: &[u64], place: usize) -> usize
 /// How many of the bits from `from` on and before `to` are 1.
 ///
 /// # Conditions
-/// The range is not reversed and ends inside or at the end of the words, of which there are fewer than 2^58.
+/// The range is not reversed and ends inside or at the end of the words, which are fewer than 2^58.
 #[inline]
 pub fn count_range(words: &[u64], from: usize, to: usize) -> usize
     requires order { from ≤ to }

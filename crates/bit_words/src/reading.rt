@@ -53,8 +53,8 @@ pub fn get_bits_unmasked(words: &[u64], begin: usize, len: u8) -> u64
     }
 }
 
-/// The word that has the last of the `len` bits from `begin` on, or that of `begin` where there are none. There is such
-/// a word exactly where they are in range.
+/// The word that has the last of the `len` bits from `begin` on, or the word of bit `begin` where there are none. There
+/// is such a word exactly where the bits are in range.
 #[inline(always)]
 fn last_word(begin: usize, len: u8) -> usize
     requires { len ≤ 64 }
@@ -64,8 +64,8 @@ fn last_word(begin: usize, len: u8) -> usize
     begin / 64 + ((begin % 64) as u8 + len > 64) as usize
 }
 
-/// A number whose lowest bits are the bits from `begin` on, those in word `last` too. No test is made whether they
-/// cross into that word: a processor cannot guess it. Where they do not, it may be that of `begin`.
+/// A number whose lowest bits are the bits from `begin` on, also from word `last`. No test is made whether they cross
+/// into that word: a processor cannot guess it. Where they do not, `last` may be the word of bit `begin`.
 #[inline(always)]
 fn joined_bits(words: &[u64], begin: usize, last: usize) -> u64
     requires first { begin / 64 < length words.now }

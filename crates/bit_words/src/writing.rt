@@ -9,7 +9,7 @@ ghost use Rattle.bit_lists.specs.Window.{with_flips};
 use crate::masks::{n_lowest_bits, n_lowest_bits_0_64};
 use crate::reading::is_in_range;
 
-/// Replaces the bits of `mask` by those of `value`.
+/// Replaces the bits of `mask` by the bits of `value`.
 #[inline(always)]
 fn set_bits_to(word: &mut u64, value: u64, mask: u64)
     ensures { word.new ≡ bit_or (bit_and word.old (bit_not w64 mask)) value }

@@ -46,7 +46,7 @@ use std::marker::Model;
 /// `proofs/Examples.antt` computes these numbers.
 ///
 /// So the lower table takes 64 bits for each 2048, the upper table 64 bits for each 2^32. A contract sees an index as
-/// its bit vector and its two strategies; the tables are those of the bit vector.
+/// its bit vector and its two strategies; the tables match the bit vector.
 ///
 /// # Source
 /// Zhou, Andersen and Kaminsky, 'Space-efficient, high-performance rank and select structures on uncompressed bit
@@ -159,7 +159,7 @@ impl<S: SelectForRank101111, S0: Select0ForRank101111, BV: AsSlice<u64>> RankSel
         &self.content
     }
 
-    /// The upper table: the number of 1 bits before each upper block of 2^32 bits, of which the last may be partial.
+    /// The upper table: the number of 1 bits before each upper block of 2^32 bits; the last block may be partial.
     #[inline(always)]
     pub fn l1ranks(&self) -> &[usize]
         ensures { result.now ≡ upper_of (bits_of (BV.items self.now.content)) }
@@ -167,7 +167,7 @@ impl<S: SelectForRank101111, S0: Select0ForRank101111, BV: AsSlice<u64>> RankSel
         self.tables.l1ranks.as_slice()
     }
 
-    /// The lower table: one packed entry for each lower block of 2048 bits, of which the last may be partial.
+    /// The lower table: one packed entry for each lower block of 2048 bits; the last block may be partial.
     #[inline(always)]
     pub fn l2ranks(&self) -> &[u64]
         ensures { result.now ≡ lower_of (bits_of (BV.items self.now.content)) }

@@ -1,7 +1,7 @@
-//! Laws of what tables and words hold, beside those of bits in `laws`: a function here does nothing, and its contract
-//! is the law. That rank and selection are inverse to each other is `laws::rank_of_picked` and `laws::picked_by_rank`;
-//! that each bit is a 1 bit or a 0 bit is `laws::ones_and_zeros`. `example_callers` (`inverse.rt`) shows what follows
-//! for calls of an index.
+//! Laws of what tables and words hold, beside the laws of bits in `laws`: a function here does nothing, and its
+//! contract is the law. That rank and selection are inverse to each other is `laws::rank_of_picked` and
+//! `laws::picked_by_rank`; that each bit is a 1 bit or a 0 bit is `laws::ones_and_zeros`. `example_callers`
+//! (`inverse.rt`) shows what follows for calls of an index.
 ghost use Rattle.bitm.specs.IndexLaws.{EntriesFit, OnesOfWord, TablesHaveSizes};
 
 /// No field of an entry of a lower table exceeds its greatest value, so `complement_entry` gives the entry of the

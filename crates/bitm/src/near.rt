@@ -8,13 +8,13 @@ ghost use Rattle.bitm_tables.specs.Tables.{bits_in};
 use bit_words::words;
 use bitm_tables::source::TableSource;
 
-/// The position of the first 0 bit from `from` on; `None` only where the `WORDS` words of which the first has position
-/// `from`, or those of them that there are, have no such bit.
+/// The position of the first 0 bit from `from` on; `None` only where no such bit is in the `WORDS` words from the word
+/// of `from` on, or in the fewer words that are left.
 ///
 /// # Conditions
 /// There are fewer than 2^58 words.
 /// # Cost
-/// Reads the words up to that of the bit, at most `WORDS`.
+/// Reads the words up to the bit's, at most `WORDS`.
 #[inline(always)]
 pub fn near_zero_on<const WORDS: usize, T: TableSource>(
     source: &mut T,

@@ -24,8 +24,8 @@ const WORDS_PER_RUN: usize = 8;
 /// Bits of one run.
 const BITS_PER_RUN: usize = 512;
 
-/// A bit vector with the number of 1 bits before each run of eight words, of which the last may be partial: 32 bits for
-/// each 512.
+/// A bit vector with the number of 1 bits before each run of eight words, where the last run may be partial: 32 bits
+/// for each 512.
 ///
 /// A contract sees it as the bit vector that it was built over.
 #[derive(Drop)]
@@ -82,7 +82,7 @@ fn ones_of_run(words: &[u64], run: usize) -> u32
     ones_of_record(words, run * WORDS_PER_RUN) as u32
 }
 
-/// The number of 1 bits up to and including position `last`, of which `before` come before its run.
+/// The number of 1 bits up to and including position `last`, where `before` of them come before its run.
 #[inline(always)]
 fn rank_from(words: &[u64], before: u32, last: usize) -> u32
     requires inside { last < 64 * length words.now }

@@ -14,7 +14,7 @@ use Rattle.hash_levels.specs.Numbers.{number_in}
 use Rattle.hash_levels.specs.Places.{place_by, place_in}
 use Rattle.perfect_hash.specs.Asking.{IsBelow, IsNumbered}
 use Rattle.perfect_hash.specs.Listed.{IsNumberTold, IsTotal}
-use Rattle.bitm_abi.specs.Hash.{fall_of, hash_number, HashLists, IsHashNumber, IsHashOf}
+use Rattle.bitm_abi.specs.Hash.{fall_of, HashLists, IsHashNumber, IsHashOf}
 
 -- where hashes fall without seeds, and with some
 pub falls_plain : (seeds : List ℕ) → length seeds ≡ 0 → fall_of seeds ≡ (λ _. place_in)

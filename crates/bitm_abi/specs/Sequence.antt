@@ -1,19 +1,16 @@
 -- A sequence as C passes it, and items of lists of its answers.
-use Rattle.std.specs.Prelude.{◌≡◌, ℕ, ◌-◌, ◌^◌, ◌≤◌, ◌↔◌, ◌⊎◌, List, Option, Some, None}
-use Rattle.std.specs.List.{slice_get, Contains}
+use Rattle.std.specs.Prelude.{◌≡◌, ℕ, ◌-◌, ◌^◌, ◌≤◌, ◌↔◌, ◌⊎◌, List}
+use Rattle.std.specs.List.{Contains}
 use Rattle.bitm_tables.specs.declared.answer.Answer.{Answer}
 use Rattle.bitm_tables.specs.Tables.{HasSizes, Lists}
 use Rattle.bitm_view.specs.Queries.{selected_by}
-use Rattle.lent_tables.specs.Samples.{not_sampled, sampled, SampleLists}
 use Rattle.lent_tables.specs.Sizes.{lists_of}
 use Rattle.elias_fano.specs.Answers.{IsPlaceOf, IsPredecessorOf}
-use Rattle.elias_fano.specs.LentParts.{parts_of, ArePartsWithTables, HasLengths, LentParts}
+use Rattle.elias_fano.specs.LentParts.{parts_of, with_hints, AreHeldParts, HasLengths, LentParts}
 use Rattle.elias_fano.specs.Told.{ClaimAtMost, ClaimLess, IfLast}
 use Rattle.elias_fano_view.specs.declared.lists.ListAnswer.{ListAnswer}
 use Rattle.elias_fano_view.specs.declared.lists.ListAnswer.TheVariants.{All, AbsentAt, WrongAt, WrongLength}
 use Rattle.elias_fano_view.specs.declared.sizes.Sizes.{Sizes}
-use Rattle.bitm_abi.specs.Samples.{lent_samples}
-use Rattle.bitm_abi.specs.declared.samples.Samples.{Samples}
 use Rattle.bitm_abi.specs.declared.sequence.SequenceLens.{SequenceLens}
 use Rattle.bitm_abi.specs.declared.sequence.Sequence.{Sequence}
 
@@ -21,21 +18,11 @@ use Rattle.bitm_abi.specs.declared.sequence.Sequence.{Sequence}
 abbrev pub sizes_in_c : Sizes → SequenceLens
 sizes_in_c s = record { width = s.width; low_len = s.low; words_len = s.words; upper_len = s.upper; lower_len = s.lower }
 
--- the parts of a sequence, without its samples
+-- the parts of a sequence
 abbrev pub lent_parts : Sequence → LentParts
-lent_parts sequence = parts_of sequence.len sequence.width sequence.low.now (lists_of sequence.words.now sequence.upper.now sequence.lower.now)
-
--- an item of a list of samples; no samples, where there is no such item
-abbrev pub sampled_if : Option Samples → SampleLists
-sampled_if (Some s) = sampled (lent_samples s)
-sampled_if None = not_sampled
-
--- the parts of a sequence, with its samples
-abbrev pub sampled_parts : Sequence → LentParts
-sampled_parts sequence = record (lent_parts sequence) {
-  ones = sampled_if (slice_get sequence.samples.now 0);
-  zeros = sampled_if (slice_get sequence.samples.now 1);
-}
+lent_parts sequence =
+    with_hints sequence.hints.now
+    (parts_of sequence.len sequence.width sequence.low.now (lists_of sequence.words.now sequence.upper.now sequence.lower.now))
 
 -- the lengths of a sequence are right
 pub record IsSequenceSized (sequence : Sequence) : Type 0 where
@@ -53,24 +40,24 @@ IsListTold (AbsentAt k) n status old new = (status ≡ 1) × (new ≡ k)
 IsListTold (WrongAt k) n status old new = (status ≡ 3) × (new ≡ k)
 IsListTold WrongLength n status old new = (status ≡ 2) × (new ≡ old)
 
--- the predecessor of value: the index of the last number that is at most value; whatever four parts hold, they claim
+-- the predecessor of value: the index of the last number that is at most value; whatever the parts hold, they claim
 -- that all numbers up to that index are at most value, or that none is where the answer is that there is none
-pub record FindsLast (value len width : ℕ) (low : List ℕ) (upper : Lists) (answer : Answer ℕ) : Type 0 where
+pub record FindsLast (value len width : ℕ) (low : List ℕ) (upper : Lists) (hints : List ℕ) (answer : Answer ℕ) : Type 0 where
   pub inside : IsPlaceOf len answer
   pub most : IfLast answer (ClaimAtMost len width low upper value)
-  pub counts : (xs : List ℕ) → ArePartsWithTables xs len width low upper → IsPredecessorOf xs value answer
+  pub counts : (xs : List ℕ) → AreHeldParts xs len width low upper hints → IsPredecessorOf xs value answer
 
--- the predecessor in a sequence, whatever samples it has
+-- the predecessor in a sequence
 abbrev pub IsPredecessor : ℕ → LentParts → Answer ℕ → Type 0
-IsPredecessor value parts = FindsLast value parts.len parts.width parts.low parts.upper
+IsPredecessor value parts = FindsLast value parts.len parts.width parts.low parts.upper parts.hints
 
 -- whether value is one of the numbers, as an item of a list: 1 or 0, or 2^64 - 2 where the parts are not those of a
 -- sequence; whatever they hold, they claim how many numbers are less, and the item is 0 where that is all of them
-pub record FindsEqual (value len width : ℕ) (low : List ℕ) (upper : Lists) (n : ℕ) : Type 0 where
+pub record FindsEqual (value len width : ℕ) (low : List ℕ) (upper : Lists) (hints : List ℕ) (n : ℕ) : Type 0 where
   pub truth : (n ≤ 1) ⊎ (n ≡ 2 ^ 64 - 2)
   pub less : n ≤ 1 → (p : ℕ) × ClaimLess len width low upper value p × (p ≡ len → n ≡ 0)
-  pub right : (xs : List ℕ) → ArePartsWithTables xs len width low upper → (n ≤ 1) × ((n ≡ 1) ↔ Contains xs value)
+  pub right : (xs : List ℕ) → AreHeldParts xs len width low upper hints → (n ≤ 1) × ((n ≡ 1) ↔ Contains xs value)
 
--- whether value is a number of a sequence, whatever samples it has
+-- whether value is a number of a sequence
 abbrev pub IsContained : ℕ → LentParts → ℕ → Type 0
-IsContained value parts = FindsEqual value parts.len parts.width parts.low parts.upper
+IsContained value parts = FindsEqual value parts.len parts.width parts.low parts.upper parts.hints

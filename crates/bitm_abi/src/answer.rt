@@ -13,7 +13,7 @@ pub const NONE: u32 = 1;
 /// A length is wrong; nothing was written.
 pub const BAD_SIZE: u32 = 2;
 
-/// The tables are not those of the words; nothing was written.
+/// The tables do not match the words; nothing was written.
 pub const WRONG: u32 = 3;
 
 /// A number is less than the one before it; nothing was written.

@@ -29,7 +29,7 @@ pub fn hash_view<'a>(hash: &Hash<'a>, seed: u64) -> Option<HashView<'a>>
 /// The hash over the first three sections of a block and the sizes in section `i`, whose index has no samples.
 ///
 /// # Conditions
-/// The block has these sections, and the tables are as long as those of the words.
+/// The block has these sections, and the lengths of the tables fit the words.
 #[inline(always)]
 pub fn hash_at<'a>(block: &Block<'a>, i: usize) -> Hash<'a>
     requires three { 3 ≤ count_in block.now }

@@ -111,8 +111,8 @@ pub fn header_at(file: &[u64]) -> Stored
     }
 }
 
-/// The header of a file that has all the parts of which the header speaks; `None` exactly where the file begins with no
-/// header, or has fewer words than that claims.
+/// The header of a file that has all the parts that the header claims; `None` exactly where the file begins with no
+/// header, or has fewer words than the header claims.
 #[tactic(auto, using(crate::proofs::StoredLemmas::lies_within, crate::proofs::StoredLemmas::whole))]
 #[inline(always)]
 pub fn header_of(file: &[u64]) -> Option<Stored>

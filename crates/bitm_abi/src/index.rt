@@ -8,8 +8,8 @@ use crate::samples::Samples;
 use bitm_view::IndexView;
 use lent_tables::{Lent, LentSamples};
 
-/// An index in the caller's memory: words with their two tables, of which the first `bits_len` bits are the bit vector,
-/// and samples of either kind of bit, which may be none. For C each slice is a pointer and a length.
+/// An index in the caller's memory: words, whose first `bits_len` bits are the bit vector, with their two tables, and
+/// samples of either kind of bit, which may be none. For C each slice is a pointer and a length.
 #[repr(C)]
 #[derive(Clone, Copy)]
 pub struct Index<'a> {

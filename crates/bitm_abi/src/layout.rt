@@ -40,7 +40,7 @@ pub struct Stored {
     pub ones_log2: u64,
     /// The logarithm of the samples of 0 bits, 0 if there are none.
     pub zeros_log2: u64,
-    /// The words of the bit vector, or those of the high bits of a sequence.
+    /// The words of the bit vector, or of the high bits of a sequence.
     pub words: Span,
     /// Their upper table.
     pub upper: Span,
@@ -81,7 +81,7 @@ impl Span {
         }
     }
 
-    /// Whether both numbers equal those of `other`.
+    /// Whether both numbers equal the numbers of `other`.
     #[inline(always)]
     #[tactic(auto, using(crate::proofs::StoredLemmas::same_span))]
     fn is(self, other: Span) -> bool
@@ -110,7 +110,7 @@ fn starts_len(log2: u64, upper: u64) -> u64
 }
 
 impl Stored {
-    /// Whether all numbers equal those of `other`.
+    /// Whether all numbers equal the numbers of `other`.
     #[inline(always)]
     #[tactic(auto, using(crate::proofs::StoredLemmas::same_stored))]
     pub(crate) fn is(&self, other: &Stored) -> bool

@@ -1,5 +1,5 @@
-//! What C passes and what it gets: the structs of `include/bitm.h`, each as the view that the library queries, and an
-//! answer as a status and a number that is written. Each struct may hold any numbers, and says which lengths are right.
+//! What C passes and gets: the structs of `include/bitm.h`, each as the view that the library queries, and an answer as
+//! a status and a number that is written. Each struct may hold any numbers, and says which lengths are right.
 //!
 //! Nothing here is exported: `bitm_c` has one call for each query over these.
 #![tactic(auto)]

@@ -1,13 +1,10 @@
 //! A sequence as C passes it, and as the library takes it.
-ghost use Rattle.std.specs.Prelude.{◌≡◌, SomeIff};
-ghost use Rattle.std.specs.List.{slice_get};
-ghost use Rattle.lent_tables.specs.Samples.{sampled};
-ghost use Rattle.bitm_abi.specs.Sequence.{sampled_if, sampled_parts, IsListTold, IsSequenceSized};
+ghost use Rattle.std.specs.Prelude.{SomeIff};
+ghost use Rattle.bitm_abi.specs.Sequence.{lent_parts, IsListTold, IsSequenceSized};
 
 use crate::answer::{BAD_SIZE, NONE, OK, WRONG};
-use crate::samples::Samples;
 use elias_fano_view::{LentSequence, ListAnswer};
-use lent_tables::{Lent, LentSamples};
+use lent_tables::Lent;
 
 /// A sequence in the caller's memory: for C two numbers and five pairs of a pointer and a length.
 #[repr(C)]
@@ -25,8 +22,8 @@ pub struct Sequence<'a> {
     pub upper: &'a [usize],
     /// The lower table of these words.
     pub lower: &'a [u64],
-    /// Samples of the 1 bits of these words, then of the 0 bits; the list may end before either.
-    pub samples: &'a [Samples<'a>],
+    /// The hints of these words, or none.
+    pub hints: &'a [u64],
 }
 
 /// The lengths of the parts of a sequence.
@@ -46,28 +43,17 @@ pub struct SequenceLens {
 }
 
 impl<'a> Sequence<'a> {
-    /// The parts as the library queries them, with their samples; `None` exactly where a length is not right.
+    /// The parts as the library queries them; `None` exactly where a length is not right.
     #[inline(always)]
     pub fn lent(&self) -> Option<LentSequence<'a>>
-        ensures { SomeIff result (IsSequenceSized self.now) (sampled_parts self.now) }
+        ensures { SomeIff result (IsSequenceSized self.now) (lent_parts self.now) }
     {
         let upper = Lent::over(self.words, self.upper, self.lower)?;
         if self.width > 63 {
             return None;
         }
         let parts = LentSequence::over(self.len, self.width as u8, self.low, upper)?;
-        Some(parts.with_samples(samples_at(self.samples, 0), samples_at(self.samples, 1)))
-    }
-}
-
-/// Item `at` of a list of samples as the library takes it; no samples where the list ends before.
-#[inline(always)]
-fn samples_at<'a>(list: &[Samples<'a>], at: usize) -> LentSamples<'a>
-    ensures { sampled result ≡ sampled_if (slice_get list.now at) }
-{
-    match list.get(at) {
-        Some(some) => some.lent(),
-        None => LentSamples::none(),
+        parts.with_hints(self.hints)
     }
 }
 

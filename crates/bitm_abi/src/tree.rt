@@ -5,8 +5,8 @@ ghost use Rattle.bitm_abi.specs.Tree.{tree_parts};
 
 use louds_block::LoudsView;
 
-/// A tree in the caller's memory: the number of nodes, and the words and tables of its block, for C three pairs of a
-/// pointer and a length.
+/// A tree in the caller's memory: the number of nodes, and the words, tables and hints of its block, for C four pairs
+/// of a pointer and a length.
 #[repr(C)]
 #[derive(Clone, Copy)]
 pub struct Tree<'a> {
@@ -18,8 +18,8 @@ pub struct Tree<'a> {
     pub upper: &'a [u64],
     /// The lower table of these words.
     pub lower: &'a [u64],
-    /// Room for later versions; this one does not read it.
-    pub reserved: [u64; 2],
+    /// The hints of these words, or no words.
+    pub hints: &'a [u64],
 }
 
 impl<'a> Tree<'a> {
@@ -33,7 +33,7 @@ impl<'a> Tree<'a> {
             words: view.words(),
             upper: view.upper(),
             lower: view.lower(),
-            reserved: [0; 2],
+            hints: view.hints(),
         }
     }
 
@@ -42,6 +42,6 @@ impl<'a> Tree<'a> {
     pub fn view(&self) -> Option<LoudsView<'a>>
         ensures { SomeIff result (HasLengths (tree_parts self.now)) (tree_parts self.now) }
     {
-        LoudsView::over(self.len, self.words, self.upper, self.lower)
+        LoudsView::over(self.len, self.words, self.upper, self.lower, self.hints)
     }
 }

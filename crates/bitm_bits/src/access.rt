@@ -273,7 +273,7 @@ pub trait BitAccess {
     /// The bits of the range, from either end; none where it is reversed.
     ///
     /// # Conditions
-    /// The range ends inside or at the end of the words, of which there are fewer than 2^58.
+    /// The range ends inside or at the end of the words, which are fewer than 2^58.
     fn bit_in_range_iter(&self, range: Range<usize>) -> BitIterator<'_>
         requires inside { range.end ≤ 64 * length (words self.now) }
         requires short { IsShort (words self.now) }
@@ -282,7 +282,7 @@ pub trait BitAccess {
     /// The bits of the range, as `bit_in_range_iter`.
     ///
     /// # Conditions
-    /// The range ends inside or at the end of the words, of which there are fewer than 2^58.
+    /// The range ends inside or at the end of the words, which are fewer than 2^58.
     #[inline(always)]
     fn bit_in_unchecked_range_iter(&self, range: Range<usize>) -> BitIterator<'_>
         requires inside { range.end ≤ 64 * length (words self.now) }

@@ -13,7 +13,7 @@ use crate::access::BitAccess;
 ///
 /// Each call leaves every bit that it does not name as it was, and the value gives out the same slice afterwards. A
 /// call ending in `_unchecked` is the plain one: both have the same condition, which the checker proves at each call.
-/// Ranges and fragments are those of `BitAccess`.
+/// Ranges and fragments are as in `BitAccess`.
 ///
 /// # What the slice's owner holds afterwards
 /// The checker knows it by the form of the call:
@@ -380,8 +380,8 @@ pub trait BitAccessMut: BitAccess {
     /// answers what replaces them, or `None` where they stay.
     ///
     /// # Conditions
-    /// The bits are in range; `s` is 0 to 63; the closure may be called on their number, and what it may answer is
-    /// below 2^`s`.
+    /// The bits are in range; `s` is 0 to 63; the closure may be called on their number, and whatever answer it gives
+    /// is below 2^`s`.
     fn conditionally_change_bits<F: FnOnce(u64) -> Option<u64>>(
         &mut self,
         new_value: F,
@@ -404,8 +404,8 @@ pub trait BitAccessMut: BitAccess {
     /// answers what replaces it, or `None` where it stays.
     ///
     /// # Conditions
-    /// The fragment is in range; `s` is 0 to 63; the closure may be called on its number, and what it may answer is
-    /// below 2^`s`.
+    /// The fragment is in range; `s` is 0 to 63; the closure may be called on its number, and whatever answer it gives
+    /// is below 2^`s`.
     fn conditionally_change_fragment<F: FnOnce(u64) -> Option<u64>>(
         &mut self,
         new_value: F,
@@ -424,8 +424,8 @@ pub trait BitAccessMut: BitAccess {
             × MatchOption answer (Self.words self.new ≡ Self.words self.old)
             (Replaces Self.words self.old self.new (index * s) s) };
 
-    /// Replaces the `s` bits from `begin` on by those of `src` at the same position, where `predicate`, called once on
-    /// the two numbers, the old one first, answers true.
+    /// Replaces the `s` bits from `begin` on by the bits of `src` at the same position, where `predicate`, called once
+    /// on the two numbers, the old one first, answers true.
     ///
     /// # Conditions
     /// The bits are in range in both; `s` is 0 to 63; the closure may be called on the two numbers.
@@ -448,8 +448,8 @@ pub trait BitAccessMut: BitAccess {
             (taken : _) × F.post predicate old new taken
             × ReplacesIf taken Self.words self.old self.new begin s new };
 
-    /// Replaces fragment `index` of width `s` by that of `src`, where `predicate`, called once on the two numbers, the
-    /// old one first, answers true.
+    /// Replaces fragment `index` of width `s` by the same fragment of `src`, where `predicate`, called once on the two
+    /// numbers, the old one first, answers true.
     ///
     /// # Conditions
     /// The fragment is in range in both; `s` is 0 to 63; the closure may be called on the two numbers.

@@ -1,9 +1,10 @@
 -- Sections whose words were written one after another, before the block was sealed.
-use Rattle.std.proofs.Common.{◌≡◌, ℕ, zero, suc, ◌+◌, ◌-◌, ◌<◌, List, [], ◌∷◌, ◌++◌, length, take, drop, get_or, sum_by, append_assoc, length-append, sym, ap, ◌∙◌, arith}
+use Rattle.std.proofs.Common.{◌≡◌, ℕ, zero, suc, ◌+◌, ◌-◌, ◌<◌, ◌≤◌, List, [], ◌∷◌, ◌++◌, length, map, take, drop, get_or, sum_by, append_assoc, length-append, sym, ap, ◌∙◌, arith}
 use Rattle.std.proofs.Math.Seq.{take-append_seam, drop-append_seam}
+use Rattle.std.proofs.lemmas.List.{get_or-map, get_or-take, length-map, length-take-le}
 use Rattle.std.proofs.lemmas.List.Sums.{sum_by-cons}
 use Rattle.std.specs.List.{slice_range}
-use Rattle.bitm_block.specs.Header.{begin_in, count_in, section_entry, section_in}
+use Rattle.bitm_block.specs.Header.{begin_in, count_in, head_in, section_entry, section_in, sections_in, IsOfKind}
 use Rattle.bitm_block.specs.Layout.{begin_of, head_of, no_section, part_in, room_of, words_of}
 use Rattle.bitm_block.specs.Written.{IsSealed}
 use Rattle.bitm_block.specs.declared.head.Head.{Head}
@@ -62,6 +63,27 @@ placed (s ∷ ss) (p ∷ ps) front at (suc i) lens from less =
 pub part_is : (ss : List Section) (ps : List Part) (front : List ℕ) (i : ℕ) → HaveLengths ss ps → head_of (length ss) ≡ length front → i < length ss
     → part_in ss (front ++ laid ps) i ≡ (get_or ps i (part [] [])).words
 part_is ss ps front i lens from less = placed ss ps front (head_of (length ss)) i lens from less
+
+-- a block with this header and these sections is of the header's kind, with the roles of the first n
+pub is_of_kind : (h : Head) (ss : List Section) (block : List ℕ) → head_in block ≡ h → sections_in block ≡ ss → (n : ℕ) → n ≤ length ss
+    → IsOfKind h.kind (map (λ (s : Section). s.role) (take n ss)) block
+is_of_kind h ss block head_is sections_are n few =
+    let first = take n ss in
+    let role : Section → ℕ = λ s. s.role in
+    let many : length (map role first) ≡ n = length-map first role ∙ length-take-le n ss few in
+    let count : count_in block ≡ length ss = sym (sections_len block) ∙ ap length sections_are in
+    let entry : (i : ℕ) → i < n → section_entry block i ≡ get_or first i no_section =
+    λ i less.
+    sym (section_at block i no_section (omega (arith, less, count, few)))
+    ∙ ap (λ (l : List Section). get_or l i no_section) sections_are
+    ∙ sym (get_or-take n ss i no_section less) in
+    record {
+      kind_is = ap (λ (head : Head). head.kind) head_is;
+      many = omega (arith, many, count, few);
+      roles_are = λ i less.
+          ap role (entry i (omega (arith, less, many)))
+          ∙ sym (get_or-map role first i no_section 0 (omega (arith, less, length-map first role)));
+    }
 
 -- the sections of a sealed block are the words that stood in their places
 module _ (h : Head) (ss : List Section) (old new : List ℕ) (sealed : IsSealed h ss old new) where

@@ -143,7 +143,7 @@ module _ (h : Head) (ss : List Section) (words : List ℕ) (short : AreShort ss)
   is_block = record {
     header = record {
       summed = record {
-        marked = record { long = omega (arith, block_len); letters = refl; version = refl };
+        marked = record { long = omega (arith, block_len); letters = refl; version = (omega arith, omega arith) };
         checksum = refl;
       };
       needs = refl;
@@ -174,6 +174,7 @@ sealed h ss old short room =
     record {
       is_block = is_block h ss words short long;
       verified = is_kept h ss words short long;
+      version = refl;
       head_is = head_is h ss words short long;
       sections_are = sections_are h ss words short long;
       kept = λ i less.

@@ -1,7 +1,7 @@
 -- What the header and directory of a block say, and which blocks are right.
 use Rattle.std.specs.Prelude.{◌≡◌, ◌≢◌, ℕ, ◌+◌, ◌*◌, ◌/◌, ◌%◌, ◌^◌, ◌<◌, ◌≤◌, All, List, map, length, slice_index, slice_range}
 use Rattle.std.specs.List.{range_with_len}
-use Rattle.bitm_block.specs.Checksum.{checksum_of}
+use Rattle.bitm_block.specs.Checksum.{checksum_in}
 use Rattle.bitm_block.specs.Layout.{begin_of, end_of, head_of, words_of}
 use Rattle.bitm_block.specs.declared.error.OpenError.{OpenError}
 use Rattle.bitm_block.specs.declared.error.OpenError.TheVariants.{TooShort, NotABlock, OtherVersion, WrongHeader, UnknownFeature, WrongLength, WrongDirectory}
@@ -52,16 +52,24 @@ HasLetters words = slice_index words 0 % 2 ^ 56 ≡ 0x62_6174_6d74_6962
 abbrev pub version_in : List ℕ → ℕ
 version_in words = slice_index words 0 / 2 ^ 56
 
--- the words are as many as a header has, and begin as those of version 3
+-- versions 3 and 4 are read; version 4 is written
+abbrev pub IsKnown : ℕ → Type 0
+IsKnown version = (3 ≤ version) × (version ≤ 4)
+
+-- the checksum of words in a block, which the version of the block determines
+abbrev pub sum_in : List ℕ → List ℕ → ℕ
+sum_in block words = checksum_in (version_in block) words
+
+-- the words are as many as a header has, and begin as those of a version that is read
 pub record IsMarked (words : List ℕ) : Type 0 where
   pub long : 16 ≤ length words
   pub letters : HasLetters words
-  pub version : version_in words ≡ 3
+  pub version : IsKnown (version_in words)
 
 -- the words begin with a header that is as it was written
 pub record IsSummed (words : List ℕ) : Type 0 where
   pub marked : IsMarked words
-  pub checksum : slice_index words 15 ≡ checksum_of (slice_range words 0 15)
+  pub checksum : slice_index words 15 ≡ sum_in words (slice_range words 0 15)
 
 -- and it has no feature that this version does not have
 pub record IsHeader (words : List ℕ) : Type 0 where
@@ -80,7 +88,7 @@ pub record IsEntry (block : List ℕ) (i : ℕ) : Type 0 where
 pub record IsDirectory (block : List ℕ) : Type 0 where
   pub few : count_in block ≤ 16
   pub head : head_of (count_in block) ≤ length block
-  pub checksum : slice_index block 14 ≡ checksum_of (slice_range block 16 (head_of (count_in block)))
+  pub checksum : slice_index block 14 ≡ sum_in block (slice_range block 16 (head_of (count_in block)))
   pub padding : All (λ w. w ≡ 0) (slice_range block (16 + 4 * count_in block) (head_of (count_in block)))
   pub entries : (i : ℕ) → i < count_in block → IsEntry block i
   pub whole : length block ≡ end_of (sections_in block)
@@ -95,17 +103,23 @@ pub record IsBlock (block : List ℕ) : Type 0 where
 abbrev pub IsReason : List ℕ → OpenError → Type 0
 IsReason words TooShort = length words < 16
 IsReason words NotABlock = (16 ≤ length words) × (¬ (HasLetters words))
-IsReason words OtherVersion = (16 ≤ length words) × HasLetters words × (version_in words ≢ 3)
-IsReason words WrongHeader = IsMarked words × (slice_index words 15 ≢ checksum_of (slice_range words 0 15))
+IsReason words OtherVersion = (16 ≤ length words) × HasLetters words × (¬ (IsKnown (version_in words)))
+IsReason words WrongHeader = IsMarked words × (slice_index words 15 ≢ sum_in words (slice_range words 0 15))
 IsReason words UnknownFeature = IsSummed words × (¬ (IsHeader words))
 IsReason words WrongLength = IsHeader words × (slice_index words 2 ≢ 8 * length words)
 IsReason words WrongDirectory = IsHeader words × (slice_index words 2 ≡ 8 * length words) × (¬ (IsDirectory words))
 
 -- the sum of section i is that of its words, and zeros stand after them up to the next section
 pub record IsKept (block : List ℕ) (i : ℕ) : Type 0 where
-  pub checksum : slice_index block (16 + 4 * i + 3) ≡ checksum_of (section_in block i)
+  pub checksum : slice_index block (16 + 4 * i + 3) ≡ sum_in block (section_in block i)
   pub padding : All (λ w. w ≡ 0) (slice_range block (finish_in block i) (begin_in block (i + 1)))
 
 -- all sections are as they were written
 abbrev pub IsVerified : List ℕ → Type 0
 IsVerified block = (i : ℕ) → i < count_in block → IsKept block i
+
+-- the block is of a kind, and its first sections have these roles
+pub record IsOfKind (kind : ℕ) (roles : List ℕ) (block : List ℕ) : Type 0 where
+  pub kind_is : slice_index block 1 ≡ kind
+  pub many : length roles ≤ count_in block
+  pub roles_are : (i : ℕ) → i < length roles → (section_entry block i).role ≡ slice_index roles i

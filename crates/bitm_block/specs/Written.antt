@@ -1,7 +1,7 @@
 -- What is written for a header, sections and their words.
 use Rattle.std.specs.Prelude.{◌≡◌, ℕ, ◌+◌, ◌-◌, ◌*◌, ◌<◌, List, [], ◌∷◌, ◌++◌, drop, length, replicate, slice_range, take}
 use Rattle.bitm_block.specs.Checksum.{checksum_of}
-use Rattle.bitm_block.specs.Header.{begin_in, finish_in, head_in, section_in, sections_in, IsBlock, IsVerified}
+use Rattle.bitm_block.specs.Header.{begin_in, finish_in, head_in, section_in, sections_in, version_in, IsBlock, IsVerified}
 use Rattle.bitm_block.specs.Layout.{end_of, head_of, room_of, words_of}
 use Rattle.bitm_block.specs.declared.head.Head.{Head}
 use Rattle.bitm_block.specs.declared.layout.Section.{Section}
@@ -34,7 +34,7 @@ directory_of sections words =
 -- the header without its checksum: of n sections, a block of the given number of words, a directory of that checksum
 abbrev pub fields_of : Head → ℕ → ℕ → ℕ → List ℕ
 fields_of head n words sum =
-    0x0362_6174_6d74_6962 ∷ head.kind ∷ 8 * words ∷ head.len ∷ head.width ∷ head.ones_log2 ∷ head.zeros_log2 ∷ 0
+    0x0462_6174_6d74_6962 ∷ head.kind ∷ 8 * words ∷ head.len ∷ head.width ∷ head.ones_log2 ∷ head.zeros_log2 ∷ 0
     ∷ head.a ∷ head.b ∷ head.c ∷ n ∷ 0 ∷ 0 ∷ sum ∷ []
 
 -- the header
@@ -47,10 +47,12 @@ block_of head sections words =
     header_of head (length sections) (end_of sections) (checksum_of (directory_of sections words))
     ++ (directory_of sections words ++ body_of sections words)
 
--- the new words are the block of these numbers and sections, of which each has the words that stood in its place
+-- the new words are a block of version 4 with these numbers and sections, of which each has the words that stood in its
+-- place
 pub record IsSealed (head : Head) (sections : List Section) (old new : List ℕ) : Type 0 where
   pub is_block : IsBlock new
   pub verified : IsVerified new
+  pub version : version_in new ≡ 4
   pub head_is : head_in new ≡ head
   pub sections_are : sections_in new ≡ sections
   pub kept : (i : ℕ) → i < length sections → section_in new i ≡ slice_range old (begin_in new i) (finish_in new i)

@@ -1,7 +1,7 @@
 //! Items that are copied.
 ghost use Rattle.std.specs.Prelude.{◌≡◌, length};
 
-/// Replaces the items of `to` by those of `from`: words that a section gets, for example.
+/// Replaces the items of `to` by the items of `from`: words that a section gets, for example.
 ///
 /// # Conditions
 /// Both have the same number of items.

@@ -6,17 +6,17 @@ use std::fmt;
 /// Why words were not opened: the first reason that holds, in this order.
 #[derive(Clone, Copy, Debug, PartialEq, Eq)]
 pub enum OpenError {
-    /// There are fewer than 16 words, those of a header.
+    /// There are fewer than 16 words, the length of a header.
     TooShort,
     /// The first word does not have the letters `bitmtab`, lowest byte first.
     NotABlock,
-    /// The version of the format is another one than 3.
+    /// The version of the format is neither 3 nor 4.
     OtherVersion,
     /// The checksum of the header is wrong.
     WrongHeader,
     /// The header, which is as it was written, has a feature that this version does not have.
     UnknownFeature,
-    /// The words are not as many as the header says.
+    /// The words are more or fewer than the header says.
     WrongLength,
     /// The directory has another checksum, or more than 16 sections, or they do not stand one after another up to the
     /// end of the block.
@@ -49,7 +49,7 @@ impl Error for OpenError {}
 pub enum WriteError {
     /// There are more than 16 sections, one of them has 2^58 items or more, or the block would have 2^60 words or more.
     TooLarge,
-    /// The words are not as many as the block takes.
+    /// The words are more or fewer than the block takes.
     WrongLength,
 }
 

@@ -32,7 +32,7 @@ mod reading;
 mod verifying;
 mod writing;
 
-pub use checksum::{checksum_of, sees_one_word};
+pub use checksum::{checksum_in, checksum_of, sees_one_word};
 pub use copying::copy_items;
 pub use error::{OpenError, WriteError};
 pub use head::Head;

@@ -2,11 +2,11 @@
 ghost use Rattle.std.specs.Prelude.{◌≡◌, ◌+◌, ◌*◌, ◌/◌, ◌^◌, ◌<◌, ◌≤◌, ◌↔◌, ℕ, All, IsTrue, length};
 ghost use Rattle.std.specs.Prelude.{IsOk, IfOk, IfErr, IsSome, IfSome, slice_index, slice_range};
 ghost use Rattle.bitm_block.specs.Header.{begin_in, count_in, finish_in, head_in, section_entry, section_in};
-ghost use Rattle.bitm_block.specs.Header.{sections_in};
-ghost use Rattle.bitm_block.specs.Header.{IsBlock, IsDirectory, IsEntry, IsHeader, IsReason, IsVerified};
+ghost use Rattle.bitm_block.specs.Header.{sections_in, version_in};
+ghost use Rattle.bitm_block.specs.Header.{IsBlock, IsDirectory, IsEntry, IsHeader, IsOfKind, IsReason, IsVerified};
 ghost use Rattle.bitm_block.specs.Layout.{end_of, head_of, room_of, words_of};
 
-use crate::checksum::checksum_of;
+use crate::checksum::checksum_in;
 use crate::error::OpenError;
 use crate::head::Head;
 use crate::layout::{ENTRY_WORDS, HEADER_WORDS, MOST_SECTIONS, Section, head_len};
@@ -15,13 +15,24 @@ use std::marker::Model;
 /// The letters `bitmtab`, lowest byte first: another number where the bytes stand in the other order.
 const LETTERS: u64 = 0x62_6174_6d74_6962;
 
-/// The version of the format, in the highest byte of the mark.
-const VERSION: u64 = 3;
+/// The versions of the format that are read: the highest byte of the mark has the version.
+const OLDEST: u64 = 3;
+
+const NEWEST: u64 = 4;
+
+/// The version of the format that words are of.
+#[inline(always)]
+pub(crate) fn version_at(words: &[u64]) -> u64
+    requires { 1 ≤ length words.now }
+    ensures { result ≡ version_in words.now }
+{
+    words[0] >> 56
+}
 
 /// How many words the block has that begins with a header: so a reader of a stream knows how many follow.
 ///
 /// # Errors
-/// Those of `Block::open` up to `UnknownFeature`; the words after the header are not looked at.
+/// The errors of `Block::open` up to `UnknownFeature`; the words after the header are not looked at.
 /// # Cost
 /// The 16 words of the header are read (evident from the code).
 ///
@@ -39,10 +50,11 @@ pub fn len_in(words: &[u64]) -> Result<usize, OpenError>
     if words[0] % (1 << 56) != LETTERS {
         return Err(OpenError::NotABlock);
     }
-    if words[0] >> 56 != VERSION {
+    let version = version_at(words);
+    if version < OLDEST || version > NEWEST {
         return Err(OpenError::OtherVersion);
     }
-    if words[15] != checksum_of(&words[..15]) {
+    if words[15] != checksum_in(version, &words[..15]) {
         return Err(OpenError::WrongHeader);
     }
     if words[7] != 0 || words[12] != 0 || words[13] != 0 {
@@ -51,7 +63,7 @@ pub fn len_in(words: &[u64]) -> Result<usize, OpenError>
     Ok((words[2] / 8) as usize)
 }
 
-/// Whether the number of bytes is that of the given number of words.
+/// Whether the given number of words has that number of bytes.
 #[inline(always)]
 fn are_bytes(bytes: u64, words: usize) -> bool
     ensures { IsTrue result ↔ (bytes ≡ 8 * words) }
@@ -72,7 +84,7 @@ pub(crate) fn entry_at(block: &[u64], i: usize) -> Section
     }
 }
 
-/// Whether the sections stand one after another, from the end of the directory to that of the block.
+/// Whether the sections stand one after another, from the end of the directory to the end of the block.
 fn are_placed(block: &[u64]) -> bool
     requires few { count_in block.now ≤ 16 }
     requires long { head_of (count_in block.now) ≤ length block.now }
@@ -108,7 +120,9 @@ fn is_directory(block: &[u64]) -> bool
     }
     let sections = block[11] as usize;
     let head = head_len(sections);
-    if block.len() < head || block[14] != checksum_of(&block[HEADER_WORDS..head]) {
+    if block.len() < head
+        || block[14] != checksum_in(version_at(block), &block[HEADER_WORDS..head])
+    {
         return false;
     }
     are_zeros(&block[HEADER_WORDS + ENTRY_WORDS * sections..head]) && are_placed(block)
@@ -209,6 +223,27 @@ impl<'a> Block<'a> {
             b: self.words[9],
             c: self.words[10],
         }
+    }
+
+    /// Whether the block is of a kind, and its first sections have these roles.
+    ///
+    /// ```
+    /// block.is_of(7, [1u64, 2, 3].as_slice());   // true of a tree: its words, their upper and their lower table
+    /// ```
+    #[inline(always)]
+    pub fn is_of(&self, kind: u64, roles: &[u64]) -> bool
+        ensures { IsTrue result ↔ IsOfKind kind roles.now self.now }
+    {
+        let words = self.words();
+        if words[1] != kind || self.sections() < roles.len() {
+            return false;
+        }
+        for i in 0..roles.len() {
+            if entry_at(words, i).role != roles[i] {
+                return false;
+            }
+        }
+        true
     }
 
     /// How many sections there are.

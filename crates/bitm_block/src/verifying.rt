@@ -2,9 +2,9 @@
 ghost use Rattle.std.specs.Prelude.{◌<◌, ◌↔◌, IsTrue};
 ghost use Rattle.bitm_block.specs.Header.{count_in, IsBlock, IsKept, IsVerified};
 
-use crate::checksum::checksum_of;
+use crate::checksum::checksum_in;
 use crate::layout::{ENTRY_WORDS, HEADER_WORDS};
-use crate::reading::{Block, are_zeros, begin_at, entry_at};
+use crate::reading::{Block, are_zeros, begin_at, entry_at, version_at};
 
 /// Whether section `i` of a block has its checksum, and zeros stand after it up to the next one.
 fn is_kept(block: &[u64], i: usize) -> bool
@@ -16,7 +16,8 @@ fn is_kept(block: &[u64], i: usize) -> bool
     let section = entry_at(block, i);
     let finish = at + section.words();
     let sum = block[HEADER_WORDS + ENTRY_WORDS * i + 3];
-    sum == checksum_of(&block[at..finish]) && are_zeros(&block[finish..at + section.room()])
+    sum == checksum_in(version_at(block), &block[at..finish])
+        && are_zeros(&block[finish..at + section.room()])
 }
 
 impl<'a> Block<'a> {

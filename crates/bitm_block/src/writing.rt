@@ -10,8 +10,8 @@ use crate::error::WriteError;
 use crate::head::Head;
 use crate::layout::{ENTRY_WORDS, HEADER_WORDS, Section, head_len, size};
 
-/// The letters `bitmtab`, lowest byte first, and version 3.
-const MARK: u64 = 0x0362_6174_6d74_6962;
+/// The letters `bitmtab`, lowest byte first, and version 4.
+const MARK: u64 = 0x0462_6174_6d74_6962;
 
 /// Writes zeros over at most seven words, up to the next section.
 fn clear_gap(words: &mut [u64])
@@ -119,7 +119,7 @@ fn write_header(head: &Head, sections: usize, len: usize, sum: u64, header: &mut
 /// # Conditions
 /// `size` of the sections is the number of words.
 /// # Cost
-/// That of `seal`.
+/// The cost of `seal`.
 ///
 /// ```
 /// seal_sized(&head, sections.as_slice(), block.as_mut_slice());   // as `seal`, where that answers Ok(())
@@ -143,8 +143,8 @@ pub fn seal_sized(head: &Head, sections: &[Section], block: &mut [u64])
 /// numbers, sections and words make the same block, on every machine.
 ///
 /// # Errors
-/// `TooLarge` exactly where `size` answers `None`; else `WrongLength` exactly where the words are not as many as the
-/// block takes. The words stay as they are then.
+/// `TooLarge` exactly where `size` answers `None`; else `WrongLength` exactly where the words are more or fewer than
+/// the block takes. The words stay as they are then.
 /// # Cost
 /// One pass over the words of the sections (evident from the code).
 ///

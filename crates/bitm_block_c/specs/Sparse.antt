@@ -1,7 +1,7 @@
 -- Sparse bits in a block as C passes them, and what the exported calls answer.
 use Rattle.std.specs.Prelude.{ℕ, ◌+◌, Bool, List, min}
 use Rattle.bitm_tables.specs.declared.answer.Answer.{Answer}
-use Rattle.bitm_abi.specs.Sequence.{lent_parts, sampled_parts, IsSequenceSized}
+use Rattle.bitm_abi.specs.Sequence.{lent_parts, IsSequenceSized}
 use Rattle.bitm_abi.specs.Status.{truth_of, Exported, IsFoundBelow}
 use Rattle.bitm_select.specs.Answers.{IsFoundFrom, IsSelected}
 use Rattle.elias_fano.specs.Answers.{IsPlaceOf}
@@ -21,10 +21,6 @@ use Rattle.bitm_block_c.specs.declared.sparse_lists.Query.TheVariants.{Bit, Rank
 abbrev pub sparse_parts : Sparse → SparseParts
 sparse_parts sparse = parts_of (lent_parts sparse.positions) sparse.bits_len
 
--- and the samples of the sequence
-abbrev pub sampled_sparse : Sparse → SparseParts
-sampled_sparse sparse = parts_of (sampled_parts sparse.positions) sparse.bits_len
-
 -- the bit at a position of n bits, as 0 or 1: there is none exactly past the end, whatever is held, and it is that of the
 -- bits where the positions of their 1 bits are held
 pub record FindsBit (position n : ℕ) (holds : List ℕ → Type 0) (answer : Answer ℕ) : Type 0 where
@@ -32,7 +28,7 @@ pub record FindsBit (position n : ℕ) (holds : List ℕ → Type 0) (answer : A
   pub inside : IsBitWithin n position (truth_of answer)
   pub right : (xs : List ℕ) → holds xs → IsBitOf (bits_at n 0 xs) position (truth_of answer)
 
--- the bit of sparse bits, whatever samples their sequence has, and so with the other queries
+-- the bit of sparse bits, and so with the other queries
 abbrev pub IsBit : ℕ → SparseParts → Answer ℕ → Type 0
 IsBit position parts = FindsBit position parts.len (λ xs. HoldsOnes xs parts)
 
@@ -83,8 +79,8 @@ BitAnswered sparse position = Exported (IsSequenceSized sparse.positions) (IsBit
 abbrev pub RankAnswered : Sparse → Bool → ℕ → ℕ → ℕ → ℕ → Type 0
 RankAnswered sparse one position = Exported (IsSequenceSized sparse.positions) (IsRankIn one position (sparse_parts sparse))
 
-abbrev pub SelectAnswered : Sparse → Bool → ℕ → ℕ → ℕ → ℕ → Type 0
-SelectAnswered sparse one rank = Exported (IsSequenceSized sparse.positions) (IsSelectIn one rank (sparse_parts sparse))
+abbrev pub SparseSelectAnswered : Sparse → Bool → ℕ → ℕ → ℕ → ℕ → Type 0
+SparseSelectAnswered sparse one rank = Exported (IsSequenceSized sparse.positions) (IsSelectIn one rank (sparse_parts sparse))
 
 abbrev pub NextAnswered : Sparse → Bool → ℕ → ℕ → ℕ → ℕ → Type 0
 NextAnswered sparse one from = Exported (IsSequenceSized sparse.positions) (IsNextIn one from (sparse_parts sparse))

@@ -83,7 +83,7 @@ pub extern "C" fn bitm_index_block_open<'a>(block: &'a [u64], index: &mut Index<
     }
 }
 
-/// Whether the tables of a block are those of its words.
+/// Whether the tables of a block match its words.
 fn has_right_tables(block: &Block<'_>) -> bool
     requires three { 3 ≤ count_in block.now }
     requires sized { HasSizes (tables_in block.now) }

@@ -1,9 +1,9 @@
 //! Structures that are one block of memory, for C: written into the caller's memory, which may be a mapped file, opened
 //! in a bounded number of reads, checked, and queried where they lie. No call allocates, keeps a pointer or has state.
-//! Each call is defined for all numbers: it tests what it needs, and answers by a status of `bitm_abi`.
+//! Each call is defined for all numbers: it tests its arguments, and answers by a status of `bitm_abi`.
 //!
 //! `include/bitm.h` declares the exports for C and C++ and says what each one answers; they stand in one archive with
-//! those of `bitm_c`.
+//! the exports of `bitm_c`.
 #![tactic(auto)]
 
 // What is in each file:

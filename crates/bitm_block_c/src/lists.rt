@@ -4,7 +4,7 @@ ghost use Rattle.bitm_abi.specs.Lists.{AreAnswersCounted};
 ghost use Rattle.bitm_abi.specs.Tree.{tree_parts};
 ghost use Rattle.bitm_view.specs.Queries.{selected_by};
 ghost use Rattle.louds_block.specs.Block.{HasLengths};
-ghost use Rattle.bitm_block_c.specs.Tree.{IsChildAnswer, IsDegree, IsParent, IsTreeAnswer};
+ghost use Rattle.bitm_block_c.specs.Tree.{without_hints, IsChildAnswer, IsDegree, IsParent, IsTreeAnswer};
 
 use bitm_abi::{BAD_SIZE, ListCounts, Tree, report_list};
 use louds_block::LoudsView;
@@ -23,7 +23,8 @@ pub enum Asked {
 fn ask_each(view: &LoudsView<'_>, asked: Asked, nodes: &[usize], out: &mut [usize])
     requires { length out.old ≡ length nodes.now }
     ensures { (j : ℕ) → j < length nodes.now
-        → IsTreeAnswer asked (slice_index nodes.now j) view.now (selected_by (slice_index out.new j)) }
+        → IsTreeAnswer asked (slice_index nodes.now j) (without_hints view.now)
+        (selected_by (slice_index out.new j)) }
 {
     let _ = view.len(); // its clause makes the limit of the length known to the proof
     match asked {
@@ -44,7 +45,7 @@ fn ask_list(
     ensures ok { (result ≡ 0) ↔ HasLengths (tree_parts tree.now) × (length out.old ≡ length nodes.now) }
     ensures kept { result ≢ 0 → (result ≡ 2) × (out.new ≡ out.old) × (counts.new ≡ counts.old) }
     ensures answers { result ≡ 0 → (j : ℕ) → j < length nodes.now → IsTreeAnswer asked
-        (slice_index nodes.now j) (tree_parts tree.now) (selected_by (slice_index out.new j)) }
+        (slice_index nodes.now j) (without_hints (tree_parts tree.now)) (selected_by (slice_index out.new j)) }
     ensures counts { result ≡ 0 → AreAnswersCounted out.new counts.new }
 {
     let Some(view) = tree.view() else {
@@ -68,7 +69,7 @@ pub extern "C" fn bitm_tree_parent_list(
     ensures ok { (result ≡ 0) ↔ HasLengths (tree_parts tree.now) × (length out.old ≡ length nodes.now) }
     ensures kept { result ≢ 0 → (result ≡ 2) × (out.new ≡ out.old) × (counts.new ≡ counts.old) }
     ensures parents { result ≡ 0 → (j : ℕ) → j < length nodes.now → IsParent
-        (slice_index nodes.now j) (tree_parts tree.now) (selected_by (slice_index out.new j)) }
+        (slice_index nodes.now j) (without_hints (tree_parts tree.now)) (selected_by (slice_index out.new j)) }
     ensures counts { result ≡ 0 → AreAnswersCounted out.new counts.new }
 {
     ask_list(tree, Asked::Parent, nodes, out, counts)
@@ -85,7 +86,7 @@ pub extern "C" fn bitm_tree_degree_list(
     ensures ok { (result ≡ 0) ↔ HasLengths (tree_parts tree.now) × (length out.old ≡ length nodes.now) }
     ensures kept { result ≢ 0 → (result ≡ 2) × (out.new ≡ out.old) × (counts.new ≡ counts.old) }
     ensures degrees { result ≡ 0 → (j : ℕ) → j < length nodes.now → IsDegree
-        (slice_index nodes.now j) (tree_parts tree.now) (selected_by (slice_index out.new j)) }
+        (slice_index nodes.now j) (without_hints (tree_parts tree.now)) (selected_by (slice_index out.new j)) }
     ensures counts { result ≡ 0 → AreAnswersCounted out.new counts.new }
 {
     ask_list(tree, Asked::Degree, nodes, out, counts)
@@ -97,7 +98,7 @@ fn child_each(view: &LoudsView<'_>, nodes: &[usize], ks: &[usize], out: &mut [us
     requires room { length out.old ≡ length nodes.now }
     requires ks { length ks.now ≡ length nodes.now }
     ensures { (j : ℕ) → j < length nodes.now → IsChildAnswer (slice_index nodes.now j)
-        (slice_index ks.now j) view.now (selected_by (slice_index out.new j)) }
+        (slice_index ks.now j) (without_hints view.now) (selected_by (slice_index out.new j)) }
 {
     let _ = view.len(); // its clause makes the limit of the length known to the proof
     view.child_list(nodes, ks, out);
@@ -116,7 +117,7 @@ pub extern "C" fn bitm_tree_child_list(
         × (length ks.now ≡ length nodes.now) × (length out.old ≡ length nodes.now) }
     ensures kept { result ≢ 0 → (result ≡ 2) × (out.new ≡ out.old) × (counts.new ≡ counts.old) }
     ensures children { result ≡ 0 → (j : ℕ) → j < length nodes.now → IsChildAnswer
-        (slice_index nodes.now j) (slice_index ks.now j) (tree_parts tree.now)
+        (slice_index nodes.now j) (slice_index ks.now j) (without_hints (tree_parts tree.now))
         (selected_by (slice_index out.new j)) }
     ensures counts { result ≡ 0 → AreAnswersCounted out.new counts.new }
 {

@@ -1,11 +1,13 @@
 //! The block of a tree: how many words it takes, writing it, opening it and checking it.
 ghost use Rattle.std.specs.Prelude.{◌≡◌, ◌≢◌, ◌^◌, ◌<◌, ◌↔◌, ◌⊎◌, length};
 ghost use Rattle.bitm_block.specs.Layout.{end_of};
-ghost use Rattle.louds.specs.Tree.{IsTree};
+ghost use Rattle.bit_lists.specs.First.{IsFirst};
+ghost use Rattle.louds.specs.Tree.{IsMisfit, IsTree};
 ghost use Rattle.louds_block.specs.Block.{tree_in, tree_sections, CanHold, HoldsTree, IsBlockOf, IsTreeBlock};
 ghost use Rattle.bitm_abi.specs.Tree.{tree_parts};
 
-use bitm_abi::{BAD_SIZE, OK, Tree, WRONG};
+use bitm_abi::{BAD_SIZE, OK, Tree, WRONG, tell};
+use louds::misfit;
 use louds_block::{BuildError, LoudsView, build, size};
 
 /// Writes how many words the block of a tree of that many nodes takes; there are fewer than 2^60 nodes.
@@ -38,6 +40,17 @@ pub extern "C" fn bitm_tree_build(degrees: &[usize], block: &mut [u64]) -> u32
         Err(BuildError::WrongLength) => BAD_SIZE,
         Err(BuildError::NotATree) => WRONG,
     }
+}
+
+/// The first node at which the degrees form no tree.
+#[unsafe(no_mangle)]
+pub extern "C" fn bitm_tree_misfit(degrees: &[usize], out: &mut usize) -> u32
+    ensures misfit { result ≡ 0 → IsFirst (IsMisfit degrees.now) out.new }
+    ensures none { (result ≡ 1) ↔ (IsTree degrees.now ⊎ (length degrees.now ≡ 0)) }
+    ensures status { (result ≡ 0) ⊎ (result ≡ 1) }
+    ensures kept { result ≢ 0 → out.new ≡ out.old }
+{
+    tell(misfit(degrees), out)
 }
 
 /// Opens a block: writes the tree that queries take. What the words and tables hold is not looked at.

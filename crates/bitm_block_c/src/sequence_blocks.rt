@@ -10,7 +10,7 @@ ghost use Rattle.bitm_abi.specs.Sequence.{lent_parts};
 
 use bitm_abi::{BAD_SIZE, OK, Sequence, UNSORTED, WRONG};
 use bitm_block::Block;
-use block_tables::as_entries;
+use block_tables::{as_entries, hints_of};
 use sequence_block::{BuildError, build, check, open, size};
 
 /// Writes how many words the block of `len` numbers takes whose last and largest is `largest`.
@@ -47,13 +47,14 @@ pub extern "C" fn bitm_sequence_block_build(items: &[u64], block: &mut [u64]) ->
     }
 }
 
-/// The sequence over the first four sections of a block.
+/// The sequence over the first four sections of a block, with the hints that a fifth one may have.
 #[inline(always)]
 pub(crate) fn sequence_at<'a>(block: &Block<'a>) -> Sequence<'a>
     requires { 4 ≤ count_in block.now }
     ensures { lent_parts result ≡ sequence_in block.now }
 {
     let head = block.head();
+    let len = head.len as usize;
     match (
         block.section(0),
         block.section(1),
@@ -61,13 +62,13 @@ pub(crate) fn sequence_at<'a>(block: &Block<'a>) -> Sequence<'a>
         block.section(3),
     ) {
         (Some(words), Some(upper), Some(lower), Some(low)) => Sequence {
-            len: head.len as usize,
+            len,
             width: head.width,
             low,
             words,
             upper: as_entries(upper),
             lower,
-            samples: &[],
+            hints: hints_of(block, 4, len, words.len()),
         },
         _ => unreachable!(),
     }
@@ -89,7 +90,8 @@ pub extern "C" fn bitm_sequence_block_open<'a>(block: &'a [u64], sequence: &mut 
     }
 }
 
-/// Whether a block is as it was written, and holds a sequence: three passes over its words.
+/// Whether a block is as it was written, and holds a sequence: three passes over its words, and a selection for each
+/// hint.
 #[unsafe(no_mangle)]
 pub extern "C" fn bitm_sequence_block_check(block: &[u64]) -> u32
     ensures ok { (result ≡ 0) ↔ IsSoundBlock block.now }

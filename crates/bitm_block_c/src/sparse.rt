@@ -1,7 +1,7 @@
 //! Sparse bits in a block as C passes them, and as the library queries them.
 ghost use Rattle.std.specs.Prelude.{SomeIff};
 ghost use Rattle.bitm_abi.specs.Sequence.{IsSequenceSized};
-ghost use Rattle.bitm_block_c.specs.Sparse.{sampled_sparse};
+ghost use Rattle.bitm_block_c.specs.Sparse.{sparse_parts};
 
 use bitm_abi::Sequence;
 use sparse_block::SparseView;
@@ -19,11 +19,10 @@ pub struct Sparse<'a> {
 }
 
 impl<'a> Sparse<'a> {
-    /// The bits as the library queries them, with the samples of the sequence; `None` exactly where a length of the
-    /// sequence is not right.
+    /// The bits as the library queries them; `None` exactly where a length of the sequence is not right.
     #[inline(always)]
     pub(crate) fn view(&self) -> Option<SparseView<'a>>
-        ensures { SomeIff result (IsSequenceSized self.now.positions) (sampled_sparse self.now) }
+        ensures { SomeIff result (IsSequenceSized self.now.positions) (sparse_parts self.now) }
     {
         let positions = self.positions.lent()?;
         Some(SparseView::over(positions, self.bits_len))

@@ -14,7 +14,7 @@ use bitm_block::Block;
 use sequence_block::size;
 use sparse_block::{BuildError, SparseView, build, check};
 
-/// Writes how many words the block of `ones` 1 bits takes, the last of which is at position `last`.
+/// Writes how many words the block of `ones` 1 bits takes, where the last 1 bit is at position `last`.
 #[unsafe(no_mangle)]
 pub extern "C" fn bitm_sparse_size(ones: usize, last: u64, out: &mut usize) -> u32
     ensures ok { (result ≡ 0) ↔ IsLargest ones last }
@@ -30,7 +30,7 @@ pub extern "C" fn bitm_sparse_size(ones: usize, last: u64, out: &mut usize) -> u
     }
 }
 
-/// Writes the block of `bits_len` bits, of which those at the given positions are 1 bits.
+/// Writes the block of `bits_len` bits, with 1 bits at the given positions alone.
 #[unsafe(no_mangle)]
 pub extern "C" fn bitm_sparse_build(positions: &[u64], bits_len: usize, block: &mut [u64]) -> u32
     ensures ok { (result ≡ 0) ↔ CanHold positions.now bits_len block.old }
@@ -72,7 +72,8 @@ pub extern "C" fn bitm_sparse_open<'a>(block: &'a [u64], sparse: &mut Sparse<'a>
     }
 }
 
-/// Whether a block is as it was written, and holds sparse bits: five passes over its words, and one selection.
+/// Whether a block is as it was written, and holds sparse bits: five passes over its words, and a selection for each
+/// hint and one more.
 #[unsafe(no_mangle)]
 pub extern "C" fn bitm_sparse_check(block: &[u64]) -> u32
     ensures ok { (result ≡ 0) ↔ IsSoundBlock block.now }

@@ -1,5 +1,6 @@
 //! Queries of sparse bits in a block. `one` says which bits are meant: true the 1 bits, false the 0 bits.
-ghost use Rattle.bitm_block_c.specs.Sparse.{BitAnswered, NextAnswered, PreviousAnswered, RankAnswered, SelectAnswered};
+ghost use Rattle.bitm_block_c.specs.Sparse.{BitAnswered, NextAnswered, PreviousAnswered, RankAnswered};
+ghost use Rattle.bitm_block_c.specs.Sparse.{SparseSelectAnswered};
 
 use crate::sparse::Sparse;
 use bitm_abi::{BAD_SIZE, as_number, report};
@@ -39,7 +40,7 @@ pub extern "C" fn bitm_sparse_select(
     rank: usize,
     out: &mut usize,
 ) -> u32
-    ensures { SelectAnswered sparse.now one rank result out.old out.new }
+    ensures { SparseSelectAnswered sparse.now one rank result out.old out.new }
 {
     match sparse.view() {
         Some(view) => report(view.select_of(one, rank), out),

@@ -65,7 +65,7 @@ pub extern "C" fn bitm_text_locate_bytes(
     }
 }
 
-/// The letters of the text from a position on, as many as there is room for.
+/// The letters of the text from a position on, until `out` is full.
 #[unsafe(no_mangle)]
 pub extern "C" fn bitm_text_extract(text: &Text<'_>, from: usize, out: &mut [u64]) -> u32
     ensures answer { PartAnswered text.now from out.new result }

@@ -7,7 +7,7 @@ ghost use Rattle.bitm_abi.specs.Lengths.{HasRange};
 use bit_slices::{copy_range, is_equal_range};
 use bitm_abi::{NONE, OK, has_range};
 
-/// Replaces the `count` bits of `to` from `to_begin` on by those of `from` from `from_begin` on.
+/// Replaces the `count` bits of `to` from `to_begin` on by the bits of `from` from `from_begin` on.
 #[unsafe(no_mangle)]
 pub extern "C" fn bitm_bits_copy_range(
     to: &mut [u64],
@@ -29,7 +29,7 @@ pub extern "C" fn bitm_bits_copy_range(
     OK
 }
 
-/// Whether the `count` bits of `a` from `a_begin` on are those of `b` from `b_begin` on, as 0 or 1.
+/// Whether the `count` bits of `a` from `a_begin` on equal the bits of `b` from `b_begin` on, as 0 or 1.
 #[unsafe(no_mangle)]
 pub extern "C" fn bitm_bits_equal_range(
     a: &[u64],

@@ -51,7 +51,7 @@ pub extern "C" fn bitm_index_build(
     }
 }
 
-/// Whether the tables are those of the words: one pass over the words.
+/// Whether the tables match the words: one pass over the words.
 #[unsafe(no_mangle)]
 pub extern "C" fn bitm_index_check(index: &Index<'_>) -> u32
     ensures ok { (result ≡ 0) ↔ IsSizedCut (cut_of index.now) × HasTables (cut_of index.now).lists }

@@ -1,6 +1,5 @@
-//! Rank, select and Elias-Fano sequences for C: the caller owns the memory of words and tables, and no
-//! call allocates, keeps a pointer or has state. Each call is defined for all numbers: it tests what it needs, and
-//! answers by a status.
+//! Rank, select and Elias-Fano sequences for C: the caller owns the memory of words and tables, and no call allocates,
+//! keeps a pointer or has state. Each call is defined for all numbers: it tests its arguments, and answers by a status.
 //!
 //! `include/bitm.h` declares the exports for C and C++ and says what each one answers.
 #![tactic(auto)]
@@ -14,6 +13,7 @@
 // - `index`: building and checking tables
 // - `listed`: writes at a list of positions
 // - `numbers`: predecessors, membership and runs of numbers of a sequence
+// - `order`: where lists of numbers stop ascending, and where they pass a bound
 // - `queries`: lists of queries, counts and positions of an index
 // - `ranges`: counts, nearest bits, positions and writes over ranges, without tables
 // - `ranks`: the rank of an index
@@ -35,6 +35,7 @@ mod fragments;
 mod index;
 mod listed;
 mod numbers;
+mod order;
 mod queries;
 mod ranges;
 mod ranks;

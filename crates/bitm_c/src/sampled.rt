@@ -58,8 +58,8 @@ pub extern "C" fn bitm_index_build_samples(
     }
 }
 
-/// Whether the index's samples of the 1 bits, or of the 0 bits, are those that the build writes, where the tables are
-/// those of the words.
+/// Whether the index's samples of the 1 bits, or of the 0 bits, are the samples that the build writes, where the tables
+/// match the words.
 #[unsafe(no_mangle)]
 pub extern "C" fn bitm_index_check_samples(index: &Index<'_>, one: bool) -> u32
     ensures ok { IsSizedCut (cut_of index.now) → HasTables (cut_of index.now).lists

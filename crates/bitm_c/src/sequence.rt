@@ -67,8 +67,8 @@ pub extern "C" fn bitm_sequence_build(
     }
 }
 
-/// Whether the parts are those of some sequence: one pass over the words of the high bits for their tables, and one
-/// more for the numbers.
+/// Whether the parts form a sequence: one pass over the words of the high bits for their tables, and one more for the
+/// numbers.
 #[unsafe(no_mangle)]
 pub extern "C" fn bitm_sequence_check(sequence: &Sequence<'_>) -> u32
     ensures ok { (result ≡ 0) ↔ (IsSequenceSized sequence.now × AreParts (lent_parts sequence.now)) }

@@ -1,4 +1,4 @@
-//! Lists of queries of a sequence. Each answer is that of the single call, by the codes of lists.
+//! Lists of queries of a sequence. Each answer is what the single call gives, by the codes of lists.
 ghost use Rattle.std.specs.Prelude.{◌≡◌, ◌≢◌, ◌<◌, ◌-◌, ◌↔◌, ℕ, length, slice_index};
 ghost use Rattle.elias_fano_view.specs.Lists.{PlaceTold};
 ghost use Rattle.bitm_abi.specs.Lists.{AreAnswersCounted};

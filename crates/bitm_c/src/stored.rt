@@ -59,7 +59,7 @@ pub extern "C" fn bitm_stored_sequence(len: u64, lens: &SequenceLens, out: &mut 
     OK
 }
 
-/// Reads the header of a file that has all the parts of which the header speaks.
+/// Reads the header of a file that has all the parts that the header claims.
 #[unsafe(no_mangle)]
 pub extern "C" fn bitm_stored_read(file: &[u64], out: &mut Stored) -> u32
     ensures ok { (result ≡ 0) ↔ IsHeaded file.now }

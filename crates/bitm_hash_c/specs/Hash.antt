@@ -12,6 +12,11 @@ CanBeLevel ones again = (0 < length ones) × (length ones < 2 ^ 58) × (length a
 abbrev pub CanBeSeeded : List ℕ → List ℕ → List ℕ → List ℕ → Type 0
 CanBeSeeded hashes words seeds sorted = (length words < 2 ^ 58) × (length words ≤ length seeds) × (length hashes ≤ length sorted)
 
+-- there are words for a level, a seed for each, and room to sort the hashes
+abbrev pub CanBeSeededLevel : List ℕ → List ℕ → List ℕ → List ℕ → List ℕ → Type 0
+CanBeSeededLevel hashes ones seeds again sorted =
+    CanBeLevel ones again × (length seeds ≡ length ones) × (length hashes ≤ length sorted)
+
 -- what a build made, as the library says it
 abbrev pub made_of : ℕ → ℕ → ℕ → Made
 made_of levels words left = record { levels = levels; words = words; left = left }

@@ -1,6 +1,6 @@
 //! Minimal perfect hashes in the caller's memory: their levels, built one by one or in one call, and the number of a
 //! hash by the index over the words of all levels. The caller hashes the keys.
-ghost use Rattle.std.specs.Prelude.{◌≡◌, ◌≢◌, ℕ, ◌-◌, ◌<◌, ◌≤◌, ◌^◌, ◌↔◌, length, min, slice_index, take};
+ghost use Rattle.std.specs.Prelude.{◌≡◌, ◌≢◌, ℕ, ◌-◌, ◌<◌, ◌≤◌, ◌^◌, ◌↔◌, length, min, slice_index, take, IsTrue};
 ghost use Rattle.bit_lists.specs.Bits.{bits_of, IsShort};
 ghost use Rattle.bit_lists.specs.Count.{ones_of};
 ghost use Rattle.bitm_view.specs.Queries.{ranked_by};
@@ -25,6 +25,14 @@ pub extern "C" fn bitm_hash_level_len(left: usize, percent: u32) -> usize
     level_len(percent, left)
 }
 
+/// Whether there are words for a level, and as many beside them.
+#[inline(always)]
+pub(crate) fn can_be_level(ones: &[u64], again: &[u64]) -> bool
+    ensures { IsTrue result ↔ CanBeLevel ones.now again.now }
+{
+    !ones.is_empty() && ones.len() < 1 << 58 && again.len() == ones.len()
+}
+
 /// Builds a level of the hashes, and moves the hashes that it leaves to the start of their list.
 #[tactic(auto, using(bit_lists::proofs::BitLaws::zeros_have_no_ones))]
 #[unsafe(no_mangle)]
@@ -44,7 +52,7 @@ pub extern "C" fn bitm_hash_level(
     ensures unchanged { result ≢ 0 → (result ≡ 2) × (hashes.new ≡ hashes.old)
         × (ones.new ≡ ones.old) × (again.new ≡ again.old) × (left.new ≡ left.old) }
 {
-    if ones.is_empty() || ones.len() >= 1 << 58 || again.len() != ones.len() {
+    if !can_be_level(&*ones, &*again) {
         return BAD_SIZE;
     }
     clear(&mut *ones);

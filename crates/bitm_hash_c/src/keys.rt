@@ -30,7 +30,7 @@ fn checked(prints: &[u64], width: u32, print: u64, number: usize) -> Answer<usiz
     }
 }
 
-/// The answer of a look-up: that of `checked` for a number that was found.
+/// The answer of a look-up: what `checked` answers for a number that was found.
 #[inline(always)]
 pub(crate) fn checked_answer(
     prints: &[u64],
@@ -91,7 +91,7 @@ fn checked_code(prints: &[u64], width: u32, print: u64, code: usize) -> usize
     }
 }
 
-/// Puts a code in the place of each number whose fingerprint is not that of its key.
+/// Puts a code in the place of each number whose fingerprint does not match its key.
 fn check_each(prints: &[u64], width: u32, key_prints: &[u64], numbers: &mut [usize])
     requires few { length prints.now < 2 ^ 58 }
     requires width { width ≤ 64 }

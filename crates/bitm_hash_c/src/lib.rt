@@ -1,8 +1,8 @@
 //! Minimal perfect hashes in the caller's memory, and fingerprints of their keys. No call allocates, keeps a pointer or
-//! has state. Each call is defined for all numbers: it tests what it needs, and answers by a status of `bitm_abi`.
+//! has state. Each call is defined for all numbers: it tests its arguments, and answers by a status of `bitm_abi`.
 //!
 //! `include/bitm.h` declares the exports for C and C++ and says what each one answers; they stand in one archive with
-//! those of `bitm_c`.
+//! the exports of `bitm_c`.
 #![tactic(auto)]
 
 // What is in each file:

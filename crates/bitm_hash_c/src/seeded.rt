@@ -1,23 +1,26 @@
-//! Minimal perfect hashes with a seed for each word, in the caller's memory: built, and queried as those without.
-ghost use Rattle.std.specs.Prelude.{◌≡◌, ◌≢◌, ℕ, ◌-◌, ◌<◌, ◌≤◌, ◌^◌, ◌↔◌, ◌⊎◌, [], length, min, slice_index, take};
+//! Minimal perfect hashes with a seed for each word, in the caller's memory: built, and queried as hashes without
+//! seeds.
+ghost use Rattle.std.specs.Prelude.{◌≡◌, ◌≢◌, ℕ, ◌-◌, ◌<◌, ◌≤◌, ◌^◌, ◌↔◌, ◌⊎◌, List, [], length, min};
+ghost use Rattle.std.specs.Prelude.{slice_index, take};
 ghost use Rattle.bit_lists.specs.Bits.{bits_of};
 ghost use Rattle.bit_lists.specs.Count.{ones_of};
 ghost use Rattle.bitm_view.specs.Queries.{ranked_by};
 ghost use Rattle.hash_levels.specs.InPlace.{IsMade};
-ghost use Rattle.hash_levels.specs.Levels.{fall_in, AreChosen, AreSized, Leave};
+ghost use Rattle.hash_levels.specs.Levels.{fall_in, left_of, AreChosen, AreSized, IsLevel, Leave};
 ghost use Rattle.hash_levels.specs.Numbers.{AreLevels};
 ghost use Rattle.hash_levels.specs.Places.{place_by, words_for};
-ghost use Rattle.hash_levels.specs.Seeds.{HasBest};
-ghost use Rattle.perfect_hash.specs.Seeded.{seeds_with};
-ghost use Rattle.bitm_hash_c.specs.Hash.{made_of, CanBeSeeded, HashAnswered};
+ghost use Rattle.hash_levels.specs.Seeds.{AreBestSeeds, HasBest};
+ghost use Rattle.perfect_hash.specs.Seeded.{seeds_with, StandFrom};
+ghost use Rattle.bitm_hash_c.specs.Hash.{made_of, CanBeSeeded, CanBeSeededLevel, HashAnswered};
 ghost use Rattle.bitm_hash_c.specs.Prints.{AreSet, CanBeFound, IsKey, KeyAnswered};
 ghost use Rattle.bitm_abi.specs.Hash.{seeded_parts, CanBeHash, IsHashNumber};
 ghost use Rattle.bitm_abi.specs.Lists.{AreAnswersCounted};
 
+use crate::hash::can_be_level;
 use crate::keys::{checked_answer, find_each};
 use crate::prints::{can_be_prints, write_each};
 use bitm_abi::{BAD_SIZE, ListCounts, OK, SeededHash, WRONG, report, report_list};
-use perfect_hash::build_seeded_in_place;
+use perfect_hash::{build_seeded_in_place, split_level_seeded};
 
 /// Builds the levels of the hashes as `bitm_hash_build` does, with a seed for each word: of the first `tries`, at most
 /// 256, the one by which most of the hashes of the word stand alone.
@@ -66,6 +69,39 @@ pub extern "C" fn bitm_hash_build_seeded(
     *levels = made.levels;
     *used_words = made.words;
     *left = made.left;
+    OK
+}
+
+/// Builds a level of the hashes as `bitm_hash_level` does, with a seed for each word: of the first `tries`, at most
+/// 256, the first by which most of the hashes of the word stand alone.
+#[unsafe(no_mangle)]
+pub extern "C" fn bitm_hash_level_seeded(
+    hashes: &mut [u64],
+    level: u32,
+    tries: u16,
+    ones: &mut [u64],
+    seeds: &mut [u8],
+    again: &mut [u64],
+    sorted: &mut [u64],
+    left: &mut usize,
+) -> u32
+    ensures ok { (result ≡ 0) ↔ CanBeSeededLevel hashes.old ones.old seeds.old again.old sorted.old }
+    ensures level { result ≡ 0 → (all : List ℕ) → (first : ℕ) → StandFrom all first seeds.new
+        → IsLevel (place_by all first) hashes.old (bits_of ones.new) level 0 (length ones.old) }
+    ensures left { result ≡ 0 → (all : List ℕ) → (first : ℕ) → StandFrom all first seeds.new
+        → take left.new hashes.new
+        ≡ left_of (place_by all first) hashes.old (bits_of ones.new) level 0 (length ones.old) }
+    ensures few { result ≡ 0 → left.new ≤ length hashes.old }
+    ensures best { result ≡ 0 → AreBestSeeds level hashes.old (min tries 256) seeds.new }
+    ensures unchanged { result ≢ 0 → (result ≡ 2) × (hashes.new ≡ hashes.old)
+        × (ones.new ≡ ones.old) × (seeds.new ≡ seeds.old) × (again.new ≡ again.old)
+        × (sorted.new ≡ sorted.old) × (left.new ≡ left.old) }
+{
+    let has_room = seeds.len() == ones.len() && sorted.len() >= hashes.len();
+    if !can_be_level(&*ones, &*again) || !has_room {
+        return BAD_SIZE;
+    }
+    *left = split_level_seeded(hashes, level, tries, ones, seeds, again, sorted);
     OK
 }
 

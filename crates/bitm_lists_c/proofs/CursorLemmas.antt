@@ -3,6 +3,7 @@ use Rattle.std.proofs.Common.{◌≡◌, ℕ, ◌≤◌, List, drop, sym, ap, su
 use Rattle.bitm_tables.specs.declared.answer.Answer.{Answer}
 use Rattle.bitm_tables.specs.declared.answer.Answer.TheVariants.{Found, Absent, Wrong}
 use Rattle.bitm_tables.specs.Tables.{Lists}
+use Rattle.elias_fano.proofs.lemmas.HintLemmas.{holds_without}
 use Rattle.elias_fano.specs.LentParts.{parts_of, parts_with, Holds}
 use Rattle.elias_fano.specs.Low.{unread, Lows}
 use Rattle.postings.specs.Moves.{IfFound, HasMoved, IsAnswered, IsHere, IsMove}
@@ -12,12 +13,13 @@ use Rattle.bitm_abi.specs.declared.sequence.Sequence.{Sequence}
 use Rattle.bitm_lists_c.specs.Cursor.{left_in, sequence_items, spot_of, IsRight}
 use Rattle.bitm_lists_c.specs.declared.cursor.Cursor.{Cursor}
 
--- the parts as they are read
+-- the parts as they are read, which is without hints
 pub held_parts : (xs : List ℕ) (s : Sequence) (low : Lows) (lists : Lists) → low ≡ unread s.low.now s.width → lists ≡ (lent_parts s).upper
     → Holds xs (lent_parts s) → Holds xs (parts_with s.len low lists)
 held_parts xs s low lists low_is is h =
     subst (λ (l : Lows). Holds xs (parts_with s.len l lists)) (sym low_is)
-    (subst (λ (u : Lists). Holds xs (parts_of s.len s.width s.low.now u)) (sym is) h)
+    (subst (λ (u : Lists). Holds xs (parts_of s.len s.width s.low.now u)) (sym is)
+    (holds_without s.len (unread s.low.now s.width) (lent_parts s).upper s.hints.now xs h))
 
 -- a cursor over the same sequence at a spot of it
 pub right_at : (old new : Cursor) (spot : Spot) → new.sequence ≡ old.sequence → spot_of new ≡ spot → IsSequenceSized old.sequence

@@ -97,6 +97,10 @@ impl<'a> TotalCursor for Cursor<'a> {
 
     #[inline]
     fn total_next_geq(&mut self, v: u64) -> Answer<u64> {
+        // Where the cursor stays, no length of its sequence matters.
+        if self.index < self.sequence.len && self.number >= v {
+            return Answer::Found(self.number);
+        }
         match self.upper() {
             Some(upper) => self.advance(&upper, v),
             None => Answer::Wrong,

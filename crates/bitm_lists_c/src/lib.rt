@@ -1,9 +1,9 @@
 //! Cursors over sequences in the caller's memory, their intersection and their union. No call allocates, keeps a
-//! pointer or has state. Each call is defined for all numbers: it tests what it needs, and answers by a status of
+//! pointer or has state. Each call is defined for all numbers: it tests its arguments, and answers by a status of
 //! `bitm_abi`.
 //!
 //! `include/bitm.h` declares the exports for C and C++ and says what each one answers; they stand in one archive with
-//! those of `bitm_c`, which builds and queries the sequences.
+//! the exports of `bitm_c`, which builds and queries the sequences.
 #![tactic(auto)]
 
 // What is in each file:

@@ -2,7 +2,7 @@
 ghost use Rattle.std.specs.Prelude.{◌≡◌, ◌≢◌, ◌<◌, ◌≤◌, ◌↔◌, ◌⊎◌, ℕ, All, IsTrue, map, length, slice_index};
 ghost use Rattle.postings.specs.Joined.{AreJoined, IsInSome};
 ghost use Rattle.bit_lists.specs.Kept.{IsKeptFrom};
-ghost use Rattle.postings.specs.Shared.{AreShared, IsInAll};
+ghost use Rattle.postings.specs.Shared.{AreInAll, IsInAll};
 ghost use Rattle.bitm_lists_c.specs.Cursor.{left_in, IsCursorSized, IsMergeStatus, IsRight};
 
 use crate::cursor::Cursor;
@@ -45,7 +45,7 @@ pub extern "C" fn bitm_cursors_intersect(
         → (result ≡ 3) × (cursors.new ≡ cursors.old) × (out.new ≡ out.old) }
     ensures sequences { map (λ c. c.sequence) cursors.new ≡ map (λ c. c.sequence) cursors.old }
     ensures shared { All IsRight cursors.old → result ≢ 2 → (result ≡ 0)
-        × AreShared (map left_in cursors.old) from written.new (length out.old) out.new }
+        × AreInAll (map left_in cursors.old) from written.new (length out.old) out.new }
     ensures most { result ≡ 0 → written.new ≤ length out.old }
     ensures rest { result ≡ 0 → IsKeptFrom written.new out.old out.new }
     ensures left { All IsRight cursors.old → result ≡ 0 → (x : ℕ) → from ≤ x → IsInAll (map left_in cursors.old) x

@@ -1,5 +1,5 @@
 //! Many ranks or selections at once over a source of words and tables, side by side, so that their waits for memory
-//! overlap. The tables may hold anything; where they are those of the words, each answer is that of a single query.
+//! overlap. The tables may hold anything; where they match the words, each answer is what a single query gives.
 #![tactic(auto)]
 
 // What is in each file:

@@ -17,9 +17,9 @@ use tuning::{FEWEST_RANKS, SELECTIONS_SIDE_BY_SIDE, WORDS_NEAR};
 /// Writes for each index the number of 1 bits among that many first bits of the source's words, or `NO_ANSWER` exactly
 /// where there are fewer bits; of 0 bits where `BIT` is 0.
 ///
-/// Whatever the tables hold, any other number written is `WRONG_TABLES` or at most the index. Where they are those of
-/// the words, it is the right count, and `WRONG_TABLES` is never written. With more than 256 KiB of words and at least
-/// 16 indices, the reads of 32 ranks are started together, so that their cache misses overlap.
+/// Whatever the tables hold, any other number written is `WRONG_TABLES` or at most the index. Where they match the
+/// words, it is the right count, and `WRONG_TABLES` is never written. With more than 256 KiB of words and at least 16
+/// indices, the reads of 32 ranks are started together, so that their cache misses overlap.
 ///
 /// # Conditions
 /// There are fewer than 2^58 words, and the tables have the right lengths; they may hold anything. `ranks` is as long
@@ -50,8 +50,8 @@ pub fn total_rank_many_on<const BIT: u8, T: TableSource>(
 /// Writes for each index the number of 1 bits among that many first bits of the source's words.
 ///
 /// # Conditions
-/// The source's tables are those of its words, which are fewer than 2^58. `ranks` is as long as `indices`, and no index
-/// is greater than the number of bits.
+/// The source's tables match its words, which are fewer than 2^58. `ranks` is as long as `indices`, and no index is
+/// greater than the number of bits.
 /// # Cost
 /// For each index, at most one upper entry, one lower entry and eight words are read.
 #[inline]
@@ -71,8 +71,8 @@ pub trait FindsEntries<const BIT: u8, T: TableSource> {
     /// The most lower entries that a query reads.
     ghost lowers: { ℕ };
 
-    /// Writes the entry of each rank and the rank within its upper block, where the tables are those of the words; some
-    /// entry otherwise.
+    /// Writes the entry of each rank and the rank within its upper block, where the tables match the words; some entry
+    /// otherwise.
     ///
     /// # Conditions
     /// There is at least one word and there are fewer than 2^58, and the tables have the right lengths. There is at
@@ -125,7 +125,7 @@ fn select_block<const BIT: u8, T: TableSource, F: FindsEntries<BIT, T>>(
 /// Writes for each rank what `total_select_many_on` writes; `finder` finds the entries.
 ///
 /// # Conditions
-/// Those of `total_select_many_on`.
+/// The conditions of `total_select_many_on`.
 /// # Cost
 /// With u upper entries, each rank reads at most one more of them than u has binary digits, one lower entry more than
 /// `finder` reads, and eight words, whatever the tables hold.
@@ -155,10 +155,10 @@ pub fn tell_many_on<const BIT: u8, T: TableSource, F: FindsEntries<BIT, T>>(
 /// Writes for each rank the position of the 1 bit of the source's words with that many 1 bits before it, or
 /// `NO_ANSWER`; of the 0 bit with that many 0 bits before it where `BIT` is 0.
 ///
-/// Whatever the tables hold, a position is in the words and has such a bit. Where they are those of the words, it is
-/// the right position, `NO_ANSWER` is written exactly where there is no such bit, and `WRONG_TABLES` never. Sixteen
-/// searches run side by side, so that their cache misses overlap: binary searches, which start from a guess where the
-/// entries are neither few nor many.
+/// Whatever the tables hold, a position is in the words and has such a bit. Where they match the words, it is the right
+/// position, `NO_ANSWER` is written exactly where there is no such bit, and `WRONG_TABLES` never. Sixteen searches run
+/// side by side, so that their cache misses overlap: binary searches, which start from a guess where the entries are
+/// neither few nor many.
 ///
 /// # Conditions
 /// There is at least one word and there are fewer than 2^58, and the tables have the right lengths; they may hold
@@ -186,8 +186,8 @@ pub fn total_select_many_on<const BIT: u8, T: TableSource>(
 /// with that many 0 bits before it where `BIT` is 0.
 ///
 /// # Conditions
-/// The source's tables are those of its words, which are fewer than 2^58. `places` is as long as `ranks`, and the words
-/// have more such bits than each rank.
+/// The source's tables match its words, which are fewer than 2^58. `places` is as long as `ranks`, and the words have
+/// more such bits than each rank.
 /// # Cost
 /// With u upper entries, each rank reads at most one more of them than u has binary digits, 22 lower entries and eight
 /// words.

@@ -24,7 +24,7 @@ use tuning::SELECTIONS_SIDE_BY_SIDE;
 /// A query whose basic block is found. Contracts say of it `IsInRecord`.
 #[derive(Clone, Copy, PartialEq, Eq, Debug)]
 pub struct InRecord {
-    /// The rank within the basic block, where the tables are those of the words.
+    /// The rank within the basic block, where the tables match the words.
     pub rest: usize,
     /// The index of the basic block's first word.
     pub first: usize,
@@ -32,15 +32,16 @@ pub struct InRecord {
     pub word: u64,
 }
 
-/// What fills the array before basic blocks are found. Its numbers differ for the reason that those of `NO_QUERY` do.
+/// What fills the array before basic blocks are found. Its numbers differ for the same reason as the numbers of
+/// `NO_QUERY`.
 const NO_RECORD: InRecord = InRecord {
     rest: 0,
     first: 1,
     word: 0,
 };
 
-/// The basic block with the bit of a rank in its entry, if the tables are those of the words. Its first word is read
-/// ahead, so that the cache misses of all queries overlap.
+/// The basic block with the bit of a rank in its entry, if the tables match the words. Its first word is read ahead, so
+/// that the cache misses of all queries overlap.
 #[inline(always)]
 fn load<const BIT: u8, T: TableSource>(source: &mut T, rest: usize, entry: usize) -> InRecord
     requires sized { HasSizes (T.lists source.old) }
@@ -225,7 +226,7 @@ fn unless_wrapped(selected: Answer<usize>, rest: usize, rank: usize) -> Answer<u
     }
 }
 
-/// Selects in the basic block of each rank and writes the code of what it found.
+/// Selects in the basic block of each rank and writes the code of the result.
 #[inline(always)]
 fn finish_each<const BIT: u8, T: TableSource>(
     source: &mut T,

@@ -24,7 +24,7 @@ const NEAR: u32 = 5;
 /// A query under way. Contracts say of it `IsSearch`.
 #[derive(Clone, Copy, PartialEq, Eq, Debug)]
 pub struct Query {
-    /// The rank within the upper block, where the tables are those of the words.
+    /// The rank within the upper block, where the tables match the words.
     pub rest: usize,
     /// The first of the entries among which the search goes on.
     pub entry: usize,
@@ -35,7 +35,7 @@ pub struct Query {
 pub(crate) const NO_QUERY: Query = Query { rest: 0, entry: 1 };
 
 /// The query of a rank over all entries of its upper block: of the last with at most `rank` bits of the kind before it,
-/// where the tables are those of the words; of some upper block otherwise.
+/// where the tables match the words; of some upper block otherwise.
 #[inline(always)]
 fn begin<const BIT: u8, T: TableSource>(source: &mut T, rank: usize) -> Query
     requires sized { HasSizes (T.lists source.old) }

@@ -21,8 +21,8 @@ const RECORD_BITS: usize = 64 * U64_PER_L2_RECORDS;
 /// Basic blocks of one lower entry.
 const RECORDS_PER_L2_ENTRY: usize = U64_PER_L2_ENTRY / U64_PER_L2_RECORDS;
 
-/// A rank under way: an entry and two words, of which one starts the basic block of the last bit that counts and one
-/// has that bit. A basic block may lie across two cache lines, so both words are read. Contracts say of it `IsBegun`.
+/// A rank under way: an entry and two words. One word starts the basic block of the last bit that counts, and one has
+/// that bit. A basic block may lie across two cache lines, so both words are read. Contracts say of it `IsBegun`.
 #[derive(Clone, Copy, PartialEq, Eq, Debug)]
 pub struct Begun {
     /// The lower entry of the last bit that counts.
@@ -33,7 +33,7 @@ pub struct Begun {
     pub word: u64,
 }
 
-/// What fills the array before ranks begin. Its numbers differ for the reason that those of `NO_QUERY` do.
+/// What fills the array before ranks begin. Its numbers differ for the same reason as the numbers of `NO_QUERY`.
 const NOT_BEGUN: Begun = Begun {
     entry: 0,
     first: 1,
@@ -104,7 +104,7 @@ fn ones_to_word<T: TableSource>(source: &mut T, first: usize, len: usize, word: 
     }
 }
 
-/// The number of 1 bits up to and including bit `last`, where the tables are those of the words; any number otherwise.
+/// The number of 1 bits up to and including bit `last`, where the tables match the words; any number otherwise.
 ///
 /// # Conditions
 /// There is such a bit.

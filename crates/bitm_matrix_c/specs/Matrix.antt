@@ -1,13 +1,15 @@
 -- What the exported calls of a matrix in a block answer.
-use Rattle.std.specs.Prelude.{◌≡◌, ℕ, ◌⊎◌, List, length, slice_range}
+use Rattle.std.specs.Prelude.{◌≡◌, ℕ, ◌<◌, ◌⊎◌, Bool, List, length, slice_range}
 use Rattle.bitm_tables.specs.declared.answer.Answer.{Answer}
 use Rattle.bitm_tables.specs.declared.answer.Answer.TheVariants.{Absent, Wrong}
 use Rattle.bitm_abi.specs.Matrix.{matrix_parts}
 use Rattle.bitm_abi.specs.Status.{Exported}
+use Rattle.bitm_block.specs.Layout.{end_of}
+use Rattle.lent_levels.specs.Levels.{AreNumbers}
 use Rattle.lent_levels.specs.Answers.{IsIndexOf, IsIndexWithin}
 use Rattle.lent_levels.specs.Walk.{IsNumberAt, IsRankAt}
 use Rattle.lent_levels.specs.Ranges.{IsNextOf, IsNextWithin, IsPreviousOf, IsPreviousWithin, IsRangeCountOf, IsRangeCountWithin, IsSmallestOf, IsSmallestWithin}
-use Rattle.matrix_block.specs.Block.{items_in, HasLengths, HoldsMatrix, MatrixParts}
+use Rattle.matrix_block.specs.Block.{items_in, sections_with, HasLengths, HoldsMatrix, MatrixParts}
 use Rattle.matrix_block.specs.RangeLists.{AreDistinctOf, AreDistinctWithin, AreFrequentOf, AreFrequentWithin, AreSharedOf, AreSharedWithin}
 use Rattle.matrix_levels.specs.Numbers.{count_less}
 use Rattle.bitm_abi.specs.declared.matrix.Matrix.{Matrix}
@@ -16,6 +18,14 @@ use Rattle.bitm_matrix_c.specs.declared.matrix_lists.Sought.TheVariants.{Rank, I
 
 -- A status is 0 where the answer was written, 1 where there is no such number, 2 where a length is wrong, and 3 where the
 -- words and tables are not those of a matrix.
+
+-- the lengths of the scratch and of a block are those to write a level of n numbers of w bits, with quarters or without, and
+-- there is level d
+pub record HasLevelRoom (n w : ℕ) (quarters : Bool) (d scratch block : ℕ) : Type 0 where
+  pub numbers : AreNumbers n w
+  pub level : d < w
+  pub scratch_len : scratch ≡ n
+  pub block_len : block ≡ end_of (sections_with n w quarters)
 
 -- number index: it has no more bits than the width, whatever the words and tables hold, and is that of the matrix where
 -- they hold one

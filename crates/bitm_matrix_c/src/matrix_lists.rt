@@ -13,7 +13,7 @@ use bitm_tables::answer::Answer;
 use matrix_block::MatrixView;
 use tuning::RANKS_SIDE_BY_SIDE;
 
-/// What is sought of a number.
+/// A query of a number.
 #[derive(Clone, Copy)]
 pub enum Sought {
     /// How often it stands before an index.
@@ -160,7 +160,7 @@ fn select_each(view: &MatrixView<'_>, numbers: &[u64], ks: &[usize], out: &mut [
     }
 }
 
-/// What is sought of each number.
+/// Answers a query of each number.
 fn seek_each(
     view: &MatrixView<'_>,
     sought: Sought,
@@ -179,7 +179,7 @@ fn seek_each(
     }
 }
 
-/// What is sought of each number of a list, by a status.
+/// Answers a query of each number of a list, by a status.
 #[inline(always)]
 fn seek_list(
     matrix: &Matrix<'_>,

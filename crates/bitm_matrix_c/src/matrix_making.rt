@@ -1,13 +1,15 @@
 //! The block of a matrix: how many words it takes, writing it, opening it and checking it.
-ghost use Rattle.std.specs.Prelude.{◌≡◌, ◌≢◌, ◌*◌, ◌^◌, ◌<◌, ◌↔◌, ◌⊎◌, All, length};
+ghost use Rattle.std.specs.Prelude.{◌≡◌, ◌≢◌, ◌*◌, ◌^◌, ◌<◌, ◌↔◌, ◌⊎◌, All, IsTrue, length};
 ghost use Rattle.bitm_block.specs.Layout.{end_of};
 ghost use Rattle.lent_levels.specs.Levels.{AreNumbers};
 ghost use Rattle.matrix_block.specs.Block.{has_quarters, matrix_in, sections_with};
 ghost use Rattle.matrix_block.specs.Block.{CanHold, HasMatrixRoom, IsBlockOf, IsMatrixBlock, IsSoundBlock};
+ghost use Rattle.matrix_block.specs.Levelwise.{Completes, WritesLevel};
 ghost use Rattle.bitm_abi.specs.Matrix.{matrix_parts};
+ghost use Rattle.bitm_matrix_c.specs.Matrix.{HasLevelRoom};
 
 use bitm_abi::{BAD_SIZE, Matrix, OK, WRONG};
-use matrix_block::{BuildError, MatrixView, build, size};
+use matrix_block::{BuildError, MatrixView, build, seal_levels, size, write_level};
 
 /// Writes how many words the block of the given number of numbers of `width` bits takes, with quarters or without.
 #[unsafe(no_mangle)]
@@ -59,6 +61,66 @@ pub extern "C" fn bitm_matrix_build(
         Err(BuildError::WrongScratch) => BAD_SIZE,
         Err(BuildError::TooWide) => WRONG,
     }
+}
+
+/// Whether the block of the given number of numbers of `width` bits, with quarters or without, has that many words.
+fn is_block_len(len: usize, width: u32, quarters: bool, words: usize) -> bool
+    ensures { IsTrue result ↔ (AreNumbers len width × (words ≡ end_of (sections_with len width quarters))) }
+{
+    if width > 64 {
+        return false;
+    }
+    match size(len, width as u8, quarters) {
+        Some(wanted) => words == wanted,
+        None => false,
+    }
+}
+
+/// Writes one level of the block of these numbers of `width` bits, and puts the numbers in the order of the next one;
+/// what the scratch has is overwritten.
+#[unsafe(no_mangle)]
+pub extern "C" fn bitm_matrix_write_level(
+    numbers: &mut [u64],
+    width: u32,
+    quarters: bool,
+    depth: u32,
+    scratch: &mut [u64],
+    block: &mut [u64],
+) -> u32
+    ensures ok { (result ≡ 0)
+        ↔ HasLevelRoom (length numbers.old) width quarters depth (length scratch.old) (length block.old) }
+    ensures status { (result ≡ 0) ⊎ (result ≡ 2) }
+    ensures level { result ≡ 0
+        → WritesLevel width depth numbers.old numbers.new block.old block.new }
+    ensures kept { result ≢ 0
+        → (numbers.new ≡ numbers.old) × (scratch.new ≡ scratch.old) × (block.new ≡ block.old) }
+{
+    if depth >= width || scratch.len() != numbers.len() {
+        return BAD_SIZE;
+    }
+    if !is_block_len(numbers.len(), width, quarters, block.len()) {
+        return BAD_SIZE;
+    }
+    write_level(numbers, width as u8, depth as u8, scratch, block);
+    OK
+}
+
+/// Completes a block in which each level was written: writes tables, header and directory.
+#[unsafe(no_mangle)]
+pub extern "C" fn bitm_matrix_seal(len: usize, width: u32, quarters: bool, block: &mut [u64]) -> u32
+    ensures ok { (result ≡ 0)
+        ↔ (AreNumbers len width × (length block.old ≡ end_of (sections_with len width quarters))) }
+    ensures status { (result ≡ 0) ⊎ (result ≡ 2) }
+    ensures block { result ≡ 0 → Completes len width block.old block.new }
+    ensures sound { result ≡ 0 → IsSoundBlock block.new }
+    ensures quarters { result ≡ 0 → has_quarters block.new ≡ quarters }
+    ensures kept { result ≢ 0 → block.new ≡ block.old }
+{
+    if !is_block_len(len, width, quarters, block.len()) {
+        return BAD_SIZE;
+    }
+    seal_levels(len, width as u8, quarters, block);
+    OK
 }
 
 /// Opens a block: writes the matrix that queries take. What the words and tables hold is not looked at.

@@ -12,8 +12,7 @@ use bitm_tables::source::{Probe, TableSource};
 use std::alloc::{AllocError, Global};
 
 /// Selects by binary search: the upper block by the upper table, the lower block by the lower one, then its basic
-/// block, of which at most eight words are read. It keeps nothing and supports every bit vector of fewer than 2^58
-/// words.
+/// block, where at most eight words are read. It keeps nothing and supports every bit vector of fewer than 2^58 words.
 #[derive(Clone, Copy, Debug, PartialEq, Eq)]
 pub struct BinaryRankSearch;
 
@@ -22,7 +21,7 @@ impl BinaryRankSearch {
     /// is none.
     ///
     /// # Conditions
-    /// The source's tables are those of its words, of fewer than 2^58 words.
+    /// The source's tables match its words, which are fewer than 2^58.
     /// # Cost
     /// At most `digits + 1` upper entries, 23 lower entries and eight words are read, where `digits` is the number of
     /// binary digits of the number of upper entries.
@@ -40,7 +39,7 @@ impl BinaryRankSearch {
     /// is none.
     ///
     /// # Conditions
-    /// The source's tables are those of its words, of fewer than 2^58 words.
+    /// The source's tables match its words, which are fewer than 2^58.
     /// # Cost
     /// At most `digits + 1` upper entries, 23 lower entries and eight words are read, where `digits` is the number of
     /// binary digits of the number of upper entries.

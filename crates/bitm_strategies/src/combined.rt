@@ -101,7 +101,7 @@ impl<D: CombinedSamplingDensity> CombinedSampling<D> {
         self.samples.as_slice()
     }
 
-    /// How many samples there are before those of each upper block.
+    /// How many samples there are before the samples of each upper block.
     #[inline(always)]
     pub fn starts(&self) -> &[usize]
         ensures { result.now ≡ self.now.starts }
@@ -121,7 +121,7 @@ impl<D: CombinedSamplingDensity> CombinedSampling<D> {
     /// is none.
     ///
     /// # Conditions
-    /// The source's tables are those of its words, and the value supports these for 1 bits.
+    /// The source's tables match its words, and the value supports these for 1 bits.
     /// # Cost
     /// At most as many upper entries as their number has binary digits and one more are read; and eight words and two
     /// lower entries more than the walk passes from where the sample lets it begin to the answer's entry. Where there
@@ -143,7 +143,7 @@ impl<D: CombinedSamplingDensity> CombinedSampling<D> {
     /// is none.
     ///
     /// # Conditions
-    /// The source's tables are those of its words, and the value supports these for 0 bits.
+    /// The source's tables match its words, and the value supports these for 0 bits.
     /// # Cost
     /// The reads of `select_counted`.
     #[inline(always)]

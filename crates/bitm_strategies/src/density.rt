@@ -8,7 +8,7 @@ use crate::optimal::optimal_combined_sampling;
 
 /// How many items one sample of `CombinedSampling` stands for: a power of two.
 pub trait CombinedSamplingDensity: Copy {
-    /// What a value keeps of it.
+    /// The form in which a value keeps the density.
     type SamplingDensity: Copy;
 
     /// The logarithm that a kept density stands for.

@@ -43,8 +43,8 @@ pub struct PartBegin {
     pub items: usize,
 }
 
-/// Selection by the samples of the source's words, of which one stands for 2^`log2` items, in an upper block that is
-/// known: a walk over the lower entries from the sample on.
+/// Selection by the samples of the source's words, one for each 2^`log2` items, in an upper block that is known: a walk
+/// over the lower entries from the sample on.
 #[inline(always)]
 fn sampled_in_part<const BIT: u8, T: TableSource>(
     source: &mut T,
@@ -108,8 +108,8 @@ fn sampled_in_parts<const BIT: u8, T: TableSource>(
     sampled_in_part::<BIT, T>(source, samples, log2, begin, rank)
 }
 
-/// Selection by the samples of the source's words, of which one stands for 2^`log2` items: where there is one upper
-/// block no upper entry is read. More upper blocks have a call of their own, so that the short one is inlined.
+/// Selection by the samples of the source's words, one for each 2^`log2` items: where there is one upper block no upper
+/// entry is read. More upper blocks have a call of their own, so that the short one is inlined.
 #[inline(always)]
 pub(crate) fn sampled_select_on<const BIT: u8, T: TableSource>(
     samples: &[u32],

@@ -14,7 +14,7 @@
 //!
 //! Beside the samples stand how many come before each upper block, and the density. `specs/Samples.antt` defines them.
 //!
-//! The tables may hold anything: where they are not those of some bits, the samples are some numbers.
+//! The tables may hold anything: where they match no bits, the samples are some numbers.
 ghost use Rattle.std.specs.Prelude.{◌≡◌, ◌+◌, ◌-◌, ◌*◌, ◌^◌, ◌<◌, ◌≤◌, ◌++◌, Bool, List, length, min, IfOk};
 ghost use Rattle.std.specs.Box.{boxed_slice_items};
 ghost use Rattle.bit_lists.specs.Count.{count_of, ones_before, ones_of, as_bit};
@@ -66,11 +66,11 @@ fn ones_to_end(summary: &Summary<'_>, part: usize) -> usize
     }
 }
 
-/// How many 1 bits, or 0 bits if `BIT` is 0, an upper block has, where the tables are those of some bits; else no more
-/// than it has bits.
+/// How many 1 bits, or 0 bits if `BIT` is 0, an upper block has, where the tables match some bits; else no more than it
+/// has bits.
 ///
 /// # Conditions
-/// There is such an upper block, and the tables are as long as those of that number of bits. They may hold anything.
+/// There is such an upper block, and the lengths of the tables fit that number of bits. They may hold anything.
 pub fn items_in<const BIT: u8>(summary: &Summary<'_>, part: usize) -> usize
     requires sized { IsSized summary.now }
     requires inside { part < length summary.now.upper.now }
@@ -132,12 +132,12 @@ fn walk_tables<const BIT: u8>(summary: &Summary<'_>, part: usize, from: usize, i
     end - 1
 }
 
-/// The sample of an interval that begins at `item`, and an entry that is no later than that of the next interval's
-/// first item, where the tables are those of some bits; else some number and some entry of the upper block.
+/// The sample of an interval that begins at `item`, and an entry that is no later than the entry of the next interval's
+/// first item, where the tables match some bits; else some number and some entry of the upper block.
 ///
 /// # Conditions
 /// The upper block has that number of items by `items_in`, `item` is one of them, and `from` is an entry of the upper
-/// block, that of an earlier item or the first. The logarithm is 7 to 31.
+/// block, the entry of an earlier item or the first. The logarithm is 7 to 31.
 pub fn sample_from<const BIT: u8>(
     summary: &Summary<'_>,
     part: usize,

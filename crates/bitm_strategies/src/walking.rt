@@ -13,8 +13,8 @@ use bitm_tables::levels::L2_ENTRIES_PER_L1_ENTRY;
 use bitm_tables::source::TableSource;
 
 /// The last entry of an upper block, from entry `from` on, with no more than `rank` of the kind before it in the upper
-/// block: its position in the upper block, what it packs, and how many of the kind stand in the upper block before the
-/// next one, or `NOT_READ` where it is the upper block's last.
+/// block: its position in the upper block, its packed counts, and how many of the kind stand in the upper block before
+/// the next one, or `NOT_READ` where it is the upper block's last.
 #[inline(always)]
 pub(crate) fn walk<const BIT: u8, T: TableSource>(
     source: &mut T,

@@ -1,10 +1,11 @@
-//! The hashes of strings.
+//! The hashes of strings, and of keys.
 ghost use Rattle.std.specs.Prelude.{◌≡◌, ◌≢◌, ◌<◌, ◌↔◌, ℕ, length, slice_index};
 ghost use Rattle.string_block.specs.Given.{given, len_of, AreGiven};
-ghost use Rattle.string_block.specs.SipHash.{hash_of};
+ghost use Rattle.string_block.specs.Prints.{print_of_hash};
+ghost use Rattle.string_block.specs.SipHash.{hash_of, keyed_hash};
 
 use bitm_abi::{BAD_SIZE, OK};
-use string_block::{hash, hashes};
+use string_block::{hash, hashes, key_hash};
 
 /// Writes the hash of a string by a seed.
 #[unsafe(no_mangle)]
@@ -13,6 +14,23 @@ pub extern "C" fn bitm_strings_hash(string: &[u8], seed: u64, out: &mut u64) -> 
     ensures hash { out.new ≡ hash_of seed (slice_index string.now) (length string.now) }
 {
     *out = hash(seed, string);
+    OK
+}
+
+/// Writes the hash of a key of a kind by a seed, and its fingerprint.
+#[unsafe(no_mangle)]
+pub extern "C" fn bitm_key_hash(
+    key: &[u8],
+    seed: u64,
+    kind: u64,
+    hash: &mut u64,
+    print: &mut u64,
+) -> u32
+    ensures ok { result ≡ 0 }
+    ensures hash { hash.new ≡ keyed_hash seed kind (slice_index key.now) (length key.now) }
+    ensures print { print.new ≡ print_of_hash hash.new }
+{
+    (*hash, *print) = key_hash(seed, kind, key);
     OK
 }
 

@@ -1,13 +1,13 @@
 //! Strings for C, each with a number, in one block of memory: written into the caller's memory, which may be a mapped
 //! file, opened in a bounded number of reads, checked, and queried where they lie. No call allocates, keeps a pointer
-//! or has state. Each call is defined for all numbers: it tests what it needs, and answers by a status of `bitm_abi`.
+//! or has state. Each call is defined for all numbers: it tests its arguments, and answers by a status of `bitm_abi`.
 //!
 //! `include/bitm.h` declares the exports for C and C++ and says what each one answers; they stand in one archive with
-//! those of `bitm_c` and `bitm_hash_c`, whose calls build the hash of the strings.
+//! the exports of `bitm_c` and `bitm_hash_c`, whose calls build the hash of the strings.
 #![tactic(auto)]
 
 // What is in each file:
-// - `hashing`: the hashes of strings
+// - `hashing`: the hashes of strings, and of keys
 // - `making`: the block of strings, written, opened and checked
 // - `queries`: which number each string has, and which string each number
 // - `strings`: strings in a block as C passes them

@@ -68,7 +68,7 @@ pub extern "C" fn bitm_strings_build(
     }
 }
 
-/// What C is passed for strings whose hash is that of a block.
+/// What C is passed for the strings of a block, with their hash.
 #[inline(always)]
 fn strings_of<'a>(view: &StringsView<'a>, hash: Hash<'a>) -> Strings<'a>
     requires { hash_parts hash view.now.hash.seed ≡ view.now.hash }

@@ -22,7 +22,7 @@ pub extern "C" fn bitm_strings_find(strings: &Strings<'_>, string: &[u8], out: &
     }
 }
 
-/// The number of a string of those that are given, by the codes of lists.
+/// The number of one of the given strings, by the codes of lists.
 #[inline(always)]
 fn found_code(view: &StringsView<'_>, bytes: &[u8], ends: &[usize], i: usize) -> usize
     requires codes { view.now.hash.keys < 2 ^ 64 - 2 }

@@ -11,7 +11,7 @@ pub enum Answer<T> {
     Found(T),
     /// There is no answer: no such position, bit or number.
     Absent,
-    /// The tables are not those of the words, or the parts not those of a sequence.
+    /// The tables do not match the words, or the parts form no sequence.
     Wrong,
 }
 
@@ -19,7 +19,7 @@ impl<T: Copy> Answer<T> {
     /// What was found, and `None` where the answer is `Absent`.
     ///
     /// # Conditions
-    /// The answer is not `Wrong`: a structure whose tables are those of its words never answers so.
+    /// The answer is not `Wrong`: a structure whose tables match its words never answers so.
     ///
     /// ```
     /// Answer::Found(3).right();    // Some(3)

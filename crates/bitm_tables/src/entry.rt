@@ -42,8 +42,8 @@ pub fn ones_to_record(entry: u64, place: usize) -> usize
     ((entry >> 32) * SCALES[place] >> 32 & 0x7FF) as usize
 }
 
-/// Lower entry `at` of the negated bits, from that of the bits: the greatest value of each field less the field. One
-/// subtraction does all four.
+/// Lower entry `at` of the negated bits, from the entry of the bits: the greatest value of each field less the field.
+/// One subtraction does all four.
 ///
 /// The four fields count the 1 bits before the entry in its upper block of 2^32 bits, and in its first basic block,
 /// first two and first three basic blocks of 512 bits. Bits that the last entry lacks count as 0 bits. No field of an

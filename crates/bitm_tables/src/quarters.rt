@@ -44,7 +44,7 @@ fn ones_of_quarter<T: TableSource>(source: &mut T, first: usize) -> u64
 }
 
 /// The packed number of basic block `at`: the number of 1 bits before it in its upper block, and above that the numbers
-/// of its 1 bits before its second, third and fourth quarter, of which the last is lowest.
+/// of its 1 bits before its second, third and fourth quarter, the fourth quarter's lowest.
 #[inline(always)]
 fn number_of_record<T: TableSource>(source: &mut T, at: usize) -> u64
     requires indexed { IsIndexed (T.lists source.old) }
@@ -66,8 +66,8 @@ fn number_of_record<T: TableSource>(source: &mut T, at: usize) -> u64
 /// Writes the quarters of a source's words.
 ///
 /// # Conditions
-/// The source's tables are those of its words, which are fewer than 2^58, and there is room for a number for every
-/// eight words.
+/// The source's tables match its words, which are fewer than 2^58, and there is room for a number for every eight
+/// words.
 /// # Cost
 /// By its code, and in no clause: one lower entry and six words for each basic block.
 ///
@@ -87,7 +87,7 @@ pub fn fill_quarters<T: TableSource>(source: &mut T, quarters: &mut [u64])
 /// Builds the quarters of a source's words.
 ///
 /// # Conditions
-/// The source's tables are those of its words, which are fewer than 2^58.
+/// The source's tables match its words, which are fewer than 2^58.
 /// # Errors
 /// `AllocError` if memory was refused; nothing is leaked.
 /// # Cost
@@ -122,8 +122,8 @@ pub fn ones_to_quarter(number: u64, quarter: usize) -> usize
     (number >> (62 - 5 * first / 64) & 0x3FF) as usize
 }
 
-/// The word that has bit `last`, and the number of 1 bits up to and including that bit where the tables are those of
-/// the words and `number` is that of its basic block; any number otherwise.
+/// The word that has bit `last`, and the number of 1 bits up to and including that bit where the tables match the words
+/// and `number` is the packed number of its basic block; any number otherwise.
 ///
 /// # Conditions
 /// There is such a bit.
@@ -153,8 +153,8 @@ fn word_and_ones<T: TableSource>(source: &mut T, number: u64, last: usize) -> (u
     )
 }
 
-/// The number of 1 bits among the first `index` bits of the source's words, where its tables and the quarters are those
-/// of the words; any number otherwise.
+/// The number of 1 bits among the first `index` bits of the source's words, where its tables and the quarters match the
+/// words; any number otherwise.
 ///
 /// # Conditions
 /// There are at least `index` bits, and a number of the quarters for each basic block with one of them. There are fewer
@@ -186,8 +186,8 @@ pub fn ones_by_quarters_on<T: TableSource>(source: &mut T, quarters: &[u64], ind
 /// The number of 1 bits among the first `index` bits of the source's words.
 ///
 /// # Conditions
-/// There are at least `index` bits, the words are fewer than 2^58, and the source's tables and the quarters are those
-/// of the words.
+/// There are at least `index` bits, the words are fewer than 2^58, and the source's tables and the quarters match the
+/// words.
 /// # Cost
 /// At most one upper entry, no lower entry and two words are read; by its code, and in no clause, one number of the
 /// quarters.
@@ -203,13 +203,13 @@ pub fn rank_by_quarters_on<T: TableSource>(source: &mut T, quarters: &[u64], ind
 }
 
 /// The bit at position `place` of the source's words, and the number of 1 bits before it where its tables and the
-/// quarters are those of the words, any number otherwise.
+/// quarters match the words, any number otherwise.
 ///
 /// # Conditions
 /// There is such a bit, and a number of the quarters for its basic block. There are fewer than 2^58 words, and the
 /// tables have the right lengths. Tables and quarters may hold anything.
 /// # Cost
-/// That of `ones_by_quarters_on`.
+/// The cost of `ones_by_quarters_on`.
 ///
 /// ```
 /// bit_and_ones_by_quarters_on(&mut source, &quarters, 3);   // of the word 0b1011: (true, 2)
@@ -236,9 +236,9 @@ pub fn bit_and_ones_by_quarters_on<T: TableSource>(
 /// The bit at position `place` of the source's words, and the number of 1 bits before it.
 ///
 /// # Conditions
-/// There is such a bit, the words are fewer than 2^58, and the source's tables and the quarters are those of the words.
+/// There is such a bit, the words are fewer than 2^58, and the source's tables and the quarters match the words.
 /// # Cost
-/// That of `rank_by_quarters_on`.
+/// The cost of `rank_by_quarters_on`.
 #[inline(always)]
 pub fn bit_and_rank_by_quarters_on<T: TableSource>(
     source: &mut T,

@@ -40,7 +40,7 @@ fn counted(times: usize, count: usize) -> usize
 /// The number of 1 bits in the first `len` words of a whole basic block, whose first word is `word`.
 ///
 /// Half of the block, a quarter and an eighth are counted where they are part of these words, without a branch on
-/// `len`, and from no cache line other than those of the first word and of word `len`.
+/// `len`, and from no cache line other than the lines of the first word and of word `len`.
 ///
 /// # Cost
 /// Six words are read.
@@ -135,7 +135,7 @@ pub fn ones_in_record<T: TableSource>(source: &mut T, first: usize, end: usize) 
 /// `ones_in_record` for words without tables.
 ///
 /// # Conditions
-/// Those of `ones_in_record`.
+/// The conditions of `ones_in_record`.
 #[inline(always)]
 pub fn ones_of_words(words: &[u64], first: usize, end: usize) -> usize
     requires short { IsShort words.now }
@@ -149,8 +149,8 @@ pub fn ones_of_words(words: &[u64], first: usize, end: usize) -> usize
     ones_in_record(&mut source, first, end)
 }
 
-/// The number of 1 bits before an upper block, where the tables are those of the words. A single upper block has none
-/// before it, and its entry is not read: the test takes fewer instructions than the read.
+/// The number of 1 bits before an upper block, where the tables match the words. A single upper block has none before
+/// it, and its entry is not read: the test takes fewer instructions than the read.
 ///
 /// # Conditions
 /// There is such an upper block. The tables may hold anything.
@@ -192,13 +192,13 @@ pub fn bit_on<T: TableSource>(source: &mut T, place: usize) -> Option<bool>
 /// The number of 1 bits among the first `index` bits of the source's words; `None` exactly where there are fewer bits.
 ///
 /// # Conditions
-/// The source's tables are those of its words, which are fewer than 2^58.
+/// The source's tables match its words, which are fewer than 2^58.
 /// # Cost
-/// At most one upper entry, one lower entry and eight words are read: those of the last bit that counts.
+/// At most one upper entry, one lower entry and eight words are read, in the blocks of the last bit that counts.
 /// # Source
-/// The three levels are those of Zhou, Andersen and Kaminsky, 'Space-efficient, high-performance rank and select
-/// structures on uncompressed bit sequences' (SEA 2013), with the fields of an entry in the opposite order, so that
-/// rank needs no branch.
+/// The three levels are from Zhou, Andersen and Kaminsky, 'Space-efficient, high-performance rank and select structures
+/// on uncompressed bit sequences' (SEA 2013), with the fields of an entry in the opposite order, so that rank needs no
+/// branch.
 #[inline(always)]
 pub fn rank_on<T: TableSource>(source: &mut T, index: usize) -> Option<usize>
     requires { IsIndexed (T.lists source.old) }
@@ -208,13 +208,13 @@ pub fn rank_on<T: TableSource>(source: &mut T, index: usize) -> Option<usize>
     total_rank_on(source, index)
 }
 
-/// The number of 1 bits among the first `index` bits of the source's words, where its tables are those of the words;
-/// `None` exactly where there are fewer bits, whatever the tables hold.
+/// The number of 1 bits among the first `index` bits of the source's words, where its tables match the words; `None`
+/// exactly where there are fewer bits, whatever the tables hold.
 ///
 /// # Conditions
 /// There are fewer than 2^58 words, and the tables have the right lengths. They may hold anything.
 /// # Cost
-/// At most one upper entry, one lower entry and eight words are read: those of the last bit that counts.
+/// At most one upper entry, one lower entry and eight words are read, in the blocks of the last bit that counts.
 #[inline(always)]
 pub fn total_rank_on<T: TableSource>(source: &mut T, index: usize) -> Option<usize>
     requires { HasSizes (T.lists source.old) }
@@ -234,8 +234,8 @@ pub fn total_rank_on<T: TableSource>(source: &mut T, index: usize) -> Option<usi
     Some(word_and_ones(source, last).1)
 }
 
-/// The word that has bit `last`, and the number of 1 bits up to and including that bit where the tables are those of
-/// the words; any number otherwise.
+/// The word that has bit `last`, and the number of 1 bits up to and including that bit where the tables match the
+/// words; any number otherwise.
 ///
 /// # Conditions
 /// There is such a bit.
@@ -270,7 +270,7 @@ fn word_and_ones<T: TableSource>(source: &mut T, last: usize) -> (u64, usize)
 /// no such bit.
 ///
 /// # Conditions
-/// The source's tables are those of its words, which are fewer than 2^58.
+/// The source's tables match its words, which are fewer than 2^58.
 /// # Cost
 /// At most one upper entry, one lower entry and the eight words of the bit's basic block are read.
 #[inline(always)]
@@ -284,8 +284,8 @@ pub fn bit_and_rank_on<T: TableSource>(source: &mut T, place: usize) -> Option<(
     total_bit_and_rank_on(source, place)
 }
 
-/// The bit at position `place` of the source's words, and the number of 1 bits before it where its tables are those of
-/// the words, any number otherwise; `None` exactly where there is no such bit, whatever the tables hold.
+/// The bit at position `place` of the source's words, and the number of 1 bits before it where its tables match the
+/// words, any number otherwise; `None` exactly where there is no such bit, whatever the tables hold.
 ///
 /// # Conditions
 /// There are fewer than 2^58 words, and the tables have the right lengths. They may hold anything.

@@ -25,7 +25,7 @@ pub struct Tables {
 }
 
 /// Four counts in one number, as `RankSelect101111` shows them: the number of 1 bits before an entry in its upper
-/// block, and those in its first one, two and three basic blocks.
+/// block, and in its first one, two and three basic blocks.
 #[inline(always)]
 fn pack(before: usize, one: usize, two: usize, three: usize) -> u64
     requires before { before < 2 ^ 32 }
@@ -51,7 +51,7 @@ fn ones_of_cut_record(words: &[u64], first: usize) -> usize
     count_bit_ones(&words[words.len().min(first)..])
 }
 
-/// The number of 1 bits in the basic block from word `first` on, or in those of its eight words that exist.
+/// The number of 1 bits in the basic block from word `first` on: in eight words, or in the fewer that exist.
 #[inline(always)]
 pub fn ones_of_record(words: &[u64], first: usize) -> usize
     requires short { IsShort words.now }

@@ -66,5 +66,6 @@ pub extern "C" fn bitm_text_build(
         Err(BuildError::WrongLength) => BAD_SIZE,
         Err(BuildError::WrongScratch) => BAD_SIZE,
         Err(BuildError::LetterOutside) => WRONG,
+        Err(BuildError::WrongOrder) => BAD_SIZE,
     }
 }

@@ -74,8 +74,8 @@ LabelAnswered trie node = Exported (HasTrieLengths (trie_parts trie)) (IsLabel n
 abbrev pub EndAnswered : Trie → ℕ → ℕ → ℕ → ℕ → Type 0
 EndAnswered trie node = Exported (HasTrieLengths (trie_parts trie)) (IsEnd node (trie_parts trie))
 
-abbrev pub ChildAnswered : Trie → ℕ → ℕ → ℕ → ℕ → ℕ → Type 0
-ChildAnswered trie node label = Exported (HasTrieLengths (trie_parts trie)) (IsChildBy node label (trie_parts trie))
+abbrev pub ChildByLabelAnswered : Trie → ℕ → ℕ → ℕ → ℕ → ℕ → Type 0
+ChildByLabelAnswered trie node label = Exported (HasTrieLengths (trie_parts trie)) (IsChildBy node label (trie_parts trie))
 
 abbrev pub FindAnswered : Trie → List ℕ → ℕ → ℕ → ℕ → Type 0
 FindAnswered trie word = Exported (HasTrieLengths (trie_parts trie)) (IsNodeAt word (trie_parts trie))

@@ -1,13 +1,14 @@
 //! The block of the trie of sorted words.
 ghost use Rattle.std.specs.Prelude.{◌≡◌, ◌≢◌, ◌↔◌, ◌⊎◌};
+ghost use Rattle.bit_lists.specs.First.{IsFirst};
 ghost use Rattle.bitm_trie_c.specs.Trie.{AreUnsorted, AreUnsortedInRoom};
 ghost use Rattle.trie_words.specs.Building.{CanBuild};
 ghost use Rattle.trie_words.specs.Room.{AreSortedWords};
 ghost use Rattle.trie_words.specs.Trie.{IsBlockOfWords};
-ghost use Rattle.trie_words.specs.Words.{nodes_of, words_in};
+ghost use Rattle.trie_words.specs.Words.{nodes_of, words_in, AreWords, IsUnsortedAt};
 
-use bitm_abi::{BAD_SIZE, OK, UNSORTED};
-use trie_words::{WordsError, build, nodes};
+use bitm_abi::{BAD_SIZE, NONE, OK, UNSORTED};
+use trie_words::{WordsError, build, nodes, unsorted_word};
 
 /// Writes how many nodes the trie of these words has.
 #[unsafe(no_mangle)]
@@ -26,6 +27,25 @@ pub extern "C" fn bitm_trie_nodes_of_words(bytes: &[u8], starts: &[usize], out: 
         Err(WordsError::NotWords) => BAD_SIZE,
         Err(WordsError::WrongLength) => BAD_SIZE,
         Err(WordsError::NotSorted) => UNSORTED,
+    }
+}
+
+/// The first word that does not stand after the word before it.
+#[unsafe(no_mangle)]
+pub extern "C" fn bitm_trie_unsorted_word(bytes: &[u8], starts: &[usize], out: &mut usize) -> u32
+    ensures bad { (result ≡ 2) ↔ ¬ (AreWords bytes.now starts.now) }
+    ensures none { (result ≡ 1) ↔ AreSortedWords bytes.now starts.now }
+    ensures unsorted { result ≡ 0 → IsFirst (IsUnsortedAt (words_in bytes.now starts.now)) out.new }
+    ensures status { (result ≡ 0) ⊎ (result ≡ 1) ⊎ (result ≡ 2) }
+    ensures kept { result ≢ 0 → out.new ≡ out.old }
+{
+    match unsorted_word(bytes, starts) {
+        Ok(Some(word)) => {
+            *out = word;
+            OK
+        }
+        Ok(None) => NONE,
+        Err(_) => BAD_SIZE,
     }
 }
 

@@ -1,6 +1,6 @@
 //! Queries of the nodes of a trie in a block.
 ghost use Rattle.std.specs.Prelude.{◌≡◌};
-ghost use Rattle.bitm_trie_c.specs.Trie.{ChildAnswered, EndAnswered, LabelAnswered, WordAnswered};
+ghost use Rattle.bitm_trie_c.specs.Trie.{ChildByLabelAnswered, EndAnswered, LabelAnswered, WordAnswered};
 
 use crate::trie::Trie;
 use bitm_abi::{BAD_SIZE, as_number, report};
@@ -30,7 +30,7 @@ pub extern "C" fn bitm_trie_is_end(trie: &Trie<'_>, node: usize, out: &mut usize
 /// The child of a node with this label.
 #[unsafe(no_mangle)]
 pub extern "C" fn bitm_trie_child(trie: &Trie<'_>, node: usize, label: u64, out: &mut usize) -> u32
-    ensures { ChildAnswered trie.now node label result out.old out.new }
+    ensures { ChildByLabelAnswered trie.now node label result out.old out.new }
 {
     match trie.view() {
         Some(view) => report(view.child_by_label(node, label), out),

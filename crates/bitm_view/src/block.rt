@@ -93,8 +93,8 @@ pub fn has_block_room(
 }
 
 /// Copies the first `len` bits of the words and builds their tables, and samples of 1 bits and of 0 bits at the two
-/// logarithms; a logarithm of 0 stands for no samples. Returns the number of samples of either kind. Those of 0 bits
-/// start at the first multiple of 16 that is not below the number of the others.
+/// logarithms; a logarithm of 0 stands for no samples. Returns the number of samples of either kind. The samples of 0
+/// bits start at the first multiple of 16 that is not below the number of samples of 1 bits.
 ///
 /// # Conditions
 /// `has_block_room` holds of the lists.

@@ -46,7 +46,7 @@ fn cut(selected: Answer<usize>, len: usize) -> Answer<usize>
 /// kind.
 ///
 /// Contracts see the three lists, the length, and the samples of either kind. The bits after the bit vector may be
-/// anything: answers are those of the first `len` bits alone. Samples never change an answer, whatever they hold.
+/// anything: answers depend on the first `len` bits alone. Samples never change an answer, whatever they hold.
 #[derive(Drop)]
 pub struct IndexView<'a> {
     tables: Lent<'a>,
@@ -90,7 +90,7 @@ impl<'a> IndexView<'a> {
         })
     }
 
-    /// The same view with these samples of 1 bits, in place of those that it had; of 0 bits where `BIT` is 0. The
+    /// The same view with these samples of 1 bits, in place of the samples that it had; of 0 bits where `BIT` is 0. The
     /// samples of the other kind are kept.
     #[inline(always)]
     pub fn with_samples<const BIT: u8>(self, samples: LentSamples<'a>) -> IndexView<'a>
@@ -145,7 +145,7 @@ impl<'a> IndexView<'a> {
     /// whatever the tables hold; else as `Lent::rank`.
     ///
     /// # Cost
-    /// That of `rank_on`.
+    /// The cost of `rank_on`.
     #[inline(always)]
     pub fn rank_of(&self, one: bool, index: usize) -> Answer<usize>
         ensures within { IsCountWithin self.now.len index result }
@@ -163,13 +163,13 @@ impl<'a> IndexView<'a> {
         self.rank_of(is_one::<BIT>(), index)
     }
 
-    /// The position of the 1 bit with rank `rank` over a source of the view's words and tables, of which `finder` finds
+    /// The position of the 1 bit with rank `rank` over a source of the view's words and tables, where `finder` finds
     /// the entry: `ByTables`, or `ByGuess` by samples. Of the 0 bit where `BIT` is 0.
     ///
     /// # Cost
     /// With u upper entries, a query reads at most one more of them than u has binary digits, the lower entries that
     /// the finder reads, and eight words, whatever the tables hold. `ByTables` reads at most 23 lower entries;
-    /// `ByGuess` at most 51, and at most 28 where tables and samples are those of the words.
+    /// `ByGuess` at most 51, and at most 28 where tables and samples match the words.
     #[inline(always)]
     pub fn select_on<const BIT: u8, T: TableSource, F: FindsEntry<BIT, T>>(
         &self,
@@ -196,7 +196,7 @@ impl<'a> IndexView<'a> {
     /// the words have such a bit after the bit vector.
     ///
     /// # Cost
-    /// That of `select_on` with `ByGuess`, or with `ByTables` where there are no samples of the kind.
+    /// The cost of `select_on` with `ByGuess`, or with `ByTables` where there are no samples of the kind.
     #[inline(always)]
     pub fn select<const BIT: u8>(&self, rank: usize) -> Answer<usize>
         ensures bit { HasBit (bits_of_cut self.now) (as_bit BIT) result }
@@ -243,7 +243,7 @@ impl<'a> IndexView<'a> {
     /// the positions are right whatever they hold.
     ///
     /// # Cost
-    /// That of `bit_slices::positions_in`.
+    /// The cost of `bit_slices::positions_in`.
     pub fn places_from<const BIT: u8>(&self, from: usize, out: &mut [usize]) -> usize
         ensures number { let b = bits_of_cut self.now in result ≡ min (length out.old)
             (count_of b (as_bit BIT) - count_before b (as_bit BIT) from) }

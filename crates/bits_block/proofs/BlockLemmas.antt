@@ -1,7 +1,7 @@
 -- What is written for bits is their block.
 use Rattle.std.proofs.Common.{◌≡◌, ℕ, ◌+◌, ◌-◌, ◌<◌, Bool, List, [], ◌∷◌, ◌++◌, length, slice_index, sym, ap, ◌∙◌, subst, arith}
 use Rattle.std.proofs.lemmas.List.{append-nil}
-use Rattle.bitm_block.proofs.PartsLemmas.{count_is, entry_is, laid, part, part_is, section_is, HaveLengths, Part}
+use Rattle.bitm_block.proofs.PartsLemmas.{is_of_kind, laid, part, part_is, section_is, HaveLengths, Part}
 use Rattle.bitm_block.specs.Header.{section_in}
 use Rattle.bitm_block.specs.Layout.{head_of, part_in}
 use Rattle.bitm_block.specs.Written.{IsSealed}
@@ -44,13 +44,7 @@ block_is b n old new sealed are =
       sound = record {
         bits_block = record {
           is_block = sealed.is_block;
-          sections = record {
-            kind_is = ap (λ (h : Head). h.kind) sealed.head_is;
-            three = omega (arith, count_is (bits_head n) ss old new sealed);
-            words = ap (λ (s : Section). s.role) (entry_is (bits_head n) ss old new sealed 0 (omega arith));
-            upper = ap (λ (s : Section). s.role) (entry_is (bits_head n) ss old new sealed 1 (omega arith));
-            lower = ap (λ (s : Section). s.role) (entry_is (bits_head n) ss old new sealed 2 (omega arith));
-          };
+          sections = is_of_kind (bits_head n) ss new sealed.head_is sealed.sections_are 3 (omega arith);
           sized = here.sized;
           words_len = omega (arith, here.words_len, len);
         };

@@ -75,8 +75,8 @@ fn write_block(words: &[u64], len: usize, block: &mut [u64])
 ///
 /// # Errors
 /// `TooLong` exactly where there are more than 2^64 - 64 bits; else `TooFewBits` exactly where the words have fewer;
-/// else `WrongLength` exactly where the words of the block are not as many as it takes (`size`). These stay as they are
-/// then.
+/// else `WrongLength` exactly where the words of the block are more or fewer than it takes (`size`). These stay as they
+/// are then.
 /// # Cost
 /// Two passes over the words and one over the block (evident from the code). Nothing is allocated.
 ///

@@ -10,7 +10,7 @@ pub enum BuildError {
     TooLong,
     /// The words have fewer bits.
     TooFewBits,
-    /// The words of the block are not as many as it takes.
+    /// The words of the block are more or fewer than it takes.
     WrongLength,
 }
 

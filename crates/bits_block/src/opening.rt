@@ -1,4 +1,4 @@
-//! The view of a block of bits, and whether the block holds what it says.
+//! The view of a block of bits, and a check of what the block holds.
 ghost use Rattle.std.specs.Prelude.{◌↔◌, IsTrue, SomeIff};
 ghost use Rattle.bits_block.specs.Block.{bits_in_block, IsBitsBlock, IsSoundBlock};
 
@@ -8,8 +8,8 @@ use bitm_view::IndexView;
 use block_tables::{has_tables, tables_of};
 
 /// The bits in a block, without samples; `None` exactly where the words are no block (`Block::open` says why), the
-/// block is of another kind, or a section is not as long as that of the number of bits. What the sections hold is not
-/// looked at: the queries of the view have no condition on it.
+/// block is of another kind, or a section has a length that does not fit the number of bits. What the sections hold is
+/// not looked at: the queries of the view have no condition on it.
 ///
 /// # Cost
 /// Header and directory are read, at most 80 words (evident from the code).
@@ -37,7 +37,7 @@ pub fn open(block: &[u64]) -> Option<IndexView<'_>>
 }
 
 /// Whether the block is opened, is as it was written, and has the tables of its words: then each answer of the view is
-/// that of counting.
+/// what counting gives.
 ///
 /// # Cost
 /// Two passes over the block (evident from the code).

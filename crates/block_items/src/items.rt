@@ -18,7 +18,7 @@ pub trait HasItems {
     /// How many items the block announces.
     ghost announced: { Self → ℕ };
 
-    /// How many items the block announces: where it holds a list, as many as that has.
+    /// How many items the block announces: where it holds a list, the number of its items.
     fn announced(&self) -> usize
         ensures announced { result ≡ announced self.now }
         ensures all { (xs : List ℕ) → holds xs self.now → length xs ≡ result };
@@ -32,7 +32,7 @@ pub trait HasItems {
     /// The items in their order: where the block holds a list, all of it; else no more than are announced.
     ///
     /// # Cost
-    /// For each item that comes that of `item`.
+    /// For each item that comes, the cost of `item`.
     ///
     /// ```
     /// for number in sequence.iter() { .. }
@@ -48,7 +48,7 @@ pub trait HasItems {
     /// The items from index `index` on, in their order, else as `iter`; none where there are no more than `index`.
     ///
     /// # Cost
-    /// For each item that comes that of `item`.
+    /// For each item that comes, the cost of `item`.
     ///
     /// ```
     /// for number in sequence.iter_from(1000) { .. }

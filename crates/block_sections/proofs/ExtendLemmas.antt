@@ -8,9 +8,10 @@ use Rattle.std.specs.List.{slice_range}
 use Rattle.bitm_block.proofs.HeaderLemmas.{begin_next, inside, section_at, sections_len}
 use Rattle.bitm_block.proofs.LayoutLemmas.{words_fit}
 use Rattle.bitm_block.proofs.PartsLemmas.{cut, section_is}
-use Rattle.bitm_block.specs.Header.{count_in, head_in, section_entry, section_in, sections_in, IsBlock}
+use Rattle.bitm_block.specs.Header.{count_in, head_in, section_entry, section_in, sections_in, IsBlock, IsOfKind}
 use Rattle.bitm_block.specs.Layout.{begin_of, end_of, head_of, no_section, part_in, room_of, words_of, AreShort}
 use Rattle.bitm_block.specs.Written.{IsSealed}
+use Rattle.bitm_block.specs.declared.head.Head.{Head}
 use Rattle.bitm_block.specs.declared.layout.Section.{Section}
 use Rattle.block_sections.specs.Extended.{body_in, extended_sections, IsExtended, StandsExtended}
 
@@ -117,6 +118,7 @@ module _ (b : List ℕ) (s : Section) (is : IsBlock b) where
         record {
           is_block = sealed.is_block;
           verified = sealed.verified;
+          version = sealed.version;
           head_is = sealed.head_is;
           sections_are = sealed.sections_are;
           kept = λ i less. section_is h ss to new sealed i (omega (arith, len_with, less)) ∙ kept_part i less;
@@ -134,3 +136,11 @@ module _ (b : List ℕ) (s : Section) (words new : List ℕ) (is : IsExtended b 
       ∙ ap (λ (l : List Section). get_or l i no_section) is.sections_are
       ∙ get_or_append_left (sections_in b) (s ∷ []) no_section i (omega (arith, less, sections_len b))
       ∙ section_at b i no_section less
+
+  -- a block keeps its kind, and the roles of its first sections
+  pub kind_kept : (kind : ℕ) (roles : List ℕ) → IsOfKind kind roles b → IsOfKind kind roles new
+  kind_kept kind roles old = record {
+    kind_is = ap (λ (h : Head). h.kind) is.head_is ∙ old.kind_is;
+    many = omega (arith, old.many, count_is);
+    roles_are = λ i less. ap (λ (e : Section). e.role) (entry_is i (omega (arith, less, old.many))) ∙ old.roles_are i less;
+  }

@@ -1,6 +1,6 @@
 -- A block with one section more.
 use Rattle.std.specs.Prelude.{◌≡◌, ℕ, ◌+◌, ◌<◌, List, [], ◌∷◌, ◌++◌, drop, length}
-use Rattle.bitm_block.specs.Header.{count_in, head_in, section_in, sections_in, IsBlock, IsVerified}
+use Rattle.bitm_block.specs.Header.{count_in, head_in, section_in, sections_in, version_in, IsBlock, IsVerified}
 use Rattle.bitm_block.specs.Layout.{end_of, head_of, words_of, AreShort}
 use Rattle.bitm_block.specs.declared.layout.Section.{Section}
 
@@ -23,11 +23,12 @@ pub record HasSectionRoom (block : List ℕ) (added : Section) (words to : List 
   pub fits : FitsWith block added words
   pub room : length to ≡ end_of (extended_sections block added)
 
--- the new words are a block, as it was written: it has the numbers and the sections of the old one, which hold the same
--- words, and one section after them, which holds these
+-- the new words are a block of version 4, as it was written: it has the numbers and the sections of the old one, of
+-- whatever version that is, which hold the same words, and one section after them, which holds these
 pub record IsExtended (block : List ℕ) (added : Section) (words new : List ℕ) : Type 0 where
   pub is_block : IsBlock new
   pub verified : IsVerified new
+  pub version : version_in new ≡ 4
   pub head_is : head_in new ≡ head_in block
   pub sections_are : sections_in new ≡ extended_sections block added
   pub kept : (i : ℕ) → i < count_in block → section_in new i ≡ section_in block i

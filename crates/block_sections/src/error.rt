@@ -10,9 +10,9 @@ pub enum ExtendError {
     NotABlock,
     /// There are 16 sections already, the section has 2^58 items or more, or the block would have 2^60 words or more.
     TooLarge,
-    /// The words of the section are not as many as its items take.
+    /// The words of the section are more or fewer than its items take.
     WrongWords,
-    /// The words to write to are not as many as the block takes.
+    /// The words to write to are more or fewer than the block takes.
     WrongLength,
     /// Some section of the block is not as it was written.
     NotVerified,

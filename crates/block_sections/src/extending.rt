@@ -63,12 +63,12 @@ fn write_extended(block: &Block<'_>, added: &Section, words: &[u64], to: &mut [u
 /// # Errors
 /// `NotABlock` exactly where the words are no block; else `TooLarge` exactly where it has 16 sections already, the
 /// section has 2^58 items or more, or the new block would have 2^60 words or more; else `WrongWords` exactly where the
-/// words are not as many as the items of the section take (`Section::words`); else `WrongLength` exactly where `to` has
-/// not as many words as the new block takes (`extended_size`); else `NotVerified` exactly where some section is not as
-/// it was written (`Block::verify`): so what was spoiled gets no right checksum. `to` stays as it is then.
+/// words are more or fewer than the items of the section take (`Section::words`); else `WrongLength` exactly where `to`
+/// has more or fewer words than the new block takes (`extended_size`); else `NotVerified` exactly where some section is
+/// not as it was written (`Block::verify`): so what was spoiled gets no right checksum. `to` stays as it is then.
 /// # Cost
-/// Two passes over the words of the block, one over those of the section, and two over the new block (evident from the
-/// code). Nothing is allocated.
+/// Two passes over the words of the block, one over the words of the section, and two over the new block (evident from
+/// the code). Nothing is allocated.
 ///
 /// ```
 /// let note = Section { role: 1 << 16, count: 11 };                        // eleven bytes

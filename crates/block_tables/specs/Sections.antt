@@ -1,7 +1,7 @@
 -- Words with their two tables as the first three sections of a block.
-use Rattle.std.specs.Prelude.{◌≡◌, ℕ, ◌^◌, ◌≤◌, List, [], ◌∷◌, slice_index}
+use Rattle.std.specs.Prelude.{ℕ, ◌^◌, List, [], ◌∷◌}
 use Rattle.std.specs.Int.{div_ceil}
-use Rattle.bitm_block.specs.Header.{count_in, section_in}
+use Rattle.bitm_block.specs.Header.{section_in, IsOfKind}
 use Rattle.bitm_block.specs.declared.layout.Section.{Section}
 use Rattle.bitm_tables.specs.Tables.{Lists}
 use Rattle.lent_tables.specs.Sizes.{lists_of}
@@ -19,9 +19,5 @@ abbrev pub tables_in : List ℕ → Lists
 tables_in block = lists_of (section_in block 0) (section_in block 1) (section_in block 2)
 
 -- the block is of a kind, and its first three sections are words, an upper and a lower table
-pub record HasTableSections (kind : ℕ) (block : List ℕ) : Type 0 where
-  pub kind_is : slice_index block 1 ≡ kind
-  pub three : 3 ≤ count_in block
-  pub words : slice_index block 16 ≡ 1
-  pub upper : slice_index block 20 ≡ 2
-  pub lower : slice_index block 24 ≡ 3
+abbrev pub HasTableSections : ℕ → List ℕ → Type 0
+HasTableSections kind block = IsOfKind kind (1 ∷ 2 ∷ 3 ∷ []) block

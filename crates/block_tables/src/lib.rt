@@ -4,15 +4,18 @@
 
 // What is in each file:
 // - `entries`: words of a block as entries of an upper table
+// - `hints`: the optional section of hints
 // - `sections`: words and their tables as the first three sections of a block
 // - `source`: a source over three sections
 // - `tables`: the tables, written and compared with the words
 mod entries;
+mod hints;
 mod sections;
 mod source;
 mod tables;
 
 pub use entries::{as_entries, as_entries_mut};
+pub use hints::{HINTS, hints_of};
 pub use sections::{has_tables, table_sections, tables_of};
 pub use source::probe;
 pub use tables::{are_tables, fill_tables};

@@ -32,8 +32,7 @@ pub fn table_sections(words: usize) -> [Section; 3]
 pub fn has_tables(block: &Block<'_>, kind: u64) -> bool
     ensures { IsTrue result ↔ HasTableSections kind block.now }
 {
-    let words = block.words();
-    words[1] == kind && words[11] >= 3 && words[16] == 1 && words[20] == 2 && words[24] == 3
+    block.is_of(kind, [1u64, 2, 3].as_slice())
 }
 
 /// The first three sections of a block, words with two tables, which may hold anything; `None` exactly where there are

@@ -30,7 +30,7 @@ pub fn fill_tables(words: &[u64], upper: &mut [u64], lower: &mut [u64]) -> usize
     }
 }
 
-/// Whether the tables are those of the words.
+/// Whether the tables match the words.
 ///
 /// # Conditions
 /// There are fewer than 2^58 words, and the tables have the lengths that these need.

@@ -178,7 +178,7 @@ fn select_in_byte(byte: u8, rank: u8) -> u8
 /// # Conditions
 /// `n` has more than `rank` 1 bits.
 /// # Source
-/// Vigna, "Broadword Implementation of Rank/Select Queries" (WEA 2008), here with one product, of which one difference
+/// Vigna, "Broadword Implementation of Rank/Select Queries" (WEA 2008), here with one product: one difference with it
 /// says for each byte whether no more than `rank` 1 bits stand before it, and what these leave of the rank. A table of
 /// 2 KiB has the position in the last of these bytes.
 #[inline(always)]

@@ -4,8 +4,10 @@ pub mod CursorLemmas
 pub mod EndsLemmas
 pub mod FoundLemmas
 pub mod FragmentLemmas
+pub mod HintLemmas
 pub mod ItemLemmas
 pub mod LowLemmas
+pub mod MemberLemmas
 pub mod SelectionReadLemmas
 pub mod SequenceLemmas
 pub mod SizeLemmas

@@ -45,7 +45,7 @@ pub record ClaimLess (len width : ℕ) (low : List ℕ) (upper : Lists) (v p : �
   pub within : end ≤ len
   pub parting : PartsAt (fragment (unread low width)) width first end (v % 2 ^ width) p
 
--- the parts claim it, whatever samples they have
+-- the parts claim it, whatever hints they have
 abbrev pub TellsLess : LentParts → ℕ → ℕ → Type 0
 TellsLess parts = ClaimLess parts.len parts.width parts.low parts.upper
 
@@ -54,7 +54,7 @@ pub record ClaimAtMost (len width : ℕ) (low : List ℕ) (upper : Lists) (v p :
   pub next : v + 1 < 2 ^ 64 → ClaimLess len width low upper (v + 1) p
   pub greatest : 2 ^ 64 ≤ v + 1 → p ≡ len
 
--- the parts claim it, whatever samples they have
+-- the parts claim it, whatever hints they have
 abbrev pub TellsAtMost : LentParts → ℕ → ℕ → Type 0
 TellsAtMost parts = ClaimAtMost parts.len parts.width parts.low parts.upper
 

@@ -1,11 +1,11 @@
-//! Low bits of the next numbers, those of several read at once, for a walk in order.
+//! Low bits of the next numbers, read for several numbers at once, for a walk in order.
 ghost use Rattle.std.specs.Prelude.{◌≡◌, ◌*◌, ◌^◌, ◌<◌, ◌≤◌, MatchOption};
 ghost use Rattle.elias_fano.specs.Ahead.{IsAhead};
 ghost use Rattle.elias_fano.specs.Low.{unread, HasFragments};
 
 use bit_words::words;
 
-/// Low bits that are not used yet, those of the next number lowest.
+/// Low bits that are not used yet; the next number's are the lowest.
 #[derive(Copy, Clone, Drop)]
 pub(crate) struct Ahead {
     // The number before which the numbers stand whose digits these are.

@@ -1,4 +1,4 @@
-//! Calls on the parts of one sequence, over any source of its upper words: what they read is counted.
+//! Calls on the parts of one sequence, over any source of its upper words: their reads are counted.
 ghost use Rattle.std.specs.Prelude.{◌≡◌, ◌+◌, ◌*◌, ◌↔◌, ℕ, List, IsTrue, length};
 ghost use Rattle.std.specs.List.{Contains};
 ghost use Rattle.bit_lists.specs.Bits.{digit_count};
@@ -13,19 +13,18 @@ use crate::predecessor::{contains_by, last_at_most_by};
 use crate::searching::first_at_least_by;
 use bitm::index_laws;
 use bitm_select::search::selected::found;
-use bitm_select::search::selecting::ByTables;
 use bitm_tables::source::TableSource;
 
 /// By searches in the tables, with no tests of what right tables have.
-const BY_TABLES: BySearch<'static, 0, ByTables> = BySearch { finder: &ByTables };
+const BY_TABLES: BySearch<0> = BySearch;
 
 /// The least index of a sequence whose number is at least `v` (the successor); `None` exactly where there is none.
 ///
-/// The sequence is handed in by its parts: the low bits are those of `EliasFano::low_digits`, `n` is the number of its
-/// items, and the source has its `upper_words`.
+/// The sequence is handed in by its parts: the low bits are as `EliasFano::low_digits` gives them, `n` is the number of
+/// its items, and the source has its `upper_words`.
 ///
 /// # Conditions
-/// The parts are those of one sequence of fewer than 2^56 numbers; the source's tables are those of its words.
+/// The parts form one sequence of fewer than 2^56 numbers; the source's tables match its words.
 /// # Cost
 /// Two selections of 0 bits in the source, one of them if no number has low bits, or one selection of a 1 bit where `n`
 /// is 1, and none where it is 0; then a search among the low bits of the items with the same high bits as `v`, which
@@ -61,9 +60,9 @@ pub fn first_at_least_on<T: TableSource>(
 /// `low_width`, `n` is the number of its items, and the source has its `upper_words`.
 ///
 /// # Conditions
-/// The parts are those of one sequence of fewer than 2^56 numbers; the source's tables are those of its words.
+/// The parts form one sequence of fewer than 2^56 numbers; the source's tables match its words.
 /// # Cost
-/// That of `first_at_least_on`: at most two selections in the source.
+/// The cost of `first_at_least_on`: at most two selections in the source.
 pub fn first_at_least_counted<T: TableSource>(
     source: &mut T,
     low: &[u64],
@@ -89,7 +88,7 @@ pub fn first_at_least_counted<T: TableSource>(
 /// # Conditions
 /// As of `first_at_least_on`.
 /// # Cost
-/// That of `first_at_least_on` of `v + 1`, and nothing where `v` is 2^64 - 1.
+/// The cost of `first_at_least_on` of `v + 1`, and nothing where `v` is 2^64 - 1.
 pub fn last_at_most_counted<T: TableSource>(
     source: &mut T,
     low: &mut LowDigits<'_>,
@@ -113,8 +112,8 @@ pub fn last_at_most_counted<T: TableSource>(
 /// # Conditions
 /// As of `first_at_least_on`.
 /// # Cost
-/// That of `first_at_least_on`, and where some number is at least `v` one more selection, and one more fragment of the
-/// low bits.
+/// Two selections of 0 bits in the source, and a search among the low bits of the items with the same high bits as `v`
+/// as in `first_at_least_on`, with one more fragment of these.
 pub fn contains_counted<T: TableSource>(
     source: &mut T,
     low: &mut LowDigits<'_>,
@@ -125,12 +124,12 @@ pub fn contains_counted<T: TableSource>(
     ensures answer { (xs : List ℕ) → Holds xs (parts_with n low.old (T.lists source.old))
         → IsTrue result ↔ Contains xs v }
     ensures reads { OnlyReads T.lists T.reads source.old source.new
-        (3 * (digit_count (length (T.lists source.old).upper) + 1)) (3 * 23) (3 * 8) }
+        (2 * (digit_count (length (T.lists source.old).upper) + 1)) (2 * 23) (2 * 8) }
     ensures shared { (xs : List ℕ) → Holds xs (parts_with n low.old (T.lists source.old))
         → ReadsFragments low.old low.new (digit_count (sharing xs low.old.width v) + 1) }
 {
     index_laws::tables_have_sizes();
-    match contains_by(source, &BY_TABLES, &BY_TABLES, low, n, v) {
+    match contains_by(source, &BY_TABLES, low, n, v) {
         Some(is) => is,
         None => unreachable!(),
     }

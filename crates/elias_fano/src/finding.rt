@@ -28,7 +28,7 @@ impl<S: SelectForRank101111, S0: Select0ForRank101111> Sequence<S, S0> {
     /// The greatest index whose number is at most `v` (the predecessor); `None` exactly where there is none.
     ///
     /// # Cost
-    /// That of `first_at_least` of `v + 1`, and nothing where `v` is 2^64 - 1.
+    /// The cost of `first_at_least` of `v + 1`, and nothing where `v` is 2^64 - 1.
     #[inline]
     pub fn last_at_most(&self, v: u64) -> Option<usize>
         ensures { IsLastAtMost self.now.items v result }
@@ -40,13 +40,13 @@ impl<S: SelectForRank101111, S0: Select0ForRank101111> Sequence<S, S0> {
     /// Whether `v` is one of the numbers.
     ///
     /// # Cost
-    /// That of `first_at_least`, and that of `get` where some number is at least `v`.
+    /// The cost of `first_at_least`, and one more fragment of the low vector: no 1 bit is selected.
     #[inline]
     pub fn contains(&self, v: u64) -> bool
         ensures { IsTrue result ↔ Contains self.now.items v }
     {
         let (mut source, mut low, bits) = self.parts();
-        match contains_by(&mut source, &bits, &bits, &mut low, self.len(), v) {
+        match contains_by(&mut source, &bits, &mut low, self.len(), v) {
             Some(is) => is,
             None => unreachable!(),
         }

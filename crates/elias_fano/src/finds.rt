@@ -1,9 +1,10 @@
 //! How numbers are found in the words of the high bits: the 1 bit of a number, and the ends of a bucket, which is the
 //! numbers with the high bits of a value, side by side. So a query of a sequence runs one body, over any source and by
 //! an index's own strategies.
-ghost use Rattle.std.specs.Prelude.{◌≡◌, ◌≢◌, ◌+◌, ◌<◌, ◌≤◌, ℕ, List, length, ⊤, true, false, IfSome, IsSomeAnd};
+ghost use Rattle.std.specs.Prelude.{◌≡◌, ◌≢◌, ◌+◌, ◌-◌, ◌^◌, ◌<◌, ◌≤◌, ℕ, List, length, ⊤, true, false};
+ghost use Rattle.std.specs.Prelude.{IfSome, IsSomeAnd};
 ghost use Rattle.bit_lists.specs.Bits.{digit_count};
-ghost use Rattle.bitm_select.specs.Answers.{HasBit, IsSelected};
+ghost use Rattle.bitm_select.specs.Answers.{HasBit, IsFoundFrom, IsSelected};
 ghost use Rattle.bitm_select.specs.Told.{TellsNone};
 ghost use Rattle.bitm_tables.specs.Answers.{IfAbsent};
 ghost use Rattle.bitm_tables.specs.declared.answer.Answer.TheVariants.{Absent};
@@ -17,23 +18,17 @@ ghost use Rattle.elias_fano.specs.Told.{TellsTo};
 
 use crate::searching::count_at_zero;
 use bitm::{Select, Select0, near_zero_on};
-use bitm_select::search::selecting::{ByTables, FindsEntry, search_on};
+use bitm_select::search::selecting::{ByTables, search_on};
 use bitm_tables::answer::Answer;
 use bitm_tables::source::TableSource;
 
 /// A way to find the 1 bit of a number.
 pub(crate) trait FindsOne<T: TableSource> {
-    /// In which lists its answers are those of the words.
+    /// Whether the value finds the bits of these lists.
     ghost finds: { Self → Lists → Type 0 };
 
-    /// What it reads at most.
+    /// The most reads of a search.
     ghost most: { Lists → ReadCounts };
-
-    /// Whether it leads to the entry of the bit in these tables, so that `most_led` is enough.
-    ghost leads: { Self → Lists → Type 0 };
-
-    /// What it reads at most where it leads there.
-    ghost most_led: { Lists → ReadCounts };
 
     /// The position of the 1 bit with exactly `rank` 1 bits before it.
     ///
@@ -44,27 +39,24 @@ pub(crate) trait FindsOne<T: TableSource> {
         ensures answer { HasTables (T.lists source.old) → finds self.now (T.lists source.old)
             → IsSelected (bits_in (T.lists source.old)) true rank result }
         ensures reads { let most = most (T.lists source.old) in
-            OnlyReads T.lists T.reads source.old source.new most.upper most.lower most.words }
-        ensures reads_led { let most = most_led (T.lists source.old) in
-            leads self.now (T.lists source.old)
-            → ReadsAtMost (T.reads source.old) (T.reads source.new) most.upper most.lower most.words };
+            OnlyReads T.lists T.reads source.old source.new most.upper most.lower most.words };
 }
 
 /// A way to find where the numbers with the same high bits start and end.
 pub(crate) trait FindsEnds<T: TableSource> {
-    /// In which lists its answers are those of the words.
+    /// Whether the value finds the bits of these lists.
     ghost finds: { Self → Lists → Type 0 };
 
-    /// Whether words and tables claim what it answers, whatever they hold.
+    /// Whether its answers are what words and tables claim, whatever these hold.
     ghost tells: { Type 0 };
 
     /// Whether it reads nothing of no numbers, and of one number for one end only.
     ghost spares: { Type 0 };
 
-    /// What it reads at most for the start.
+    /// The most reads of the search for the start.
     ghost most: { Lists → ReadCounts };
 
-    /// What it reads at most for the end.
+    /// The most reads of the search for the end.
     ghost most_end: { Lists → ReadCounts };
 
     /// The first position with `above` 0 bits before it, where `n` numbers start whose high bits are `above` or more;
@@ -87,11 +79,12 @@ pub(crate) trait FindsEnds<T: TableSource> {
     /// bits before it; `None` only where the parts are wrong.
     ///
     /// # Conditions
-    /// Those of `begin`.
+    /// The conditions of `begin`.
     fn end(&self, source: &mut T, n: usize, above: usize, begin: usize) -> Option<usize>
         requires { HasSizes (T.lists source.old) }
         ensures within { IfSome result (λ c. c ≤ n) }
         ensures count { (xs : List ℕ) (l : ℕ) → HoldsHigh xs n l (T.lists source.old)
+            → finds self.now (T.lists source.old)
             → BeginsAt (bits_in (T.lists source.old)) above begin
             → IsSomeAnd result (CountsTo xs l above) }
         ensures told { tells → IfSome result (TellsTo (T.lists source.old) n above) }
@@ -105,11 +98,7 @@ pub(crate) trait FindsEnds<T: TableSource> {
 /// The position of the 0 bit with `rank` 0 bits before it, as `search_on` finds it. It is not inlined, so that both
 /// ends of a bucket are found by one copy of the search.
 #[inline(never)]
-fn zero_on<const TESTS: u8, T: TableSource, F: FindsEntry<0, T>>(
-    source: &mut T,
-    finder: &F,
-    rank: usize,
-) -> Answer<usize>
+fn zero_on<const TESTS: u8, T: TableSource>(source: &mut T, rank: usize) -> Answer<usize>
     requires { HasSizes (T.lists source.old) }
     ensures bit { HasBit (bits_in (T.lists source.old)) false result }
     ensures answer { HasTables (T.lists source.old)
@@ -117,15 +106,33 @@ fn zero_on<const TESTS: u8, T: TableSource, F: FindsEntry<0, T>>(
     ensures none { TESTS ≢ 0
         → IfAbsent result (TellsNone false (T.lists source.old) rank) }
     ensures reads { OnlyReads T.lists T.reads source.old source.new
-        (digit_count (length (T.lists source.old).upper) + 1) F.lowers 8 }
+        (digit_count (length (T.lists source.old).upper) + 1) 23 8 }
 {
-    search_on::<0, TESTS, T, F>(source, finder, rank)
+    search_on::<0, TESTS, T, ByTables>(source, &ByTables, rank)
+}
+
+/// The first position with `above` 0 bits before it, from the answer of a selection of the 0 bit with one less.
+#[inline(always)]
+pub(crate) fn begin_behind(zero: Answer<usize>) -> Answer<usize>
+    requires { IsFoundFrom 0 (2 ^ 64 - 1) zero }
+    ensures begin { (xs : List ℕ) (l : ℕ) (lists : Lists) (above : ℕ) → IsUpper xs l lists.words
+        → 0 < above → IsSelected (bits_in lists) false (above - 1) zero
+        → IsBegin xs l (bits_in lists) above result }
+    ensures told { (lists : Lists) (n above : ℕ) → 0 < above → above < 2 ^ 64
+        → HasBit (bits_in lists) false zero
+        → IfAbsent zero (TellsNone false lists (above - 1)) → TellsBegin lists n above result }
+{
+    match zero {
+        Answer::Found(place) => Answer::Found(place + 1),
+        Answer::Absent => Answer::Absent,
+        Answer::Wrong => Answer::Wrong,
+    }
 }
 
 /// How many of `n` numbers have high bits of at most `above`, from the answer of a selection of the 0 bit with `above`
 /// 0 bits before it; `None` only where the parts are wrong.
 #[inline(always)]
-fn count_to(zero: Answer<usize>, n: usize, above: usize) -> Option<usize>
+pub(crate) fn count_to(zero: Answer<usize>, n: usize, above: usize) -> Option<usize>
     ensures within { IfSome result (λ c. c ≤ n) }
     ensures count { (xs : List ℕ) (l : ℕ) (lists : Lists) → IsUpper xs l lists.words
         → n ≡ length xs → IsSelected (bits_in lists) false above zero
@@ -140,51 +147,32 @@ fn count_to(zero: Answer<usize>, n: usize, above: usize) -> Option<usize>
     }
 }
 
-/// By searches in the tables, as `search_on` of `bitm_select` makes them, with entries that a value finds. Where
-/// `TESTS` is 0 they look for no wrong tables but by the words, and few numbers are spared the searches that they don't
-/// need.
+/// By searches in the tables, as `search_on` of `bitm_select` makes them. Where `TESTS` is 0 they look for no wrong
+/// tables but by the words, and few numbers are spared the searches that they don't need.
 #[derive(Clone, Copy)]
-pub(crate) struct BySearch<'a, const TESTS: u8, F> {
-    pub(crate) finder: &'a F,
-}
+pub(crate) struct BySearch<const TESTS: u8>;
 
-impl<'a, const TESTS: u8, F> BySearch<'a, TESTS, F> {
-    /// By searches with the entries that this value finds.
-    #[inline(always)]
-    pub(crate) fn new(finder: &'a F) -> BySearch<'a, TESTS, F>
-        ensures { result.finder.now ≡ finder.now }
-    {
-        BySearch { finder }
-    }
-}
-
-impl<'a, const TESTS: u8, T: TableSource, F: FindsEntry<1, T>> FindsOne<T>
-    for BySearch<'a, TESTS, F> {
+impl<const TESTS: u8, T: TableSource> FindsOne<T> for BySearch<TESTS> {
     ghost finds = { λ _ _. ⊤ };
 
-    ghost most = { searched F.lowers 8 };
-
-    ghost leads = { λ by lists. F.leads by.finder.now lists };
-
-    ghost most_led = { searched F.lowers_led 8 };
+    ghost most = { searched 23 8 };
 
     #[inline(always)]
     fn one(&self, source: &mut T, rank: usize) -> Answer<usize> {
-        search_on::<1, TESTS, T, F>(source, self.finder, rank)
+        search_on::<1, TESTS, T, ByTables>(source, &ByTables, rank)
     }
 }
 
-impl<'a, const TESTS: u8, T: TableSource, F: FindsEntry<0, T>> FindsEnds<T>
-    for BySearch<'a, TESTS, F> {
+impl<const TESTS: u8, T: TableSource> FindsEnds<T> for BySearch<TESTS> {
     ghost finds = { λ _ _. ⊤ };
 
     ghost tells = { TESTS ≢ 0 };
 
     ghost spares = { TESTS ≡ 0 };
 
-    ghost most = { searched F.lowers 8 };
+    ghost most = { searched 23 8 };
 
-    ghost most_end = { searched F.lowers 8 };
+    ghost most_end = { searched 23 8 };
 
     #[inline(always)]
     fn begin(&self, source: &mut T, n: usize, above: usize) -> Answer<usize> {
@@ -194,11 +182,7 @@ impl<'a, const TESTS: u8, T: TableSource, F: FindsEntry<0, T>> FindsEnds<T>
         if above == 0 {
             return Answer::Found(0);
         }
-        match zero_on::<TESTS, T, F>(source, self.finder, above - 1) {
-            Answer::Found(place) => Answer::Found(place + 1),
-            Answer::Absent => Answer::Absent,
-            Answer::Wrong => Answer::Wrong,
-        }
+        begin_behind(zero_on::<TESTS, T>(source, above - 1))
     }
 
     #[inline(always)]
@@ -207,12 +191,12 @@ impl<'a, const TESTS: u8, T: TableSource, F: FindsEntry<0, T>> FindsEnds<T>
         if TESTS == 0 && n == 1 && above > 0 {
             return Some(n);
         }
-        count_to(zero_on::<TESTS, T, F>(source, self.finder, above), n, above)
+        count_to(zero_on::<TESTS, T>(source, above), n, above)
     }
 }
 
-// In how many words the end of a bucket is looked for before it is selected.
-const NEAR: usize = 8;
+/// In how many words the end of a bucket is looked for before it is selected.
+pub(crate) const NEAR: usize = 8;
 
 /// By an index over the words: the start by its own strategy, and the end in the next eight words, or, where it is not
 /// in these, by a search in the tables of the source.
@@ -225,10 +209,6 @@ impl<'a, T: TableSource, I: Select> FindsOne<T> for ByIndex<'a, I> {
     ghost finds = { λ by lists. I.bits by.index.now ≡ bits_in lists };
 
     ghost most = { λ _. none_read };
-
-    ghost leads = { λ _ _. ⊤ };
-
-    ghost most_led = { λ _. none_read };
 
     #[inline(always)]
     fn one(&self, _source: &mut T, rank: usize) -> Answer<usize> {
@@ -267,11 +247,7 @@ impl<'a, T: TableSource, I: Select0> FindsEnds<T> for ByIndex<'a, I> {
     fn end(&self, source: &mut T, n: usize, above: usize, begin: usize) -> Option<usize> {
         match near_zero_on::<NEAR, T>(source, begin) {
             Some(zero) => count_at_zero(zero, above, n),
-            None => count_to(
-                zero_on::<0, T, ByTables>(source, &ByTables, above),
-                n,
-                above,
-            ),
+            None => count_to(zero_on::<0, T>(source, above), n, above),
         }
     }
 }

@@ -1,14 +1,15 @@
 //! Reads of a sequence from its parts, and the search for the first number that reaches a value. The parts may hold
-//! anything: the calls on a sequence's own are those on any parts.
+//! anything: the calls on a sequence's own parts are the calls on any parts.
 ghost use Rattle.std.specs.Prelude.{◌≡◌, ◌+◌, ◌-◌, ◌*◌, ◌/◌, ◌%◌, ◌^◌, ◌<◌, ◌≤◌, ℕ, List, IsSomeAnd};
-ghost use Rattle.std.specs.Prelude.{length, slice_index, false, IfSome};
+ghost use Rattle.std.specs.Prelude.{length, slice_index, false, IfSome, IsTrue, ◌↔◌};
+ghost use Rattle.std.specs.List.{Contains};
 ghost use Rattle.bit_lists.specs.Bits.{bits_of, digit_count};
 ghost use Rattle.bit_lists.specs.Count.{Picks};
 ghost use Rattle.bitm_tables.specs.Reads.{OnlyReads, ReadsAtMost};
 ghost use Rattle.bitm_tables.specs.Tables.{HasSizes};
 ghost use Rattle.bitm_tables.specs.Entry.{less};
 ghost use Rattle.elias_fano.specs.Answers.{IsItem, IsOfPlace, IsPlaceOf, IsSuccessorOf};
-ghost use Rattle.elias_fano.specs.Buckets.{CountsTo, HasEnds, LowsRise, Splits};
+ghost use Rattle.elias_fano.specs.Buckets.{CountsBelow, CountsTo, HasEnds, LowsRise, Splits};
 ghost use Rattle.elias_fano.specs.LentParts.{parts_with, HasLengths, Holds};
 ghost use Rattle.elias_fano.specs.Low.{fragment, joined_item, sharing, HasFragments, ReadsFragments};
 ghost use Rattle.elias_fano.specs.Parts.{ArePartsOf, HasFragment, HasOneAt, IsUpper};
@@ -17,9 +18,11 @@ ghost use Rattle.elias_fano.specs.Told.{IfPlace, PartsAt, TellsLess};
 use crate::finds::{BySearch, FindsEnds, FindsOne};
 use crate::low::LowDigits;
 use bit_words::n_lowest_bits;
-use bitm_select::search::selecting::{ByTables, FindsEntry};
 use bitm_tables::answer::Answer;
 use bitm_tables::source::TableSource;
+
+/// By searches in the tables, with tests of what right tables have.
+pub(crate) const WITH_TESTS: BySearch<1> = BySearch;
 
 /// The number whose part above its low bits is `above`: the low bits are fragment `at`.
 ///
@@ -45,7 +48,7 @@ pub fn join_digits(above: usize, low: &mut LowDigits<'_>, at: usize) -> u64
 ///
 /// # Conditions
 /// There is fragment `at`, in words that may hold anything. Where they are not the low words of a sequence, or the
-/// position is not that of the number's 1 bit, the answer is any.
+/// number's 1 bit is at another position, the answer is any.
 /// # Cost
 /// At most one fragment of the low bits is read.
 #[inline(always)]
@@ -80,9 +83,6 @@ pub(crate) fn item_by<T: TableSource, F: FindsOne<T>>(
         → F.finds finder.now (T.lists source.old) → IsItem xs at result }
     ensures reads { let most = F.most (T.lists source.old) in
         OnlyReads T.lists T.reads source.old source.new most.upper most.lower most.words }
-    ensures reads_led { let most = F.most_led (T.lists source.old) in
-        F.leads finder.now (T.lists source.old)
-        → ReadsAtMost (T.reads source.old) (T.reads source.new) most.upper most.lower most.words }
     ensures fragments { ReadsFragments low.old low.new 1 }
 {
     if at >= n {
@@ -97,8 +97,8 @@ pub(crate) fn item_by<T: TableSource, F: FindsOne<T>>(
 
 /// Number `at` of the `n` numbers whose parts are the low bits and the source's words.
 ///
-/// Whatever the parts hold, `Absent` is answered exactly where there is no such number. Where they are those of a
-/// sequence, with the tables of its upper words, the number is the right one, and `Wrong` is never answered.
+/// Whatever the parts hold, `Absent` is answered exactly where there is no such number. Where they form a sequence,
+/// with the tables of its upper words, the number is the right one, and `Wrong` is never answered.
 ///
 /// # Conditions
 /// There are fewer than 2^56 numbers and at most 63 low bits, and as many low words as these take; there are fewer than
@@ -122,36 +122,7 @@ pub fn total_item_on<T: TableSource>(
         (digit_count (length (T.lists source.old).upper) + 1) 23 8 }
     ensures fragments { ReadsFragments low.old low.new 1 }
 {
-    total_item_by::<T, ByTables>(source, &ByTables, low, n, at)
-}
-
-/// Like `total_item_on`, with a selection whose entry `finder` finds.
-///
-/// # Conditions
-/// Those of `total_item_on`. The finder has none: it never changes an answer.
-/// # Cost
-/// That of `total_item_on`, with the lower entries that the finder reads in place of 23.
-#[inline(always)]
-pub fn total_item_by<T: TableSource, F: FindsEntry<1, T>>(
-    source: &mut T,
-    finder: &F,
-    low: &mut LowDigits<'_>,
-    n: usize,
-    at: usize,
-) -> Answer<u64>
-    requires lengths { HasLengths (parts_with n low.old (T.lists source.old)) }
-    requires sized { HasSizes (T.lists source.old) }
-    ensures inside { IsOfPlace n at result }
-    ensures answer { (xs : List ℕ) → Holds xs (parts_with n low.old (T.lists source.old))
-        → IsItem xs at result }
-    ensures reads { OnlyReads T.lists T.reads source.old source.new
-        (digit_count (length (T.lists source.old).upper) + 1) F.lowers 8 }
-    ensures reads_led { F.leads finder.now (T.lists source.old)
-        → ReadsAtMost (T.reads source.old) (T.reads source.new)
-        (digit_count (length (T.lists source.old).upper) + 1) F.lowers_led 8 }
-    ensures fragments { ReadsFragments low.old low.new 1 }
-{
-    item_by(source, &BySearch::<'_, 1, F>::new(finder), low, n, at)
+    item_by(source, &WITH_TESTS, low, n, at)
 }
 
 /// How many items have a number at most `above` above their low bits, where the 0 bit of that number stands at `place`;
@@ -202,8 +173,17 @@ fn split_low(low: &mut LowDigits<'_>, first: usize, end: usize, rest: u64) -> us
     from
 }
 
-/// The least index whose number is at least `v` (the successor), of `n` numbers of which those from `first` up to `end`
-/// have its high bits; where there are no low bits `end` is not looked at.
+/// The low bits of `v`: the same number of bits as each number has.
+#[inline(always)]
+fn low_part(low: &LowDigits<'_>, v: u64) -> u64
+    requires { low.now.width ≤ 63 }
+    ensures { result ≡ v % 2 ^ low.now.width }
+{
+    v & n_lowest_bits(low.width())
+}
+
+/// The least index whose number is at least `v` (the successor), of `n` numbers, where the numbers from `first` up to
+/// `end` have the high bits of `v`; where there are no low bits `end` is not looked at.
 ///
 /// Whatever the parts hold, and whatever these two indices are, an index that is found is below `n`, and low bits part
 /// there, or at `n` for `Absent` (`PartsAt`).
@@ -211,8 +191,8 @@ fn split_low(low: &mut LowDigits<'_>, first: usize, end: usize, rest: u64) -> us
 /// # Conditions
 /// There are fewer than 2^56 numbers and at most 63 low bits, and as many fragments as numbers; `end` is at most `n`.
 /// # Cost
-/// At most one fragment for each binary digit of how many numbers share the high bits of `v`; in parts that are not
-/// those of a sequence, for each binary digit of `n`.
+/// At most one fragment for each binary digit of how many numbers share the high bits of `v`; in parts that form no
+/// sequence, for each binary digit of `n`.
 #[inline(always)]
 pub fn place_in_bucket(
     low: &mut LowDigits<'_>,
@@ -236,13 +216,51 @@ pub fn place_in_bucket(
     if end < first {
         return Answer::Wrong;
     }
-    let rest = v & n_lowest_bits(low.width());
+    let rest = low_part(low, v);
     let place = split_low(low, first, end, rest);
     if place < n {
         Answer::Found(place)
     } else {
         Answer::Absent
     }
+}
+
+/// Whether one of the numbers from `first` up to `end`, which are the numbers with the high bits of `v`, is `v`; `None`
+/// where these two indices are not in order.
+///
+/// Whatever the parts hold, low bits part at some index (`PartsAt`), and the answer is false where that is `end`.
+///
+/// # Conditions
+/// There are fewer than 2^56 numbers and at most 63 low bits, and as many fragments as numbers up to `end`.
+/// # Cost
+/// At most one fragment for each binary digit of how many numbers there are between the two, and one more; none where
+/// there are no low bits.
+#[inline(always)]
+pub(crate) fn is_in_bucket(
+    low: &mut LowDigits<'_>,
+    first: usize,
+    end: usize,
+    v: u64,
+) -> Option<bool>
+    requires { HasFragments low.old end }
+    ensures told { let w = low.old.width in IfSome result (λ is. (p : ℕ)
+        × PartsAt (fragment low.old) w first end (v % 2 ^ w) p × (p ≡ end → is ≡ false)) }
+    ensures answer { (xs : List ℕ) (n : ℕ) (upper : List ℕ)
+        → ArePartsOf xs n low.old.width low.old.words upper
+        → CountsBelow xs low.old.width (v / 2 ^ low.old.width) first
+        → CountsTo xs low.old.width (v / 2 ^ low.old.width) end
+        → IsSomeAnd result (λ is. IsTrue is ↔ Contains xs v) }
+    ensures fragments { ReadsFragments low.old low.new (digit_count (end - first) + 1) }
+{
+    if end < first {
+        return None;
+    }
+    let sought = low_part(low, v);
+    let place = split_low(low, first, end, sought);
+    if place == end {
+        return Some(false);
+    }
+    Some(low.width() == 0 || low.fragment(place) == sought)
 }
 
 /// The least index whose number is at least `v` (the successor), of the `n` numbers whose parts are the low bits and
@@ -253,8 +271,8 @@ pub fn place_in_bucket(
 /// As of `total_item_on`.
 /// # Cost
 /// The start of the bucket, and its end where numbers have low bits and one starts there or later; then at most one
-/// fragment of the low bits for each binary digit of how many numbers share the high bits of `v`; in parts that are not
-/// those of a sequence, for each binary digit of `n`.
+/// fragment of the low bits for each binary digit of how many numbers share the high bits of `v`; in parts that form no
+/// sequence, for each binary digit of `n`.
 #[inline(always)]
 pub(crate) fn first_at_least_by<T: TableSource, F: FindsEnds<T>>(
     source: &mut T,
@@ -303,16 +321,16 @@ pub(crate) fn first_at_least_by<T: TableSource, F: FindsEnds<T>>(
 /// the source's words.
 ///
 /// Whatever the parts hold, an index that is found is below `n`, and by the parts (`TellsLess`) the numbers less than
-/// `v` end there, or at `n` for `Absent`. Where they are those of a sequence, with the tables of its upper words, it is
-/// the right one, `Absent` is answered exactly where each number is less, and `Wrong` never.
+/// `v` end there, or at `n` for `Absent`. Where they form a sequence, with the tables of its upper words, it is the
+/// right one, `Absent` is answered exactly where each number is less, and `Wrong` never.
 ///
 /// # Conditions
 /// As of `total_item_on`.
 /// # Cost
 /// Two selections of 0 bits in the source, and one where numbers have no low bits: at most twice as many upper entries
 /// as their number has binary digits and one more, 46 lower entries and 16 words, whatever the parts hold. Then at most
-/// one fragment of the low bits for each binary digit of how many numbers share the high bits of `v`; in parts that are
-/// not those of a sequence, for each binary digit of `n`.
+/// one fragment of the low bits for each binary digit of how many numbers share the high bits of `v`; in parts that
+/// form no sequence, for each binary digit of `n`.
 pub fn total_first_at_least_on<T: TableSource>(
     source: &mut T,
     low: &mut LowDigits<'_>,
@@ -331,33 +349,5 @@ pub fn total_first_at_least_on<T: TableSource>(
     ensures shared { (xs : List ℕ) → Holds xs (parts_with n low.old (T.lists source.old))
         → ReadsFragments low.old low.new (digit_count (sharing xs low.old.width v)) }
 {
-    total_first_at_least_by::<T, ByTables>(source, &ByTables, low, n, v)
-}
-
-/// Like `total_first_at_least_on`, with selections whose entries `finder` finds.
-///
-/// # Conditions
-/// Those of `total_first_at_least_on`. The finder has none: it never changes an answer.
-/// # Cost
-/// That of `total_first_at_least_on`, with twice the lower entries that the finder reads in place of 46.
-pub fn total_first_at_least_by<T: TableSource, F: FindsEntry<0, T>>(
-    source: &mut T,
-    finder: &F,
-    low: &mut LowDigits<'_>,
-    n: usize,
-    v: u64,
-) -> Answer<usize>
-    requires lengths { HasLengths (parts_with n low.old (T.lists source.old)) }
-    requires sized { HasSizes (T.lists source.old) }
-    ensures inside { IsPlaceOf n result }
-    ensures told { IfPlace n result (TellsLess (parts_with n low.old (T.lists source.old)) v) }
-    ensures answer { (xs : List ℕ) → Holds xs (parts_with n low.old (T.lists source.old))
-        → IsSuccessorOf xs v result }
-    ensures reads { OnlyReads T.lists T.reads source.old source.new
-        (2 * (digit_count (length (T.lists source.old).upper) + 1)) (2 * F.lowers) (2 * 8) }
-    ensures fragments { ReadsFragments low.old low.new (digit_count n) }
-    ensures shared { (xs : List ℕ) → Holds xs (parts_with n low.old (T.lists source.old))
-        → ReadsFragments low.old low.new (digit_count (sharing xs low.old.width v)) }
-{
-    first_at_least_by(source, &BySearch::<'_, 1, F>::new(finder), low, n, v)
+    first_at_least_by(source, &WITH_TESTS, low, n, v)
 }

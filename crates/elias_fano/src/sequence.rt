@@ -37,11 +37,11 @@ pub(crate) type Upper<S, S0> = RankSelect101111<S, S0, BoxedSlice<u64, Global>>;
 
 /// A monotone integer sequence (Elias-Fano): numbers, each at least the one before it.
 ///
-/// The `l` lowest bits of the numbers lie side by side in the low words, those of number `i` as fragment `i`. The rest
-/// of number `i`, `x >> l`, is how many 0 bits stand before its 1 bit in the upper words, so that bit is at `(x >> l) +
-/// i`. With `n` numbers and `u` the largest, `l` is the number of binary digits of `u / n` less one, 0 where there is
-/// none; the upper vector has `n + (u >> l) + 1` bits, fewer than `3 n + 2`. Both have as few words as hold them, and
-/// all other bits are 0. So a sequence takes at most `n * (l + 3) + 126` bits and the index over the upper vector.
+/// The `l` lowest bits of the numbers lie side by side in the low words, the bits of number `i` as fragment `i`. The
+/// rest of number `i`, `x >> l`, is how many 0 bits stand before its 1 bit in the upper words, so that bit is at `(x >>
+/// l) + i`. With `n` numbers and `u` the largest, `l` is the number of binary digits of `u / n` less one, 0 where there
+/// is none; the upper vector has `n + (u >> l) + 1` bits, fewer than `3 n + 2`. Both have as few words as hold them,
+/// and all other bits are 0. So a sequence takes at most `n * (l + 3) + 126` bits and the index over the upper vector.
 ///
 /// For 2, 3, 5, 7, 11, 13, 24 the width `l` is 1, since 24 / 7 is 3, and there are 7 + 12 + 1 = 20 upper bits:
 ///

@@ -1,6 +1,7 @@
 pub mod Checks
 pub mod Error
 pub mod Lists
+pub mod Order
 pub mod Sizes
 pub use Rattle.bit_lists.specs.Bits
 pub use Rattle.bit_lists.specs.Count

@@ -4,7 +4,7 @@ use Rattle.bitm_select.specs.Answers.{SelectTold}
 use Rattle.bitm_tables.specs.Tables.{Lists}
 use Rattle.elias_fano.specs.Sequence.{Reaches}
 use Rattle.elias_fano.specs.Told.{ClaimLess}
-use Rattle.elias_fano.specs.LentParts.{ArePartsWithTables, LentParts}
+use Rattle.elias_fano.specs.LentParts.{AreHeldParts, LentParts}
 use Rattle.elias_fano_view.specs.declared.lists.ListAnswer.{ListAnswer}
 use Rattle.elias_fano_view.specs.declared.lists.ListAnswer.TheVariants.{All, AbsentAt, WrongAt, WrongLength}
 
@@ -68,17 +68,17 @@ AreItemsFrom xs from n ys = (j : ℕ) → j < n → slice_index ys j ≡ slice_i
 abbrev pub IsAllLess : List ℕ → ℕ → Type 0
 IsAllLess xs v = (j : ℕ) → j < length xs → slice_index xs j < v
 
--- n codes the successor of v, the least index whose number is at least v: whatever four parts hold, below 2^64 - 2 it is
+-- n codes the successor of v, the least index whose number is at least v: whatever the parts hold, below 2^64 - 2 it is
 -- an index; where they are those of a sequence, it is the right index, or 2^64 - 1 exactly where each number is less.
 -- Whatever they hold, they claim that all numbers before that index are less, or all numbers where it is 2^64 - 1
-pub record CodesPlace (len width : ℕ) (low : List ℕ) (upper : Lists) (v n : ℕ) : Type 0 where
+pub record CodesPlace (len width : ℕ) (low : List ℕ) (upper : Lists) (hints : List ℕ) (v n : ℕ) : Type 0 where
   pub place : n < 2 ^ 64 - 2 → n < len
   pub before : n < 2 ^ 64 - 2 → ClaimLess len width low upper v n
   pub absent : n ≡ 2 ^ 64 - 1 → ClaimLess len width low upper v len
-  pub told : (xs : List ℕ) → ArePartsWithTables xs len width low upper → (n < 2 ^ 64 - 2) ⊎ (n ≡ 2 ^ 64 - 1)
-  pub right : (xs : List ℕ) → ArePartsWithTables xs len width low upper → n < 2 ^ 64 - 2 → Reaches xs v n
-  pub none : (xs : List ℕ) → ArePartsWithTables xs len width low upper → n ≡ 2 ^ 64 - 1 → IsAllLess xs v
+  pub told : (xs : List ℕ) → AreHeldParts xs len width low upper hints → (n < 2 ^ 64 - 2) ⊎ (n ≡ 2 ^ 64 - 1)
+  pub right : (xs : List ℕ) → AreHeldParts xs len width low upper hints → n < 2 ^ 64 - 2 → Reaches xs v n
+  pub none : (xs : List ℕ) → AreHeldParts xs len width low upper hints → n ≡ 2 ^ 64 - 1 → IsAllLess xs v
 
--- the successor in the parts, whatever samples they have
+-- the successor in the parts
 abbrev pub PlaceTold : LentParts → ℕ → ℕ → Type 0
-PlaceTold parts = CodesPlace parts.len parts.width parts.low parts.upper
+PlaceTold parts = CodesPlace parts.len parts.width parts.low parts.upper parts.hints

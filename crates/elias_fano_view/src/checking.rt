@@ -1,4 +1,4 @@
-//! Whether parts are those of a sequence.
+//! Whether parts form a sequence.
 ghost use Rattle.std.specs.Prelude.{◌≡◌, ◌-◌, ◌*◌, ◌^◌, ◌<◌, ◌≤◌, ◌↔◌, ℕ, IsTrue, List, length, MatchOption, SomeIff};
 ghost use Rattle.std.specs.Int.{div_ceil};
 ghost use Rattle.bit_lists.specs.Bits.{bits_of, IsShort};
@@ -29,8 +29,8 @@ fn number_of(place: usize, low: &mut LowDigits<'_>, at: usize) -> Option<u64>
     Some(join_digits(above, low, at))
 }
 
-/// The last of `n` numbers, 0 where there is none, if the 1 bits of the words and the low bits are those of `n` numbers
-/// that never decrease.
+/// The last of `n` numbers, 0 where there is none, if the 1 bits of the words and the low bits form `n` numbers that
+/// never decrease.
 fn last_of(words: &[u64], low: &[u64], width: u8, n: usize) -> Option<u64>
     requires short { IsShort words.now }
     requires some { HasFragments (unread low.now width) n }
@@ -48,8 +48,8 @@ fn last_of(words: &[u64], low: &[u64], width: u8, n: usize) -> Option<u64>
     number_of(place, &mut LowDigits::new(low, width), n - 1)
 }
 
-/// Whether these are the parts of some sequence. One pass over the words of the high bits; of the low bits, those of
-/// numbers next to one another with the same high bits are read.
+/// Whether these are the parts of some sequence. One pass over the words of the high bits; low bits are read only of
+/// numbers next to one another with the same high bits.
 pub(crate) fn are_parts(words: &[u64], low: &[u64], width: u8, n: usize) -> bool
     requires short { IsShort words.now }
     requires some { HasFragments (unread low.now width) n }

@@ -20,7 +20,7 @@ use lent_tables::clear;
 /// meanwhile, which no caller may allow, nothing is written outside the words.
 ///
 /// # Conditions
-/// Those of `write_upper` of `elias_fano`.
+/// The conditions of `write_upper` of `elias_fano`.
 fn write_tested(words: &mut [u64], items: &[u64], width: u8) -> bool
     requires width { width ≤ 63 }
     requires rising { IsNonDecreasing items.now }

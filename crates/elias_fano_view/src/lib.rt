@@ -1,9 +1,10 @@
 //! Monotone integer sequences (Elias-Fano) over borrowed memory, such as a mapped file: nothing is allocated or copied,
 //! and no call has a condition on what the memory holds.
 //!
-//! The parts are those of `elias_fano`, word by word: the low bits of each number, the words of the high bits, and the
-//! two tables of these words. With the parts that `build` wrote the answers are those of the numbers. If the parts are
-//! stale or hostile, every call still terminates within its read bound.
+//! The parts are the same as in `elias_fano`, word by word: the low bits of each number, the words of the high bits,
+//! and the two tables of these words; hints of these words may be added, by which a selection reads only a few of them.
+//! With the parts that `build` wrote the answers are right for the numbers. If the parts are stale or hostile, every
+//! call still terminates within its read bound.
 //!
 //! ```
 //! let numbers = [2u64, 3, 5, 7, 11, 13, 24];
@@ -24,6 +25,7 @@
 // - `error`: why numbers were refused
 // - `filling`: the parts, written into the caller's memory
 // - `lists`: lists of queries
+// - `order`: where lists of numbers stop ascending, and where they pass a bound
 // - `rising`: whether the low bits of neighbours rise
 // - `sequence`: a sequence whose parts are borrowed
 // - `sizes`: the lengths of the parts
@@ -32,6 +34,7 @@ mod checking;
 mod error;
 mod filling;
 mod lists;
+mod order;
 mod rising;
 mod sequence;
 mod sizes;
@@ -41,5 +44,6 @@ pub use elias_fano::{total_first_at_least_on, total_item_on};
 pub use error::BuildError;
 pub use filling::build;
 pub use lists::ListAnswer;
+pub use order::{first_above, first_fall};
 pub use sequence::LentSequence;
 pub use sizes::Sizes;

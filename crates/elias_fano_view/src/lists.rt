@@ -17,8 +17,8 @@ pub enum ListAnswer {
     All,
     /// There is no number at the index that is this item of the list; the numbers of the items before it were written.
     AbsentAt(usize),
-    /// At this item of the list the parts turned out not to be those of a sequence; the numbers of the items before it
-    /// were written.
+    /// At this item of the list the parts turned out to form no sequence; the numbers of the items before it were
+    /// written.
     WrongAt(usize),
     /// `out` is not as long as the list of indices; nothing was written.
     WrongLength,
@@ -26,7 +26,7 @@ pub enum ListAnswer {
 
 impl<'a> LentSequence<'a> {
     /// Writes the number at each index of the list, up to the first that is not found: what `get` answers where the
-    /// parts are those of a sequence. In other parts a number may differ from that of `get`.
+    /// parts form a sequence. In other parts a number may differ from the answer of `get`.
     pub fn get_list(&self, places: &[usize], out: &mut [u64]) -> ListAnswer
         ensures listed { IsListed self.now.len places.now (length out.old) result }
         ensures told { (xs : List ℕ) → Holds xs self.now
@@ -50,8 +50,8 @@ impl<'a> LentSequence<'a> {
     }
 
     /// Writes the successor of each value, or `NO_ANSWER` for `Absent` and `WRONG_TABLES` for `Wrong`: what
-    /// `first_at_least` answers where the parts are those of a sequence. In other parts an index may differ from that
-    /// of `first_at_least`. Returns false, and writes nothing, exactly where `out` is not as long as `values`.
+    /// `first_at_least` answers where the parts form a sequence. In other parts an index may differ from the answer of
+    /// `first_at_least`. Returns false, and writes nothing, exactly where `out` is not as long as `values`.
     pub fn first_at_least_list(&self, values: &[u64], out: &mut [usize]) -> bool
         ensures room { IsTrue result ↔ length out.old ≡ length values.now }
         ensures told { IsTrue result → (j : ℕ) → j < length values.now

@@ -26,7 +26,7 @@ fn low_bits(low: &[u64], width: u8, at: usize) -> u64
     (both >> (begin % 64) & u64::MAX as u128) as u64 & n_lowest_bits(width)
 }
 
-/// Whether the low bits of number `at` are those of the number before it plus `gap`, or more.
+/// Whether the low bits of number `at` are at least the low bits of the number before it plus `gap`.
 #[inline(always)]
 fn rises_at(low: &[u64], width: u8, at: usize, gap: u64) -> bool
     requires fragment { HasFragment low.now at width }

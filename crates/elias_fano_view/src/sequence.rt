@@ -2,16 +2,15 @@
 ghost use Rattle.std.specs.Prelude.{◌≡◌, ◌+◌, ◌*◌, ◌/◌, ◌^◌, ◌<◌, ◌≤◌, ◌↔◌, ℕ, SomeIff};
 ghost use Rattle.std.specs.Prelude.{IsTrue, List, length, slice_index, true};
 ghost use Rattle.std.specs.List.Sorted.{IsStrictlyIncreasing};
-ghost use Rattle.bit_lists.specs.Count.{as_bit};
-ghost use Rattle.bitm_select.specs.Answers.{SelectTold, ToldEach};
-ghost use Rattle.bitm_tables.specs.Tables.{Lists};
+ghost use Rattle.bitm_select.specs.Answers.{SelectTold};
+ghost use Rattle.bitm_selection.specs.Hints.{Lead};
+ghost use Rattle.bitm_tables.specs.Tables.{HasTables, Lists};
 ghost use Rattle.elias_fano.specs.Parts.{HasFragment};
 ghost use Rattle.elias_fano.specs.Answers.{IsItem, IsOfPlace, IsPlaceOf, IsSuccessorOf};
-ghost use Rattle.elias_fano.specs.LentParts.{parts_of, parts_with, AreParts, HasLengths, Holds};
+ghost use Rattle.elias_fano.specs.LentParts.{parts_of, parts_with, with_hints, AreParts, HasLengths, Holds};
 ghost use Rattle.elias_fano_view.specs.Lists.{AreAhead, AreZerosAhead, EndsTold, ZeroTold};
 ghost use Rattle.elias_fano.specs.Low.{unread, ReadsFragments};
 ghost use Rattle.elias_fano.specs.Told.{IfPlace, TellsLess};
-ghost use Rattle.lent_tables.specs.Samples.{sampled};
 
 mod finding;
 mod items;
@@ -20,11 +19,11 @@ use crate::bucket::{place_of, rank_each};
 use crate::checking::are_parts;
 use crate::rising::rise_among;
 use bitm_select::search::selected::WRONG_TABLES;
+use bitm_selection::{are_all_hints, hints_len};
 use bitm_tables::answer::Answer;
-use bitm_tables::source::Probe;
 use elias_fano::building::item_at_one;
-use elias_fano::{Items, LowDigits, total_first_at_least_by, total_item_by};
-use lent_tables::{ByGuess, Lent, LentSamples, select_list_on};
+use elias_fano::{Items, LowDigits, hinted_first_at_least_on, hinted_item_on};
+use lent_tables::Lent;
 use std::marker::Model;
 use tuning::SELECTIONS_SIDE_BY_SIDE;
 
@@ -48,25 +47,23 @@ fn item_of(low: &mut LowDigits<'_>, n: usize, place: usize, one: usize) -> Answe
 
 /// The borrowed parts of a sequence, whose lengths are right.
 ///
-/// Contracts see the number of numbers, the number of low bits of each, the lists, and the samples. The lists may hold
-/// anything: each call says what it answers where they are the parts of a sequence, and what it answers otherwise. A
-/// view keeps the number of low bits and not the largest number, from which each call would have to compute it by a
-/// division.
+/// Contracts see the number of numbers, the number of low bits of each, and the lists. These may hold anything: each
+/// call says its answer where they form a sequence, and where they do not. A view keeps the number of low bits and not
+/// the largest number, from which each call would have to compute it by a division.
 ///
-/// A view may have samples of the high bits, by which it selects. They never change an answer, whatever they hold.
+/// A view may have hints of the high bits, by which it selects. They are trusted as the tables are: where they do not
+/// match the words, an answer may differ.
 #[derive(Drop)]
 pub struct LentSequence<'a> {
     len: usize,
     width: u8,
     low: &'a [u64],
     upper: Lent<'a>,
-    ones: LentSamples<'a>,
-    zeros: LentSamples<'a>,
+    hints: &'a [u64],
 }
 
 impl<'a> Model for LentSequence<'a> {
-    ghost use Rattle.elias_fano.specs.LentParts.{parts_of, HasLengths, LentParts};
-    ghost use Rattle.lent_tables.specs.Samples.{sampled};
+    ghost use Rattle.elias_fano.specs.LentParts.{parts_of, with_hints, HasLengths, LentParts};
 
     ghost Value = { LentParts };
 
@@ -75,17 +72,16 @@ impl<'a> Model for LentSequence<'a> {
       width = s.width;
       low = s.low.now;
       upper = s.upper;
-      ones = sampled s.ones;
-      zeros = sampled s.zeros;
+      hints = s.hints.now;
     } };
 
-    ghost invariant = { λ s. HasLengths (parts_of s.len s.width s.low.now s.upper) };
+    ghost invariant = { λ s. HasLengths (with_hints s.hints.now (parts_of s.len s.width s.low.now s.upper)) };
 }
 
 impl<'a> LentSequence<'a> {
     /// Borrows the parts of `len` numbers: `width` low bits of each in `low`, and the words of the high bits with their
     /// tables in `upper`. `None` exactly where there are 2^56 numbers or more, more than 63 low bits of each, or where
-    /// `low` is not as long as the low bits need. The sequence has no samples.
+    /// `low` is not as long as the low bits need. The sequence has no hints.
     #[inline(always)]
     pub fn over(len: usize, width: u8, low: &'a [u64], upper: Lent<'a>) -> Option<LentSequence<'a>>
         ensures { SomeIff result (HasLengths (parts_of len width low.now upper.entry))
@@ -102,28 +98,27 @@ impl<'a> LentSequence<'a> {
             width,
             low,
             upper,
-            ones: LentSamples::none(),
-            zeros: LentSamples::none(),
+            hints: &[],
         })
     }
 
-    /// The sequence with samples of the 1 bits and of the 0 bits of its high bits, in place of those that it had; the
-    /// list is empty where there are none. The samples that `Lent::build_samples` writes shorten the searches, and no
-    /// samples change an answer.
-    ///
-    /// # Cost
-    /// A selection from samples has the cost of `Lent::sampled_select`.
+    /// The sequence with hints of its high bits, in place of the hints that it had: the hints of the 1 bits and after
+    /// them the hints of the 0 bits, as `write_hints` of `bitm_selection` writes them, or an empty list. They shorten
+    /// the selections. `None` exactly where the list is neither empty nor as long as `hints_len` of `bitm_selection`
+    /// says.
     ///
     /// ```
-    /// let primes = primes.with_samples(ones, zeros);
+    /// let Some(primes) = primes.with_hints(&hints) else { return };
     /// primes.get(4);   // Found(11)
     /// ```
     #[inline(always)]
-    pub fn with_samples(self, ones: LentSamples<'a>, zeros: LentSamples<'a>) -> LentSequence<'a>
-        ensures parts { result ≡ record self.entry { ones = result.ones; zeros = result.zeros } }
-        ensures ones { result.ones ≡ sampled ones.entry }
-        ensures zeros { result.zeros ≡ sampled zeros.entry }
+    pub fn with_hints(self, hints: &'a [u64]) -> Option<LentSequence<'a>>
+        ensures { SomeIff result (HasLengths (with_hints hints.now self.entry))
+            (with_hints hints.now self.entry) }
     {
+        if !hints.is_empty() && hints.len() != hints_len(self.len, self.upper.words().len()) {
+            return None;
+        }
         let LentSequence {
             len,
             width,
@@ -131,48 +126,13 @@ impl<'a> LentSequence<'a> {
             upper,
             ..
         } = self;
-        LentSequence {
+        Some(LentSequence {
             len,
             width,
             low,
             upper,
-            ones,
-            zeros,
-        }
-    }
-
-    /// The search for the entry of a 1 bit among the high bits.
-    #[inline(always)]
-    fn by_ones(&self) -> ByGuess<'a> {
-        ByGuess { samples: self.ones }
-    }
-
-    /// The search for the entry of a 0 bit among the high bits.
-    #[inline(always)]
-    fn by_zeros(&self) -> ByGuess<'a> {
-        ByGuess {
-            samples: self.zeros,
-        }
-    }
-
-    /// Writes the position with each rank among the high bits, or `NO_ANSWER` for `Absent` and `WRONG_TABLES` for
-    /// `Wrong`, from the samples where there are some. Of 0 bits where `BIT` is 0.
-    #[inline(always)]
-    fn select_each<const BIT: u8>(
-        &self,
-        samples: &LentSamples<'_>,
-        ranks: &[usize],
-        out: &mut [usize],
-    )
-        requires room { length out.old ≡ length ranks.now }
-        ensures told { ToldEach (as_bit BIT) self.now.upper ranks.now out.new }
-    {
-        if samples.samples.is_empty() {
-            self.upper.select_list::<BIT>(ranks, out);
-        } else {
-            let source = &mut self.upper.probe();
-            select_list_on::<BIT, Probe<'_>, LentSamples<'_>>(source, samples, ranks, out);
-        }
+            hints,
+        })
     }
 
     /// The number of numbers, less than 2^56.
@@ -184,16 +144,27 @@ impl<'a> LentSequence<'a> {
         self.len
     }
 
-    /// Whether the parts are those of some sequence, tables included. One pass over the words of the high bits for the
-    /// tables, and one more for the numbers, which reads the low bits of those next to one another with the same high
-    /// bits.
+    /// Whether the parts form a sequence, tables and hints included. One pass over the words of the high bits for the
+    /// tables, and one more for the numbers, which reads the low bits of numbers next to one another with the same high
+    /// bits; then one selection for each hint.
     pub fn check(&self) -> bool
         ensures { IsTrue result ↔ AreParts self.now }
     {
-        self.upper.check() && are_parts(self.upper.words(), self.low, self.width, self.len)
+        self.leads() && are_parts(self.upper.words(), self.low, self.width, self.len)
     }
 
-    /// Whether each number is greater than the one before it, where the parts are those of a sequence.
+    /// Whether the tables match the words of the high bits, and so do the hints, if there are some.
+    fn leads(&self) -> bool
+        ensures { IsTrue result
+            ↔ (HasTables self.now.upper × Lead self.now.len self.now.hints self.now.upper.words) }
+    {
+        if !self.upper.check() {
+            return false;
+        }
+        self.hints.is_empty() || are_all_hints(&mut self.upper.probe(), self.len, self.hints)
+    }
+
+    /// Whether each number is greater than the one before it, where the parts form a sequence.
     ///
     /// # Cost
     /// One pass over the words of the high bits, which reads the low bits of numbers next to one another with the same
@@ -230,11 +201,11 @@ impl<'a> LentSequence<'a> {
         }
         let count = (places.len() - at).min(SELECTIONS_SIDE_BY_SIDE);
         let next = &places[at..at + count];
-        self.select_each::<1>(&self.ones, next, &mut ones[0..count]);
+        self.upper.select_list::<1>(next, &mut ones[0..count]);
     }
 
     /// At each sixteenth value of the list, selects the 0 bits of the buckets of the next sixteen side by side: the 0
-    /// bits before the buckets where `less` is 1, and those after them where it is 0.
+    /// bits before the buckets where `less` is 1, and the 0 bits after them where it is 0.
     #[inline(always)]
     pub(crate) fn zeros_ahead(&self, values: &[u64], at: usize, less: usize, zeros: &mut [usize])
         requires at { at < length values.now }
@@ -276,7 +247,7 @@ impl<'a> LentSequence<'a> {
     {
         let mut ranks = [0; SELECTIONS_SIDE_BY_SIDE];
         rank_each(values, self.width, less, &mut ranks);
-        self.select_each::<0>(&self.zeros, &ranks[0..values.len()], zeros);
+        self.upper.select_list::<0>(&ranks[0..values.len()], zeros);
     }
 
     /// Number `place`, from the code `one` of the position of its 1 bit.
@@ -300,26 +271,26 @@ impl<'a> LentSequence<'a> {
         place_of(&mut self.low_digits(), self.len, v, begin, end)
     }
 
-    /// Number `i` where the parts are those of a sequence. Whatever they hold, the answer is `Absent` exactly where
-    /// there is no such number.
+    /// Number `i` where the parts form a sequence. Whatever they hold, the answer is `Absent` exactly where there is no
+    /// such number.
     ///
     /// # Cost
-    /// That of `total_item_by`: one selection, and the low bits of at most one number.
+    /// The cost of `hinted_item_on`: one selection, and the low bits of at most one number.
     #[inline(always)]
     pub fn get(&self, i: usize) -> Answer<u64>
         ensures inside { IsOfPlace self.now.len i result }
         ensures answer { (xs : List ℕ) → Holds xs self.now → IsItem xs i result }
     {
         let (source, low) = (&mut self.upper.probe(), &mut self.low_digits());
-        total_item_by(source, &self.by_ones(), low, self.len, i)
+        hinted_item_on(source, self.hints, low, self.len, i)
     }
 
     /// The successor of `v`: the least index whose number is at least `v`, and `Absent` exactly where each number is
-    /// less, where the parts are those of a sequence. Whatever they hold, the answer is `Wrong`, or the parts claim
-    /// that all numbers before the index are less than `v`, or all numbers for `Absent`.
+    /// less, where the parts form a sequence. Whatever they hold, the answer is `Wrong`, or the parts claim that all
+    /// numbers before the index are less than `v`, or all numbers for `Absent`.
     ///
     /// # Cost
-    /// That of `total_first_at_least_by`.
+    /// The cost of `hinted_first_at_least_on`.
     #[inline]
     pub fn first_at_least(&self, v: u64) -> Answer<usize>
         ensures inside { IsPlaceOf self.now.len result }
@@ -327,7 +298,7 @@ impl<'a> LentSequence<'a> {
         ensures answer { (xs : List ℕ) → Holds xs self.now → IsSuccessorOf xs v result }
     {
         let (source, low) = (&mut self.upper.probe(), &mut self.low_digits());
-        total_first_at_least_by(source, &self.by_zeros(), low, self.len, v)
+        hinted_first_at_least_on(source, self.hints, low, self.len, v)
     }
 }
 

@@ -1,4 +1,4 @@
-//! The numbers of a sequence in a range, over any source of the words of its high bits: what is read is counted.
+//! The numbers of a sequence in a range, over any source of the words of its high bits: reads are counted.
 ghost use Rattle.std.specs.Prelude.{◌+◌, ◌*◌, ◌<◌, ◌≤◌, ◌↔◌, ℕ, List, length, slice_index};
 ghost use Rattle.bitm.specs.Bits.{digit_count};
 ghost use Rattle.bitm.specs.Reads.{OnlyReads};

@@ -43,7 +43,7 @@ pub fn ones_after_sorting<I: Access>(level: &I, from: usize, to: usize) -> (usiz
 /// `number_if_member` over any source: a word for the bit, and the rank of a member.
 ///
 /// # Conditions
-/// The source's tables are those of its words, of fewer than 2^58 words.
+/// The source's tables match its words, which are fewer than 2^58.
 /// # Cost
 /// At most one upper entry, one lower entry and nine words are read; one word alone where the position is no member.
 pub fn number_on<T: TableSource>(source: &mut T, place: usize) -> Option<usize>

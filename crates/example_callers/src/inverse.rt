@@ -5,7 +5,7 @@ ghost use Rattle.bitm.specs.Count.{ones_of, zeros_of};
 
 use bitm::{Rank, Select, Select0};
 
-/// The ones before the one of this rank: as many as the rank says.
+/// The number of 1 bits before the 1 bit of this rank: the rank.
 ///
 /// # Conditions
 /// There are more than `rank` ones.
@@ -16,7 +16,7 @@ pub fn rank_of_selected<I: Rank + Select>(index: &I, rank: usize) -> usize
     index.rank(index.select(rank))
 }
 
-/// The zeros before the zero of this rank: as many as the rank says.
+/// The number of 0 bits before the 0 bit of this rank: the rank.
 ///
 /// # Conditions
 /// There are more than `rank` zeros.
@@ -51,7 +51,7 @@ pub fn select0_of_rank<I: Rank + Select0>(index: &I, place: usize) -> usize
     index.select0(index.rank0(place))
 }
 
-/// The ones and the zeros among the first `index` bits: together as many as these bits, at the exact length too.
+/// The number of 1 bits and 0 bits among the first `index` bits: together `index`, at the exact length too.
 ///
 /// # Conditions
 /// There are at least `index` bits.
@@ -63,7 +63,7 @@ pub fn ranks_add_up<I: Rank>(bits: &I, index: usize) -> usize
     bits.rank(index) + bits.rank0(index)
 }
 
-/// The number of 1 bits from that of this rank on, itself included.
+/// The number of 1 bits from the 1 bit of this rank on, itself included.
 ///
 /// # Conditions
 /// There are more than `rank` ones.

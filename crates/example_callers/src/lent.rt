@@ -7,7 +7,7 @@ ghost use Rattle.bitm_view.specs.Sizes.{lists_of};
 
 use bitm_view::{Answer, Lent, build};
 
-/// Makes the tables those of the words, unless they are; false exactly where their lengths are not right.
+/// Makes the tables match the words, unless they do; false exactly where their lengths are not right.
 pub fn repair(words: &[u64], upper: &mut [usize], lower: &mut [u64]) -> bool
     ensures done { IsTrue result ↔ HasSizes (lists_of words.now upper.old lower.old) }
     ensures sizes { IsTrue result → HasSizes (lists_of words.now upper.new lower.new) }

@@ -5,14 +5,14 @@ ghost use Rattle.elias_fano_view.specs.LentParts.{AreParts, Holds};
 
 use elias_fano_view::{Answer, LentSequence};
 
-/// The parts are those of no sequence.
+/// The parts form no sequence.
 #[derive(Clone, Copy, Debug, PartialEq, Eq)]
 pub struct NoSequence;
 
 /// The least number that is at least `v`; `None` where each number is less.
 ///
 /// # Errors
-/// `NoSequence` exactly where the parts are those of no sequence.
+/// `NoSequence` exactly where the parts form no sequence.
 pub fn least_from(sequence: &LentSequence<'_>, v: u64) -> Result<Option<u64>, NoSequence>
     ensures found { (xs : List ℕ) → Holds xs sequence.now → IfOk result
         (λ o. MatchOption o (All (λ x. x < v) xs)

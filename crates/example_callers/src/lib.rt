@@ -1,4 +1,4 @@
-//! Code of a user of the library, proved: short files to copy from, each with a head that says what it shows.
+//! Code of a user of the library, proved: short files to copy from, each with a head that says what the file shows.
 //!
 //! | To do | File |
 //! |---|---|

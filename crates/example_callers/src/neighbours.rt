@@ -26,8 +26,8 @@ pub fn run_of_ones<I: Rank + Select0>(index: &I, place: usize) -> (usize, usize)
     (start, end)
 }
 
-/// The member in the middle of those from `from` up to `to`, and how many these are; `None` exactly
-/// where there is none.
+/// The member in the middle of the members from `from` up to `to`, and how many these are; `None` exactly where there
+/// is none.
 ///
 /// # Conditions
 /// `from` is no more than `to`, and there are at least `to` bits.

@@ -23,8 +23,8 @@ pub fn mark(content: &mut BoxedSlice<u64, Global>, place: usize)
     words::set_bit(content.as_mut_slice(), place);
 }
 
-/// Of 2048 bits of which bit 100 alone is a 1 bit: the number of 1 bits among the first `index`, and the position of
-/// the 1 bit with `rank` 1 bits before it.
+/// Of 2048 bits, where bit 100 alone is a 1 bit: the number of 1 bits among the first `index`, and the position of the
+/// 1 bit with `rank` 1 bits before it.
 ///
 /// # Errors
 /// `AllocError` if no memory was found.

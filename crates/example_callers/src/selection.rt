@@ -16,7 +16,7 @@ use std::convert::AsSlice;
 /// How many 0 bits stand between the 1 bit of a rank and the next 1 bit.
 ///
 /// # Conditions
-/// The source's tables are those of its words, in which the finder finds bits, and both 1 bits are there.
+/// The source's tables match its words, in which the finder finds bits, and both 1 bits are there.
 /// # Cost
 /// Two searches.
 #[tactic(auto, using(bitm::proofs::Callers::ones_are_bits))]
@@ -42,7 +42,7 @@ pub fn gap_by<F: Finds, T: TableSource>(finder: &F, source: &mut T, rank: usize)
 /// `gap_by` in any words, by binary search.
 ///
 /// # Conditions
-/// The source's tables are those of its words, and both 1 bits are there.
+/// The source's tables match its words, and both 1 bits are there.
 /// # Cost
 /// What two selections by binary search read.
 pub fn gap_on<T: TableSource>(source: &mut T, rank: usize) -> usize

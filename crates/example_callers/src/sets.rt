@@ -49,7 +49,7 @@ pub fn differ(set: &mut [u64], other: &[u64])
     words::xor(set, other);
 }
 
-/// Whether number `i` of those that word `k` holds is in the set: digit `i` of the word.
+/// Whether number `i` of the numbers that word `k` holds is in the set: digit `i` of the word.
 ///
 /// # Conditions
 /// There is a word `k`, of fewer than 2^58 words, and `i` is below 64.

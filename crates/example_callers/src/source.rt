@@ -9,7 +9,7 @@ ghost use Rattle.bitm.specs.Tables.{IsIndexed, bits_in};
 use bitm::{ReadCounts, TableSource, binary_select_on, rank_on};
 use std::marker::Model;
 
-/// Words and two tables in vectors, and what was read of them.
+/// Words and two tables in vectors, and their reads so far.
 #[derive(Drop)]
 pub struct Kept {
     words: Vec<u64>,
@@ -83,7 +83,7 @@ impl TableSource for Kept {
 /// How many of the first `index` bits are ones; `None` exactly where there are fewer bits.
 ///
 /// # Conditions
-/// The tables are those of the words, of which there are fewer than 2^58.
+/// The tables match the words, which are fewer than 2^58.
 pub fn rank_in(kept: &mut Kept, index: usize) -> Option<usize>
     requires { IsIndexed kept.old.lists }
     ensures answer { IsRank (bits_in kept.old.lists) index result }
@@ -95,7 +95,7 @@ pub fn rank_in(kept: &mut Kept, index: usize) -> Option<usize>
 /// The position of the 0 bit with exactly `rank` 0 bits before it; `None` exactly where there is none.
 ///
 /// # Conditions
-/// The tables are those of the words, of which there are fewer than 2^58.
+/// The tables match the words, which are fewer than 2^58.
 pub fn select0_in(kept: &mut Kept, rank: usize) -> Option<usize>
     requires { IsIndexed kept.old.lists }
     ensures answer { IsSelect (bits_in kept.old.lists) false rank result }

@@ -78,7 +78,7 @@ pub fn lent_once(vector: &mut Vec<u64>)
     in_a_slice(vector.as_mut_slice());
 }
 
-/// Appends words to a vector: its bits are those that were there, and then those of the words.
+/// Appends words to a vector: its bits are the bits that were there, and then the bits of the words.
 ///
 /// # Errors
 /// `AllocError` if memory was refused; the vector is as it was.

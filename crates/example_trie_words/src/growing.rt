@@ -33,7 +33,7 @@ fn bits_of(alloc: Global, words: &[u64], len: usize) -> Result<Vec<bool>, AllocE
     Ok(bits)
 }
 
-/// The labels of all nodes: that of the root is 0.
+/// The labels of all nodes; the root's label is 0.
 fn with_root(alloc: Global, letters: &[u64]) -> Result<Vec<u64>, AllocError> {
     let mut labels = Vec::new(alloc);
     labels.push(0)?;

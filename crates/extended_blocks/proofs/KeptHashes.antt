@@ -5,10 +5,10 @@ use Rattle.bitm_tables.specs.Tables.{bits_in, Lists}
 use Rattle.bitm_block.specs.Header.{count_in, section_in}
 use Rattle.bitm_block.specs.declared.head.Head.{Head}
 use Rattle.bitm_block.specs.declared.layout.Section.{Section}
-use Rattle.block_sections.proofs.ExtendLemmas.{count_is, entry_is}
+use Rattle.block_sections.proofs.ExtendLemmas.{count_is, entry_is, kind_kept}
 use Rattle.block_sections.specs.Extended.{IsExtended}
 use Rattle.block_tables.specs.Sections.{tables_in}
-use Rattle.extended_blocks.proofs.KeptLemmas.{last_role, role_is, table_sections, tables_are}
+use Rattle.extended_blocks.proofs.KeptLemmas.{last_role, role_is, tables_are}
 use Rattle.extended_blocks.specs.Hashes.{AddsKeys, KeepsDictionary, KeepsHash, KeepsSeeded}
 use Rattle.hash_block.specs.Block.{hash_in, IsHashBlock, IsSoundBlock}
 use Rattle.hash_block.specs.Dictionary.{dictionary_in, number_of_key, AreKeys, DictionaryParts, IsDictionaryBlock, IsDictionaryIn, IsSoundDictionary, StandAtNumbers}
@@ -45,13 +45,9 @@ module _ (block : List ℕ) (added : Section) (words new : List ℕ) (is : IsExt
 
   opened_hash : IsHashBlock block → IsHashBlock new
   opened_hash old =
-      let four = old.sections.four in record {
+      let four = old.sections.many in record {
         is_block = is.is_block;
-        sections = record {
-          tables = table_sections block added words new is 5 old.sections.tables;
-          four = omega (arith, four, count_is block added words new is);
-          sizes = role_is block added words new is 3 (omega (arith, four)) ∙ old.sections.sizes;
-        };
+        sections = kind_kept block added words new is _ _ old.sections;
         lengths = subst (λ (p : HashParts). HasLengths p) (sym (hash_is four)) old.lengths;
       }
 
@@ -59,7 +55,7 @@ module _ (block : List ℕ) (added : Section) (words new : List ℕ) (is : IsExt
   sound_hash old = record {
     hash_block = opened_hash old.hash_block;
     verified = is.verified;
-    hash = subst (λ (p : HashParts). IsHash p) (sym (hash_is old.hash_block.sections.four)) old.hash;
+    hash = subst (λ (p : HashParts). IsHash p) (sym (hash_is old.hash_block.sections.many)) old.hash;
   }
 
   -- ---- dictionaries
@@ -131,17 +127,17 @@ module _ (block : List ℕ) (added : Section) (words new : List ℕ) (is : IsExt
   where_keys_are : IsHashBlock block → IsDictionaryBlock new → IsDictionaryBlock block ⊎ AddsKeys block added words
   where_keys_are old now =
       ⊎_elim
-      (λ less. inr (as_keys (omega (arith, less, old.sections.four)) now))
+      (λ less. inr (as_keys (omega (arith, less, old.sections.many)) now))
       (λ five. inl (as_before old five now))
       (cases_lt (count_in block) 5)
 
   pub keeps_hash : KeepsHash block added words new
   keeps_hash = record {
     opened = opened_hash;
-    parts = λ old. hash_is old.sections.four;
+    parts = λ old. hash_is old.sections.many;
     sound = sound_hash;
     levels = λ sizes b seed old.
-        let same = hash_is old.sound.hash_block.sections.four in record {
+        let same = hash_is old.sound.hash_block.sections.many in record {
           sound = sound_hash old.sound;
           sizes_are = ap (λ (p : HashParts). p.sizes) same ∙ old.sizes_are;
           bits = ap (λ (p : HashParts). bits_in p.lists) same ∙ old.bits;
@@ -163,14 +159,9 @@ module _ (block : List ℕ) (added : Section) (words new : List ℕ) (is : IsExt
 
   opened_seeded : seeded.IsSeededBlock block → seeded.IsSeededBlock new
   opened_seeded old =
-      let five = old.sections.five in record {
+      let five = old.sections.many in record {
         is_block = is.is_block;
-        sections = record {
-          tables = table_sections block added words new is 5 old.sections.tables;
-          five = omega (arith, five, count_is block added words new is);
-          seeds = role_is block added words new is 3 (omega (arith, five)) ∙ old.sections.seeds;
-          sizes = role_is block added words new is 4 (omega (arith, five)) ∙ old.sections.sizes;
-        };
+        sections = kind_kept block added words new is _ _ old.sections;
         lengths = subst (λ (p : SeededParts). HasSeeds p) (sym (seeded_is five)) old.lengths;
       }
 
@@ -178,16 +169,16 @@ module _ (block : List ℕ) (added : Section) (words new : List ℕ) (is : IsExt
   sound_seeded old = record {
     seeded_block = opened_seeded old.seeded_block;
     verified = is.verified;
-    hash = subst (λ (p : SeededParts). IsHash p.hash) (sym (seeded_is old.seeded_block.sections.five)) old.hash;
+    hash = subst (λ (p : SeededParts). IsHash p.hash) (sym (seeded_is old.seeded_block.sections.many)) old.hash;
   }
 
   pub keeps_seeded : KeepsSeeded block new
   keeps_seeded = record {
     opened = opened_seeded;
-    parts = λ old. seeded_is old.sections.five;
+    parts = λ old. seeded_is old.sections.many;
     sound = sound_seeded;
     levels = λ sizes b seeds seed old.
-        let five = old.sound.seeded_block.sections.five in
+        let five = old.sound.seeded_block.sections.many in
         let same = seeded_is five in record {
           sound = sound_seeded old.sound;
           sizes_are = ap (λ (p : SeededParts). p.hash.sizes) same ∙ old.sizes_are;

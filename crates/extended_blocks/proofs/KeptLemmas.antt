@@ -11,13 +11,11 @@ use Rattle.bitm_tables.specs.Tables.{bits_in, HasSizes, HasTables, Lists}
 use Rattle.bitm_view.specs.Block.{AreFirst}
 use Rattle.bitm_view.specs.Cut.{cut_at}
 use Rattle.bits_block.specs.Block.{bits_in_block, IsBitsBlock, IsSoundBlock}
-use Rattle.block_sections.proofs.ExtendLemmas.{count_is, entry_is}
+use Rattle.block_sections.proofs.ExtendLemmas.{count_is, entry_is, kind_kept}
 use Rattle.block_sections.specs.Extended.{IsExtended}
-use Rattle.block_tables.specs.Sections.{tables_in, HasTableSections}
-use Rattle.elias_fano.specs.LentParts.{parts_of, AreParts, HasLengths, Holds, LentParts}
-use Rattle.extended_blocks.specs.Kept.{KeepsIndex, KeepsSequence}
+use Rattle.block_tables.specs.Sections.{tables_in}
+use Rattle.extended_blocks.specs.Kept.{KeepsIndex}
 use Rattle.lent_tables.specs.Sizes.{lists_of}
-use Rattle.sequence_block.specs.Block.{sequence_in, IsBlockOfKind, IsSoundOfKind}
 
 module _ (block : List ℕ) (added : Section) (words new : List ℕ) (is : IsExtended block added words new) where
   pub role_is : (i : ℕ) → i < count_in block → (section_entry new i).role ≡ (section_entry block i).role
@@ -37,63 +35,15 @@ module _ (block : List ℕ) (added : Section) (words new : List ℕ) (is : IsExt
       ∙ ap (λ u. lists_of (section_in block 0) u (section_in new 2)) (is.kept 1 (omega (arith, three)))
       ∙ ap (λ l. lists_of (section_in block 0) (section_in block 1) l) (is.kept 2 (omega (arith, three)))
 
-  pub table_sections : (kind : ℕ) → HasTableSections kind block → HasTableSections kind new
-  table_sections kind has = record {
-    kind_is = ap (λ (h : Head). h.kind) is.head_is ∙ has.kind_is;
-    three = omega (arith, has.three, count_is block added words new is);
-    words = role_is 0 (omega (arith, has.three)) ∙ has.words;
-    upper = role_is 1 (omega (arith, has.three)) ∙ has.upper;
-    lower = role_is 2 (omega (arith, has.three)) ∙ has.lower;
-  }
-
-  -- ---- sequences
-  pub sequence_is : 4 ≤ count_in block → sequence_in new ≡ sequence_in block
-  sequence_is four =
-      ap (λ (h : Head). parts_of h.len h.width (section_in new 3) (tables_in new)) is.head_is
-      ∙ ap (λ l. parts_of (sequence_in block).len (sequence_in block).width l (tables_in new)) (is.kept 3 (omega (arith, four)))
-      ∙ ap (λ t. parts_of (sequence_in block).len (sequence_in block).width (section_in block 3) t) (tables_are (omega (arith, four)))
-
-  pub opened_sequence : (kind : ℕ) → IsBlockOfKind kind block → IsBlockOfKind kind new
-  opened_sequence kind old =
-      let four = old.sections.four in record {
-        is_block = is.is_block;
-        sections = record {
-          tables = table_sections kind old.sections.tables;
-          four = omega (arith, four, count_is block added words new is);
-          low = role_is 3 (omega (arith, four)) ∙ old.sections.low;
-        };
-        sized = subst (λ (t : Lists). HasSizes t) (sym (tables_are old.sections.tables.three)) old.sized;
-        lengths = subst (λ (p : LentParts). HasLengths p) (sym (sequence_is four)) old.lengths;
-      }
-
-  pub sound_sequence : (kind : ℕ) → IsSoundOfKind kind block → IsSoundOfKind kind new
-  sound_sequence kind old = record {
-    sequence_block = opened_sequence kind old.sequence_block;
-    verified = is.verified;
-    parts = subst (λ (p : LentParts). AreParts p) (sym (sequence_is old.sequence_block.sections.four)) old.parts;
-  }
-
-  pub keeps_sequence : (kind : ℕ) → KeepsSequence kind block new
-  keeps_sequence kind = record {
-    opened = opened_sequence kind;
-    parts = λ old. sequence_is old.sections.four;
-    sound = sound_sequence kind;
-    numbers = λ b xs old. record {
-      sound = sound_sequence kind old.sound;
-      holds = subst (λ (p : LentParts). Holds xs p) (sym (sequence_is old.sound.sequence_block.sections.four)) old.holds;
-      besides = ap (λ (h : Head). h.b) is.head_is ∙ old.besides;
-    };
-  }
-
   -- ---- bits with their index
   len_is : (bits_in_block new).len ≡ (bits_in_block block).len
   len_is = ap (λ (h : Head). h.len) is.head_is
 
   opened_bits : IsBitsBlock block → IsBitsBlock new
   opened_bits old =
-      let tables = tables_are old.sections.three in record {
+      let tables = tables_are old.sections.many in record {
         is_block = is.is_block;
-        sections = table_sections 2 old.sections;
+        sections = kind_kept block added words new is _ _ old.sections;
         sized = subst (λ (t : Lists). HasSizes t) (sym tables) old.sized;
         words_len = ap (λ (t : Lists). length t.words) tables ∙ old.words_len ∙ ap (λ n. div_ceil n 64) (sym len_is);
       }
@@ -102,17 +52,17 @@ module _ (block : List ℕ) (added : Section) (words new : List ℕ) (is : IsExt
   sound_bits old = record {
     bits_block = opened_bits old.bits_block;
     verified = is.verified;
-    tables = subst (λ (t : Lists). HasTables t) (sym (tables_are old.bits_block.sections.three)) old.tables;
+    tables = subst (λ (t : Lists). HasTables t) (sym (tables_are old.bits_block.sections.many)) old.tables;
   }
 
   pub keeps_index : KeepsIndex block new
   keeps_index = record {
     opened = opened_bits;
-    parts = λ old. ap (λ t. cut_at t (bits_in_block new).len) (tables_are old.sections.three) ∙ ap (cut_at (tables_in block)) len_is;
+    parts = λ old. ap (λ t. cut_at t (bits_in_block new).len) (tables_are old.sections.many) ∙ ap (cut_at (tables_in block)) len_is;
     sound = sound_bits;
     bits = λ b n old. record {
       sound = sound_bits old.sound;
       len = len_is ∙ old.len;
-      bits = subst (λ (t : Lists). AreFirst b n (bits_in t)) (sym (tables_are old.sound.bits_block.sections.three)) old.bits;
+      bits = subst (λ (t : Lists). AreFirst b n (bits_in t)) (sym (tables_are old.sound.bits_block.sections.many)) old.bits;
     };
   }

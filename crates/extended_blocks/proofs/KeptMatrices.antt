@@ -4,7 +4,7 @@ use Rattle.std.proofs.lemmas.Bool.{and_left, and_parts, and_right, cases_lt, le-
 use Rattle.bitm_block.specs.Header.{count_in, section_in}
 use Rattle.bitm_block.specs.declared.head.Head.{Head}
 use Rattle.bitm_block.specs.declared.layout.Section.{Section}
-use Rattle.block_sections.proofs.ExtendLemmas.{count_is}
+use Rattle.block_sections.proofs.ExtendLemmas.{count_is, kind_kept}
 use Rattle.block_sections.specs.Extended.{IsExtended}
 use Rattle.extended_blocks.proofs.KeptLemmas.{last_role, role_is, tables_are}
 use Rattle.extended_blocks.specs.Matrices.{AddsNoQuarters, KeepsMatrix}
@@ -59,17 +59,9 @@ module _ (block : List ℕ) (added : Section) (words new : List ℕ) (none : Add
 
   opened_matrix : IsMatrixBlock block → IsMatrixBlock new
   opened_matrix old =
-      let five = old.sections.five in record {
+      let five = old.sections.many in record {
         is_block = is.is_block;
-        sections = record {
-          kind = ap (λ (h : Head). h.kind) is.head_is ∙ old.sections.kind;
-          five = omega (arith, five, count_is block added words new is);
-          words = role_is block added words new is 0 (omega (arith, five)) ∙ old.sections.words;
-          upper = role_is block added words new is 1 (omega (arith, five)) ∙ old.sections.upper;
-          lower = role_is block added words new is 2 (omega (arith, five)) ∙ old.sections.lower;
-          ones = role_is block added words new is 3 (omega (arith, five)) ∙ old.sections.ones;
-          zeros = role_is block added words new is 4 (omega (arith, five)) ∙ old.sections.zeros;
-        };
+        sections = kind_kept block added words new is _ _ old.sections;
         lengths = subst (λ (p : MatrixParts). HasLengths p) (sym (matrix_is five)) old.lengths;
       }
 
@@ -77,17 +69,17 @@ module _ (block : List ℕ) (added : Section) (words new : List ℕ) (none : Add
   sound_matrix old = record {
     matrix_block = opened_matrix old.matrix_block;
     verified = is.verified;
-    matrix = subst (λ (p : MatrixParts). HoldsMatrix p) (sym (matrix_is old.matrix_block.sections.five)) old.matrix;
+    matrix = subst (λ (p : MatrixParts). HoldsMatrix p) (sym (matrix_is old.matrix_block.sections.many)) old.matrix;
   }
 
   pub keeps_matrix : KeepsMatrix block new
   keeps_matrix = record {
     opened = opened_matrix;
-    parts = λ old. matrix_is old.sections.five;
+    parts = λ old. matrix_is old.sections.many;
     sound = sound_matrix;
     numbers = λ xs w old. record {
       sound = sound_matrix old.sound;
       width = ap (λ (h : Head). h.width) is.head_is ∙ old.width;
-      items = ap items_in (matrix_is old.sound.matrix_block.sections.five) ∙ old.items;
+      items = ap items_in (matrix_is old.sound.matrix_block.sections.many) ∙ old.items;
     };
   }

@@ -3,9 +3,8 @@ use Rattle.std.proofs.Common.{◌≡◌, ℕ, ◌+◌, ◌*◌, ◌<◌, ◌≤�
 use Rattle.bitm_block.specs.Header.{count_in, section_in}
 use Rattle.bitm_block.specs.declared.head.Head.{Head}
 use Rattle.bitm_block.specs.declared.layout.Section.{Section}
-use Rattle.block_sections.proofs.ExtendLemmas.{count_is}
+use Rattle.block_sections.proofs.ExtendLemmas.{kind_kept}
 use Rattle.block_sections.specs.Extended.{IsExtended}
-use Rattle.extended_blocks.proofs.KeptLemmas.{role_is}
 use Rattle.extended_blocks.specs.Texts.{KeepsText}
 use Rattle.lent_levels.specs.Levels.{levels_of}
 use Rattle.lent_tables.specs.Sizes.{lists_of}
@@ -50,32 +49,10 @@ module _ (block : List ℕ) (added : Section) (words new : List ℕ) (is : IsExt
 
   opened_text : IsTextBlock block → IsTextBlock new
   opened_text old =
-      let thirteen = old.sections.thirteen in
-      let role : (i : ℕ) → i < 13 → slice_index new (16 + 4 * i) ≡ slice_index block (16 + 4 * i) =
-      λ i less. role_is block added words new is i (omega (arith, less, thirteen)) in
+      let thirteen = old.sections.many in
       record {
         is_block = is.is_block;
-        sections = record {
-          kind = ap (λ (h : Head). h.kind) is.head_is ∙ old.sections.kind;
-          thirteen = omega (arith, thirteen, count_is block added words new is);
-          letters = record {
-            words_are = role 0 (omega arith) ∙ old.sections.letters.words_are;
-            upper = role 1 (omega arith) ∙ old.sections.letters.upper;
-            lower = role 2 (omega arith) ∙ old.sections.letters.lower;
-            ones = role 3 (omega arith) ∙ old.sections.letters.ones;
-            zeros = role 4 (omega arith) ∙ old.sections.letters.zeros;
-            after = role 5 (omega arith) ∙ old.sections.letters.after;
-          };
-          marks = record {
-            words_are = role 6 (omega arith) ∙ old.sections.marks.words_are;
-            upper = role 7 (omega arith) ∙ old.sections.marks.upper;
-            lower = role 8 (omega arith) ∙ old.sections.marks.lower;
-            ones = role 9 (omega arith) ∙ old.sections.marks.ones;
-            zeros = role 10 (omega arith) ∙ old.sections.marks.zeros;
-            after = role 11 (omega arith) ∙ old.sections.marks.after;
-          };
-          used = role 12 (omega arith) ∙ old.sections.used;
-        };
+        sections = kind_kept block added words new is _ _ old.sections;
         lengths = subst (λ (p : TextParts). HasTextLengths p) (sym (parts_are thirteen)) old.lengths;
       }
 
@@ -83,12 +60,12 @@ module _ (block : List ℕ) (added : Section) (words new : List ℕ) (is : IsExt
   sound_text old = record {
     text_block = opened_text old.text_block;
     verified = is.verified;
-    index = subst (λ (p : TextParts). HoldsIndex p) (sym (parts_are old.text_block.sections.thirteen)) old.index;
+    index = subst (λ (p : TextParts). HoldsIndex p) (sym (parts_are old.text_block.sections.many)) old.index;
   }
 
   same_text : (x : Indexed) (used : List ℕ) → IsBlockWith x used block → IsBlockWith x used new
   same_text x used old =
-      let same = parts_are old.sound.text_block.sections.thirteen in record {
+      let same = parts_are old.sound.text_block.sections.many in record {
         sound = sound_text old.sound;
         text = ap text_of_parts same ∙ old.text;
         letters = ap (λ (p : TextParts). length p.tables.starts) same ∙ old.letters;
@@ -107,13 +84,13 @@ module _ (block : List ℕ) (added : Section) (words new : List ℕ) (is : IsExt
     used = old.used;
     uses = old.uses;
     made = same_made _ _ _ step old.used old.made;
-    bytes = ap bytes_of_parts (parts_are old.made.2.sound.text_block.sections.thirteen) ∙ old.bytes;
+    bytes = ap bytes_of_parts (parts_are old.made.2.sound.text_block.sections.many) ∙ old.bytes;
   }
 
   pub keeps_text : KeepsText block new
   keeps_text = record {
     opened = opened_text;
-    parts = λ old. parts_are old.sections.thirteen;
+    parts = λ old. parts_are old.sections.many;
     sound = sound_text;
     letters = same_made;
     bytes = same_bytes;

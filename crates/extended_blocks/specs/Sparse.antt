@@ -1,7 +1,8 @@
--- The block of sparse bits that is extended by a section is that of the same bits.
+-- The block of sparse bits that is extended by a section is that of the same bits, where the section is not taken for hints.
 use Rattle.std.specs.Prelude.{◌≡◌, ℕ, List}
 use Rattle.bitm_block.specs.declared.layout.Section.{Section}
 use Rattle.block_sections.specs.Extended.{IsExtended}
+use Rattle.extended_blocks.specs.Kept.{AddsNoHints}
 use Rattle.sparse_block.specs.Block.{sparse_in, IsBlockOf, IsSoundBlock, IsSparseBlock}
 
 -- the new block is opened and checked as the old one, of the same parts, and is the block of the same bits
@@ -12,4 +13,5 @@ pub record KeepsSparse (block new : List ℕ) : Type 0 where
   pub bits : (xs : List ℕ) (n : ℕ) → IsBlockOf xs n block → IsBlockOf xs n new
 
 abbrev pub KeepsSparseBits : Type 0
-KeepsSparseBits = (block : List ℕ) (added : Section) (words new : List ℕ) → IsExtended block added words new → KeepsSparse block new
+KeepsSparseBits =
+    (block : List ℕ) (added : Section) (words new : List ℕ) → AddsNoHints 4 block added → IsExtended block added words new → KeepsSparse block new

@@ -2,6 +2,7 @@
 use Rattle.std.specs.Prelude.{◌≡◌, ℕ, List}
 use Rattle.bitm_block.specs.declared.layout.Section.{Section}
 use Rattle.block_sections.specs.Extended.{IsExtended}
+use Rattle.extended_blocks.specs.Kept.{AddsNoHints}
 use Rattle.louds_block.specs.Block.{tree_in, HoldsTree, IsBlockOf, IsTreeBlock}
 use Rattle.trie_block.specs.Block as tries
 
@@ -13,7 +14,8 @@ pub record KeepsTree (block new : List ℕ) : Type 0 where
   pub degrees : (degrees : List ℕ) → IsBlockOf degrees block → IsBlockOf degrees new
 
 abbrev pub KeepsTrees : Type 0
-KeepsTrees = (block : List ℕ) (added : Section) (words new : List ℕ) → IsExtended block added words new → KeepsTree block new
+KeepsTrees =
+    (block : List ℕ) (added : Section) (words new : List ℕ) → AddsNoHints 3 block added → IsExtended block added words new → KeepsTree block new
 
 -- the same of a trie
 pub record KeepsTrie (block new : List ℕ) : Type 0 where
@@ -24,4 +26,5 @@ pub record KeepsTrie (block new : List ℕ) : Type 0 where
       → tries.IsBlockOf degrees labels width ends new
 
 abbrev pub KeepsTries : Type 0
-KeepsTries = (block : List ℕ) (added : Section) (words new : List ℕ) → IsExtended block added words new → KeepsTrie block new
+KeepsTries =
+    (block : List ℕ) (added : Section) (words new : List ℕ) → AddsNoHints 5 block added → IsExtended block added words new → KeepsTrie block new

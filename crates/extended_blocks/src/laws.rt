@@ -7,60 +7,70 @@ ghost use Rattle.extended_blocks.specs.Strings.{KeepsStrings};
 ghost use Rattle.extended_blocks.specs.Texts.{KeepsTexts};
 ghost use Rattle.extended_blocks.specs.Trees.{KeepsTrees, KeepsTries};
 
-/// What opens as a sequence, passes its check or is the block of numbers does so with one section more, whichever kind
-/// of sequence it is (sparse bits are one), and the parts are the same.
+/// A block of a sequence, of whichever kind (sparse bits are one), still opens, passes its check and is the block of
+/// the same numbers with one section more, and has the same parts, where the section is not taken for hints.
 pub fn keeps_sequences()
     ensures { KeepsSequences }
 {}
 
-/// The same of bits with their index.
+/// A block of bits with their index still opens, passes its check and is the block of the same bits with one section
+/// more, and has the same parts.
 pub fn keeps_indexes()
     ensures { KeepsIndexes }
 {}
 
-/// The same of trees.
+/// A block of a tree still opens, passes its check and is the block of the same degrees with one section more, and has
+/// the same parts, where the section is not taken for hints.
 pub fn keeps_trees()
     ensures { KeepsTrees }
 {}
 
-/// The same of tries.
+/// A block of a trie still opens, passes its check and is the block of the same trie with one section more, and has the
+/// same parts, where the section is not taken for hints.
 pub fn keeps_tries()
     ensures { KeepsTries }
 {}
 
-/// The same of sparse bits.
+/// A block of sparse bits still opens, passes its check and is the block of the same bits with one section more, and
+/// has the same parts, where the section is not taken for hints.
 pub fn keeps_sparse_bits()
     ensures { KeepsSparseBits }
 {}
 
-/// The same of matrices, where the section is not taken for quarters: the block has a sixth section already, or the
+/// A block of a matrix still opens, passes its check and is the block of the same numbers with one section more, and
+/// has the same parts, where the section is not taken for quarters: the block has a sixth section already, or the
 /// section has another role than 6.
 pub fn keeps_matrices()
     ensures { KeepsMatrices }
 {}
 
-/// The same of perfect hashes without seeds. The block is opened as a dictionary too exactly where it was before, or
-/// where the section is taken for keys: the block had four sections, and this one has role 5 and a word for each key.
+/// A block of a perfect hash without seeds still opens, passes its check and is the block of the same levels with one
+/// section more, and has the same parts. The block is opened as a dictionary too exactly where it was before, or where
+/// the section is taken for keys: the block had four sections, and this one has role 5 and a word for each key.
 pub fn keeps_hashes()
     ensures { KeepsHashes }
 {}
 
-/// The same of dictionaries.
+/// A block of a dictionary still opens, passes its check and is the block of the same dictionary with one section more,
+/// and has the same parts.
 pub fn keeps_dictionaries()
     ensures { KeepsDictionaries }
 {}
 
-/// The same of perfect hashes with seeds.
+/// A block of a perfect hash with seeds still opens, passes its check and is the block of the same levels and seeds
+/// with one section more, and has the same parts.
 pub fn keeps_seeded_hashes()
     ensures { KeepsSeededHashes }
 {}
 
-/// The same of strings.
+/// A block of strings still opens, passes its check and is the block of the same strings with one section more, and has
+/// the same parts.
 pub fn keeps_strings()
     ensures { KeepsStrings }
 {}
 
-/// The same of the indexes of texts, of letters and of bytes.
+/// A block of the index of a text, of letters or of bytes, still opens, passes its check and is the block of the same
+/// text with one section more, and has the same parts.
 pub fn keeps_texts()
     ensures { KeepsTexts }
 {}

@@ -1,4 +1,4 @@
-//! A block that is extended by a section holds what it held: laws of the kinds of blocks.
+//! A block that is extended by a section holds the same as before: laws of the kinds of blocks.
 //!
 //! `block_sections::extend` says of a block of any kind that its numbers and its sections stay. What its kind says of
 //! it stays too, and a caller that wants this calls a law here.

@@ -1,12 +1,12 @@
 -- What is written for a hash, or for a dictionary, is its block.
-use Rattle.std.proofs.Common.{◌≡◌, ℕ, ◌+◌, ◌*◌, ◌<◌, ◌≤◌, List, [], ◌∷◌, ◌++◌, length, get_or, slice_index, Option, refl, sym, ap, ◌∙◌, subst, arith}
+use Rattle.std.proofs.Common.{◌≡◌, ℕ, ◌+◌, ◌*◌, ◌<◌, ◌≤◌, List, [], ◌∷◌, ◌++◌, length, map, slice_index, take, Option, refl, sym, ap, ◌∙◌, subst, arith}
 use Rattle.std.proofs.lemmas.List.{append-nil}
 use Rattle.bit_lists.specs.Bits.{bits_of}
 use Rattle.bit_lists.specs.Count.{ones_of}
 use Rattle.bitm_tables.specs.Tables.{bits_in, HasSizes, HasTables, Lists}
-use Rattle.bitm_block.proofs.PartsLemmas.{count_is, entry_is, laid, part, part_is, section_is, HaveLengths, Part}
-use Rattle.bitm_block.specs.Header.{section_in}
-use Rattle.bitm_block.specs.Layout.{head_of, no_section, part_in}
+use Rattle.bitm_block.proofs.PartsLemmas.{count_is, entry_is, is_of_kind, laid, part, part_is, section_is, HaveLengths, Part}
+use Rattle.bitm_block.specs.Header.{section_in, IsOfKind}
+use Rattle.bitm_block.specs.Layout.{head_of, part_in}
 use Rattle.bitm_block.specs.Written.{IsSealed}
 use Rattle.bitm_block.specs.declared.head.Head.{Head}
 use Rattle.bitm_block.specs.declared.layout.Section.{Section}
@@ -39,26 +39,18 @@ stands words sizes head to gap upper gap2 lower gap3 found tail head_len to_is l
     })
 
 -- sections that begin as those of a hash
-record BeginAsHash (ss : List Section) : Type 0 where
-  four : 4 ≤ length ss
-  words : (get_or ss 0 no_section).role ≡ 1
-  upper : (get_or ss 1 no_section).role ≡ 2
-  lower : (get_or ss 2 no_section).role ≡ 3
-  sizes : (get_or ss 3 no_section).role ≡ 4
+abbrev BeginAsHash : List Section → Type 0
+BeginAsHash ss = (4 ≤ length ss) × (map (λ (s : Section). s.role) (take 4 ss) ≡ 1 ∷ 2 ∷ 3 ∷ 4 ∷ [])
 
 -- a sealed block whose sections hold the levels is that of their hash
 module _ (words sizes : List ℕ) (seed keys : ℕ) (ss : List Section) (old new : List ℕ) (sealed : IsSealed (hash_head keys seed) ss old new) where
   at : (i : ℕ) → i < length ss → section_in new i ≡ part_in ss old i
   at i less = section_is (hash_head keys seed) ss old new sealed i less
 
-  role_at : (i : ℕ) → i < length ss → slice_index new (16 + 4 * i) ≡ (get_or ss i no_section).role
-  role_at i less = ap (λ (s : Section). s.role) (entry_is (hash_head keys seed) ss old new sealed i less)
-
   hash_is : BeginAsHash ss → part_in ss old 0 ≡ words → AreParts words sizes (part_in ss old 1) (part_in ss old 2) (part_in ss old 3)
       → AreSizes sizes (bits_of words) → keys ≡ ones_of (bits_of words) → IsBlockOf sizes (bits_of words) seed new
   hash_is begin words_are parts levels ones =
-      let four = begin.four in
-      let count = count_is (hash_head keys seed) ss old new sealed in
+      let four = begin.0 in
       let words_is : section_in new 0 ≡ words = at 0 (omega (arith, four)) ∙ words_are in
       let lists : tables_in new ≡ lists_of words (part_in ss old 1) (part_in ss old 2) =
       ap (λ w. lists_of w (section_in new 1) (section_in new 2)) words_is
@@ -71,17 +63,9 @@ module _ (words sizes : List ℕ) (seed keys : ℕ) (ss : List Section) (old new
         sound = record {
           hash_block = record {
             is_block = sealed.is_block;
-            sections = record {
-              tables = record {
-                kind_is = ap (λ (h : Head). h.kind) sealed.head_is;
-                three = omega (arith, count, four);
-                words = role_at 0 (omega (arith, four)) ∙ begin.words;
-                upper = role_at 1 (omega (arith, four)) ∙ begin.upper;
-                lower = role_at 2 (omega (arith, four)) ∙ begin.lower;
-              };
-              four = omega (arith, count, four);
-              sizes = role_at 3 (omega (arith, four)) ∙ begin.sizes;
-            };
+            sections =
+                subst (λ (roles : List ℕ). IsOfKind 5 roles new) begin.1
+                (is_of_kind (hash_head keys seed) ss new sealed.head_is sealed.sections_are 4 four);
             lengths = record {
               sized = subst (λ (l : Lists). HasSizes l) (sym lists) parts.sized;
               few = subst (λ (s : List ℕ). length s ≤ 256) (sym sizes_is) levels.few;
@@ -107,7 +91,7 @@ pub block_is : (words sizes : List ℕ) (seed keys : ℕ) (old new : List ℕ)
     → AreSizes sizes (bits_of words) → keys ≡ ones_of (bits_of words) → IsBlockOf sizes (bits_of words) seed new
 block_is words sizes seed keys old new sealed are levels ones =
     hash_is words sizes seed keys (hash_sections (length words) (length sizes)) old new sealed
-    (record { four = omega arith; words = refl; upper = refl; lower = refl; sizes = refl }) are.words_are are.parts levels ones
+    (omega arith, refl) are.words_are are.parts levels ones
 
 -- of a dictionary
 pub dictionary_is : (words sizes : List ℕ) (seed : ℕ) (number : ℕ → Option ℕ) (keys old new : List ℕ)
@@ -119,7 +103,7 @@ dictionary_is words sizes seed number keys old new sealed are levels ones perfec
     let ss = dictionary_sections (length words) (length sizes) (length keys) in
     let whole : IsBlockOf sizes (bits_of words) seed new =
     hash_is words sizes seed (length keys) ss old new sealed
-    (record { four = omega arith; words = refl; upper = refl; lower = refl; sizes = refl }) are.words_are are.parts levels ones in
+    (omega arith, refl) are.words_are are.parts levels ones in
     let stored = section_in new 4 in
     let keys_are : stored ≡ part_in ss old 4 = section_is (hash_head (length keys) seed) ss old new sealed 4 (omega arith) in
     let all : StandAtNumbers number keys stored = subst (λ (s : List ℕ). StandAtNumbers number keys s) (sym keys_are) are.all in

@@ -3,12 +3,12 @@ use Rattle.std.specs.Prelude.{◌≡◌, ℕ, ◌^◌, ◌<◌, ◌≤◌, Bool,
 use Rattle.std.specs.Int.{div_ceil}
 use Rattle.bit_lists.specs.Bits.{bits_of}
 use Rattle.bitm_tables.specs.Tables.{bits_in, HasSizes, HasTables}
-use Rattle.bitm_block.specs.Header.{count_in, section_in, IsBlock, IsVerified}
+use Rattle.bitm_block.specs.Header.{section_in, IsBlock, IsOfKind, IsVerified}
 use Rattle.bitm_block.specs.Layout.{end_of, part_in}
 use Rattle.bitm_block.specs.declared.head.Head.{Head}
 use Rattle.bitm_block.specs.declared.layout.Section.{Section}
 use Rattle.lent_tables.specs.Sizes.{lists_of}
-use Rattle.block_tables.specs.Sections.{section_of, tables_in, HasTableSections}
+use Rattle.block_tables.specs.Sections.{section_of, tables_in}
 use Rattle.hash_levels.specs.Numbers.{AreSizes}
 use Rattle.hash_block.specs.Parts.{HasLengths, HashParts, IsHash}
 
@@ -47,10 +47,8 @@ hash_in block = record {
 }
 
 -- the block is of the kind of a hash, and its first four sections are words, two tables and sizes
-pub record HasHashSections (block : List ℕ) : Type 0 where
-  pub tables : HasTableSections 5 block
-  pub four : 4 ≤ count_in block
-  pub sizes : slice_index block 28 ≡ 4
+abbrev pub HasHashSections : List ℕ → Type 0
+HasHashSections block = IsOfKind 5 (1 ∷ 2 ∷ 3 ∷ 4 ∷ []) block
 
 -- header and directory are those of a hash, and the sections are as long as they have to be: nothing is said of what
 -- they hold

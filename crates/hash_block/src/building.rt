@@ -98,7 +98,7 @@ fn write_block(words: &[u64], sizes: &[usize], seed: u64, block: &mut [u64])
 /// # Errors
 /// `TooLong` exactly where there are 2^58 words or more; else `NotLevels` exactly where a level has no word, they have
 /// not all the words together, or there are more than 256; else `WrongLength` exactly where the words of the block are
-/// not as many as it takes (`size`). These stay as they are then.
+/// more or fewer than it takes (`size`). These stay as they are then.
 /// # Cost
 /// Two passes over the words and one over the block (evident from the code). Nothing is allocated.
 ///
@@ -134,10 +134,10 @@ pub fn build(words: &[u64], sizes: &[usize], seed: u64, block: &mut [u64]) -> Re
 /// Writes the block of a perfect hash over an index, as `build` does of its levels.
 ///
 /// # Errors
-/// `WrongLength` exactly where the words of the block are not as many as it takes (`size` of the index's words and the
-/// levels). These stay as they are then.
+/// `WrongLength` exactly where the words of the block are more or fewer than it takes (`size` of the index's words and
+/// the levels). These stay as they are then.
 /// # Cost
-/// That of `build`.
+/// The cost of `build`.
 ///
 /// ```
 /// let words = made.index().content().as_slice();

@@ -18,7 +18,7 @@ use std::marker::Model;
 
 /// A dictionary of numbers in memory that may hold anything: a hash, and the keys in the order of their numbers.
 ///
-/// Contracts see both. A call says what it answers where they are those of a dictionary, and what it answers otherwise.
+/// Contracts see both. A call says its answer where they form a dictionary, and where they do not.
 ///
 /// ```
 /// let Some(squares) = open_dictionary(block.as_slice()) else { .. };
@@ -91,7 +91,7 @@ impl<'a> DictionaryView<'a> {
     /// is `Absent` exactly where the key is none of its keys, and never `Wrong`.
     ///
     /// # Cost
-    /// That of `find_counted`.
+    /// The cost of `find_counted`.
     ///
     /// ```
     /// squares.find(49);   // Found(number), Absent or Wrong
@@ -104,7 +104,7 @@ impl<'a> DictionaryView<'a> {
         self.find_counted(key).0
     }
 
-    /// What `find` answers, and what was read of the hash for it, whatever the memory holds: at most one word of each
+    /// The answer of `find`, and the reads of the hash for it, whatever the memory holds: at most one word of each
     /// level, and one upper entry, one lower entry and eight words for the rank. Of the keys at most one is read
     /// (evident from the code).
     ///
@@ -134,10 +134,10 @@ impl<'a> DictionaryView<'a> {
         }
     }
 
-    /// Whether the parts are those of a dictionary: of a hash, by which each key stands at its number.
+    /// Whether the parts form a dictionary: a hash, by which each key stands at its number.
     ///
     /// # Cost
-    /// That of `HashView::check`, and of `find` for each key (evident from the code).
+    /// The cost of `HashView::check`, and of `find` for each key (evident from the code).
     ///
     /// ```
     /// squares.check();   // true of a block that `build_dictionary` wrote

@@ -8,11 +8,11 @@ use std::fmt;
 pub enum BuildError {
     /// There are 2^58 words or keys or more.
     TooLong,
-    /// The sizes are not those of levels of these words.
+    /// The sizes are not the sizes of levels of these words.
     NotLevels,
     /// The hash has not as many 1 bits as there are keys.
     NotKeys,
-    /// The words of the block are not as many as it takes.
+    /// The words of the block are more or fewer than it takes.
     WrongLength,
 }
 

@@ -59,17 +59,17 @@ fn write_hashed<S: SelectForRank101111, S0: Select0ForRank101111, BV: AsSlice<u6
     write_dictionary(words, hash.sizes(), hash.hasher().seed, keys, block);
 }
 
-/// Writes the block of the dictionary of the given numbers, whose hash is that of these numbers by `Added`: each stands
-/// at its number. `open_dictionary` opens it, `check_dictionary` accepts it, and so do `open` and `check` as the block
-/// of its hash.
+/// Writes the block of the dictionary of the given numbers, whose hash is the hash of the same numbers by `Added`: each
+/// stands at its number. `open_dictionary` opens it, `check_dictionary` accepts it, and so do `open` and `check` as the
+/// block of its hash.
 ///
 /// # Conditions
 /// The perfect hash is of these keys.
 /// # Errors
 /// `TooLong` exactly where there are 2^58 keys or more; else `NotKeys` exactly where the hash has not as many 1 bits as
 /// there are keys, which one that was built of them has; else `WrongLength` exactly where the words of the block are
-/// not as many as it takes (`dictionary_size` of the index's words, the levels and the keys). These stay as they are
-/// then.
+/// more or fewer than it takes (`dictionary_size` of the index's words, the levels and the keys). These stay as they
+/// are then.
 /// # Cost
 /// Two passes over the words of the levels, `get` for each key, and one pass over the block (evident from the code).
 /// Nothing is allocated.
@@ -114,8 +114,8 @@ pub fn build_dictionary<S: SelectForRank101111, S0: Select0ForRank101111, BV: As
 /// parts: whether each key stands at its number is looked for.
 ///
 /// # Errors
-/// `TooLong` exactly where there are 2^58 keys or more; else `WrongLength` exactly where the words of the block are not
-/// as many as it takes (`dictionary_size`); else `NotKeys` exactly where the parts are not those of a dictionary
+/// `TooLong` exactly where there are 2^58 keys or more; else `WrongLength` exactly where the words of the block are
+/// more or fewer than it takes (`dictionary_size`); else `NotKeys` exactly where the parts form no dictionary
 /// (`DictionaryView::check`). The words stay as they are then.
 /// # Cost
 /// Four passes over the words of the levels, two look-ups for each key, and one pass over the block (evident from the

@@ -1,4 +1,4 @@
-//! Whether sizes are those of levels.
+//! Whether sizes are sizes of levels.
 ghost use Rattle.std.specs.Prelude.{◌≡◌, ◌*◌, ◌^◌, ◌<◌, ◌≤◌, ◌↔◌, IsTrue, length, SomeIff, sum};
 ghost use Rattle.bit_lists.specs.Bits.{bits_of};
 ghost use Rattle.hash_levels.specs.Numbers.{AreSizes};
@@ -21,8 +21,8 @@ fn fitting(words: usize, sizes: &[usize]) -> Option<usize>
     Some(used)
 }
 
-/// Whether the sizes are those of levels of these words: each level has a word, all have as many as there are, and
-/// there are at most 256 levels.
+/// Whether the sizes are sizes of levels of these words: each level has a word, together they have all words, and there
+/// are at most 256 levels.
 ///
 /// # Conditions
 /// There are fewer than 2^58 words.

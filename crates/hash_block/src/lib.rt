@@ -1,8 +1,8 @@
 //! A minimal perfect hash in a block of memory, such as a mapped file, and dictionaries of numbers: nothing is copied,
 //! and no call has a condition on what the memory holds.
 //!
-//! A block is opened as a `HashView`: with the block of a hash its answers are those of the hash; if it is stale or
-//! hostile, every call still terminates within its read bound, and a number is below the number of keys.
+//! A block is opened as a `HashView`: with the block of a hash its answers are the hash's; if it is stale or hostile,
+//! every call still terminates within its read bound, and a number is below the number of keys.
 //!
 //! ```
 //! let mut block = [0u64; 64];                            // size(1, 1): Some(64) words

@@ -1,19 +1,18 @@
-//! The view of a block of a hash, and whether the block holds what it says.
+//! The view of a block of a hash, and a check of what the block holds.
 ghost use Rattle.std.specs.Prelude.{◌↔◌, IsTrue, SomeIff};
 ghost use Rattle.hash_block.specs.Block.{hash_in, HasHashSections, IsHashBlock, IsSoundBlock};
 
 use crate::sections::{HASH, SIZES};
 use crate::view::HashView;
 use bitm_block::Block;
-use block_tables::{as_entries, has_tables, tables_of};
+use block_tables::{as_entries, tables_of};
 
 /// Whether a block is of the kind of a hash, and its first four sections are words, two tables and sizes.
 #[inline(always)]
 fn has_hash(block: &Block<'_>) -> bool
     ensures { IsTrue result ↔ HasHashSections block.now }
 {
-    let words = block.words();
-    has_tables(block, HASH) && words[11] >= 4 && words[28] == SIZES
+    block.is_of(HASH, [1, 2, 3, SIZES].as_slice())
 }
 
 /// The hash in a block; `None` exactly where the words are no block (`Block::open` says why), the block is of another
@@ -41,8 +40,7 @@ pub fn open(block: &[u64]) -> Option<HashView<'_>>
     HashView::over(tables, as_entries(sizes), block[3] as usize, block[8])
 }
 
-/// Whether the block is opened, is as it was written, and holds a hash: then each number of the view is that of the
-/// hash.
+/// Whether the block is opened, is as it was written, and holds a hash: then each number of the view is the hash's.
 ///
 /// # Cost
 /// Two passes over the words of the block (evident from the code).

@@ -77,7 +77,7 @@ pub(crate) fn block_len(words: usize, levels: usize) -> usize
     32 + tables + aligned(levels)
 }
 
-/// The sections of a dictionary: those of its hash, and the keys.
+/// The sections of a dictionary: the sections of its hash, and the keys.
 pub(crate) fn dictionary_sections(words: usize, levels: usize, keys: usize) -> [Section; 5]
     ensures { result ≡ dictionary_sections words levels keys }
 {

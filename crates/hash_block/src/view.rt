@@ -25,7 +25,7 @@ use std::marker::Model;
 /// A minimal perfect hash in memory that may hold anything: the words of all levels with their tables, how many words
 /// each level has, the number of keys, and the seed that the caller hashed them by.
 ///
-/// Contracts see these. A call says what it answers where they are those of a hash, and what it answers otherwise.
+/// Contracts see these. A call says its answer where they form a hash, and where they do not.
 ///
 /// ```
 /// let Some(hash) = open(block.as_slice()) else { .. };
@@ -142,12 +142,12 @@ impl<'a> HashView<'a> {
 
     /// The number of a hash, below the number of keys.
     ///
-    /// Whatever the memory holds, `Absent` is answered only where the sizes are those of levels in the words and the
-    /// hash falls on no 1 bit. Where it is that of a hash, the number is the hash's, and the answer is never `Wrong`. A
+    /// Whatever the memory holds, `Absent` is answered only where the sizes are sizes of levels in the words and the
+    /// hash falls on no 1 bit. Where it holds a hash, the number is the hash's, and the answer is never `Wrong`. A
     /// value that is no key may have any number.
     ///
     /// # Cost
-    /// That of `get_counted`.
+    /// The cost of `get_counted`.
     ///
     /// ```
     /// hash.get(9);   // Found(number), Absent or Wrong
@@ -167,7 +167,7 @@ impl<'a> HashView<'a> {
     /// The number of a key, which is hashed by its sum with the seed.
     ///
     /// # Conditions
-    /// The parts are those of a hash.
+    /// The parts form a hash.
     #[inline(always)]
     pub(crate) fn number_of(&self, key: u64) -> Option<usize>
         requires { IsHash self.now }
@@ -181,8 +181,8 @@ impl<'a> HashView<'a> {
         }
     }
 
-    /// What `get` answers, and what was read for it, whatever the memory holds: at most one word of each level, and one
-    /// upper entry, one lower entry and eight words for the rank.
+    /// The answer of `get`, and its reads, whatever the memory holds: at most one word of each level, and one upper
+    /// entry, one lower entry and eight words for the rank.
     ///
     /// ```
     /// hash.get_counted(9).1.words();   // at most 9 of one level
@@ -202,8 +202,8 @@ impl<'a> HashView<'a> {
         (number, probe.into_reads())
     }
 
-    /// Whether the tables are those of the words, these those of levels of these sizes, and there is a 1 bit for each
-    /// key: then each number is that of the hash.
+    /// Whether the tables match the words, the words are levels of these sizes, and there is a 1 bit for each key: then
+    /// each number is the hash's.
     ///
     /// # Cost
     /// One pass over the words, and one over the sizes (evident from the code).

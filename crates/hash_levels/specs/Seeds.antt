@@ -43,12 +43,12 @@ stretch_to ends sorted word =
     take (slice_index ends word - begin) (drop begin sorted)
 
 -- each word has the seed that is best for its hashes
-abbrev pub AreBest : ℕ → List ℕ → ℕ → List ℕ → Type 0
-AreBest level hashes tries seeds =
+abbrev pub AreBestSeeds : ℕ → List ℕ → ℕ → List ℕ → Type 0
+AreBestSeeds level hashes tries seeds =
     (word : ℕ) → word < length seeds → IsBest (group_of level (length seeds) hashes word) tries (slice_index seeds word)
 
 -- the words of a level that is added after the given number of words have the seeds that are best for their hashes
 pub record HasBest (old new : Seeds) (begin : ℕ) (hashes : List ℕ) (level words : ℕ) : Type 0 where
   pub tries : new.tries ≡ old.tries
   pub len : length new.seeds ≡ begin + words
-  pub best : AreBest level hashes (min old.tries 256) (drop begin new.seeds)
+  pub best : AreBestSeeds level hashes (min old.tries 256) (drop begin new.seeds)

@@ -41,7 +41,7 @@ fn hash_all<K, H: KeyHash<K>>(alloc: Global, hasher: &H, keys: &[K]) -> Result<V
     Ok(hashes)
 }
 
-/// Adds a level for the hashes that are left, and leaves those that are left then.
+/// Adds a level for the hashes that are left, and leaves the hashes that are left then.
 ///
 /// # Conditions
 /// There are as many levels as `level` says; with this one, which has a word, there are fewer than 2^58 words.
@@ -180,8 +180,8 @@ impl<P: Placing> Levels<P> {
     /// `TooLarge` exactly where the first level would have 2^50 words or more; else `KeysCollide` where keys are left
     /// after 256 levels, with how many; else `OutOfMemory` if memory was refused.
     /// # Cost
-    /// Each level is two passes over the hashes that are left, of which each goes to two random words. While it works
-    /// it takes 8 bytes a key for the hashes, two buffers as long as the first level, the levels, and what `P` takes.
+    /// Each level takes two passes over the hashes that are left; each hash goes to two random words. While it works it
+    /// takes 8 bytes a key for the hashes, two buffers as long as the first level, the levels, and what `P` takes.
     pub fn build_by<K, H: KeyHash<K>>(
         alloc: Global,
         placing: P,

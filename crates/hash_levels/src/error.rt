@@ -6,8 +6,8 @@ use std::fmt;
 /// Why keys were not numbered; nothing was made then.
 #[derive(Clone, Copy, Debug, PartialEq, Eq)]
 pub enum BuildError {
-    /// This number of keys is left after 256 levels, each of which fell together with another one at each: some keys
-    /// are equal, or their hashes are.
+    /// This number of keys is left after 256 levels: each collided with another key at every level, so some keys are
+    /// equal, or their hashes are.
     KeysCollide(usize),
     /// The first level would have 2^50 words or more, as for 2^56 keys at 100 per cent.
     TooLarge,

@@ -10,7 +10,7 @@ pub trait KeyHash<K> {
     /// The hash of a key.
     ghost hash: { Self → K → ℕ };
 
-    /// The hash of a key: 64 bits, each of which should depend on all of the key. Two keys of one hash collide.
+    /// The hash of a key: 64 bits; each bit should depend on all of the key. Two keys of one hash collide.
     fn hash(&self, key: &K) -> u64
         ensures { result ≡ hash self.now key.now };
 }

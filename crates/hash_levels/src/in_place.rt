@@ -47,8 +47,8 @@ fn clear(words: &mut [u64])
     words::fill_range(words, 0, bits, false);
 }
 
-/// Makes a level of the hashes in `ones`, and moves those that are left to the start of the list; all words are 0 at
-/// first.
+/// Makes a level of the hashes in `ones`, and moves the hashes that are left to the start of the list; all words are 0
+/// at first.
 #[inline(always)]
 fn split_cleared(hashes: &mut [u64], level: u32, ones: &mut [u64], again: &mut [u64]) -> usize
     requires same { length again.old ≡ length ones.old }
@@ -100,7 +100,7 @@ fn add_level(
 /// # Conditions
 /// There are fewer than 2^58 words.
 /// # Cost
-/// Each level is two passes over the hashes that are left, each of which goes to two random words.
+/// Each level takes two passes over the hashes that are left; each hash goes to two random words.
 pub fn build_in_place(
     hashes: &mut [u64],
     percent: u32,

@@ -25,7 +25,7 @@ fn zero(buffer: &mut Vec<u64>, words: usize) -> Result<(), AllocError>
     Ok(())
 }
 
-/// Marks the bits that some hash falls on, and those that two do.
+/// Marks the bits that some hash falls on, and the bits that two hashes fall on.
 ///
 /// # Conditions
 /// All bits are 0; there are as many of both, and some, but fewer than 2^58 words.
@@ -159,7 +159,7 @@ pub(crate) fn keep_left<P: Placing>(
 /// # Conditions
 /// All bits are 0; there are as many words of both, and some, but fewer than 2^58.
 /// # Cost
-/// Two passes over the hashes, each of which goes to two random words.
+/// Two passes over the hashes; each hash goes to two random words.
 pub fn split_level(hashes: &mut [u64], level: u32, ones: &mut [u64], again: &mut [u64]) -> usize
     requires same { length again.old ≡ length ones.old }
     requires some { 0 < length ones.old }
@@ -177,7 +177,7 @@ pub fn split_level(hashes: &mut [u64], level: u32, ones: &mut [u64], again: &mut
 /// As `split_level`, where `placing` says on which bits hashes fall, of a level that has `begin` words before it.
 ///
 /// # Conditions
-/// Those of `split_level`; the level ends before word 2^58.
+/// The conditions of `split_level`; the level ends before word 2^58.
 /// # Cost
 /// As `split_level`.
 pub fn split_level_by<P: Placing>(

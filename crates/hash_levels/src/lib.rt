@@ -29,5 +29,5 @@ pub use grouped::{Grouped, choose_in, place_seeded};
 pub use hashing::{KeyHash, Seeded, SeededBytes};
 pub use in_place::{Made, build_in_place, level_len};
 pub use level::{split_level, split_level_by};
-pub use places::spread_at;
+pub use places::{fold, spread_at};
 pub use placing::{Placing, Plain};

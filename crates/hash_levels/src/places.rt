@@ -5,9 +5,16 @@ ghost use Rattle.hash_levels.specs.Places.{folded_by, place_in, spread, words_fo
 /// The step of the generator: 2^64 divided by the golden ratio, made odd.
 pub(crate) const STEP: u64 = 0x9E37_79B9_7F4A_7C15;
 
-/// A number, its higher half folded down by `by` bits, times another.
+/// A number, its higher half folded down by `by` bits, times another: a step that mixes the bits of a hash.
+///
+/// # Conditions
+/// `by` is below 64.
+///
+/// ```
+/// fold(3 << 32, 32, 5);   // 0xf_0000_000f
+/// ```
 #[inline(always)]
-pub(crate) fn fold(x: u64, by: u32, times: u64) -> u64
+pub fn fold(x: u64, by: u32, times: u64) -> u64
     requires { by < 64 }
     ensures { result ≡ folded_by by times x }
 {

@@ -59,13 +59,13 @@ impl<'a> LevelsView<'a> {
     /// The least number from index `start` on and before index `end` that is at least `bound`.
     ///
     /// Whatever words and tables hold, it is at least `bound` and has no more bits than the width, and the answer is
-    /// `Absent` where the range ends before it starts, or past the numbers. Where they are those of a matrix, the
-    /// answer is the number, `Absent` else exactly where all are less, and never `Wrong`.
+    /// `Absent` where the range ends before it starts, or past the numbers. Where they form a matrix, the answer is the
+    /// number, `Absent` else exactly where all are less, and never `Wrong`.
     ///
     /// # Conditions
-    /// Those of `total_get_on`.
+    /// The conditions of `total_get_on`.
     /// # Cost
-    /// Twice that of `total_count_less_on`.
+    /// Twice the cost of `total_count_less_on`.
     ///
     /// ```
     /// levels.total_next_value_on(&mut source, 1, 5, 2);   // Found(4), Absent or Wrong
@@ -98,13 +98,13 @@ impl<'a> LevelsView<'a> {
     /// The greatest number from index `start` on and before index `end` that is less than `bound`.
     ///
     /// Whatever words and tables hold, it is less than `bound` and has no more bits than the width, and the answer is
-    /// `Absent` where the range ends before it starts, or past the numbers. Where they are those of a matrix, the
-    /// answer is the number, `Absent` else exactly where none is less, and never `Wrong`.
+    /// `Absent` where the range ends before it starts, or past the numbers. Where they form a matrix, the answer is the
+    /// number, `Absent` else exactly where none is less, and never `Wrong`.
     ///
     /// # Conditions
-    /// Those of `total_get_on`.
+    /// The conditions of `total_get_on`.
     /// # Cost
-    /// Twice that of `total_count_less_on`.
+    /// Twice the cost of `total_count_less_on`.
     ///
     /// ```
     /// levels.total_previous_value_on(&mut source, 1, 5, 5);   // Found(4), Absent or Wrong
@@ -141,13 +141,13 @@ impl<'a> LevelsView<'a> {
     /// where `high` is no more than `low`.
     ///
     /// Whatever words and tables hold, they are at most `end - start`, and the answer is `Absent` exactly where the
-    /// range ends before it starts, or past the numbers. Where they are those of a matrix, the answer is the count,
-    /// and never `Wrong`.
+    /// range ends before it starts, or past the numbers. Where they form a matrix, the answer is the count, and never
+    /// `Wrong`.
     ///
     /// # Conditions
-    /// Those of `total_get_on`.
+    /// The conditions of `total_get_on`.
     /// # Cost
-    /// Twice that of `total_count_less_on`; nothing is read where `high` is no more than `low`.
+    /// Twice the cost of `total_count_less_on`; nothing is read where `high` is no more than `low`.
     ///
     /// ```
     /// levels.total_range_count_on(&mut source, 1, 5, 1, 5);   // Found(3), Absent or Wrong

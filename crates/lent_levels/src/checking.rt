@@ -1,4 +1,4 @@
-//! Whether the tables of levels are those of the words.
+//! Whether the tables of levels match the words.
 ghost use Rattle.std.specs.Prelude.{◌≡◌, ◌+◌, ◌*◌, ◌<◌, ◌≤◌, ◌↔◌, IsTrue, length};
 ghost use Rattle.bit_lists.specs.Count.{ones_before, zeros_before};
 ghost use Rattle.bitm_tables.specs.Tables.{IsIndexed, bits_in};
@@ -28,7 +28,7 @@ fn ones_to<T: TableSource>(source: &mut T, index: usize) -> usize
 /// How many 1 bits stand before a level of `len` numbers, and how many of its items have a 0 bit.
 ///
 /// # Conditions
-/// The source's tables are those of its words, which have all bits of the level.
+/// The source's tables match its words, which have all bits of the level.
 /// # Cost
 /// Two ranks (evident from the code).
 pub fn counts_of<T: TableSource>(source: &mut T, len: usize, depth: usize) -> (usize, usize)
@@ -45,7 +45,7 @@ pub fn counts_of<T: TableSource>(source: &mut T, len: usize, depth: usize) -> (u
     (before, len - (through - before))
 }
 
-/// Whether the entries of a level are those of the words of a source.
+/// Whether the entries of a level match the words of a source.
 #[inline(always)]
 fn are_counts_at<T: TableSource>(levels: &LevelsView<'_>, source: &mut T, depth: u8) -> bool
     requires indexed { IsIndexed (T.lists source.old) }
@@ -59,10 +59,10 @@ fn are_counts_at<T: TableSource>(levels: &LevelsView<'_>, source: &mut T, depth:
     levels.ones_before_level(depth) == ones && levels.zeros_of_level(depth) == zeros
 }
 
-/// Whether the tables of levels are those of the words of a source.
+/// Whether the tables of levels match the words of a source.
 ///
 /// # Conditions
-/// The source's tables are those of its words, and there are enough words for all numbers.
+/// The source's tables match its words, and there are enough words for all numbers.
 /// # Cost
 /// Two ranks for each level (evident from the code).
 fn are_counts<T: TableSource>(levels: &LevelsView<'_>, source: &mut T) -> bool
@@ -79,12 +79,12 @@ fn are_counts<T: TableSource>(levels: &LevelsView<'_>, source: &mut T) -> bool
     true
 }
 
-/// Whether the quarters of levels, where there are any, are those of the words of a source.
+/// Whether the quarters of levels, where there are any, match the words of a source.
 ///
 /// # Conditions
-/// The source's tables are those of its words.
+/// The source's tables match its words.
 /// # Cost
-/// That of `are_quarters`, and nothing where there are none (evident from the code).
+/// The cost of `are_quarters`, and nothing where there are none (evident from the code).
 fn has_quarters<T: TableSource>(levels: &LevelsView<'_>, source: &mut T) -> bool
     requires { IsIndexed (T.lists source.old) }
     ensures answer { IsTrue result ↔ HasQuarters levels.now (bits_in (T.lists source.old)) }
@@ -96,8 +96,8 @@ fn has_quarters<T: TableSource>(levels: &LevelsView<'_>, source: &mut T) -> bool
 /// Whether the table of starts of levels says of each prefix of the known length where the numbers with it start.
 ///
 /// # Conditions
-/// The source's tables are those of its words, there are enough words for all numbers, and the tables of the levels and
-/// the quarters are those of the words.
+/// The source's tables match its words, there are enough words for all numbers, and the tables of the levels and the
+/// quarters match the words.
 /// # Cost
 /// For each prefix a rank for each level that is known (evident from the code).
 fn has_starts<T: TableSource>(levels: &LevelsView<'_>, source: &mut T) -> bool
@@ -127,11 +127,11 @@ fn has_starts<T: TableSource>(levels: &LevelsView<'_>, source: &mut T) -> bool
     true
 }
 
-/// Whether the levels are those of a matrix in a source: their tables, the quarters where there are any, and the table
-/// of starts are those of the words.
+/// Whether the levels are levels of a matrix in a source: their tables, the quarters where there are any, and the table
+/// of starts match the words.
 ///
 /// # Conditions
-/// The source's tables are those of its words, and there are enough words for all numbers.
+/// The source's tables match its words, and there are enough words for all numbers.
 /// # Cost
 /// Two ranks for each level, with quarters two for every two words, and with known bits one for each prefix of them and
 /// each of their levels (evident from the code).

@@ -8,7 +8,7 @@ ghost use Rattle.lent_levels.specs.Levels.{levels_with, tables_of, AreNumbers, H
 use matrix_levels::without_lowest;
 use std::marker::Model;
 
-/// The table of starts of levels of which no bits are known: all numbers start at index 0.
+/// The table of starts of levels without known bits: all numbers start at index 0.
 static NONE_KNOWN: [u64; 1] = [0];
 
 /// Whether a matrix can have the given number of numbers of `width` bits: these are 1 to 64, and all bits together
@@ -35,7 +35,7 @@ pub fn are_numbers(len: usize, width: usize) -> bool
 /// the numbers that begin with it start after these levels; and perhaps the quarters of the words
 /// (`bitm_tables::quarters::fill_quarters`), by which ranks read fewer words. They may hold anything.
 ///
-/// Contracts see the levels as those of `matrix_levels`.
+/// Contracts see the levels as `matrix_levels` keeps them.
 ///
 /// ```
 /// let Some(levels) = LevelsView::over(6, 3, ones, zeros, &[]) else { .. };   // of three words each
@@ -293,7 +293,7 @@ impl<'a> LevelsView<'a> {
     }
 
     /// Where the numbers whose known high bits are `begin` start after these levels, as the table of starts says;
-    /// `None` only where the table is not that of a matrix.
+    /// `None` only where the table belongs to no matrix.
     #[inline(always)]
     pub(crate) fn start_at(&self, begin: u64) -> Option<usize>
         requires begin { begin < 2 ^ self.now.known }
@@ -311,7 +311,7 @@ impl<'a> LevelsView<'a> {
     }
 
     /// Where the numbers that begin with the known high bits of this one start after these levels, as the table of
-    /// starts says; `None` only where the table is not that of a matrix.
+    /// starts says; `None` only where the table belongs to no matrix.
     #[inline(always)]
     pub(crate) fn start_of(&self, number: u64) -> Option<usize>
         requires fit { number < 2 ^ self.now.width }

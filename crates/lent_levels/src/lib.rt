@@ -1,9 +1,9 @@
 //! The levels of a wavelet matrix over any source of words and tables, where the tables of levels may hold anything:
 //! nothing is allocated or copied, and no call has a condition on what the memory holds.
 //!
-//! With the levels of a matrix the answers are those of its numbers. If they are stale or hostile, every call still
+//! With the levels of a matrix the answers are right for its numbers. If they are stale or hostile, every call still
 //! terminates within its read bound, a number has no more bits than the width, a count is at most the index that was
-//! given, and an index is that of a number. `matrix_block` finds the parts of a matrix in a block.
+//! given, and an index is the index of a number. `matrix_block` finds the parts of a matrix in a block.
 //!
 //! # Source
 //! Claude, Navarro and Ordóñez, 'The wavelet matrix: An efficient wavelet tree for large alphabets'

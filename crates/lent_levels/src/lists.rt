@@ -86,11 +86,11 @@ impl<'a> LevelsView<'a> {
     /// Writes the number at each index, up to the first that is not found (`total_get_on` would answer `Absent` or
     /// `Wrong`), and answers how many were written. The items after them are as they were.
     ///
-    /// Whatever words and tables hold, a number has no more bits than the width. Where they are those of a matrix, each
-    /// index of a number is found.
+    /// Whatever words and tables hold, a number has no more bits than the width. Where they form a matrix, each index
+    /// of a number is found.
     ///
     /// # Conditions
-    /// Those of `total_get_on`, and there are as many items of `out` as indices.
+    /// The conditions of `total_get_on`, and there are as many items of `out` as indices.
     /// # Cost
     /// For each index what `total_get_on` reads; 32 of them go from level to level together, so that they wait for
     /// memory side by side (evident from the code).
@@ -214,11 +214,11 @@ impl<'a> LevelsView<'a> {
     /// Writes how often each number stands before its end, up to the first that is not answered (`total_rank_on` would
     /// answer `Absent` or `Wrong`), and answers how many were written. The items after them are as they were.
     ///
-    /// Whatever words and tables hold, a rank is at most its end. Where they are those of a matrix, there is one for
-    /// each end that is not past the numbers.
+    /// Whatever words and tables hold, a rank is at most its end. Where they form a matrix, there is one for each end
+    /// that is not past the numbers.
     ///
     /// # Conditions
-    /// Those of `total_rank_on`, and there are as many ends and items of `out` as numbers.
+    /// The conditions of `total_rank_on`, and there are as many ends and items of `out` as numbers.
     /// # Cost
     /// For each number what `total_rank_on` reads; 32 of them go from level to level together, so that they wait for
     /// memory side by side (evident from the code).

@@ -11,7 +11,7 @@ use bitm_tables::source::TableSource;
 
 impl<'a> LevelsView<'a> {
     /// Where the item at an index of a level stands at the next one, and its digits with one more. An index past the
-    /// end stays there, and one goes there only where words and tables are not those of a matrix.
+    /// end stays there, and one goes there only where words and tables form no matrix.
     #[inline(always)]
     fn total_moved_on<T: TableSource>(
         &self,

@@ -17,7 +17,7 @@ const ASTRAY: usize = usize::MAX;
 
 impl<'a> LevelsView<'a> {
     /// Where a number stands after the known levels, before all indices, as the table of starts says: an index past the
-    /// end where it has more bits than the width, or the table is not that of a matrix.
+    /// end where it has more bits than the width, or the table belongs to no matrix.
     #[inline(always)]
     fn known_place(&self, number: u64) -> usize
         ensures { (lists : Lists) → number < 2 ^ self.now.width
@@ -33,7 +33,7 @@ impl<'a> LevelsView<'a> {
     }
 
     /// Where a number at an index of a level, or that would stand there, stands at the next one. An index past the end
-    /// stays there, and goes there only where words and tables are not those of a matrix.
+    /// stays there, and goes there only where words and tables form no matrix.
     #[inline(always)]
     fn total_place_moved_on<T: TableSource>(
         &self,
@@ -218,8 +218,8 @@ impl<'a> LevelsView<'a> {
     /// rank of each of them.
     ///
     /// # Conditions
-    /// Those of `total_rank_on`, and there are as many ends, firsts and lasts as numbers. What the firsts and lasts
-    /// have is overwritten.
+    /// The conditions of `total_rank_on`, and there are as many ends, firsts and lasts as numbers. What the firsts and
+    /// lasts have is overwritten.
     /// # Cost
     /// For each number what `total_rank_on` reads.
     ///
@@ -259,7 +259,7 @@ impl<'a> LevelsView<'a> {
     /// before all numbers, and before the one at `end`.
     ///
     /// Whatever these two are, the answer is at most `end`, and `Absent` exactly where there are fewer numbers. Where
-    /// they are those that `total_places_of_many_on` wrote over the levels of a matrix, it is the count, and never
+    /// they are as `total_places_of_many_on` wrote them over the levels of a matrix, it is the count, and never
     /// `Wrong`.
     ///
     /// ```

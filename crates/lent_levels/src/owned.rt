@@ -109,7 +109,7 @@ impl Levels {
     /// Makes `known` of the highest bits known from the table of starts.
     ///
     /// # Conditions
-    /// The levels are those of the source, and no more bits are to be known than numbers have, and fewer than 64.
+    /// The levels belong to the source, and no more bits are to be known than numbers have, and fewer than 64.
     /// # Errors
     /// `AllocError` if memory was refused; the levels are as they were.
     /// # Cost
@@ -175,7 +175,7 @@ impl Levels {
     /// A view of the tables, whose calls are the queries.
     ///
     /// # Conditions
-    /// The tables are as long as those of a matrix, as the levels of one are.
+    /// The tables have the lengths of a matrix's tables, as the levels of a matrix do.
     #[inline(always)]
     pub fn lend(&self) -> LevelsView<'_>
         requires { HasLevels self.now }

@@ -17,7 +17,7 @@ use matrix_levels::{digit_of, fits};
 impl<'a> LevelsView<'a> {
     /// The item at index `place` of the first level that is not known, with these bits before it; where the numbers
     /// that are equal to it start after the last level, and where it stands there; `None` only where words and tables
-    /// are not those of a matrix.
+    /// form no matrix.
     #[inline(always)]
     fn total_ways_on<T: TableSource>(
         &self,
@@ -52,8 +52,8 @@ impl<'a> LevelsView<'a> {
         Some((found, base, at))
     }
 
-    /// Number `i`, and how many of the numbers before it are the same; `None` only where words and tables are not
-    /// those of a matrix.
+    /// Number `i`, and how many of the numbers before it are the same; `None` only where words and tables form no
+    /// matrix.
     #[inline(always)]
     fn total_item_on<T: TableSource>(&self, source: &mut T, i: usize) -> Option<(u64, usize)>
         requires sized { HasSizes (T.lists source.old) }
@@ -74,11 +74,11 @@ impl<'a> LevelsView<'a> {
     /// Number `i`, and how many of the numbers before it are the same.
     ///
     /// Whatever words and tables hold, the number has no more bits than the width, there are at most `i` before it, and
-    /// the answer is `Absent` exactly where there is no such number. Where they are those of a matrix, the answer is
-    /// its number and the count, and never `Wrong`.
+    /// the answer is `Absent` exactly where there is no such number. Where they form a matrix, the answer is its number
+    /// and the count, and never `Wrong`.
     ///
     /// # Conditions
-    /// Those of `total_get_on`.
+    /// The conditions of `total_get_on`.
     /// # Cost
     /// What `total_rank_on` reads, and not what `total_get_on` reads besides, whatever words and tables hold.
     ///
@@ -108,8 +108,8 @@ impl<'a> LevelsView<'a> {
         }
     }
 
-    /// Where the numbers that are equal to this one start after the last level, and where those among the first `start`
-    /// and among the first `end` end there; `None` only where words and tables are not those of a matrix.
+    /// Where the numbers that are equal to this one start after the last level, and where the equal ones among the
+    /// first `start` and among the first `end` end there; `None` only where words and tables form no matrix.
     #[inline(always)]
     fn total_three_places_on<T: TableSource>(
         &self,
@@ -149,10 +149,10 @@ impl<'a> LevelsView<'a> {
     /// How many of the first `start` numbers are this one, and of the first `end`.
     ///
     /// Whatever words and tables hold, they are at most as many, and the answer is `Absent` exactly where there are
-    /// fewer numbers. Where they are those of a matrix, the answer is the two counts, and never `Wrong`.
+    /// fewer numbers. Where they form a matrix, the answer is the two counts, and never `Wrong`.
     ///
     /// # Conditions
-    /// Those of `total_get_on`.
+    /// The conditions of `total_get_on`.
     /// # Cost
     /// For each level what three ranks read, and for each level that is known what two read, whatever words and tables
     /// hold.

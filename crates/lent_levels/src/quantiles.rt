@@ -11,8 +11,8 @@ use bitm_tables::answer::Answer;
 use bitm_tables::source::TableSource;
 
 impl<'a> LevelsView<'a> {
-    /// The number that would stand at index `k` if the range were sorted, and how often it is in the range; `None`
-    /// only where words and tables are not those of a matrix.
+    /// The number that would stand at index `k` if the range were sorted, and how often it is in the range; `None` only
+    /// where words and tables form no matrix.
     #[inline(always)]
     fn total_smallest_on<T: TableSource>(
         &self,
@@ -56,13 +56,12 @@ impl<'a> LevelsView<'a> {
     ///
     /// Whatever words and tables hold, the number has no more bits than the width, it is there at least once and at
     /// most `end - start` times, and the answer is `Absent` exactly where the range has no more than `k` numbers, or
-    /// ends past the numbers. Where they are those of a matrix, the answer is the number and its count, and never
-    /// `Wrong`.
+    /// ends past the numbers. Where they form a matrix, the answer is the number and its count, and never `Wrong`.
     ///
     /// # Conditions
-    /// Those of `total_get_on`.
+    /// The conditions of `total_get_on`.
     /// # Cost
-    /// That of `total_count_less_on`.
+    /// The cost of `total_count_less_on`.
     /// # Source
     /// Gagie, Puglisi and Turpin, 'Range quantile queries: another virtue of wavelet trees' (SPIRE 2009).
     ///
@@ -96,14 +95,14 @@ impl<'a> LevelsView<'a> {
 
     /// The number from index `start` on and before index `end` that would stand at index `k` if they were sorted.
     ///
-    /// Whatever words and tables hold, it has no more bits than the width, and the answer is `Absent` exactly where
-    /// the range has no more than `k` numbers, or ends past the numbers. Where they are those of a matrix, the answer
-    /// is the number, and never `Wrong`.
+    /// Whatever words and tables hold, it has no more bits than the width, and the answer is `Absent` exactly where the
+    /// range has no more than `k` numbers, or ends past the numbers. Where they form a matrix, the answer is the
+    /// number, and never `Wrong`.
     ///
     /// # Conditions
-    /// Those of `total_get_on`.
+    /// The conditions of `total_get_on`.
     /// # Cost
-    /// That of `total_count_less_on`.
+    /// The cost of `total_count_less_on`.
     ///
     /// ```
     /// levels.total_quantile_on(&mut source, 1, 5, 2);   // Found(4), Absent or Wrong

@@ -1,4 +1,4 @@
-//! Whether quarters of basic blocks in the caller's memory, which may hold anything, are those of the words.
+//! Whether quarters of basic blocks in the caller's memory, which may hold anything, match the words.
 ghost use Rattle.std.specs.Prelude.{◌≡◌, ◌*◌, ◌<◌, ◌↔◌, IsTrue, length};
 ghost use Rattle.bit_lists.specs.Count.{ones_before};
 ghost use Rattle.bitm_tables.specs.Quarters.{AreQuartersOf};
@@ -41,10 +41,10 @@ fn counts_to<T: TableSource>(source: &mut T, number: u64, quarter: usize) -> boo
     ones_to_entry(number) + ones_to_quarter(number, quarter % 4) == before - part
 }
 
-/// Whether the quarters are those of a source's words.
+/// Whether the quarters match a source's words.
 ///
 /// # Conditions
-/// The source's tables are those of its words.
+/// The source's tables match its words.
 /// # Cost
 /// Two ranks for every two words (evident from the code).
 ///

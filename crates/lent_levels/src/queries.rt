@@ -13,8 +13,8 @@ use bitm_tables::source::TableSource;
 use matrix_levels::{digit_of, fits};
 
 impl<'a> LevelsView<'a> {
-    /// Where the item at an index of level `from` stands at level `to`, and its bits on this way after those of
-    /// `number`; `None` only where words and tables are not those of a matrix.
+    /// Where the item at an index of level `from` stands at level `to`, and its bits on this way after the bits of
+    /// `number`; `None` only where words and tables form no matrix.
     #[inline(always)]
     pub(crate) fn total_way_on<T: TableSource>(
         &self,
@@ -52,7 +52,7 @@ impl<'a> LevelsView<'a> {
     /// Number `i`.
     ///
     /// Whatever words and tables hold, a number has no more bits than the width, and the answer is `Absent` exactly
-    /// where there is no such number. Where they are those of a matrix, the answer is its number, and never `Wrong`.
+    /// where there is no such number. Where they form a matrix, the answer is its number, and never `Wrong`.
     ///
     /// # Conditions
     /// There are fewer than 2^58 words, enough for all numbers, and the two tables have the right lengths. They may
@@ -84,7 +84,7 @@ impl<'a> LevelsView<'a> {
     }
 
     /// Where a number that stands at an index of level `from`, or would there, stands at level `to`; `None` only where
-    /// words and tables are not those of a matrix.
+    /// words and tables form no matrix.
     #[inline(always)]
     pub(crate) fn total_place_on<T: TableSource>(
         &self,
@@ -149,8 +149,8 @@ impl<'a> LevelsView<'a> {
         Some((first, second))
     }
 
-    /// Where the numbers that are equal to this one start after the last level; `None` only where words and tables are
-    /// not those of a matrix.
+    /// Where the numbers that are equal to this one start after the last level; `None` only where words and tables form
+    /// no matrix.
     #[inline(always)]
     pub(crate) fn total_start_on<T: TableSource>(
         &self,
@@ -170,8 +170,8 @@ impl<'a> LevelsView<'a> {
         self.total_place_on(source, number, self.known(), self.width(), start)
     }
 
-    /// Where the numbers that are equal to this one start after the last level, and where those among the first `end`
-    /// end there; `None` only where words and tables are not those of a matrix.
+    /// Where the numbers that are equal to this one start after the last level, and where the equal ones among the
+    /// first `end` end there; `None` only where words and tables form no matrix.
     #[inline(always)]
     pub(crate) fn total_stretch_on<T: TableSource>(
         &self,
@@ -196,8 +196,8 @@ impl<'a> LevelsView<'a> {
         self.total_places_on(source, number, known, self.width(), start, last)
     }
 
-    /// How many of the first numbers are this one, at most all of these; `None` only where words and tables are not
-    /// those of a matrix.
+    /// How many of the first numbers are this one, at most all of these; `None` only where words and tables form no
+    /// matrix.
     #[inline(always)]
     fn total_count_on<T: TableSource>(
         &self,
@@ -222,10 +222,10 @@ impl<'a> LevelsView<'a> {
     /// How many of the first `i` numbers are this one.
     ///
     /// Whatever words and tables hold, they are at most `i`, and the answer is `Absent` exactly where there are fewer
-    /// numbers. Where they are those of a matrix, the answer is the count, and never `Wrong`.
+    /// numbers. Where they form a matrix, the answer is the count, and never `Wrong`.
     ///
     /// # Conditions
-    /// Those of `total_get_on`.
+    /// The conditions of `total_get_on`.
     /// # Cost
     /// For each level what two ranks read, and for each level that is known what one reads, whatever words and tables
     /// hold.

@@ -23,7 +23,7 @@ pub(crate) fn with_digit(digit: bool, ones: usize, zeros: usize) -> usize
 
 impl<'a> LevelsView<'a> {
     /// Of a range of a level: how many items before its start have a 1 bit, and how many of its own have a 1 bit and a
-    /// 0 bit; `None` only where words and tables are not those of a matrix.
+    /// 0 bit; `None` only where words and tables form no matrix.
     #[inline(always)]
     pub(crate) fn total_part_on<T: TableSource>(
         &self,
@@ -54,8 +54,8 @@ impl<'a> LevelsView<'a> {
         Some((before, ones, (last - first) - ones))
     }
 
-    /// Where the items of a range that have this bit, as many as are given, stand at the next level; `None` only where
-    /// the tables are not those of a matrix.
+    /// Where the given number of items of a range with this bit stand at the next level; `None` only where the tables
+    /// belong to no matrix.
     #[inline(always)]
     pub(crate) fn range_after(
         &self,
@@ -85,8 +85,8 @@ impl<'a> LevelsView<'a> {
         Some((next, after))
     }
 
-    /// How many numbers of a range are less than `bound`, at most all of them; `None` only where words and tables are
-    /// not those of a matrix.
+    /// How many numbers of a range are less than `bound`, at most all of them; `None` only where words and tables form
+    /// no matrix.
     #[inline(always)]
     fn total_less_on<T: TableSource>(
         &self,
@@ -125,11 +125,11 @@ impl<'a> LevelsView<'a> {
     /// How many numbers from index `start` on and before index `end` are less than `bound`.
     ///
     /// Whatever words and tables hold, they are at most `end - start`, and the answer is `Absent` exactly where the
-    /// range ends before it starts, or past the numbers. Where they are those of a matrix, the answer is the count, and
-    /// never `Wrong`.
+    /// range ends before it starts, or past the numbers. Where they form a matrix, the answer is the count, and never
+    /// `Wrong`.
     ///
     /// # Conditions
-    /// Those of `total_get_on`.
+    /// The conditions of `total_get_on`.
     /// # Cost
     /// For each level what two ranks read, whatever words and tables hold.
     ///

@@ -32,7 +32,7 @@ fn found(answer: Answer<usize>) -> Option<usize>
 }
 
 /// The position of the bit of this kind and rank among the words of a source; `None` only where there is none, or the
-/// tables are not those of the words, or `finder` does not find their bits.
+/// tables do not match the words, or `finder` does not find their bits.
 #[inline(always)]
 fn selected_by<F: Finds, T: TableSource>(
     finder: &F,
@@ -55,8 +55,8 @@ fn selected_by<F: Finds, T: TableSource>(
 }
 
 impl<'a> LevelsView<'a> {
-    /// Which bit of the source is that of the number that stands at an index of the level after this one, where the
-    /// tables are those of a matrix: its kind and its rank.
+    /// Which bit of the source belongs to the number that stands at an index of the level after this one, where the
+    /// tables belong to a matrix: the bit's kind and its rank.
     #[inline(always)]
     fn bit_before(&self, depth: u8, number: u64, place: usize) -> (bool, usize)
         requires { depth < self.now.width }
@@ -74,8 +74,8 @@ impl<'a> LevelsView<'a> {
         }
     }
 
-    /// From where a number came to an index of the next level; `None` only where words and tables are not those of a
-    /// matrix, or the number does not stand there.
+    /// From where a number came to an index of the next level; `None` only where words and tables form no matrix, or
+    /// the number does not stand there.
     #[inline(always)]
     fn total_back_by<F: Finds, T: TableSource>(
         &self,
@@ -104,8 +104,8 @@ impl<'a> LevelsView<'a> {
         }
     }
 
-    /// From where a number came to an index after the last level; `None` only where words and tables are not those of a
-    /// matrix, or the number does not stand there.
+    /// From where a number came to an index after the last level; `None` only where words and tables form no matrix, or
+    /// the number does not stand there.
     #[inline(always)]
     fn total_first_place_by<F: Finds, T: TableSource>(
         &self,
@@ -136,7 +136,7 @@ impl<'a> LevelsView<'a> {
     }
 
     /// The index after the last level of this number with exactly `k` such numbers before it, where there are more than
-    /// `k`; `None` only where there are not, or words and tables are not those of a matrix.
+    /// `k`; `None` only where there are not, or words and tables form no matrix.
     #[inline(always)]
     fn total_nth_place_on<T: TableSource>(
         &self,
@@ -166,12 +166,12 @@ impl<'a> LevelsView<'a> {
     /// The index of this number with exactly `k` such numbers before it, where it is known that there are more than
     /// `k`: so none are counted.
     ///
-    /// Whatever words and tables hold, it is the index of a number. Where they are those of a matrix, in whose words
-    /// `finder` finds bits, and there are more than `k` such numbers, it is the right one; the answer is `None` only
-    /// where one of this does not hold.
+    /// Whatever words and tables hold, it is the index of a number. Where they form a matrix, in whose words `finder`
+    /// finds bits, and there are more than `k` such numbers, it is the right one; the answer is `None` only where one
+    /// of this does not hold.
     ///
     /// # Conditions
-    /// Those of `total_get_on`.
+    /// The conditions of `total_get_on`.
     /// # Cost
     /// For each level a search, and for each that is not known a rank, whatever words and tables hold.
     ///
@@ -231,12 +231,12 @@ impl<'a> LevelsView<'a> {
 
     /// The index of this number with exactly `k` such numbers before it.
     ///
-    /// Whatever words and tables hold, it is the index of a number. Where they are those of a matrix, in whose words
-    /// `finder` finds bits, it is the right one, and the answer is `Absent` exactly where there are no more than `k`
-    /// such numbers, and never `Wrong`.
+    /// Whatever words and tables hold, it is the index of a number. Where they form a matrix, in whose words `finder`
+    /// finds bits, it is the right one, and the answer is `Absent` exactly where there are no more than `k` such
+    /// numbers, and never `Wrong`.
     ///
     /// # Conditions
-    /// Those of `total_get_on`.
+    /// The conditions of `total_get_on`.
     /// # Cost
     /// For each level a search, and two ranks, or one where it is known, whatever words and tables hold.
     ///
@@ -275,10 +275,10 @@ impl<'a> LevelsView<'a> {
     /// `total_select_by` by binary search in the tables.
     ///
     /// # Conditions
-    /// Those of `total_get_on`.
+    /// The conditions of `total_get_on`.
     /// # Cost
-    /// That of `total_select_by`; a search reads at most one upper entry more than their number has binary digits, 23
-    /// lower entries and eight words.
+    /// The cost of `total_select_by`; a search reads at most one upper entry more than their number has binary digits,
+    /// 23 lower entries and eight words.
     ///
     /// ```
     /// levels.total_select_on(&mut source, 1, 2);   // Found(5), Absent or Wrong

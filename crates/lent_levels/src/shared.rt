@@ -12,8 +12,8 @@ use std::alloc::{AllocError, Global};
 use std::ops::Range;
 
 impl<'a> LevelsView<'a> {
-    /// Where the items of a range of a level stand at the next level, those with a 0 and those with a 1; `None` only
-    /// where words and tables are not those of a matrix.
+    /// Where the items of a range of a level stand at the next level, the items with a 0 and the items with a 1; `None`
+    /// only where words and tables form no matrix.
     #[inline(always)]
     fn total_halves_on<T: TableSource>(
         &self,
@@ -87,7 +87,7 @@ impl<'a> LevelsView<'a> {
     /// The numbers that are in both ranges, each once, rising.
     ///
     /// # Conditions
-    /// The levels are those of the source, and no range ends before it starts, nor past the numbers.
+    /// The levels belong to the source, and no range ends before it starts, nor past the numbers.
     /// # Errors
     /// `AllocError` if memory was refused.
     /// # Cost

@@ -1,4 +1,4 @@
-//! Whether tables are those of the words.
+//! Whether tables match the words.
 ghost use Rattle.std.specs.Prelude.{◌≡◌, ◌+◌, ◌*◌, ◌^◌, ◌<◌, ◌↔◌, length, min, IsTrue, IsNone, IfSome};
 ghost use Rattle.std.specs.Int.{div_ceil};
 ghost use Rattle.bit_lists.specs.Bits.{bits_of};
@@ -10,8 +10,8 @@ ghost use Rattle.lent_tables.specs.Sizes.{IsFilled, lists_of};
 use bitm_tables::levels::L2_ENTRIES_PER_L1_ENTRY;
 use bitm_tables::tables::make_entry;
 
-/// The number of 1 bits in an upper block, if its lower entries are right; `None` only where the tables are not those
-/// of the words.
+/// The number of 1 bits in an upper block, if its lower entries are right; `None` only where the tables do not match
+/// the words.
 fn ones_of_part(words: &[u64], upper: &[usize], lower: &[u64], part: usize) -> Option<usize>
     requires sized { HasSizes (lists_of words.now upper.now lower.now) }
     requires begun { part * 2 ^ 26 < length words.now }
@@ -35,7 +35,7 @@ fn ones_of_part(words: &[u64], upper: &[usize], lower: &[u64], part: usize) -> O
     Some(in_part)
 }
 
-/// Whether the tables are those of the words. One pass over the words, which stops at the first wrong entry.
+/// Whether the tables match the words. One pass over the words, which stops at the first wrong entry.
 pub(crate) fn are_tables(words: &[u64], upper: &[usize], lower: &[u64]) -> bool
     requires { HasSizes (lists_of words.now upper.now lower.now) }
     ensures { IsTrue result ↔ HasTables (lists_of words.now upper.now lower.now) }

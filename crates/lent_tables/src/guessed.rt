@@ -35,9 +35,9 @@ pub struct ByGuess<'a> {
 #[derive(Clone, Copy)]
 struct Guess {
     /// The guessed entry, by number in its upper block: near the right one where the bits lie evenly between two
-    /// samples and the samples are those of the words; any number otherwise.
+    /// samples and the samples match the words; any number otherwise.
     at: usize,
-    /// The number of entries between the two samples, if these are those of the words; any number otherwise.
+    /// The number of entries between the two samples, if these match the words; any number otherwise.
     between: usize,
 }
 
@@ -96,8 +96,8 @@ fn entry_in_window<const BIT: u8, T: TableSource>(
     entry_between::<BIT, T>(source, part, bounds, rank)
 }
 
-/// The last entry of an upper block with at most `rank` bits of the kind before it there, and what it packs: the right
-/// one where the tables are those of the words. `None` where it is not near the guess. A `SIDE_BY_SIDE` of 0 takes the
+/// The last entry of an upper block with at most `rank` bits of the kind before it there, and its packed counts: the
+/// right one where the tables match the words. `None` where it is not near the guess. A `SIDE_BY_SIDE` of 0 takes the
 /// way that is fastest for one query, any other the one that is fastest for many: without a branch on where the entry
 /// is.
 #[inline(always)]
@@ -124,9 +124,9 @@ fn guessed_entry<const BIT: u8, const SIDE_BY_SIDE: u8, T: TableSource>(
     }
 }
 
-/// The last entry of an upper block with at most `rank` bits of the kind before it there, and what it packs: the right
-/// one where the tables are those of the words, some entry of the upper block otherwise. The search looks near the
-/// guess first, then between the samples, and last without them.
+/// The last entry of an upper block with at most `rank` bits of the kind before it there, and its packed counts: the
+/// right one where the tables match the words, some entry of the upper block otherwise. The search looks near the guess
+/// first, then between the samples, and last without them.
 #[inline(always)]
 pub(crate) fn entry_by_guess<const BIT: u8, const SIDE_BY_SIDE: u8, T: TableSource>(
     source: &mut T,

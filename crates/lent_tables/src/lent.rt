@@ -61,8 +61,8 @@ pub(crate) fn has_sizes(words: &[u64], upper: &[usize], lower: &[u64]) -> bool
 
 /// Borrowed words and their two tables, whose lengths are right.
 ///
-/// Contracts see the three lists. The tables may hold anything: each call says what it answers where they are those of
-/// the words, and what it answers otherwise.
+/// Contracts see the three lists. The tables may hold anything: each call says its answer where they match the words,
+/// and where they do not.
 #[derive(Drop)]
 pub struct Lent<'a> {
     words: &'a [u64],
@@ -173,7 +173,7 @@ impl<'a> Lent<'a> {
         Probe::new(self.words, self.upper, self.lower)
     }
 
-    /// Whether the tables are those of the words. One pass over the words, which stops at the first wrong entry.
+    /// Whether the tables match the words. One pass over the words, which stops at the first wrong entry.
     pub fn check(&self) -> bool
         ensures { IsTrue result ↔ HasTables self.now }
     {
@@ -183,7 +183,7 @@ impl<'a> Lent<'a> {
     /// The number of 1 bits among the first `index` bits; of 0 bits where `BIT` is 0.
     ///
     /// Whatever the tables hold, the answer is `Absent` exactly where there are fewer than `index` bits, and a count is
-    /// at most `index`. Where they are those of the words, the count is right and the answer is never `Wrong`.
+    /// at most `index`. Where they match the words, the count is right and the answer is never `Wrong`.
     ///
     /// # Cost
     /// At most one upper entry, one lower entry and eight words are read.
@@ -195,8 +195,8 @@ impl<'a> Lent<'a> {
         ranked_on(&mut self.probe(), is_one::<BIT>(), index)
     }
 
-    /// The number of 1 bits among the first `index` bits where the tables are those of the words, any number otherwise.
-    /// `None` exactly where there are fewer than `index` bits.
+    /// The number of 1 bits among the first `index` bits where the tables match the words, any number otherwise. `None`
+    /// exactly where there are fewer than `index` bits.
     #[inline(always)]
     fn told_ones(&self, index: usize) -> Option<usize>
         ensures sized { HasSizes self.now }
@@ -210,8 +210,8 @@ impl<'a> Lent<'a> {
     /// The position of the 1 bit with exactly `rank` 1 bits before it; of the 0 bit with `rank` 0 bits before it where
     /// `BIT` is 0.
     ///
-    /// Whatever the tables hold, a position that is found is in the words and has such a bit. Where they are those of
-    /// the words, it is the right position, the answer is `Absent` exactly where there is no such bit, and it is never
+    /// Whatever the tables hold, a position that is found is in the words and has such a bit. Where they match the
+    /// words, it is the right position, the answer is `Absent` exactly where there is no such bit, and it is never
     /// `Wrong`.
     ///
     /// # Cost

@@ -62,8 +62,8 @@ pub fn select_list_on<const BIT: u8, T: TableSource, F: FindsEntries<BIT, T>>(
 
 impl<'a> Lent<'a> {
     /// Writes the position with each rank, or `NO_ANSWER` for `Absent` and `WRONG_TABLES` for `Wrong`: what `select`
-    /// answers where the tables are those of the words, and possibly another position with such a bit in other tables.
-    /// Returns false, and writes nothing, exactly where `out` is not as long as `ranks`.
+    /// answers where the tables match the words, and possibly another position with such a bit in other tables. Returns
+    /// false, and writes nothing, exactly where `out` is not as long as `ranks`.
     pub fn select_list<const BIT: u8>(&self, ranks: &[usize], out: &mut [usize]) -> bool
         ensures room { IsTrue result ↔ length out.old ≡ length ranks.now }
         ensures told { IsTrue result → ToldEach (as_bit BIT) self.now ranks.now out.new }

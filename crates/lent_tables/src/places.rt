@@ -11,7 +11,7 @@ use bit_slices::positions_in;
 /// # Conditions
 /// There are fewer than 2^58 words.
 /// # Cost
-/// That of `bit_slices::positions_in`.
+/// The cost of `bit_slices::positions_in`.
 pub fn ones_from(words: &[u64], from: usize, out: &mut [usize]) -> usize
     requires { IsShort words.now }
     ensures number { result ≡ min (length out.old)

@@ -1,4 +1,4 @@
-//! Whether samples are those that the tables determine.
+//! Whether samples are the ones that the tables determine.
 ghost use Rattle.std.specs.Prelude.{◌≡◌, ◌≢◌, ℕ, ◌+◌, ◌^◌, ◌<◌, ◌≤◌, ◌↔◌, Bool, IfSome, IsNone, IsTrue, List, length};
 ghost use Rattle.bit_lists.specs.Count.{as_bit};
 ghost use Rattle.bitm_strategies.specs.Samples.{IsSized, IsSummaryOf, sample_count_before, samples_of};
@@ -7,7 +7,7 @@ ghost use Rattle.lent_tables.specs.Sizes.{IsFilled};
 
 use bitm_strategies::{Summary, items_in, sample_from};
 
-/// The number of samples of an upper block, if they are those from index `first` on in the list; `None` otherwise.
+/// The number of samples of an upper block, if they stand from index `first` on in the list; `None` otherwise.
 fn samples_of_part<const BIT: u8>(
     summary: &Summary<'_>,
     part: usize,
@@ -49,8 +49,8 @@ fn samples_of_part<const BIT: u8>(
     Some(count)
 }
 
-/// Whether `samples` and `starts` are those of all upper blocks that the tables determine: each sample is computed
-/// anew, up to the first that differs.
+/// Whether `samples` and `starts` are the samples and starts of all upper blocks, which the tables determine: each
+/// sample is computed anew, up to the first that differs.
 pub(crate) fn are_samples<const BIT: u8>(
     summary: &Summary<'_>,
     log2: u8,

@@ -42,7 +42,7 @@ pub(crate) fn samples_to(lent: &LentSamples<'_>, part: usize) -> usize
     }
 }
 
-/// The entry after that of the bit which sample `at` stands for.
+/// The entry after the entry of the bit that sample `at` stands for.
 ///
 /// # Conditions
 /// There is such a sample.
@@ -61,8 +61,8 @@ pub(crate) struct Bounds {
     pub end: usize,
 }
 
-/// Bounds of the entry that has the bit with rank `rank` in an upper block, if the samples are those of the words;
-/// `None` only where they are not.
+/// Bounds of the entry that has the bit with rank `rank` in an upper block, if the samples match the words; `None` only
+/// where they do not.
 #[inline(always)]
 fn bounds_of(lent: &LentSamples<'_>, part: usize, entries: usize, rank: usize) -> Option<Bounds>
     requires part { part < 2 ^ 60 }
@@ -156,8 +156,8 @@ fn is_behind<const BIT: u8, T: TableSource>(
     rank < ones_to_entry(packed)
 }
 
-/// The last entry of an upper block with at most `rank` bits of the kind before it there, and what it packs: the right
-/// one where the tables are those of the words. With these, `None` only where the entry is not within the bounds.
+/// The last entry of an upper block with at most `rank` bits of the kind before it there, and its packed counts: the
+/// right one where the tables match the words. With these, `None` only where the entry is not within the bounds.
 #[inline(always)]
 pub(crate) fn entry_between<const BIT: u8, T: TableSource>(
     source: &mut T,
@@ -196,8 +196,8 @@ pub(crate) fn entry_between<const BIT: u8, T: TableSource>(
     Some(last_in_range::<BIT, T>(source, part, range, rank))
 }
 
-/// The last entry of an upper block with at most `rank` bits of the kind before it there, and what it packs: the right
-/// one where the tables are those of the words. `None` only where tables or samples are not those of the words.
+/// The last entry of an upper block with at most `rank` bits of the kind before it there, and its packed counts: the
+/// right one where the tables match the words. `None` only where tables or samples do not match the words.
 #[inline(always)]
 fn sampled_entry<const BIT: u8, T: TableSource>(
     source: &mut T,
@@ -221,8 +221,8 @@ fn sampled_entry<const BIT: u8, T: TableSource>(
     entry_between::<BIT, T>(source, part, bounds, rank)
 }
 
-/// The last entry of an upper block with at most `rank` bits of the kind before it there, and what it packs: the right
-/// one where the tables are those of the words, some entry of the upper block otherwise. Where the samples do not lead
+/// The last entry of an upper block with at most `rank` bits of the kind before it there, and its packed counts: the
+/// right one where the tables match the words, some entry of the upper block otherwise. Where the samples do not lead
 /// to it, the search does without them.
 #[inline(always)]
 pub(crate) fn entry_by_samples<const BIT: u8, T: TableSource>(
@@ -250,11 +250,11 @@ pub(crate) fn entry_by_samples<const BIT: u8, T: TableSource>(
 /// answer, whatever they hold: where they do not lead to a rank, the search does without them.
 ///
 /// # Conditions
-/// Those of `total_select_on`. The samples have none.
+/// The conditions of `total_select_on`. The samples have none.
 /// # Cost
 /// With u upper entries, a query reads at most one more of them than u has binary digits, 51 lower entries and eight
-/// words, whatever the tables and samples hold, and a few numbers of the samples. Where tables and samples are those of
-/// the words, it reads at most 28 lower entries: five near a guess and, after a wrong guess, two more and one for each
+/// words, whatever the tables and samples hold, and a few numbers of the samples. Where tables and samples match the
+/// words, it reads at most 28 lower entries: five near a guess and, after a wrong guess, two more and one for each
 /// halving from the sample to the next.
 pub fn sampled_select_on<const BIT: u8, T: TableSource>(
     source: &mut T,

@@ -14,7 +14,7 @@ use bitm_select::search::selecting::part_of_rank;
 use bitm_tables::levels::L2_ENTRIES_PER_L1_ENTRY;
 use bitm_tables::source::TableSource;
 
-/// The query of a rank with its entry: the right one where the tables are those of the words, some entry otherwise.
+/// The query of a rank with its entry: the right one where the tables match the words, some entry otherwise.
 #[inline(always)]
 fn begin<const BIT: u8, T: TableSource>(
     source: &mut T,

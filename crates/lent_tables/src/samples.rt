@@ -15,8 +15,8 @@ pub(crate) fn clamped_log(log2: u8) -> u8
 
 /// Borrowed samples of 1 bits or of 0 bits: one for each 2^`log2` such bits of an upper block, which has 2^32 bits.
 ///
-/// They may hold anything, and there may be any number of them: each call says what it answers where they are those of
-/// the words, and what it answers otherwise.
+/// They may hold anything, and there may be any number of them: each call says its answer where they match the words,
+/// and where they do not.
 #[derive(Clone, Copy)]
 pub struct LentSamples<'a> {
     /// The samples of all upper blocks in turn, and nothing after them.

@@ -1,5 +1,5 @@
 -- A tree as the list of its nodes' degrees, level by level from the root, node 0.
-use Rattle.std.specs.Prelude.{◌≡◌, ℕ, ◌+◌, ◌-◌, ◌<◌, ◌≤◌, List, length, take, slice_index, sum, Option, MatchOption}
+use Rattle.std.specs.Prelude.{◌≡◌, ℕ, ◌+◌, ◌-◌, ◌<◌, ◌≤◌, ◌⊎◌, List, length, take, slice_index, sum, Option, MatchOption}
 
 -- node v is child k of node i: its number is 1, the number of children of all nodes before i, and k
 pub record IsChild (d : List ℕ) (i k v : ℕ) : Type 0 where
@@ -12,6 +12,12 @@ pub record IsChild (d : List ℕ) (i k v : ℕ) : Type 0 where
 pub record IsTree (d : List ℕ) : Type 0 where
   pub count : sum d + 1 ≡ length d
   pub parents : (v : ℕ) → 0 < v → v < length d → v ≤ sum (take v d)
+
+-- with the children of the nodes before it or with its own, node i fits no tree: it is no child of these nodes, or there are
+-- more nodes than degrees
+pub record IsMisfit (d : List ℕ) (i : ℕ) : Type 0 where
+  pub node : i < length d
+  pub misfit : (sum (take i d) < i) ⊎ (length d ≤ sum (take (i + 1) d))
 
 -- child k of node i, and None exactly where i has no more than k children
 abbrev pub MatchesChild : List ℕ → ℕ → ℕ → Option ℕ → Type 0

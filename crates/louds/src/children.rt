@@ -1,80 +1,36 @@
-//! Degrees and children, one body for each: over any source, of which the words and tables may hold anything, by binary
-//! search. The calls of the tree, the calls of `counted` and calls over a block run them.
-ghost use Rattle.std.specs.Prelude.{◌≡◌, ◌==◌, ◌+◌, ◌-◌, ◌^◌, ◌<◌, ◌≤◌, ℕ, List, length, slice_index, IfSome, Some};
+//! Degrees and children, one body for each: over any source, whose words and tables may hold anything, and by any way
+//! to find a bit. The calls of the tree, the calls of `counted` and calls over a block run them.
+//!
+//! ```
+//! child_by(&ByTables, &mut source, 4, 0, 1);   // Found(2), Absent or Wrong
+//! ```
+ghost use Rattle.std.specs.Prelude.{◌≡◌, ◌==◌, ◌+◌, ◌*◌, ◌<◌, ◌≤◌, slice_index, Some};
 ghost use Rattle.bitm_tables.specs.Reads.{OnlyReads};
 ghost use Rattle.bitm_tables.specs.Tables.{HasSizes};
+ghost use Rattle.bitm_selection.specs.Selection.{OnlySelectsBy};
 ghost use Rattle.louds.specs.Answers.{AreChildrenOf, AreChildrenWithin, IsChildOf, IsChildWithin};
 ghost use Rattle.louds.specs.Answers.{IsDegreeOf, IsDegreeWithin};
 ghost use Rattle.louds.specs.Counted.{degrees_in, IsLouds, OnlySelects};
 ghost use Rattle.louds.specs.Held.{zero_place};
-ghost use Rattle.louds.specs.Tree.{IsTree};
 
+use crate::between::{child_between, child_from, children_between, degree_between};
 use crate::near::near_last_zero_on;
-use crate::queries::zero_by;
+use crate::queries::{far_zero_by, zero_by};
 use bitm::near_zero_on;
 use bitm_select::search::selecting::ByTables;
+use bitm_selection::Finds;
 use bitm_tables::answer::Answer;
 use bitm_tables::ranking::bit_on;
 use bitm_tables::source::TableSource;
 
-/// In how many words the 1 bits of a node are looked at before their end is selected: up to which child, and how many
+/// In how many words the 1 bits of a node are looked at before their end is searched: up to which child, and how many
 /// words these bits and the 0 bit before them are in at most.
 const NEAR: usize = 64;
 
 pub(crate) const NEAR_WORDS: usize = 2;
 
-/// The position of the 0 bit before the 1 bits of a node, or of the last 0 bit; `None` only where the source holds no
-/// tree.
-#[inline(always)]
-fn total_zero_on<T: TableSource>(source: &mut T, len: usize, node: usize) -> Option<usize>
-    requires sized { HasSizes (T.lists source.old) }
-    requires node { node ≤ len }
-    ensures place { IsLouds len (T.lists source.old)
-        → result ≡ Some (zero_place (degrees_in len (T.lists source.old)) node) }
-    ensures small { IfSome result (λ place. place < 2 ^ 64 - 1) }
-    ensures reads { OnlySelects T.lists T.reads source.old source.new 1 0 }
-{
-    zero_by(&ByTables, source, len, node)
-}
-
-/// Child `k` of a node that has more than `k` children, of which the 0 bit before its 1 bits stands at `start`; `Wrong`
-/// only where it does not.
-#[inline(always)]
-fn child_from(start: usize, len: usize, node: usize, k: usize) -> Answer<usize>
-    requires node { node < len }
-    requires room { start + k < 2 ^ 64 }
-    ensures inside { IsChildWithin len node result }
-    ensures answer { (d : List ℕ) → len ≡ length d → IsTree d → start ≡ zero_place d node
-        → k < slice_index d node → IsChildOf d node k result }
-{
-    let child = (start + k).wrapping_sub(node);
-    if node < child && child < len {
-        Answer::Found(child)
-    } else {
-        Answer::Wrong
-    }
-}
-
-/// Child `k` of a node, of which the 0 bits before and after its 1 bits stand at `start` and `end`; `Wrong` only where
-/// they do not.
-#[inline(always)]
-fn child_between(start: usize, end: usize, len: usize, node: usize, k: usize) -> Answer<usize>
-    requires { node < len }
-    ensures inside { IsChildWithin len node result }
-    ensures answer { (d : List ℕ) → len ≡ length d → IsTree d → start ≡ zero_place d node
-        → end ≡ zero_place d (node + 1) → IsChildOf d node k result }
-{
-    if end <= start {
-        return Answer::Wrong;
-    }
-    if k >= end - start - 1 {
-        return Answer::Absent;
-    }
-    child_from(start, len, node, k)
-}
-
-/// Child `k` of a node, one of its first 64, of which the 0 bit before its 1 bits stands at `start`; `Wrong` only where
-/// the source holds no tree.
+/// Child `k` of a node, one of its first 64, where the 0 bit before the node's 1 bits stands at `start`; `Wrong` only
+/// where the source holds no tree.
 ///
 /// The last 0 bit up to where the child's 1 bit would stand is the one at `start` exactly where there is such a child.
 #[inline(always)]
@@ -105,17 +61,21 @@ fn near_child_on<T: TableSource>(
     }
 }
 
-/// Child `k` of a node, of which the 0 bit before its 1 bits stands at `start`; `Wrong` only where it does not, or the
-/// source holds no tree.
+/// Child `k` of a node, where the 0 bit before the node's 1 bits stands at `start`; `Wrong` only where it does not, the
+/// source holds no tree, or `finder` does not find its bits.
 ///
 /// # Conditions
 /// There are fewer than 2^58 words, and the tables have the right lengths. They may hold anything. There is such a
 /// node.
 /// # Cost
-/// Two words where `k` is less than 64, and what a selection by binary search reads otherwise, whatever the source
-/// holds.
+/// Two words where `k` is less than 64, and what a search reads otherwise, whatever the source holds.
+///
+/// ```
+/// child_after_by(&ByTables, &mut source, 4, 0, 1, 1);   // Found(2), Absent or Wrong: the root's 0 bit stands at 1
+/// ```
 #[inline(always)]
-pub fn child_after_on<T: TableSource>(
+pub fn child_after_by<F: Finds, T: TableSource>(
+    finder: &F,
     source: &mut T,
     len: usize,
     node: usize,
@@ -125,16 +85,17 @@ pub fn child_after_on<T: TableSource>(
     requires sized { HasSizes (T.lists source.old) }
     requires node { node < len }
     ensures inside { IsChildWithin len node result }
-    ensures answer { IsLouds len (T.lists source.old)
+    ensures answer { IsLouds len (T.lists source.old) → F.finds finder.now (T.lists source.old)
         → start ≡ zero_place (degrees_in len (T.lists source.old)) node
         → IsChildOf (degrees_in len (T.lists source.old)) node k result }
     ensures near { k < 64 → OnlyReads T.lists T.reads source.old source.new 0 0 2 }
-    ensures reads { OnlySelects T.lists T.reads source.old source.new 1 0 }
+    ensures far { 64 ≤ k → OnlySelectsBy T.lists T.reads source.old source.new
+        (F.most (T.lists source.old)) 1 0 }
 {
     if k < NEAR {
         return near_child_on(source, len, node, start, k);
     }
-    match total_zero_on(source, len, node + 1) {
+    match far_zero_by(finder, source, len, node + 1) {
         Some(end) => child_between(start, end, len, node, k),
         None => Answer::Wrong,
     }
@@ -142,8 +103,40 @@ pub fn child_after_on<T: TableSource>(
 
 /// Child `k` of a node, by its number.
 ///
-/// Whatever the source holds, a child is more than the node and less than the number of nodes. Where it holds a tree,
-/// the answer is the child, `Absent` exactly where there is none, and never `Wrong`.
+/// Whatever the source holds, a child is more than the node and less than the number of nodes. Where it holds a tree
+/// whose bits `finder` finds, the answer is the child, `Absent` exactly where there is none, and never `Wrong`.
+///
+/// # Conditions
+/// There are fewer than 2^58 words, and the tables have the right lengths. They may hold anything.
+/// # Cost
+/// What two searches read, whatever the source holds; of the first 64 children what one search reads, and two words.
+#[inline(always)]
+pub fn child_by<F: Finds, T: TableSource>(
+    finder: &F,
+    source: &mut T,
+    len: usize,
+    node: usize,
+    k: usize,
+) -> Answer<usize>
+    requires { HasSizes (T.lists source.old) }
+    ensures inside { IsChildWithin len node result }
+    ensures answer { IsLouds len (T.lists source.old) → F.finds finder.now (T.lists source.old)
+        → IsChildOf (degrees_in len (T.lists source.old)) node k result }
+    ensures near { k < 64 → OnlySelectsBy T.lists T.reads source.old source.new
+        (F.most (T.lists source.old)) 1 2 }
+    ensures far { 64 ≤ k → OnlySelectsBy T.lists T.reads source.old source.new
+        (F.most (T.lists source.old)) 2 0 }
+{
+    if node >= len {
+        return Answer::Absent;
+    }
+    match zero_by(finder, source, len, node) {
+        Some(start) => child_after_by(finder, source, len, node, start, k),
+        None => Answer::Wrong,
+    }
+}
+
+/// Child `k` of a node, by its number and by binary search: `child_by` with `ByTables`.
 ///
 /// # Conditions
 /// There are fewer than 2^58 words, and the tables have the right lengths. They may hold anything.
@@ -167,36 +160,14 @@ pub fn total_child_on<T: TableSource>(
     ensures near { k < 64 → OnlySelects T.lists T.reads source.old source.new 1 2 }
     ensures reads { OnlySelects T.lists T.reads source.old source.new 2 0 }
 {
-    if node >= len {
-        return Answer::Absent;
-    }
-    match total_zero_on(source, len, node) {
-        Some(start) => child_after_on(source, len, node, start, k),
-        None => Answer::Wrong,
-    }
-}
-
-/// The degree of a node, of which the 0 bits before and after its 1 bits stand at `start` and `end`; `Wrong` only where
-/// they do not.
-#[inline(always)]
-fn degree_between(start: usize, end: usize, len: usize, node: usize) -> Answer<usize>
-    requires { node < len }
-    ensures inside { IsDegreeWithin len node result }
-    ensures answer { (d : List ℕ) → len ≡ length d → IsTree d → start ≡ zero_place d node
-        → end ≡ zero_place d (node + 1) → IsDegreeOf d node result }
-{
-    let degree = end.wrapping_sub(start).wrapping_sub(1);
-    if degree < len {
-        Answer::Found(degree)
-    } else {
-        Answer::Wrong
-    }
+    child_by(&ByTables, source, len, node, k)
 }
 
 /// The position of the 0 bit after the 1 bits of a node, where the 0 bit before them stands at `start`; `None` only
-/// where it does not, or the source holds no tree.
+/// where it does not, the source holds no tree, or `finder` does not find its bits.
 #[inline(always)]
-pub(crate) fn end_after_on<T: TableSource>(
+pub(crate) fn end_after_by<F: Finds, T: TableSource>(
+    finder: &F,
     source: &mut T,
     len: usize,
     node: usize,
@@ -204,28 +175,33 @@ pub(crate) fn end_after_on<T: TableSource>(
 ) -> Option<usize>
     requires sized { HasSizes (T.lists source.old) }
     requires node { node < len }
-    ensures place { IsLouds len (T.lists source.old)
+    ensures place { IsLouds len (T.lists source.old) → F.finds finder.now (T.lists source.old)
         → start ≡ zero_place (degrees_in len (T.lists source.old)) node
         → result ≡ Some (zero_place (degrees_in len (T.lists source.old)) (node + 1)) }
-    ensures reads { OnlySelects T.lists T.reads source.old source.new 1 2 }
+    ensures reads { OnlySelectsBy T.lists T.reads source.old source.new
+        (F.most (T.lists source.old)) 1 2 }
 {
     match near_zero_on::<NEAR_WORDS, T>(source, start.saturating_add(1)) {
         Some(end) => Some(end),
-        None => total_zero_on(source, len, node + 1),
+        None => far_zero_by(finder, source, len, node + 1),
     }
 }
 
-/// The degree of a node, of which the 0 bit before its 1 bits stands at `start`; `Wrong` only where it does not, or the
-/// source holds no tree.
+/// The degree of a node, where the 0 bit before the node's 1 bits stands at `start`; `Wrong` only where it does not,
+/// the source holds no tree, or `finder` does not find its bits.
 ///
 /// # Conditions
 /// There are fewer than 2^58 words, and the tables have the right lengths. They may hold anything. There is such a
 /// node.
 /// # Cost
-/// Two words, and what a selection by binary search reads where these have no 0 bit after `start`, whatever the source
-/// holds.
+/// Two words, and what a search reads where these have no 0 bit after `start`, whatever the source holds.
+///
+/// ```
+/// degree_after_by(&ByTables, &mut source, 4, 0, 1);   // Found(2) or Wrong: the root's 0 bit stands at 1
+/// ```
 #[inline(always)]
-pub fn degree_after_on<T: TableSource>(
+pub fn degree_after_by<F: Finds, T: TableSource>(
+    finder: &F,
     source: &mut T,
     len: usize,
     node: usize,
@@ -234,12 +210,13 @@ pub fn degree_after_on<T: TableSource>(
     requires sized { HasSizes (T.lists source.old) }
     requires node { node < len }
     ensures inside { IsDegreeWithin len node result }
-    ensures answer { IsLouds len (T.lists source.old)
+    ensures answer { IsLouds len (T.lists source.old) → F.finds finder.now (T.lists source.old)
         → start ≡ zero_place (degrees_in len (T.lists source.old)) node
         → IsDegreeOf (degrees_in len (T.lists source.old)) node result }
-    ensures reads { OnlySelects T.lists T.reads source.old source.new 1 2 }
+    ensures reads { OnlySelectsBy T.lists T.reads source.old source.new
+        (F.most (T.lists source.old)) 1 2 }
 {
-    match end_after_on(source, len, node, start) {
+    match end_after_by(finder, source, len, node, start) {
         Some(end) => degree_between(start, end, len, node),
         None => Answer::Wrong,
     }
@@ -248,12 +225,47 @@ pub fn degree_after_on<T: TableSource>(
 /// How many children a node has, by its number.
 ///
 /// Whatever the source holds, that is less than the number of nodes, and the answer is `Absent` exactly where there is
-/// no such node. Where it holds a tree, the answer is the degree, and never `Wrong`.
+/// no such node. Where it holds a tree whose bits `finder` finds, the answer is the degree, and never `Wrong`.
 ///
 /// # Conditions
 /// There are fewer than 2^58 words, and the tables have the right lengths. They may hold anything.
 /// # Cost
-/// What two selections by binary search read, whatever the source holds.
+/// What a search reads, and two words; what another search reads too where these have no 0 bit after the node's 1 bits,
+/// which in a tree is so only where it has more than 64 children.
+///
+/// ```
+/// degree_by(&ByTables, &mut source, 4, 0);   // Found(2), Absent or Wrong
+/// ```
+#[inline(always)]
+pub fn degree_by<F: Finds, T: TableSource>(
+    finder: &F,
+    source: &mut T,
+    len: usize,
+    node: usize,
+) -> Answer<usize>
+    requires { HasSizes (T.lists source.old) }
+    ensures inside { IsDegreeWithin len node result }
+    ensures answer { IsLouds len (T.lists source.old) → F.finds finder.now (T.lists source.old)
+        → IsDegreeOf (degrees_in len (T.lists source.old)) node result }
+    ensures reads { OnlySelectsBy T.lists T.reads source.old source.new
+        (F.most (T.lists source.old)) 2 2 }
+{
+    if node >= len {
+        return Answer::Absent;
+    }
+    match zero_by(finder, source, len, node) {
+        Some(start) => degree_after_by(finder, source, len, node, start),
+        None => Answer::Wrong,
+    }
+}
+
+/// How many children a node has, by its number and by binary search: `degree_by` with `ByTables`.
+///
+/// # Conditions
+/// There are fewer than 2^58 words, and the tables have the right lengths. They may hold anything.
+/// # Cost
+/// What two selections by binary search read, and two words, whatever the source holds; what one selection reads, and
+/// two words, where these have a 0 bit after the node's 1 bits.
 ///
 /// ```
 /// total_degree_on(&mut source, 4, 0);   // Found(2), Absent or Wrong
@@ -263,41 +275,16 @@ pub fn total_degree_on<T: TableSource>(source: &mut T, len: usize, node: usize) 
     ensures inside { IsDegreeWithin len node result }
     ensures answer { IsLouds len (T.lists source.old)
         → IsDegreeOf (degrees_in len (T.lists source.old)) node result }
-    ensures reads { OnlySelects T.lists T.reads source.old source.new 2 0 }
+    ensures reads { OnlySelects T.lists T.reads source.old source.new 2 2 }
 {
-    if node >= len {
-        return Answer::Absent;
-    }
-    let start = total_zero_on(source, len, node);
-    let end = total_zero_on(source, len, node + 1);
-    match (start, end) {
-        (Some(start), Some(end)) => degree_between(start, end, len, node),
-        _ => Answer::Wrong,
-    }
+    degree_by(&ByTables, source, len, node)
 }
 
-/// The children of a node, of which the 0 bits before and after its 1 bits stand at `start` and `end`; `Wrong` only
-/// where they do not.
+/// The children of a node, where the 0 bit before the node's 1 bits stands at `start`; `Wrong` only where it does not,
+/// the source holds no tree, or `finder` does not find its bits.
 #[inline(always)]
-fn children_between(start: usize, end: usize, len: usize, node: usize) -> Answer<(usize, usize)>
-    requires { node < len }
-    ensures inside { AreChildrenWithin len node result }
-    ensures answer { (d : List ℕ) → len ≡ length d → IsTree d → start ≡ zero_place d node
-        → end ≡ zero_place d (node + 1) → AreChildrenOf d node result }
-{
-    let first = start.wrapping_sub(node);
-    let past = end.wrapping_sub(node + 1);
-    if node < first && first <= past && past <= len {
-        Answer::Found((first, past))
-    } else {
-        Answer::Wrong
-    }
-}
-
-/// The children of a node, of which the 0 bit before its 1 bits stands at `start`; `Wrong` only where it does not, or
-/// the source holds no tree.
-#[inline(always)]
-pub(crate) fn children_after_on<T: TableSource>(
+pub(crate) fn children_after_by<F: Finds, T: TableSource>(
+    finder: &F,
     source: &mut T,
     len: usize,
     node: usize,
@@ -306,12 +293,13 @@ pub(crate) fn children_after_on<T: TableSource>(
     requires sized { HasSizes (T.lists source.old) }
     requires node { node < len }
     ensures inside { AreChildrenWithin len node result }
-    ensures answer { IsLouds len (T.lists source.old)
+    ensures answer { IsLouds len (T.lists source.old) → F.finds finder.now (T.lists source.old)
         → start ≡ zero_place (degrees_in len (T.lists source.old)) node
         → AreChildrenOf (degrees_in len (T.lists source.old)) node result }
-    ensures reads { OnlySelects T.lists T.reads source.old source.new 1 2 }
+    ensures reads { OnlySelectsBy T.lists T.reads source.old source.new
+        (F.most (T.lists source.old)) 1 2 }
 {
-    match end_after_on(source, len, node, start) {
+    match end_after_by(finder, source, len, node, start) {
         Some(end) => children_between(start, end, len, node),
         None => Answer::Wrong,
     }
@@ -320,12 +308,46 @@ pub(crate) fn children_after_on<T: TableSource>(
 /// The children of a node, by its number: the nodes from the first of the two numbers on, and before the second.
 ///
 /// Whatever the source holds, these are nodes after the given one, and the answer is `Absent` exactly where there is no
-/// such node. Where it holds a tree, they are the children in their order, and the answer is never `Wrong`.
+/// such node. Where it holds a tree whose bits `finder` finds, they are the children in their order, and the answer is
+/// never `Wrong`.
 ///
 /// # Conditions
 /// There are fewer than 2^58 words, and the tables have the right lengths. They may hold anything.
 /// # Cost
-/// What two selections by binary search read, whatever the source holds.
+/// The cost of `degree_by`.
+///
+/// ```
+/// children_by(&ByTables, &mut source, 4, 0);   // Found((1, 3)), Absent or Wrong
+/// ```
+#[inline(always)]
+pub fn children_by<F: Finds, T: TableSource>(
+    finder: &F,
+    source: &mut T,
+    len: usize,
+    node: usize,
+) -> Answer<(usize, usize)>
+    requires { HasSizes (T.lists source.old) }
+    ensures inside { AreChildrenWithin len node result }
+    ensures answer { IsLouds len (T.lists source.old) → F.finds finder.now (T.lists source.old)
+        → AreChildrenOf (degrees_in len (T.lists source.old)) node result }
+    ensures reads { OnlySelectsBy T.lists T.reads source.old source.new
+        (F.most (T.lists source.old)) 2 2 }
+{
+    if node >= len {
+        return Answer::Absent;
+    }
+    match zero_by(finder, source, len, node) {
+        Some(start) => children_after_by(finder, source, len, node, start),
+        None => Answer::Wrong,
+    }
+}
+
+/// The children of a node, by its number and by binary search: `children_by` with `ByTables`.
+///
+/// # Conditions
+/// There are fewer than 2^58 words, and the tables have the right lengths. They may hold anything.
+/// # Cost
+/// The cost of `total_degree_on`.
 ///
 /// ```
 /// total_children_on(&mut source, 4, 0);   // Found((1, 3)), Absent or Wrong
@@ -339,17 +361,9 @@ pub fn total_children_on<T: TableSource>(
     ensures inside { AreChildrenWithin len node result }
     ensures answer { IsLouds len (T.lists source.old)
         → AreChildrenOf (degrees_in len (T.lists source.old)) node result }
-    ensures reads { OnlySelects T.lists T.reads source.old source.new 2 0 }
+    ensures reads { OnlySelects T.lists T.reads source.old source.new 2 2 }
 {
-    if node >= len {
-        return Answer::Absent;
-    }
-    let start = total_zero_on(source, len, node);
-    let end = total_zero_on(source, len, node + 1);
-    match (start, end) {
-        (Some(start), Some(end)) => children_between(start, end, len, node),
-        _ => Answer::Wrong,
-    }
+    children_by(&ByTables, source, len, node)
 }
 
 /// Whether a node has no children, where the 0 bit before its 1 bits stands at `start`.

@@ -59,8 +59,7 @@ impl<S: SelectForRank101111, S0: Select0ForRank101111> Louds<S, S0> {
         self.climb(node, above) == above
     }
 
-    /// The lowest node that each of the two is, or stands below: each other node of which that is true stands above
-    /// this one.
+    /// The lowest node that each of the two is, or stands below: each other such node stands above this one.
     ///
     /// # Conditions
     /// There are such nodes.

@@ -1,10 +1,11 @@
-//! The calls of a tree over any source, by binary search: what they read is counted.
+//! The calls of a tree over any source, by binary search: their reads are counted.
 ghost use Rattle.std.specs.Prelude.{◌≡◌, ◌==◌, ◌<◌, slice_index};
 ghost use Rattle.louds.specs.Counted.{degrees_in, IsLouds, OnlySelects};
 ghost use Rattle.louds.specs.Tree.{MatchesChild, MatchesNextSibling, MatchesParent};
 
-use crate::children::{total_child_on, total_degree_on};
-use crate::queries::{is_leaf_by, next_sibling_by, parent_by};
+use crate::between::degree_between;
+use crate::children::total_child_on;
+use crate::queries::{is_leaf_by, next_sibling_by, parent_by, zero_by};
 use bitm::index_laws;
 use bitm_select::search::selecting::ByTables;
 use bitm_tables::answer::Answer;
@@ -23,7 +24,12 @@ pub fn degree_on<T: TableSource>(source: &mut T, len: usize, node: usize) -> usi
     ensures reads { OnlySelects T.lists T.reads source.old source.new 2 0 }
 {
     index_laws::tables_have_sizes();
-    match total_degree_on(source, len, node) {
+    let start = zero_by(&ByTables, source, len, node);
+    let end = zero_by(&ByTables, source, len, node + 1);
+    let (Some(start), Some(end)) = (start, end) else {
+        unreachable!()
+    };
+    match degree_between(start, end, len, node) {
         Answer::Found(degree) => degree,
         _ => unreachable!(),
     }

@@ -61,7 +61,8 @@ fn rise<S: SelectForRank101111, S0: Select0ForRank101111>(
     labels_rise(tree.words(), &mut ListProbe::new(labels), labels.len())
 }
 
-/// Whether these are labels for the nodes of a tree: one of at most `width` bits for each, and those of siblings rise.
+/// Whether these are labels for the nodes of a tree: one of at most `width` bits for each, and the labels of siblings
+/// rise.
 ///
 /// # Conditions
 /// `width` is at most 63.
@@ -82,11 +83,11 @@ impl<S: SelectForRank101111, S0: Select0ForRank101111> LabelledLouds<S, S0> {
     /// # Conditions
     /// `width` is 1 to 63.
     /// # Errors
-    /// `TooLong` exactly where there are 2^60 degrees or more; else `NotATree` exactly where they are those of no tree;
-    /// else `OutOfMemory` where memory was refused, or `NotLabels` only where these are no labels for that tree
+    /// `TooLong` exactly where there are 2^60 degrees or more; else `NotATree` exactly where they form no tree; else
+    /// `OutOfMemory` where memory was refused, or `NotLabels` only where these are no labels for that tree
     /// (`are_labels` tests it). Nothing stays allocated then.
     /// # Cost
-    /// That of `Louds::build`, a pass over the bits of the tree, and three passes over the labels.
+    /// The cost of `Louds::build`, a pass over the bits of the tree, and three passes over the labels.
     pub fn build(
         alloc: Global,
         degrees: &[usize],
@@ -172,7 +173,7 @@ impl<S: SelectForRank101111, S0: Select0ForRank101111> LabelledLouds<S, S0> {
     /// # Conditions
     /// There is such a node.
     /// # Cost
-    /// That of `Louds::children`, and halving among the labels of the children: as many labels as the number of
+    /// The cost of `Louds::children`, and halving among the labels of the children: as many labels as the number of
     /// children has binary digits, and one.
     pub fn child_by_label(&self, node: usize, label: u64) -> Option<usize>
         requires { node < length self.now.degrees }

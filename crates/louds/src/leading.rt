@@ -1,6 +1,6 @@
-//! Children by their labels, and nodes by their words, one body for each: over any source, of which the words and
-//! tables may hold anything, over any labels, and by any way to find children. The calls of the tree with labels and
-//! those over a block run them.
+//! Children by their labels, and nodes by their words, one body for each: over any source, whose words and tables may
+//! hold anything, over any labels, and by any way to find a bit. The calls of the tree with labels and the calls over a
+//! block run them.
 //!
 //! ```
 //! find_by(&ByTables, &mut source, &mut labels, 4, [98u64, 101].as_slice());   // Found(3), Absent or Wrong
@@ -8,15 +8,17 @@
 ghost use Rattle.std.specs.Prelude.{◌≡◌, ◌+◌, ◌-◌, ◌*◌, ◌<◌, ◌≤◌, IfSome, length, ℕ, List};
 ghost use Rattle.bit_lists.specs.Bits.{digit_count};
 ghost use Rattle.bitm_tables.specs.Tables.{HasSizes};
+ghost use Rattle.bitm_selection.specs.Selection.{OnlySelectsBy};
 ghost use Rattle.louds.specs.Answers.{IsChildWithin};
-ghost use Rattle.louds.specs.Counted.{degrees_in, IsLouds, OnlySelects};
+ghost use Rattle.louds.specs.Counted.{degrees_in, IsLouds};
 ghost use Rattle.louds.specs.Labels.{MatchesChildWith, Rise};
 ghost use Rattle.louds.specs.Leading.{IsChildByLabelOf, IsLongestOf, IsLongestWithin, IsNodeOf};
 ghost use Rattle.louds.specs.Leading.{Grow, IsLabelPlace, IsNodeWithin, ReadsLabels};
 ghost use Rattle.louds.specs.Tree.{AreChildren};
 
-use crate::finding::FindsChildren;
+use crate::children::children_by;
 use crate::probing::Labels;
+use bitm_selection::Finds;
 use bitm_tables::answer::Answer;
 use bitm_tables::source::TableSource;
 use suffix_order::Letters;
@@ -84,21 +86,21 @@ fn child_among<L: Labels>(
 /// The child of a node with this label, by its number.
 ///
 /// Whatever the source and the labels hold, a child is more than the node and less than the number of nodes. Where they
-/// hold a trie of which `finder` finds the children, the answer is the child, `Absent` exactly where none has the
-/// label, and never `Wrong`.
+/// hold a trie whose bits `finder` finds, the answer is the child, `Absent` exactly where none has the label, and never
+/// `Wrong`.
 ///
 /// # Conditions
 /// There are fewer than 2^58 words, the tables have the right lengths, and there are labels for `len` nodes. They may
 /// hold anything.
 /// # Cost
-/// Of the source, what two selections by binary search read at most, and as many labels as the number of nodes has
-/// binary digits, and one, whatever they hold.
+/// Of the source, what `children_by` reads, and as many labels as the number of nodes has binary digits, and one,
+/// whatever they hold.
 ///
 /// ```
 /// child_by_label_by(&ByTables, &mut source, &mut labels, 4, 0, 7);   // Found(2), Absent or Wrong
 /// ```
 #[inline(always)]
-pub fn child_by_label_by<F: FindsChildren, T: TableSource, L: Labels>(
+pub fn child_by_label_by<F: Finds, T: TableSource, L: Labels>(
     finder: &F,
     source: &mut T,
     labels: &mut L,
@@ -109,15 +111,16 @@ pub fn child_by_label_by<F: FindsChildren, T: TableSource, L: Labels>(
     requires sized { HasSizes (T.lists source.old) }
     requires labels { L.fitting (L.seen labels.old).words (L.seen labels.old).width len }
     ensures inside { IsChildWithin len node result }
-    ensures answer { IsLouds len (T.lists source.old) → F.finds_in finder.now (T.lists source.old)
+    ensures answer { IsLouds len (T.lists source.old) → F.finds finder.now (T.lists source.old)
         → Rise (degrees_in len (T.lists source.old))
         (L.listed (L.seen labels.old).words (L.seen labels.old).width len)
         → IsChildByLabelOf (degrees_in len (T.lists source.old))
         (L.listed (L.seen labels.old).words (L.seen labels.old).width len) node label result }
-    ensures reads { OnlySelects T.lists T.reads source.old source.new 2 0 }
+    ensures reads { OnlySelectsBy T.lists T.reads source.old source.new
+        (F.most (T.lists source.old)) 2 2 }
     ensures labels { ReadsLabels (L.seen labels.old) (L.seen labels.new) (digit_count len + 1) }
 {
-    match finder.children_on(source, len, node) {
+    match children_by(finder, source, len, node) {
         Answer::Found((first, past)) => match child_among(labels, len, first, past, label) {
             Some(child) => Answer::Found(child),
             None => Answer::Absent,
@@ -131,8 +134,8 @@ pub fn child_by_label_by<F: FindsChildren, T: TableSource, L: Labels>(
 /// where the word leads to a node. A word is a list of labels, such as `&[u64]`, or `&[u8]` where labels are bytes.
 ///
 /// Whatever the source and the labels hold, the node is less than the number of nodes, no more labels lead there than
-/// the word has, and the answer is `Absent` exactly where there are no nodes. Where they hold a trie of which `finder`
-/// finds the children, no longer beginning of the word leads to a node, and the answer is never `Wrong`.
+/// the word has, and the answer is `Absent` exactly where there are no nodes. Where they hold a trie whose bits
+/// `finder` finds, no longer beginning of the word leads to a node, and the answer is never `Wrong`.
 ///
 /// # Conditions
 /// There are fewer than 2^58 words, the tables have the right lengths, and there are labels for `len` nodes. They may
@@ -144,7 +147,7 @@ pub fn child_by_label_by<F: FindsChildren, T: TableSource, L: Labels>(
 /// longest_by(&ByTables, &mut source, &mut labels, 4, [98u64, 101, 97].as_slice());   // Found((3, 2)) or Wrong
 /// ```
 #[inline(always)]
-pub fn longest_by<F: FindsChildren, T: TableSource, L: Labels, W: Letters>(
+pub fn longest_by<F: Finds, T: TableSource, L: Labels, W: Letters>(
     finder: &F,
     source: &mut T,
     labels: &mut L,
@@ -154,12 +157,13 @@ pub fn longest_by<F: FindsChildren, T: TableSource, L: Labels, W: Letters>(
     requires sized { HasSizes (T.lists source.old) }
     requires labels { L.fitting (L.seen labels.old).words (L.seen labels.old).width len }
     ensures inside { IsLongestWithin len (length (W.letters word)) result }
-    ensures answer { IsLouds len (T.lists source.old) → F.finds_in finder.now (T.lists source.old)
+    ensures answer { IsLouds len (T.lists source.old) → F.finds finder.now (T.lists source.old)
         → Rise (degrees_in len (T.lists source.old))
         (L.listed (L.seen labels.old).words (L.seen labels.old).width len)
         → IsLongestOf (degrees_in len (T.lists source.old))
         (L.listed (L.seen labels.old).words (L.seen labels.old).width len) (W.letters word) result }
-    ensures reads { OnlySelects T.lists T.reads source.old source.new (2 * length (W.letters word)) 0 }
+    ensures reads { OnlySelectsBy T.lists T.reads source.old source.new
+        (F.most (T.lists source.old)) (2 * length (W.letters word)) (2 * length (W.letters word)) }
     ensures labels { ReadsLabels (L.seen labels.old) (L.seen labels.new)
         (length (W.letters word) * (digit_count len + 1)) }
 {
@@ -182,9 +186,8 @@ pub fn longest_by<F: FindsChildren, T: TableSource, L: Labels, W: Letters>(
 /// The node to which a word leads from the root, label by label. A word is a list of labels, such as `&[u64]`, or
 /// `&[u8]` where labels are bytes.
 ///
-/// Whatever the source and the labels hold, it is less than the number of nodes. Where they hold a trie of which
-/// `finder` finds the children, the answer is that node, `Absent` exactly where the word leads to none, and never
-/// `Wrong`.
+/// Whatever the source and the labels hold, it is less than the number of nodes. Where they hold a trie whose bits
+/// `finder` finds, the answer is that node, `Absent` exactly where the word leads to none, and never `Wrong`.
 ///
 /// # Conditions
 /// There are fewer than 2^58 words, the tables have the right lengths, and there are labels for `len` nodes. They may
@@ -196,7 +199,7 @@ pub fn longest_by<F: FindsChildren, T: TableSource, L: Labels, W: Letters>(
 /// find_by(&ByTables, &mut source, &mut labels, 4, [98u64, 101].as_slice());   // Found(3), Absent or Wrong
 /// ```
 #[inline(always)]
-pub fn find_by<F: FindsChildren, T: TableSource, L: Labels, W: Letters>(
+pub fn find_by<F: Finds, T: TableSource, L: Labels, W: Letters>(
     finder: &F,
     source: &mut T,
     labels: &mut L,
@@ -206,12 +209,13 @@ pub fn find_by<F: FindsChildren, T: TableSource, L: Labels, W: Letters>(
     requires sized { HasSizes (T.lists source.old) }
     requires labels { L.fitting (L.seen labels.old).words (L.seen labels.old).width len }
     ensures inside { IsNodeWithin len result }
-    ensures answer { IsLouds len (T.lists source.old) → F.finds_in finder.now (T.lists source.old)
+    ensures answer { IsLouds len (T.lists source.old) → F.finds finder.now (T.lists source.old)
         → Rise (degrees_in len (T.lists source.old))
         (L.listed (L.seen labels.old).words (L.seen labels.old).width len)
         → IsNodeOf (degrees_in len (T.lists source.old))
         (L.listed (L.seen labels.old).words (L.seen labels.old).width len) (W.letters word) result }
-    ensures reads { OnlySelects T.lists T.reads source.old source.new (2 * length (W.letters word)) 0 }
+    ensures reads { OnlySelectsBy T.lists T.reads source.old source.new
+        (F.most (T.lists source.old)) (2 * length (W.letters word)) (2 * length (W.letters word)) }
     ensures labels { ReadsLabels (L.seen labels.old) (L.seen labels.new)
         (length (W.letters word) * (digit_count len + 1)) }
 {

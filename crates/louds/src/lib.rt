@@ -15,12 +15,12 @@
 #![tactic(auto)]
 
 // What is in each file:
+// - `between`: what the 0 bits before and after a node's 1 bits tell of its children
 // - `checking`: which lists of degrees are trees
-// - `children`: degrees and children, one body for each, over any source
+// - `children`: degrees and children, one body for each, over any source, and by any way to find a bit
 // - `climbing`: ways up and down from nodes
 // - `counted`: the calls of a tree over any source, with a bound on their reads
 // - `error`: why degrees were refused
-// - `finding`: ways to find the children of a node
 // - `labelled`: a tree whose nodes have labels
 // - `labels`: numbers of one width, side by side
 // - `laws`: laws of the definitions
@@ -33,12 +33,12 @@
 // - `queries`: parents, leaves and siblings, one body for each, over any source and by any way to find a bit
 // - `rising`: whether the labels of siblings rise, one body, over any labels
 // - `tree`: the type of a tree, and its queries
+mod between;
 mod checking;
 pub mod children;
 mod climbing;
 pub mod counted;
 mod error;
-pub mod finding;
 mod labelled;
 mod labels;
 pub mod laws;
@@ -52,7 +52,7 @@ pub mod queries;
 pub mod rising;
 mod tree;
 
-pub use checking::is_tree;
+pub use checking::{is_tree, misfit};
 pub use error::{LabelsError, LoudsError};
 pub use labelled::{LabelledLouds, SampledTrie, are_labels};
 pub use labels::{all_fit, write_numbers};

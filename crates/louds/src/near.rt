@@ -8,8 +8,8 @@ ghost use Rattle.bitm_tables.specs.Tables.{bits_in};
 use bit_words::words;
 use bitm_tables::source::TableSource;
 
-/// The position of the last 0 bit up to `to`; `None` only where the `WORDS` words of which the last has position `to`
-/// have no such bit.
+/// The position of the last 0 bit up to `to`; `None` only where the `WORDS` words up to the word of `to` have no such
+/// bit.
 ///
 /// # Conditions
 /// The position `to` is inside, and there are fewer than 2^58 words.

@@ -4,7 +4,7 @@ ghost use Rattle.std.specs.Prelude.{◌≡◌, ◌==◌, ◌<◌, length, slice_
 ghost use Rattle.louds.specs.Node.{IsNode, MatchesChildNode, MatchesNextSiblingNode, MatchesParentNode};
 ghost use Rattle.louds.specs.Tree.{AreChildren, IsChild};
 
-use crate::children::{children_after_on, degree_after_on, ends_after_on};
+use crate::children::{children_after_by, degree_after_by, ends_after_on};
 use crate::queries::parent_of_by;
 use crate::tree::Louds;
 use bitm_strategies::{Select0ForRank101111, SelectForRank101111};
@@ -81,13 +81,14 @@ impl<S: SelectForRank101111, S0: Select0ForRank101111> Louds<S, S0> {
     /// # Conditions
     /// It is a node of this tree.
     /// # Cost
-    /// Two words; a selection by binary search where it has more than 64 children.
+    /// Two words; a selection where it has more than 64 children.
     #[inline]
     pub fn degree_of(&self, node: Node) -> usize
         requires { IsNode self.now.degrees node }
         ensures { result ≡ slice_index self.now.degrees node.number }
     {
-        match degree_after_on(&mut self.probe(), self.len(), node.number, node.place) {
+        let (index, mut probe) = self.parts();
+        match degree_after_by(index, &mut probe, self.len(), node.number, node.place) {
             Answer::Found(degree) => degree,
             _ => unreachable!(),
         }
@@ -112,13 +113,14 @@ impl<S: SelectForRank101111, S0: Select0ForRank101111> Louds<S, S0> {
     /// # Conditions
     /// It is a node of this tree.
     /// # Cost
-    /// Two words; a selection by binary search where it has more than 64 children.
+    /// Two words; a selection where it has more than 64 children.
     #[inline]
     pub fn children_of(&self, node: Node) -> Range<usize>
         requires { IsNode self.now.degrees node }
         ensures { AreChildren self.now.degrees node.number result.start result.end }
     {
-        match children_after_on(&mut self.probe(), self.len(), node.number, node.place) {
+        let (index, mut probe) = self.parts();
+        match children_after_by(index, &mut probe, self.len(), node.number, node.place) {
             Answer::Found((first, past)) => first..past,
             _ => unreachable!(),
         }

@@ -9,7 +9,7 @@ use bitm_strategies::{Select0ForRank101111, SelectForRank101111};
 use std::alloc::{AllocError, Global};
 
 /// Whether these are the parents of the nodes from 1 on of some tree: each is a node before its child, and none is less
-/// than that of the node before.
+/// than the parent of the node before.
 pub fn are_parents(parents: &[usize]) -> bool
     ensures { IsTrue result ↔ AreParents parents.now }
 {
@@ -46,8 +46,9 @@ impl<S: SelectForRank101111, S0: Select0ForRank101111> Louds<S, S0> {
     /// The tree whose node `i + 1` is a child of node `parents[i]`; the parents stay as they are.
     ///
     /// # Errors
-    /// `TooLong` exactly where there are 2^60 - 1 parents or more; else `NotATree` exactly where they are not those of
-    /// nodes level by level (`are_parents` tests it); else `OutOfMemory` where memory was refused; nothing is left.
+    /// `TooLong` exactly where there are 2^60 - 1 parents or more; else `NotATree` exactly where they are not the
+    /// parents of nodes level by level (`are_parents` tests it); else `OutOfMemory` where memory was refused; nothing
+    /// is left.
     /// # Cost
     /// Two passes over the parents, with one number kept for each node, and `build`.
     pub fn from_parents(alloc: Global, parents: &[usize]) -> Result<Self, LoudsError>

@@ -15,7 +15,7 @@ pub trait Labels {
     /// Whether words have labels of that many bits for a number of nodes, whatever these are.
     ghost fitting: { List ℕ → ℕ → ℕ → Type 0 };
 
-    /// Those labels.
+    /// The labels that the words have.
     ghost listed: { List ℕ → ℕ → ℕ → List ℕ };
 
     /// The label of a node, of `len` nodes; one more label is read.

@@ -1,5 +1,5 @@
-//! Parents, leaves and siblings, one body for each: over any source, of which the words and tables may hold anything,
-//! and by any way to find a bit. The calls of the tree, the calls of `counted` and calls over a block run them.
+//! Parents, leaves and siblings, one body for each: over any source, whose words and tables may hold anything, and by
+//! any way to find a bit. The calls of the tree, the calls of `counted` and calls over a block run them.
 //!
 //! ```
 //! parent_by(&ByTables, &mut source, 4, 3);   // Found(2), Absent or Wrong
@@ -108,8 +108,7 @@ pub fn parent_at(place: usize, len: usize, node: usize) -> Answer<usize>
 /// The parent of a node, by its number.
 ///
 /// Whatever the source holds, a parent is less than the node, and the answer is `Absent` exactly at the root and where
-/// there is no such node. Where it holds a tree of which `finder` finds the bits, the answer is the parent, and never
-/// `Wrong`.
+/// there is no such node. Where it holds a tree whose bits `finder` finds, the answer is the parent, and never `Wrong`.
 ///
 /// # Conditions
 /// There are fewer than 2^58 words, and the tables have the right lengths. They may hold anything.
@@ -138,9 +137,9 @@ pub fn parent_by<F: Finds, T: TableSource>(
     }
 }
 
-/// `zero_by`, out of the way of `start_by`, which seldom needs it.
+/// `zero_by`, out of the way of calls that seldom need it.
 #[inline(never)]
-fn far_zero_by<F: Finds, T: TableSource>(
+pub(crate) fn far_zero_by<F: Finds, T: TableSource>(
     finder: &F,
     source: &mut T,
     len: usize,
@@ -198,14 +197,13 @@ fn start_by<F: Finds, T: TableSource>(
 /// The parent of a node, with its position, by the node's number: `parent_by` with what a walk carries on.
 ///
 /// Whatever the source holds, a parent is less than the node, and the answer is `Absent` exactly at the root and where
-/// there is no such node. Where it holds a tree of which `finder` finds the bits, the answer is the parent, and never
-/// `Wrong`.
+/// there is no such node. Where it holds a tree whose bits `finder` finds, the answer is the parent, and never `Wrong`.
 ///
 /// # Conditions
 /// There are fewer than 2^58 words, and the tables have the right lengths. They may hold anything.
 /// # Cost
-/// What two searches read, and two words, whatever the source holds; in a tree of which `finder` finds the bits what
-/// one search reads, and two words, unless 64 children of the parent or more stand before the node.
+/// What two searches read, and two words, whatever the source holds; in a tree whose bits `finder` finds what one
+/// search reads, and two words, unless 64 children of the parent or more stand before the node.
 #[inline(always)]
 pub(crate) fn parent_of_by<F: Finds, T: TableSource>(
     finder: &F,
@@ -240,8 +238,8 @@ pub(crate) fn parent_of_by<F: Finds, T: TableSource>(
 
 /// Whether a node has no children, by its number.
 ///
-/// Whatever the source holds, the answer is `Absent` exactly where there is no such node. Where it holds a tree of
-/// which `finder` finds the bits, the answer is whether the degree is 0, and never `Wrong`.
+/// Whatever the source holds, the answer is `Absent` exactly where there is no such node. Where it holds a tree whose
+/// bits `finder` finds, the answer is whether the degree is 0, and never `Wrong`.
 ///
 /// # Conditions
 /// There are fewer than 2^58 words, and the tables have the right lengths. They may hold anything.
@@ -276,8 +274,8 @@ pub fn is_leaf_by<F: Finds, T: TableSource>(
 /// Which child of its parent a node is, counted from 0, by the node's number.
 ///
 /// Whatever the source holds, that is less than the number of nodes, and the answer is `Absent` exactly at the root and
-/// where there is no such node. Where the source holds a tree of which `finder` finds the bits, the node is that child
-/// of its parent, and the answer is never `Wrong`.
+/// where there is no such node. Where the source holds a tree whose bits `finder` finds, the node is that child of its
+/// parent, and the answer is never `Wrong`.
 ///
 /// # Conditions
 /// There are fewer than 2^58 words, and the tables have the right lengths. They may hold anything.
@@ -319,9 +317,9 @@ pub fn child_rank_by<F: Finds, T: TableSource>(
 
 /// The next child of a node's parent, by its number.
 ///
-/// Whatever the source holds, it is the number after the node's own, and there is such a node. Where the source holds
-/// a tree of which `finder` finds the bits, the answer is the next sibling, `Absent` exactly at the last child, at the
-/// root and where there is no such node, and never `Wrong`.
+/// Whatever the source holds, it is the number after the node's own, and there is such a node. Where the source holds a
+/// tree whose bits `finder` finds, the answer is the next sibling, `Absent` exactly at the last child, at the root and
+/// where there is no such node, and never `Wrong`.
 ///
 /// # Conditions
 /// There are fewer than 2^58 words, and the tables have the right lengths. They may hold anything.
@@ -356,9 +354,9 @@ pub fn next_sibling_by<F: Finds, T: TableSource>(
 
 /// The child of a node's parent before it, by its number.
 ///
-/// Whatever the source holds, it is the number before the node's own. Where the source holds a tree of which `finder`
-/// finds the bits, the answer is the previous sibling, `Absent` exactly at the first child, at the root and where there
-/// is no such node, and never `Wrong`.
+/// Whatever the source holds, it is the number before the node's own. Where the source holds a tree whose bits `finder`
+/// finds, the answer is the previous sibling, `Absent` exactly at the first child, at the root and where there is no
+/// such node, and never `Wrong`.
 ///
 /// # Conditions
 /// There are fewer than 2^58 words, and the tables have the right lengths. They may hold anything.

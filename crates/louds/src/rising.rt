@@ -11,8 +11,8 @@ ghost use Rattle.louds.specs.Tree.{IsNextSibling};
 use crate::probing::Labels;
 use bit_words::words;
 
-/// Whether the label of a node, whose 1 bit stands at `place`, is less than that of its next sibling, if it has one:
-/// there is one where a 1 bit stands next.
+/// Whether the label of a node, whose 1 bit stands at `place`, is less than the label of its next sibling, if it has
+/// one: there is one where a 1 bit stands next.
 #[inline(always)]
 fn is_less_than_next<L: Labels>(
     bits: &[u64],

@@ -13,7 +13,7 @@ ghost use Rattle.louds.specs.Tree.{AreChildren, IsTree, MatchesChild, MatchesLas
 ghost use Rattle.louds.specs.Tree.{MatchesParent, MatchesChildRank, MatchesNextSibling, MatchesPreviousSibling};
 
 use crate::checking::is_tree;
-use crate::children::{child_after_on, children_after_on, degree_after_on, end_after_on};
+use crate::children::{child_by, children_by, degree_by, end_after_by};
 use crate::error::LoudsError;
 use crate::making::make_bits;
 use crate::queries::{
@@ -158,7 +158,7 @@ impl<S: SelectForRank101111, S0: Select0ForRank101111> Louds<S, S0> {
     /// The position of the 0 bit after the 1 bits of a node, where the 0 bit before them stands at `start`.
     ///
     /// # Cost
-    /// Two words, and what a selection by binary search reads where these have no 0 bit after `start`.
+    /// Two words, and a selection where these have no 0 bit after `start`.
     #[inline(always)]
     pub(crate) fn end(&self, node: usize, start: usize) -> usize
         requires node { node < length self.now.degrees }
@@ -166,7 +166,8 @@ impl<S: SelectForRank101111, S0: Select0ForRank101111> Louds<S, S0> {
         ensures place { result ≡ zero_place self.now.degrees (node + 1) }
         ensures small { result < 2 ^ 62 }
     {
-        match end_after_on(&mut self.probe(), self.len(), node, start) {
+        let (index, mut probe) = self.parts();
+        match end_after_by(index, &mut probe, self.len(), node, start) {
             Some(end) => end,
             None => unreachable!(),
         }
@@ -177,13 +178,14 @@ impl<S: SelectForRank101111, S0: Select0ForRank101111> Louds<S, S0> {
     /// # Conditions
     /// There is such a node.
     /// # Cost
-    /// One selection and two words; where it has more than 64 children a selection by binary search too.
+    /// One selection and two words; two selections where it has more than 64 children.
     #[inline]
     pub fn degree(&self, node: usize) -> usize
         requires { node < length self.now.degrees }
         ensures { result ≡ slice_index self.now.degrees node }
     {
-        match degree_after_on(&mut self.probe(), self.len(), node, self.zero(node)) {
+        let (index, mut probe) = self.parts();
+        match degree_by(index, &mut probe, self.len(), node) {
             Answer::Found(degree) => degree,
             _ => unreachable!(),
         }
@@ -212,14 +214,15 @@ impl<S: SelectForRank101111, S0: Select0ForRank101111> Louds<S, S0> {
     /// # Conditions
     /// There is such a node.
     /// # Cost
-    /// One selection and two words; where `k` is 64 or more a selection by binary search too.
+    /// One selection and two words; two selections where `k` is 64 or more.
     #[inline]
     pub fn child(&self, node: usize, k: usize) -> Option<usize>
         requires { node < length self.now.degrees }
         ensures child { MatchesChild self.now.degrees node k result }
         ensures inside { IfSome result (λ child. child < length self.now.degrees) }
     {
-        child_after_on(&mut self.probe(), self.len(), node, self.zero(node), k).right()
+        let (index, mut probe) = self.parts();
+        child_by(index, &mut probe, self.len(), node, k).right()
     }
 
     /// The first child of a node; `None` exactly where it has none.
@@ -242,13 +245,14 @@ impl<S: SelectForRank101111, S0: Select0ForRank101111> Louds<S, S0> {
     /// # Conditions
     /// There is such a node.
     /// # Cost
-    /// One selection and two words; where it has more than 64 children a selection by binary search too.
+    /// One selection and two words; two selections where it has more than 64 children.
     #[inline]
     pub fn children(&self, node: usize) -> Range<usize>
         requires { node < length self.now.degrees }
         ensures { AreChildren self.now.degrees node result.start result.end }
     {
-        match children_after_on(&mut self.probe(), self.len(), node, self.zero(node)) {
+        let (index, mut probe) = self.parts();
+        match children_by(index, &mut probe, self.len(), node) {
             Answer::Found((first, past)) => first..past,
             _ => unreachable!(),
         }
@@ -259,7 +263,7 @@ impl<S: SelectForRank101111, S0: Select0ForRank101111> Louds<S, S0> {
     /// # Conditions
     /// There is such a node.
     /// # Cost
-    /// One selection and two words; where it has more than 64 children a selection by binary search too.
+    /// One selection and two words; two selections where it has more than 64 children.
     #[inline]
     pub fn last_child(&self, node: usize) -> Option<usize>
         requires { node < length self.now.degrees }

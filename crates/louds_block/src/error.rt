@@ -8,9 +8,9 @@ use std::fmt;
 pub enum BuildError {
     /// There are 2^60 degrees or more.
     TooLong,
-    /// The words are not as many as the block takes.
+    /// The words are more or fewer than the block takes.
     WrongLength,
-    /// The degrees are those of no tree.
+    /// The degrees form no tree.
     NotATree,
 }
 

@@ -1,12 +1,12 @@
 //! A tree in a block of memory, such as a mapped file: nothing is allocated or copied, and no call has a condition on
 //! what the memory holds.
 //!
-//! With the block of a tree the answers are those of the tree. If it is stale or hostile, every call still terminates
+//! With the block of a tree the answers agree with the tree. If it is stale or hostile, every call still terminates
 //! within its read bound, a parent is less than its child, and a child is more than its parent and less than the number
 //! of nodes.
 //!
 //! ```
-//! let mut block = [0u64; 56];                                   // size(4) words
+//! let mut block = [0u64; 64];                                   // size(4) words
 //! build([2usize, 0, 1, 0].as_slice(), block.as_mut_slice());    // Ok(())
 //! let Some(tree) = LoudsView::open(block.as_slice()) else { .. };
 //! tree.check();        // true

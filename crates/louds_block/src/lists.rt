@@ -1,5 +1,5 @@
-//! Lists of queries of a tree, over any source, of which the words and tables may hold anything: sixteen selections go
-//! side by side, so that each waits for memory while the others do.
+//! Lists of queries of a tree, over any source, whose words and tables may hold anything: sixteen selections go side by
+//! side, so that each waits for memory while the others do.
 ghost use Rattle.std.specs.Prelude.{◌≡◌, ◌+◌, ◌*◌, ◌<◌, ℕ, length, slice_index};
 ghost use Rattle.bit_lists.specs.Count.{as_bit};
 ghost use Rattle.bitm_select.specs.Answers.{SelectTold, ToldEach};
@@ -7,14 +7,15 @@ ghost use Rattle.bitm_tables.specs.declared.answer.Answer.{Answer};
 ghost use Rattle.bitm_tables.specs.Tables.{HasSizes};
 ghost use Rattle.louds.specs.Counted.{OnlySelects};
 ghost use Rattle.louds_block.specs.Block.{TreeParts};
-ghost use Rattle.louds_block.specs.Told.{in_lists, IsChildAnswer, IsCodeOf, IsDegree, IsParent};
+ghost use Rattle.louds_block.specs.Told.{in_lists, without_hints, IsChildAnswer, IsCodeOf, IsDegree, IsParent};
 
 use crate::tree::LoudsView;
 use bitm_many::lists::total_select_many_on;
 use bitm_select::search::selected::told;
+use bitm_select::search::selecting::ByTables;
 use bitm_tables::answer::Answer;
 use bitm_tables::source::TableSource;
-use louds::children::{child_after_on, degree_after_on};
+use louds::children::{child_after_by, degree_after_by};
 use louds::queries::parent_at;
 
 /// A query of a node, which is answered from the position of a bit: of the 1 bit with the node's rank, or of the 0 bit
@@ -23,7 +24,7 @@ trait Asks<const BIT: u8, T: TableSource> {
     /// What holds of the answer for a node and a number.
     ghost holds: { ℕ → ℕ → TreeParts → Answer ℕ → Type 0 };
 
-    /// How many selections the answer takes, after that of the bit, and how many words.
+    /// How many selections the answer takes, after the bit's, and how many words.
     ghost selects: { ℕ };
 
     ghost words: { ℕ };
@@ -70,7 +71,7 @@ impl<T: TableSource> Asks<0, T> for Degrees {
         if node >= len {
             return Answer::Absent;
         }
-        degree_after_on(source, len, node, code)
+        degree_after_by(&ByTables, source, len, node, code)
     }
 }
 
@@ -89,7 +90,7 @@ impl<T: TableSource> Asks<0, T> for Children {
         if node >= len {
             return Answer::Absent;
         }
-        child_after_on(source, len, node, code, k)
+        child_after_by(&ByTables, source, len, node, code, k)
     }
 }
 
@@ -173,7 +174,7 @@ pub fn total_parent_list_on<T: TableSource>(
 /// `total_degree_on` may answer.
 ///
 /// # Conditions
-/// Those of `total_parent_list_on`.
+/// The conditions of `total_parent_list_on`.
 /// # Cost
 /// For each node what two selections by binary search read, and two words, whatever the source holds.
 ///
@@ -202,7 +203,7 @@ pub fn total_degree_list_on<T: TableSource>(
 /// `total_child_on` may answer.
 ///
 /// # Conditions
-/// Those of `total_parent_list_on`, and `ks` is as long as `nodes`.
+/// The conditions of `total_parent_list_on`, and `ks` is as long as `nodes`.
 /// # Cost
 /// For each node what two selections by binary search read, whatever the source holds.
 ///
@@ -231,12 +232,12 @@ pub fn total_child_list_on<T: TableSource>(
 
 impl<'a> LoudsView<'a> {
     /// Writes the parent of each node, or `NO_ANSWER` for `Absent` and `WRONG_TABLES` for `Wrong`: what `parent` may
-    /// answer. Where the block holds a tree, each answer is that of `parent`.
+    /// answer. Where the block holds a tree, each answer is what `parent` answers.
     ///
     /// # Conditions
     /// `out` is as long as `nodes`.
     /// # Cost
-    /// That of `total_parent_list_on`.
+    /// The cost of `total_parent_list_on`.
     ///
     /// ```
     /// tree.parent_list(&[0, 3, 1], &mut out);   // NO_ANSWER, 2 and 0
@@ -244,18 +245,19 @@ impl<'a> LoudsView<'a> {
     pub fn parent_list(&self, nodes: &[usize], out: &mut [usize])
         requires room { length out.old ≡ length nodes.now }
         ensures each { (j : ℕ) → j < length nodes.now
-            → IsCodeOf (IsParent (slice_index nodes.now j) self.now) (slice_index out.new j) }
+            → IsCodeOf (IsParent (slice_index nodes.now j)
+            (without_hints self.now)) (slice_index out.new j) }
     {
         total_parent_list_on(&mut self.probe(), self.len(), nodes, out);
     }
 
     /// Writes how many children each node has, or `NO_ANSWER` for `Absent` and `WRONG_TABLES` for `Wrong`: what
-    /// `degree` may answer. Where the block holds a tree, each answer is that of `degree`.
+    /// `degree` may answer. Where the block holds a tree, each answer is what `degree` answers.
     ///
     /// # Conditions
     /// `out` is as long as `nodes`.
     /// # Cost
-    /// That of `total_degree_list_on`.
+    /// The cost of `total_degree_list_on`.
     ///
     /// ```
     /// tree.degree_list(&[0, 3, 4], &mut out);   // 2, 0 and NO_ANSWER
@@ -263,18 +265,19 @@ impl<'a> LoudsView<'a> {
     pub fn degree_list(&self, nodes: &[usize], out: &mut [usize])
         requires room { length out.old ≡ length nodes.now }
         ensures each { (j : ℕ) → j < length nodes.now
-            → IsCodeOf (IsDegree (slice_index nodes.now j) self.now) (slice_index out.new j) }
+            → IsCodeOf (IsDegree (slice_index nodes.now j)
+            (without_hints self.now)) (slice_index out.new j) }
     {
         total_degree_list_on(&mut self.probe(), self.len(), nodes, out);
     }
 
     /// Writes child `ks[j]` of each node `nodes[j]`, or `NO_ANSWER` for `Absent` and `WRONG_TABLES` for `Wrong`: what
-    /// `child` may answer. Where the block holds a tree, each answer is that of `child`.
+    /// `child` may answer. Where the block holds a tree, each answer is what `child` answers.
     ///
     /// # Conditions
     /// `out` and `ks` are as long as `nodes`.
     /// # Cost
-    /// That of `total_child_list_on`.
+    /// The cost of `total_child_list_on`.
     ///
     /// ```
     /// tree.child_list(&[0, 0, 2], &[0, 1, 1], &mut out);   // 1, 2 and NO_ANSWER
@@ -283,7 +286,7 @@ impl<'a> LoudsView<'a> {
         requires room { length out.old ≡ length nodes.now }
         requires ks { length ks.now ≡ length nodes.now }
         ensures each { (j : ℕ) → j < length nodes.now → IsCodeOf (IsChildAnswer (slice_index nodes.now j)
-            (slice_index ks.now j) self.now) (slice_index out.new j) }
+            (slice_index ks.now j) (without_hints self.now)) (slice_index out.new j) }
     {
         total_child_list_on(&mut self.probe(), self.len(), nodes, ks, out);
     }

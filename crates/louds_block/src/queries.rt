@@ -1,4 +1,4 @@
-//! Parents, leaves, siblings and ranks among siblings over any source, of which the words and tables may hold anything.
+//! Parents, leaves, siblings and ranks among siblings over any source, whose words and tables may hold anything.
 ghost use Rattle.bitm_tables.specs.Tables.{HasSizes};
 ghost use Rattle.louds.specs.Answers.{IsChildRankOf, IsChildRankWithin, IsLeafOf, IsLeafWithin};
 ghost use Rattle.louds.specs.Answers.{IsNextSiblingOf, IsNextSiblingWithin, IsParentOf, IsParentWithin};
@@ -58,8 +58,8 @@ pub fn total_is_leaf_on<T: TableSource>(source: &mut T, len: usize, node: usize)
 
 /// The next child of a node's parent, by its number.
 ///
-/// Whatever the source holds, it is the number after that of the node, and there is such a node. Where the source holds
-/// a tree, the answer is the next sibling, `Absent` exactly at the last child, at the root and where there is no such
+/// Whatever the source holds, it is the number after the node's own, and there is such a node. Where the source holds a
+/// tree, the answer is the next sibling, `Absent` exactly at the last child, at the root and where there is no such
 /// node, and never `Wrong`.
 ///
 /// # Conditions
@@ -86,8 +86,8 @@ pub fn total_next_sibling_on<T: TableSource>(
 
 /// The child of a node's parent before it, by its number.
 ///
-/// Whatever the source holds, it is the number before that of the node. Where the source holds a tree, the answer is
-/// the previous sibling, `Absent` exactly at the first child, at the root and where there is no such node, and never
+/// Whatever the source holds, it is the number before the node's own. Where the source holds a tree, the answer is the
+/// previous sibling, `Absent` exactly at the first child, at the root and where there is no such node, and never
 /// `Wrong`.
 ///
 /// # Conditions

@@ -1,19 +1,30 @@
 //! The sections of the block of a tree.
-ghost use Rattle.std.specs.Prelude.{◌≡◌, ◌^◌, ◌<◌};
+ghost use Rattle.std.specs.Prelude.{◌≡◌, ◌^◌, ◌<◌, ◌↔◌, IsTrue};
 ghost use Rattle.louds.specs.Held.{tree_words};
 ghost use Rattle.bitm_block.specs.Layout.{end_of};
-ghost use Rattle.louds_block.specs.Block.{lower_of_nodes, tree_end_at, tree_head, tree_sections, upper_of_nodes};
+ghost use Rattle.louds_block.specs.Block.{hints_of_nodes, lower_of_nodes, tree_end_at, tree_head};
+ghost use Rattle.louds_block.specs.Block.{tree_sections, upper_of_nodes, HasTreeSections};
 
-use bitm_block::{Head, Section, aligned};
+use bitm_block::{Block, Head, Section, aligned};
+use bitm_selection::hints_len;
+use block_tables::HINTS;
 use lent_tables::{lower_len, upper_len};
 
 /// The kind of a tree.
 pub const LOUDS: u64 = 7;
 
+/// Whether header and directory describe words with two tables, of the kind of a tree.
+#[inline(always)]
+pub(crate) fn is_tree_block(block: &Block<'_>) -> bool
+    ensures { IsTrue result ↔ HasTreeSections block.now }
+{
+    block.is_of(LOUDS, [1u64, 2, 3].as_slice())
+}
+
 /// How many words the sections of a tree have.
 ///
 /// ```
-/// Lens::of(4);   // one word, one upper and one lower entry
+/// Lens::of(4);   // one word, one upper and one lower entry, and two words of hints
 /// ```
 #[derive(Clone, Copy)]
 pub struct Lens {
@@ -23,10 +34,12 @@ pub struct Lens {
     pub upper: usize,
     /// Entries of the lower table.
     pub lower: usize,
+    /// Words of the hints, where there are any.
+    pub hints: usize,
 }
 
 impl Lens {
-    /// Those of the given number of nodes.
+    /// The lengths for the given number of nodes.
     ///
     /// # Conditions
     /// There are fewer than 2^60 nodes.
@@ -40,6 +53,7 @@ impl Lens {
         ensures words { result.words ≡ tree_words nodes }
         ensures upper { result.upper ≡ upper_of_nodes nodes }
         ensures lower { result.lower ≡ lower_of_nodes nodes }
+        ensures hints { result.hints ≡ hints_of_nodes nodes }
         ensures short { result.words < 2 ^ 56 }
     {
         let words = (2 * nodes + 1).div_ceil(64);
@@ -47,6 +61,7 @@ impl Lens {
             words,
             upper: upper_len(words),
             lower: lower_len(words),
+            hints: hints_len(nodes, words),
         }
     }
 }
@@ -67,8 +82,8 @@ pub(crate) fn tree_head(nodes: usize) -> Head
     }
 }
 
-/// The sections of a tree of the given number of nodes: words, upper and lower table.
-pub(crate) fn tree_sections(nodes: usize) -> [Section; 3]
+/// The sections of a tree of the given number of nodes: words, upper and lower table, and hints.
+pub(crate) fn tree_sections(nodes: usize) -> [Section; 4]
     requires { nodes < 2 ^ 60 }
     ensures { result ≡ tree_sections nodes }
 {
@@ -77,6 +92,7 @@ pub(crate) fn tree_sections(nodes: usize) -> [Section; 3]
         Section::of(1, lens.words),
         Section::of(2, lens.upper),
         Section::of(3, lens.lower),
+        Section::of(HINTS, lens.hints),
     ]
 }
 
@@ -86,7 +102,7 @@ pub(crate) fn tree_sections(nodes: usize) -> [Section; 3]
 /// There are fewer than 2^60 nodes.
 ///
 /// ```
-/// size(4);   // 56
+/// size(4);   // 64
 /// ```
 pub fn size(nodes: usize) -> usize
     requires { nodes < 2 ^ 60 }
@@ -95,5 +111,5 @@ pub fn size(nodes: usize) -> usize
     ensures short { result < 2 ^ 59 }
 {
     let lens = Lens::of(nodes);
-    32 + aligned(lens.words) + aligned(lens.upper) + aligned(lens.lower)
+    32 + aligned(lens.words) + aligned(lens.upper) + aligned(lens.lower) + aligned(lens.hints)
 }

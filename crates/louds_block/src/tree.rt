@@ -1,39 +1,32 @@
 //! A tree in a block that may hold anything.
-ghost use Rattle.std.specs.Prelude.{◌≡◌, ◌^◌, ◌<◌, ◌↔◌, IsTrue, SomeIff};
+ghost use Rattle.std.specs.Prelude.{◌≡◌, ◌^◌, ◌<◌, ◌≤◌, ◌↔◌, true, false, IsTrue, SomeIff};
+ghost use Rattle.bitm_block.specs.Header.{count_in};
 ghost use Rattle.bitm_tables.specs.Reads.{none_read};
+ghost use Rattle.bitm_selection.specs.Hints.{AreHints, Lead};
 ghost use Rattle.louds.specs.Answers.{IsChildOf, IsChildWithin, IsDegreeOf, IsDegreeWithin};
 ghost use Rattle.louds.specs.Answers.{IsChildRankOf, IsChildRankWithin, IsLeafOf, IsLeafWithin};
 ghost use Rattle.louds.specs.Answers.{IsNextSiblingOf, IsNextSiblingWithin, IsParentOf, IsParentWithin};
 ghost use Rattle.louds.specs.Answers.{IsPreviousSiblingOf, IsPreviousSiblingWithin};
-ghost use Rattle.louds.specs.Counted.{degrees_in, IsLouds};
-ghost use Rattle.louds_block.specs.Block.{parts_of, tree_in, HasLengths, HasTreeSections, HoldsTree, IsTreeBlock};
+ghost use Rattle.louds.specs.Counted.{degrees_in};
+ghost use Rattle.louds_block.specs.Block.{parts_of, tree_in, tree_with_hints, HasLengths, HoldsIn, HoldsTree};
+ghost use Rattle.louds_block.specs.Block.{IsTreeBlock};
 
 use crate::checking::holds_tree;
-use crate::queries::{
-    total_child_rank_on, total_is_leaf_on, total_next_sibling_on, total_parent_on,
-    total_previous_sibling_on,
-};
-use crate::sections::{LOUDS, Lens};
+use crate::sections::{Lens, is_tree_block};
 use bitm_block::Block;
+use bitm_selection::{Hints, are_all_hints};
 use bitm_tables::answer::Answer;
 use bitm_tables::source::Probe;
-use block_tables::{are_tables, probe};
-use louds::children::{total_child_on, total_degree_on};
+use block_tables::{are_tables, hints_of, probe};
+use louds::children::{child_by, degree_by};
+use louds::queries::{child_rank_by, is_leaf_by, next_sibling_by, parent_by, previous_sibling_by};
 use std::marker::Model;
 
-/// Whether header and directory are those of words with two tables, of the kind of a tree.
-#[inline(always)]
-fn is_tree_block(block: &Block<'_>) -> bool
-    ensures { IsTrue result ↔ HasTreeSections block.now }
-{
-    let words = block.words();
-    words[1] == LOUDS && words[11] >= 3 && words[16] == 1 && words[20] == 2 && words[24] == 3
-}
-
-/// A view of a tree in a block, of which header and directory are right.
+/// A view of a tree in a block whose header and directory are right.
 ///
-/// Contracts see the number of nodes, the words and the two tables. These may hold anything: a call says what it
-/// answers where they are those of a tree, and what it answers else.
+/// Contracts see the number of nodes, the words, the two tables and the hints. These may hold anything: a call says its
+/// answer where they form a tree, and where they do not. A search of a bit reads one hint and at most nine words, and
+/// where these do not have the bit, or there are no hints, what a selection by binary search reads besides.
 ///
 /// ```
 /// let Some(tree) = LoudsView::open(&block) else { .. };
@@ -46,6 +39,7 @@ pub struct LoudsView<'a> {
     words: &'a [u64],
     upper: &'a [u64],
     lower: &'a [u64],
+    hints: &'a [u64],
 }
 
 impl<'a> Model for LoudsView<'a> {
@@ -53,15 +47,16 @@ impl<'a> Model for LoudsView<'a> {
 
     ghost Value = { TreeParts };
 
-    ghost view = { λ t. parts_of t.len t.words.now t.upper.now t.lower.now };
+    ghost view = { λ t. parts_of t.len t.words.now t.upper.now t.lower.now t.hints.now };
 
-    ghost invariant = { λ t. HasLengths (parts_of t.len t.words.now t.upper.now t.lower.now) };
+    ghost invariant = { λ t.
+        HasLengths (parts_of t.len t.words.now t.upper.now t.lower.now t.hints.now) };
 }
 
 impl<'a> LoudsView<'a> {
     /// The tree in a block; `None` exactly where the words are no block (`Block::open` says why), the block is of
-    /// another kind, or a section is not as long as that of the number of nodes. What the sections hold is not looked
-    /// at.
+    /// another kind, or a section has a length that does not fit the number of nodes. The hints are in the fourth
+    /// section (`of_block`). What the sections hold is not looked at.
     ///
     /// # Cost
     /// Header and directory are read, at most 80 words (evident from the code).
@@ -78,20 +73,37 @@ impl<'a> LoudsView<'a> {
         if !is_tree_block(&block) {
             return None;
         }
+        LoudsView::of_block(&block, 3)
+    }
+
+    /// The tree whose words and tables are the first three sections of a block, of any kind; `None` exactly where there
+    /// are fewer, or the length of one does not fit the number of nodes. The hints are in section `hints`, where it is
+    /// one of hints and its length fits the number of nodes; else there are none.
+    ///
+    /// ```
+    /// LoudsView::of_block(&block, 3);   // Some(..), with hints, of a block that `build` wrote
+    /// ```
+    pub fn of_block(block: &Block<'a>, hints: usize) -> Option<LoudsView<'a>>
+        ensures { SomeIff result
+            ((3 ≤ count_in block.now) × HasLengths (tree_with_hints block.now hints))
+            (tree_with_hints block.now hints) }
+    {
         match (block.section(0), block.section(1), block.section(2)) {
             (Some(bits), Some(upper), Some(lower)) => {
-                LoudsView::over(words[3] as usize, bits, upper, lower)
+                let len = block.words()[3] as usize;
+                let hints = hints_of(block, hints, len, bits.len());
+                LoudsView::over(len, bits, upper, lower, hints)
             }
             _ => None,
         }
     }
 
     /// The tree in a block that is as it was written; `None` exactly where `open` says so, a section or the zeros after
-    /// it are not those that were written (`Block::verify`), or the sections hold no tree (`check`). So a block in
-    /// which one word was changed is refused, and every answer is that of the tree.
+    /// it are not as they were written (`Block::verify`), or the sections hold no tree (`check`). So a block in which
+    /// one word was changed is refused, and every answer agrees with the tree.
     ///
     /// # Cost
-    /// Three passes over the words (evident from the code).
+    /// Three passes over the words, and one selection for each hint (evident from the code).
     ///
     /// ```
     /// LoudsView::open_checked(block.as_slice());   // Some(..) of a block that `build` wrote
@@ -103,18 +115,17 @@ impl<'a> LoudsView<'a> {
         let Ok(block) = Block::open(words) else {
             return None;
         };
-        if block.verify() && view.check() {
-            Some(view)
-        } else {
-            None
+        if !block.verify() {
+            return None;
         }
+        if view.check() { Some(view) } else { None }
     }
 
-    /// The given number of nodes in words with two tables; `None` exactly where a length is not that of the number of
-    /// nodes.
+    /// The given number of nodes in words with two tables, and hints or none; `None` exactly where a length does not
+    /// fit the number of nodes.
     ///
     /// ```
-    /// LoudsView::over(4, words, upper, lower);   // Some(..) of one word each
+    /// LoudsView::over(4, words, upper, lower, &[]);   // Some(..) of one word each, without hints
     /// ```
     #[inline]
     pub fn over(
@@ -122,9 +133,10 @@ impl<'a> LoudsView<'a> {
         words: &'a [u64],
         upper: &'a [u64],
         lower: &'a [u64],
+        hints: &'a [u64],
     ) -> Option<LoudsView<'a>>
-        ensures { SomeIff result (HasLengths (parts_of len words.now upper.now lower.now))
-            (parts_of len words.now upper.now lower.now) }
+        ensures { SomeIff result (HasLengths (parts_of len words.now upper.now lower.now hints.now))
+            (parts_of len words.now upper.now lower.now hints.now) }
     {
         if len >= 1 << 60 {
             return None;
@@ -133,11 +145,15 @@ impl<'a> LoudsView<'a> {
         if words.len() != lens.words || upper.len() != lens.upper || lower.len() != lens.lower {
             return None;
         }
+        if !hints.is_empty() && hints.len() != lens.hints {
+            return None;
+        }
         Some(LoudsView {
             len,
             words,
             upper,
             lower,
+            hints,
         })
     }
 
@@ -190,6 +206,18 @@ impl<'a> LoudsView<'a> {
         self.lower
     }
 
+    /// The hints of the words; no words where there are none.
+    ///
+    /// ```
+    /// tree.hints().len();   // 2
+    /// ```
+    #[inline(always)]
+    pub fn hints(&self) -> &'a [u64]
+        ensures { result.now ≡ self.now.hints }
+    {
+        self.hints
+    }
+
     /// A source over the words and tables, whose reads are counted from 0.
     ///
     /// ```
@@ -204,25 +232,42 @@ impl<'a> LoudsView<'a> {
         probe(self.words, self.upper, self.lower)
     }
 
-    /// Whether the block holds a tree: then the answers are those of the tree.
+    /// A way to find the bits of the words, by the hints: what the calls of `louds::queries` and `louds::children`
+    /// take.
+    ///
+    /// ```
+    /// children_by(&tree.finder(), &mut tree.probe(), tree.len(), 0);   // Found((1, 3))
+    /// ```
+    #[inline(always)]
+    pub fn finder(&self) -> Hints<'a>
+        ensures { Lead self.now.len self.now.hints self.now.lists.words
+            → AreHints true self.now.lists.words result.ones.now
+            × AreHints false self.now.lists.words result.zeros.now }
+    {
+        Hints::over(self.hints, self.len)
+    }
+
+    /// Whether the block holds a tree, with the hints of its words or none: then the answers agree with the tree.
     ///
     /// # Cost
-    /// Two passes over the words (evident from the code).
+    /// Two passes over the words, and one selection for each hint (evident from the code).
     ///
     /// ```
     /// tree.check();   // true
     /// ```
     pub fn check(&self) -> bool
-        ensures { IsTrue result ↔ IsLouds self.now.len self.now.lists }
+        ensures { IsTrue result ↔ HoldsIn self.now }
     {
-        are_tables(self.words, self.upper, self.lower) && holds_tree(self.words, self.len)
+        are_tables(self.words, self.upper, self.lower)
+            && holds_tree(self.words, self.len)
+            && (self.hints.is_empty() || are_all_hints(&mut self.probe(), self.len, self.hints))
     }
 
     /// The parent of a node. Whatever the block holds, it is less than the node, and the answer is `Absent` exactly at
     /// the root and where there is no such node. Where it holds a tree, the answer is never `Wrong`.
     ///
     /// # Cost
-    /// That of `total_parent_on`.
+    /// One search of a bit.
     ///
     /// ```
     /// tree.parent(3);   // Found(2)
@@ -230,17 +275,17 @@ impl<'a> LoudsView<'a> {
     #[inline]
     pub fn parent(&self, node: usize) -> Answer<usize>
         ensures inside { IsParentWithin self.now.len node result }
-        ensures answer { IsLouds self.now.len self.now.lists
+        ensures answer { HoldsIn self.now
             → IsParentOf (degrees_in self.now.len self.now.lists) node result }
     {
-        total_parent_on(&mut self.probe(), self.len, node)
+        parent_by(&self.finder(), &mut self.probe(), self.len, node)
     }
 
     /// Child `k` of a node. Whatever the block holds, it is more than the node and less than the number of nodes. Where
     /// it holds a tree, the answer is `Absent` exactly where there is none, and never `Wrong`.
     ///
     /// # Cost
-    /// That of `total_child_on`.
+    /// Two searches of bits; of the first 64 children one, and two words.
     ///
     /// ```
     /// tree.child(0, 1);   // Found(2)
@@ -248,17 +293,17 @@ impl<'a> LoudsView<'a> {
     #[inline]
     pub fn child(&self, node: usize, k: usize) -> Answer<usize>
         ensures inside { IsChildWithin self.now.len node result }
-        ensures answer { IsLouds self.now.len self.now.lists
+        ensures answer { HoldsIn self.now
             → IsChildOf (degrees_in self.now.len self.now.lists) node k result }
     {
-        total_child_on(&mut self.probe(), self.len, node, k)
+        child_by(&self.finder(), &mut self.probe(), self.len, node, k)
     }
 
     /// How many children a node has. Whatever the block holds, that is less than the number of nodes, and the answer is
     /// `Absent` exactly where there is no such node. Where it holds a tree, the answer is never `Wrong`.
     ///
     /// # Cost
-    /// That of `total_degree_on`.
+    /// One search of a bit, and two words; another search where these have no 0 bit after the node's 1 bits.
     ///
     /// ```
     /// tree.degree(0);   // Found(2)
@@ -266,17 +311,17 @@ impl<'a> LoudsView<'a> {
     #[inline]
     pub fn degree(&self, node: usize) -> Answer<usize>
         ensures inside { IsDegreeWithin self.now.len node result }
-        ensures answer { IsLouds self.now.len self.now.lists
+        ensures answer { HoldsIn self.now
             → IsDegreeOf (degrees_in self.now.len self.now.lists) node result }
     {
-        total_degree_on(&mut self.probe(), self.len, node)
+        degree_by(&self.finder(), &mut self.probe(), self.len, node)
     }
 
     /// Whether a node has no children. Whatever the block holds, the answer is `Absent` exactly where there is no such
     /// node. Where it holds a tree, the answer is never `Wrong`.
     ///
     /// # Cost
-    /// That of `total_is_leaf_on`.
+    /// One search of a bit, and one word.
     ///
     /// ```
     /// tree.is_leaf(3);   // Found(true)
@@ -284,10 +329,10 @@ impl<'a> LoudsView<'a> {
     #[inline]
     pub fn is_leaf(&self, node: usize) -> Answer<bool>
         ensures inside { IsLeafWithin self.now.len node result }
-        ensures answer { IsLouds self.now.len self.now.lists
+        ensures answer { HoldsIn self.now
             → IsLeafOf (degrees_in self.now.len self.now.lists) node result }
     {
-        total_is_leaf_on(&mut self.probe(), self.len, node)
+        is_leaf_by(&self.finder(), &mut self.probe(), self.len, node)
     }
 
     /// The next child of a node's parent. Whatever the block holds, it is the node after this one. Where it holds a
@@ -295,7 +340,7 @@ impl<'a> LoudsView<'a> {
     /// `Wrong`.
     ///
     /// # Cost
-    /// That of `total_next_sibling_on`.
+    /// One search of a bit, and one word.
     ///
     /// ```
     /// tree.next_sibling(1);   // Found(2)
@@ -303,10 +348,10 @@ impl<'a> LoudsView<'a> {
     #[inline]
     pub fn next_sibling(&self, node: usize) -> Answer<usize>
         ensures inside { IsNextSiblingWithin self.now.len node result }
-        ensures answer { IsLouds self.now.len self.now.lists
+        ensures answer { HoldsIn self.now
             → IsNextSiblingOf (degrees_in self.now.len self.now.lists) node result }
     {
-        total_next_sibling_on(&mut self.probe(), self.len, node)
+        next_sibling_by(&self.finder(), &mut self.probe(), self.len, node)
     }
 
     /// The child of a node's parent before it. Whatever the block holds, it is the node before this one. Where it holds
@@ -314,7 +359,7 @@ impl<'a> LoudsView<'a> {
     /// never `Wrong`.
     ///
     /// # Cost
-    /// That of `total_previous_sibling_on`.
+    /// One search of a bit, and one word; nothing at the root.
     ///
     /// ```
     /// tree.previous_sibling(2);   // Found(1)
@@ -322,10 +367,10 @@ impl<'a> LoudsView<'a> {
     #[inline]
     pub fn previous_sibling(&self, node: usize) -> Answer<usize>
         ensures inside { IsPreviousSiblingWithin self.now.len node result }
-        ensures answer { IsLouds self.now.len self.now.lists
+        ensures answer { HoldsIn self.now
             → IsPreviousSiblingOf (degrees_in self.now.len self.now.lists) node result }
     {
-        total_previous_sibling_on(&mut self.probe(), self.len, node)
+        previous_sibling_by(&self.finder(), &mut self.probe(), self.len, node)
     }
 
     /// Which child of its parent a node is, counted from 0. Whatever the block holds, that is less than the number of
@@ -333,7 +378,7 @@ impl<'a> LoudsView<'a> {
     /// the answer is never `Wrong`.
     ///
     /// # Cost
-    /// That of `total_child_rank_on`.
+    /// Two searches of bits.
     ///
     /// ```
     /// tree.child_rank(2);   // Found(1)
@@ -341,9 +386,9 @@ impl<'a> LoudsView<'a> {
     #[inline]
     pub fn child_rank(&self, node: usize) -> Answer<usize>
         ensures inside { IsChildRankWithin self.now.len node result }
-        ensures answer { IsLouds self.now.len self.now.lists
+        ensures answer { HoldsIn self.now
             → IsChildRankOf (degrees_in self.now.len self.now.lists) node result }
     {
-        total_child_rank_on(&mut self.probe(), self.len, node)
+        child_rank_by(&self.finder(), &mut self.probe(), self.len, node)
     }
 }

@@ -10,7 +10,7 @@ use Rattle.bitm_tables.specs.Quarters.{AreQuartersOf}
 use Rattle.bitm_tables.specs.Tables.{IsIndexed, Lists, bits_in}
 use Rattle.bitm_tables.proofs.lemmas.QuarterLemmas.{records_of}
 use Rattle.bit_lists.proofs.BitLaws.{bits_are_counted}
-use Rattle.bitm_block.proofs.PartsLemmas.{count_is, cut, entry_is, section_is}
+use Rattle.bitm_block.proofs.PartsLemmas.{count_is, cut, entry_is, is_of_kind, section_is}
 use Rattle.bitm_block.specs.Header.{section_in, IsBlock, IsVerified}
 use Rattle.bitm_block.specs.Layout.{begin_of, part_in}
 use Rattle.bitm_block.specs.Written.{IsSealed}
@@ -184,17 +184,6 @@ module _ (n w : ℕ) (q : Bool) (old new : List ℕ) (sealed : IsSealed (matrix_
   few : length sections ≤ 6
   few = few-more n w q
 
-  five-sections : HasMatrixSections new
-  five-sections = record {
-    kind = ap (λ (h : Head). h.kind) sealed.head_is;
-    five = omega (arith, count_is head sections old new sealed);
-    words = ap (λ (s : Section). s.role) (entry_is head sections old new sealed 0 (omega arith));
-    upper = ap (λ (s : Section). s.role) (entry_is head sections old new sealed 1 (omega arith));
-    lower = ap (λ (s : Section). s.role) (entry_is head sections old new sealed 2 (omega arith));
-    ones = ap (λ (s : Section). s.role) (entry_is head sections old new sealed 3 (omega arith));
-    zeros = ap (λ (s : Section). s.role) (entry_is head sections old new sealed 4 (omega arith));
-  }
-
   section-at : (i p k : ℕ) → i < length sections → begin_of sections i ≡ p → part_in sections old i ≡ slice_range old (begin_of sections i) (begin_of sections i + k)
       → section_in new i ≡ slice_range old p (p + k)
   section-at i p k less here part =
@@ -206,7 +195,7 @@ module _ (n w : ℕ) (q : Bool) (old new : List ℕ) (sealed : IsSealed (matrix_
     verified = sealed.verified;
     len_is = ap (λ (h : Head). h.len) sealed.head_is;
     width_is = ap (λ (h : Head). h.width) sealed.head_is;
-    sections = five-sections;
+    sections = is_of_kind head sections new sealed.head_is sealed.sections_are 5 (omega arith);
     words_are = section-at 0 40 (matrix_words n w) (omega arith) (omega (arith, few)) refl;
     upper_are = section-at 1 (upper_at n w) (upper_of_numbers n w) (omega arith) (omega (arith, few)) refl;
     lower_are = section-at 2 (lower_at n w) (lower_of_numbers n w) (omega arith) (omega (arith, few)) refl;

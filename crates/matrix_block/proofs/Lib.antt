@@ -1,4 +1,5 @@
 pub mod BlockLemmas
 pub mod FrequentLemmas
+pub mod LevelLemmas
 pub mod SharedLemmas
 pub mod TallyLemmas

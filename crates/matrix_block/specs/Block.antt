@@ -3,7 +3,7 @@ use Rattle.std.specs.Prelude.{◌≡◌, ℕ, ◌+◌, ◌*◌, ◌^◌, ◌<◌
 use Rattle.std.specs.Int.{div_ceil}
 use Rattle.bitm_tables.specs.Quarters.{AreQuartersOf}
 use Rattle.bitm_tables.specs.Tables.{HasSizes, Lists, bits_in}
-use Rattle.bitm_block.specs.Header.{count_in, section_in, IsBlock, IsVerified}
+use Rattle.bitm_block.specs.Header.{count_in, section_in, IsBlock, IsOfKind, IsVerified}
 use Rattle.bitm_block.specs.Layout.{aligned, end_of}
 use Rattle.bitm_block.specs.declared.head.Head.{Head}
 use Rattle.bitm_block.specs.declared.layout.Section.{Section}
@@ -100,15 +100,10 @@ pub record HasLengths (parts : MatrixParts) : Type 0 where
   pub quarters_len : length parts.levels.quarters ≡ quarters_for parts.levels.compact (length parts.lists.words)
   pub plain : IsPlain parts.levels
 
--- the block is of the kind of a matrix, and its first five sections are those of one
-pub record HasMatrixSections (block : List ℕ) : Type 0 where
-  pub kind : slice_index block 1 ≡ 6
-  pub five : 5 ≤ count_in block
-  pub words : slice_index block 16 ≡ 1
-  pub upper : slice_index block 20 ≡ 2
-  pub lower : slice_index block 24 ≡ 3
-  pub ones : slice_index block 28 ≡ 11
-  pub zeros : slice_index block 32 ≡ 12
+-- the block is of the kind of a matrix, and its first sections are the words, their two tables and the ones and zeros of
+-- each level
+abbrev pub HasMatrixSections : List ℕ → Type 0
+HasMatrixSections block = IsOfKind 6 (1 ∷ 2 ∷ 3 ∷ 11 ∷ 12 ∷ []) block
 
 -- header and directory are right, and the sections are as long as those of the numbers
 pub record IsMatrixBlock (block : List ℕ) : Type 0 where

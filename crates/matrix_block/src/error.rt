@@ -10,7 +10,7 @@ pub enum BuildError {
     WrongWidth,
     /// The numbers have 2^63 bits or more in all.
     TooLong,
-    /// The words are not as many as the block takes.
+    /// The words are more or fewer than the block takes.
     WrongLength,
     /// The scratch is not two words for each number.
     WrongScratch,

@@ -1,9 +1,9 @@
 //! A wavelet matrix in a block of memory, such as a mapped file: nothing is allocated or copied, and no call has a
 //! condition on what the memory holds.
 //!
-//! With the block of a matrix the answers are those of its numbers. If it is stale or hostile, every call still
+//! With the block of a matrix the answers are right for its numbers. If it is stale or hostile, every call still
 //! terminates within its read bound, a number has no more bits than the width, a count is at most the index that was
-//! given, and an index is that of a number.
+//! given, and an index is the index of a number.
 //!
 //! ```
 //! let numbers = [3u64, 1, 4, 1, 5, 1];
@@ -27,6 +27,7 @@
 
 // What is in each file, over the levels of `lent_levels`:
 // - `building`: the block of a matrix, written into the caller's memory
+// - `by_levels`: one level of the block after another
 // - `error`: why no block was written
 // - `kept`: the most frequent numbers so far
 // - `lists`: lists of numbers of a view
@@ -36,6 +37,7 @@
 // - `shared`: the numbers that two ranges of a view share
 // - `tallies`: the distinct and the most frequent numbers of a range of a view
 mod building;
+mod by_levels;
 mod error;
 mod kept;
 mod lists;
@@ -46,7 +48,8 @@ mod shared;
 mod tallies;
 
 pub use bitm_tables::answer::Answer;
-pub use building::{build, write_tables};
+pub use building::{build, seal_levels, write_tables};
+pub use by_levels::{levels_round_trip, write_level};
 pub use error::BuildError;
 pub use lent_levels::LevelsView;
 pub use matrix::MatrixView;

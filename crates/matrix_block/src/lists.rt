@@ -13,7 +13,7 @@ impl<'a> MatrixView<'a> {
     /// # Conditions
     /// There are as many items of `out` as indices.
     /// # Cost
-    /// That of `LevelsView::total_get_list_on`.
+    /// The cost of `LevelsView::total_get_list_on`.
     ///
     /// ```
     /// let mut out = [0u64; 3];

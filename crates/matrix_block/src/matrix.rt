@@ -15,19 +15,12 @@ use block_tables::{are_tables, probe};
 use lent_levels::{LevelsView, are_levels};
 use std::marker::Model;
 
-/// Whether header and directory are those of a matrix.
+/// Whether header and directory describe a matrix.
 #[inline(always)]
 fn is_matrix_block(block: &Block<'_>) -> bool
     ensures { IsTrue result ↔ HasMatrixSections block.now }
 {
-    let words = block.words();
-    words[1] == MATRIX
-        && words[11] >= 5
-        && words[16] == 1
-        && words[20] == 2
-        && words[24] == 3
-        && words[28] == 11
-        && words[32] == 12
+    block.is_of(MATRIX, [1u64, 2, 3, 11, 12].as_slice())
 }
 
 /// The quarters in a block, none where it has no such section.
@@ -45,10 +38,10 @@ fn quarters_of<'a>(block: &Block<'a>) -> &'a [u64]
     }
 }
 
-/// A view of a wavelet matrix in a block, of which header and directory are right.
+/// A view of a wavelet matrix in a block whose header and directory are right.
 ///
-/// Contracts see the tables of the levels, the words and their two tables. These may hold anything: a call says what it
-/// answers where they are those of a matrix, and what it answers else.
+/// Contracts see the tables of the levels, the words and their two tables. These may hold anything: a call says its
+/// answer where they form a matrix, and where they do not.
 ///
 /// ```
 /// let Some(matrix) = MatrixView::open(&block) else { .. };
@@ -76,7 +69,7 @@ impl<'a> Model for MatrixView<'a> {
 
 impl<'a> MatrixView<'a> {
     /// The matrix in a block, by its quarters where it has these; `None` exactly where the words are no block
-    /// (`Block::open` says why), the block is of another kind, or a section is not as long as that of the given
+    /// (`Block::open` says why), the block is of another kind, or a section has a length that does not fit the given
     /// numbers. What the sections hold is not looked at.
     ///
     /// # Cost
@@ -108,8 +101,8 @@ impl<'a> MatrixView<'a> {
     }
 
     /// The matrix in a block that is as it was written; `None` exactly where `open` says so, a section or the zeros
-    /// after it are not those that were written (`Block::verify`), or the sections hold no matrix (`check`). So a block
-    /// in which one word was changed is refused, and every answer is that of the numbers.
+    /// after it are not as they were written (`Block::verify`), or the sections hold no matrix (`check`). So a block in
+    /// which one word was changed is refused, and every answer is right for the numbers.
     ///
     /// # Cost
     /// Two passes over the words, two ranks for each level, and with quarters two for every two words (evident from the
@@ -132,8 +125,8 @@ impl<'a> MatrixView<'a> {
         }
     }
 
-    /// The levels of numbers in words with two tables; `None` exactly where a length is not that of the numbers,
-    /// or the levels have a table of starts.
+    /// The levels of numbers in words with two tables; `None` exactly where a length does not fit the numbers, or the
+    /// levels have a table of starts.
     ///
     /// ```
     /// MatrixView::over(levels, words, upper, lower);   // Some(..) of one word each, for six numbers of three bits
@@ -254,10 +247,10 @@ impl<'a> MatrixView<'a> {
         (&self.levels, source)
     }
 
-    /// Whether the block holds a matrix: then the answers are those of its numbers.
+    /// Whether the block holds a matrix: then the answers are right for its numbers.
     ///
     /// # Cost
-    /// One pass over the words, and that of `lent_levels::are_levels`.
+    /// One pass over the words, and the cost of `lent_levels::are_levels`.
     ///
     /// ```
     /// matrix.check();   // true
@@ -276,7 +269,7 @@ impl<'a> MatrixView<'a> {
     /// where there is no such number. Where the block holds a matrix, the answer is never `Wrong`.
     ///
     /// # Cost
-    /// That of `LevelsView::total_get_on`.
+    /// The cost of `LevelsView::total_get_on`.
     ///
     /// ```
     /// matrix.get(4);   // Found(5)
@@ -294,7 +287,7 @@ impl<'a> MatrixView<'a> {
     /// is `Absent` exactly where there are fewer numbers. Where the block holds a matrix, the answer is never `Wrong`.
     ///
     /// # Cost
-    /// That of `LevelsView::total_rank_on`.
+    /// The cost of `LevelsView::total_rank_on`.
     ///
     /// ```
     /// matrix.rank(1, 4);   // Found(2)
@@ -308,12 +301,12 @@ impl<'a> MatrixView<'a> {
         levels.total_rank_on(&mut source, number, i)
     }
 
-    /// The index of this number with exactly `k` such numbers before it. Whatever the block holds, it is that of a
+    /// The index of this number with exactly `k` such numbers before it. Whatever the block holds, it is the index of a
     /// number. Where the block holds a matrix, the answer is `Absent` exactly where there are no more than `k` such
     /// numbers, and never `Wrong`.
     ///
     /// # Cost
-    /// That of `LevelsView::total_select_on`.
+    /// The cost of `LevelsView::total_select_on`.
     ///
     /// ```
     /// matrix.select(1, 2);   // Found(5)

@@ -15,7 +15,7 @@ impl<'a> MatrixView<'a> {
     /// past the numbers. Where the block holds a matrix, the answer is never `Wrong`.
     ///
     /// # Cost
-    /// That of `LevelsView::total_count_less_on`.
+    /// The cost of `LevelsView::total_count_less_on`.
     ///
     /// ```
     /// matrix.count_less(1, 5, 4);   // Found(2) of 1 4 1 5
@@ -36,7 +36,7 @@ impl<'a> MatrixView<'a> {
     /// never `Wrong`.
     ///
     /// # Cost
-    /// That of `LevelsView::total_quantile_on`.
+    /// The cost of `LevelsView::total_quantile_on`.
     ///
     /// ```
     /// matrix.quantile(1, 5, 2);   // Found(4) of 1 4 1 5
@@ -53,11 +53,11 @@ impl<'a> MatrixView<'a> {
     }
 
     /// The number that `quantile` answers, and how often it is in the range. Whatever the block holds, it is there at
-    /// least once and at most `end - start` times, and the answer is `Absent` exactly where that of `quantile` is.
-    /// Where the block holds a matrix, the answer is never `Wrong`.
+    /// least once and at most `end - start` times, and the answer is `Absent` exactly where the answer of `quantile`
+    /// is. Where the block holds a matrix, the answer is never `Wrong`.
     ///
     /// # Cost
-    /// That of `LevelsView::total_quantile_and_count_on`.
+    /// The cost of `LevelsView::total_quantile_and_count_on`.
     ///
     /// ```
     /// matrix.quantile_and_count(1, 5, 1);   // Found((1, 2)) of 1 4 1 5
@@ -77,7 +77,7 @@ impl<'a> MatrixView<'a> {
     /// the block holds a matrix, the answer is `Absent` exactly where there is no such number, and never `Wrong`.
     ///
     /// # Cost
-    /// That of `LevelsView::total_next_value_on`.
+    /// The cost of `LevelsView::total_next_value_on`.
     ///
     /// ```
     /// matrix.next_value(1, 5, 2);   // Found(4) of 1 4 1 5
@@ -98,7 +98,7 @@ impl<'a> MatrixView<'a> {
     /// the block holds a matrix, the answer is `Absent` exactly where there is no such number, and never `Wrong`.
     ///
     /// # Cost
-    /// That of `LevelsView::total_previous_value_on`.
+    /// The cost of `LevelsView::total_previous_value_on`.
     ///
     /// ```
     /// matrix.previous_value(1, 5, 5);   // Found(4) of 1 4 1 5
@@ -120,7 +120,7 @@ impl<'a> MatrixView<'a> {
     /// the answer is never `Wrong`.
     ///
     /// # Cost
-    /// That of `LevelsView::total_range_count_on`.
+    /// The cost of `LevelsView::total_range_count_on`.
     ///
     /// ```
     /// matrix.range_count(1, 5, 1, 5);   // Found(3) of 1 4 1 5

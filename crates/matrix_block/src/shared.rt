@@ -8,8 +8,8 @@ use bitm_tables::answer::Answer;
 use std::ops::Range;
 
 impl<'a> MatrixView<'a> {
-    /// Writes the numbers that are in both ranges and at least `from`, each once, rising: as many as there is room for;
-    /// and answers how many these are. So a caller goes on at the last number and 1.
+    /// Writes the numbers that are in both ranges and at least `from`, each once, rising, until none is left or
+    /// `numbers` is full; and answers how many these are. So a caller goes on at the last number and 1.
     ///
     /// Whatever the block holds, the numbers rise from `from` on and have no more bits than the width, the items after
     /// them are as they were, and the answer is `Absent` exactly where a range ends before it starts, or past the

@@ -24,8 +24,8 @@ fn goes_on(written: &[u64], from: u64, number: u64) -> bool
 
 impl<'a> MatrixView<'a> {
     /// Writes the distinct numbers from index `start` on and before index `end` that are at least `from`, rising, each
-    /// with how often it is there: as many as there is room for; and answers how many these are. So a caller goes on at
-    /// the last number and 1.
+    /// with how often it is there, until none is left or `numbers` is full; and answers how many these are. So a caller
+    /// goes on at the last number and 1.
     ///
     /// Whatever the block holds, the numbers rise from `from` on and have no more bits than the width, a count is at
     /// least 1 and at most `end - start`, the items after them are as they were, and the answer is `Absent` exactly
@@ -81,7 +81,7 @@ impl<'a> MatrixView<'a> {
     }
 
     /// Writes the most frequent numbers from index `start` on and before index `end`, each with how often it is there:
-    /// the most frequent first, and of equally frequent numbers the least; as many as there is room for, or all; and
+    /// the most frequent first, and of equally frequent numbers the least, until none is left or `numbers` is full; and
     /// answers how many these are.
     ///
     /// Whatever the block holds, the numbers have no more bits than the width, a count is at least 1 and at most
@@ -93,8 +93,8 @@ impl<'a> MatrixView<'a> {
     /// There is room for as many counts as numbers.
     /// # Cost
     /// For each distinct number of the range `quantile_and_count`; whatever the block holds, no more than once for each
-    /// of its numbers. With room for k numbers each takes at most log2(k) steps down a heap of those that are kept, and
-    /// twice as many to sort these (evident from the code).
+    /// of its numbers. With room for k numbers each takes at most log2(k) steps down a heap of the pairs that are kept,
+    /// and twice as many to sort these (evident from the code).
     ///
     /// ```
     /// let (mut numbers, mut counts) = ([0u64; 2], [0usize; 2]);

@@ -46,8 +46,8 @@ pub fn without_lowest(number: u64, count: u8) -> u64
     if count < 64 { number >> count } else { 0 }
 }
 
-/// How many of the `width` bits of `len` numbers are to be known from the table of starts: as many as leave its words
-/// no more than a 64th of all bits.
+/// How many of the `width` bits of `len` numbers are to be known from the table of starts, so that its words have no
+/// more than a 64th of all bits.
 ///
 /// # Conditions
 /// The width is at most 64, and all bits together are fewer than 2^63.

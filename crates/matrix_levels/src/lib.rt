@@ -15,4 +15,4 @@ mod writing;
 
 pub use digits::{all_fit, digit_of, fits, known_for, without_lowest};
 pub use numbers::LevelNumber;
-pub use writing::{make_levels, quarters_unless, write_levels, write_levels_of};
+pub use writing::{make_levels, quarters_unless, write_level_of, write_levels, write_levels_of};

@@ -1,5 +1,6 @@
-//! Lists of numbers: what the distinct numbers of a list, the most frequent and those that two lists share are, and
-//! what that means for one another. A wavelet matrix answers them of its ranges (`wavelet_matrix`, `matrix_block`).
+//! Lists of numbers: what the distinct numbers of a list, the most frequent numbers and the numbers that two lists
+//! share are, and what that means for one another. A wavelet matrix answers them of its ranges (`wavelet_matrix`,
+//! `matrix_block`).
 //!
 //! The most frequent numbers are kept in a heap while they come: in the caller's memory, a number and how often it is
 //! there at each index of two slices.

@@ -49,7 +49,7 @@ fn fits<const TESTS: u8>(size: usize, begin: usize, len: usize) -> bool
 }
 
 /// The position of the 1 bit that a hash falls on, in the first of the levels where it falls on one; `Wrong` where the
-/// sizes turn out not to be those of levels. Where `TESTS` is 0 they must be, and are not tested.
+/// sizes turn out not to be sizes of levels. Where `TESTS` is 0 they must be, and are not tested.
 #[inline(always)]
 fn one_by<const TESTS: u8, Q: Query, T: TableSource, P: Placing>(
     query: &Q,
@@ -156,9 +156,9 @@ pub(crate) fn number_by<const TESTS: u8, Q: Query, T: TableSource, P: Placing>(
 }
 
 /// The number of a hash over any source, whatever words, tables and sizes hold: `Count` of a number below `count`,
-/// `Absent` only where the sizes are those of levels in these words and the hash falls on no 1 bit, or `Wrong`. Where
-/// the tables are those of the words, and these those of levels of these sizes with no more 1 bits than `count`, the
-/// number is right, and `Wrong` is never answered.
+/// `Absent` only where the sizes are sizes of levels in these words and the hash falls on no 1 bit, or `Wrong`. Where
+/// the tables match the words, and the words are levels of these sizes with no more 1 bits than `count`, the number is
+/// right, and `Wrong` is never answered.
 ///
 /// # Conditions
 /// There are fewer than 2^58 words, the tables have the right lengths, and there are no more than 256 sizes.
@@ -219,7 +219,7 @@ pub fn total_number_by_on<T: TableSource, P: Placing>(
 /// too, at most one a level.
 ///
 /// # Conditions
-/// The source's tables are those of its words, which are those of levels of these sizes.
+/// The source's tables match its words, which are levels of these sizes.
 /// # Cost
 /// One word is read of each level up to the one where the hash falls on a 1 bit, and what `rank_on` reads: at most one
 /// upper entry, one lower entry and eight words.

@@ -16,13 +16,14 @@ use std::alloc::{AllocError, Global};
 use std::boxed::BoxedSlice;
 use std::marker::Model;
 
-/// The spread number that a fingerprint is taken from: the levels have those before it.
+/// The spread number that a fingerprint is taken from: the levels have the spread numbers before it.
 const PRINT: u32 = 256;
 
 /// A perfect hash with a fingerprint of each key, by which it finds almost all values that are no keys.
 ///
 /// The fingerprint of a key stands at its number, as a fragment of `width` bits. A value that is no key is found only
-/// if its fingerprint is that of the key with its number: if hashes are as good as random, with probability 2^-`width`.
+/// if its fingerprint equals the fingerprint of the key with its number: if hashes are as good as random, with
+/// probability 2^-`width`.
 #[derive(Drop)]
 pub struct Dictionary<H, I: Access = ArrayWithRank101111, P: Placing = Plain> {
     numbers: PerfectHash<H, I, P>,
@@ -154,8 +155,8 @@ impl<H, I: Access, P: Placing> Dictionary<H, I, P> {
         &self.numbers
     }
 
-    /// The number of a key; of a value that is no key, `None`, unless its fingerprint is that of the
-    /// key with its number.
+    /// The number of a key; of a value that is no key, `None`, unless its fingerprint equals the fingerprint of the key
+    /// with its number.
     ///
     /// # Cost
     /// What `PerfectHash::get` takes, and one fragment.

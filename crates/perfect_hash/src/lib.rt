@@ -36,5 +36,5 @@ pub use hash_levels::{
     build_in_place, level_len, split_level,
 };
 pub use listed::total_numbers_on;
-pub use seeds::{SeedsView, build_seeded_in_place};
+pub use seeds::{SeedsView, build_seeded_in_place, split_level_seeded};
 pub use table::PerfectHash;

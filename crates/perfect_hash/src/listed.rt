@@ -15,7 +15,7 @@ use bitm_tables::source::TableSource;
 use hash_levels::Placing;
 use tuning::RANKS_SIDE_BY_SIDE;
 
-/// How many levels, from the first on, have words and lie within those that there are.
+/// How many levels, from the first on, have words and lie within the words that there are.
 fn levels_within(words: usize, sizes: &[usize]) -> usize
     ensures few { result ≤ length sizes.now }
     ensures within { FitIn words (take result sizes.now) }

@@ -45,8 +45,8 @@ fn look<Q: Query, T: TableSource, P: Placing>(
     }
 }
 
-/// Looks at one level for those of the hashes that wait, the first `count` of the list. Those that go on come to its
-/// start, without a branch that the processor would have to guess, and the answer is how many they are.
+/// Looks at one level for the hashes that wait, the first `count` of the list. The hashes that go on come to its start,
+/// without a branch that the processor would have to guess, and the answer is how many they are.
 #[inline(always)]
 fn look_at_level<Q: Query, T: TableSource, P: Placing>(
     query: &Q,
@@ -194,7 +194,7 @@ impl<H, I: Access, P: Placing> PerfectHash<H, I, P> {
     /// # Conditions
     /// There are as many `numbers` as `hashes`.
     /// # Cost
-    /// That of `get` for each; 256 go from level to level together.
+    /// The cost of `get` for each; 256 go from level to level together.
     pub fn numbers_of(&self, hashes: &[u64], numbers: &mut [usize])
         requires same_length { length numbers.old ≡ length hashes.now }
         ensures { AreNumbersOf (number_from P.fall self.now) hashes.now numbers.new }
@@ -226,7 +226,7 @@ impl<H, I: Access, P: Placing> PerfectHash<H, I, P> {
     /// # Conditions
     /// There are as many `numbers` as `keys`.
     /// # Cost
-    /// That of `numbers_of`, and of the hashes.
+    /// The cost of `numbers_of`, and of the hashes.
     pub fn get_many<K>(&self, keys: &[K], numbers: &mut [usize])
     where
         H: KeyHash<K>,

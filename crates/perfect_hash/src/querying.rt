@@ -1,4 +1,4 @@
-//! How the bits of levels are queried: those of a source, with its reads counted, or those of an index.
+//! How the bits of levels are queried: in a source, with its reads counted, or in an index.
 ghost use Rattle.std.specs.Prelude.{◌≡◌, ◌+◌, ◌/◌, ◌<◌, ◌≤◌, ℕ, List, Bool, ⊤, length, MatchOption};
 ghost use Rattle.bit_lists.specs.Bits.{item};
 ghost use Rattle.bit_lists.specs.Count.{ones_before};
@@ -38,7 +38,7 @@ pub(crate) trait Query {
         ensures reads { OnlyReads T.lists T.reads source.old source.new 0 0 1 }
         ensures counted { (T.reads source.new).words ≡ (T.reads source.old).words + words_each };
 
-    /// How many 1 bits stand before `place`; `None` only where the tables are not those of the bits.
+    /// How many 1 bits stand before `place`; `None` only where the tables do not match the bits.
     ///
     /// # Conditions
     /// There are no fewer bits.
@@ -113,7 +113,7 @@ impl<'a, I: Access> Query for ByIndex<'a, I> {
     }
 }
 
-/// A source over nothing: that of an index that is queried itself.
+/// A source over nothing, for an index that is queried itself.
 #[inline(always)]
 pub(crate) fn no_source() -> Probe<'static> {
     Probe::new([].as_slice(), [].as_slice(), [].as_slice())

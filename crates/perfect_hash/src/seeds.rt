@@ -1,6 +1,6 @@
 //! A seed for each word of a level, in the caller's memory: how hashes fall by the seeds, and levels that are built
-//! with them.
-ghost use Rattle.std.specs.Prelude.{◌≡◌, ℕ, ◌+◌, ◌-◌, ◌*◌, ◌^◌, ◌<◌, ◌≤◌, ◌⊎◌, [], drop, length, min, take};
+//! with them, one by one or in one call.
+ghost use Rattle.std.specs.Prelude.{◌≡◌, ℕ, ◌+◌, ◌-◌, ◌*◌, ◌^◌, ◌<◌, ◌≤◌, ◌⊎◌, List, [], drop, length, min, take};
 ghost use Rattle.bit_lists.specs.Bits.{bits_of, IsShort};
 ghost use Rattle.bit_lists.specs.Count.{ones_of};
 ghost use Rattle.hash_levels.specs.InPlace.{made_sizes, made_words, IsMade};
@@ -8,8 +8,8 @@ ghost use Rattle.hash_levels.specs.Inside.{places_inside};
 ghost use Rattle.hash_levels.specs.Levels.{fall_in, left_of, AreChosen, AreSized, IsLevel, Leave};
 ghost use Rattle.hash_levels.specs.Numbers.{AreLevels};
 ghost use Rattle.hash_levels.specs.Places.{place_by, words_for};
-ghost use Rattle.hash_levels.specs.Seeds.{AreBest, HasBest};
-ghost use Rattle.perfect_hash.specs.Seeded.{seeds_with};
+ghost use Rattle.hash_levels.specs.Seeds.{AreBestSeeds, HasBest};
+ghost use Rattle.perfect_hash.specs.Seeded.{seeds_with, StandFrom};
 
 use bitm_tables::source::counts::ReadCounts;
 use hash_levels::{Made, Placing, choose_in, level_len, place_seeded, split_level_by};
@@ -63,10 +63,60 @@ impl<'a> Placing for SeedsView<'a> {
     ghost inside = { λ s. places_inside s.seeds.now };
 }
 
+/// Makes `ones` a level of the hashes, with a seed for each of its words: of the first `tries`, at most 256, the first
+/// by which most of the hashes that fall in the word stand alone. The hashes that fall on no 1 bit go to the start of
+/// `hashes`, in their order, and the answer is how many they are.
+///
+/// For those who build level by level: hashes fall so wherever the seeds of the level stand among those of all words.
+/// What `again` and `sorted` hold afterwards means nothing.
+///
+/// # Conditions
+/// There is a word, and fewer than 2^58; there is a seed and an item of `again` for each, and no fewer items of
+/// `sorted` than hashes.
+/// # Cost
+/// Four passes over the hashes, and one for each seed that is tried.
+///
+/// ```
+/// let mut hashes = [7u64, 5, 99];
+/// let (mut ones, mut seeds, mut again, mut sorted) = ([0u64; 1], [0u8; 1], [0u64; 1], [0u64; 3]);
+/// let left = split_level_seeded(&mut hashes, 0, 64, &mut ones, &mut seeds, &mut again, &mut sorted);
+/// // `ones` has a 1 bit for each of the three hashes but those that are left
+/// ```
+#[tactic(auto, using(bit_lists::proofs::BitLaws::zeros_have_no_ones))]
+pub fn split_level_seeded(
+    hashes: &mut [u64],
+    level: u32,
+    tries: u16,
+    ones: &mut [u64],
+    seeds: &mut [u8],
+    again: &mut [u64],
+    sorted: &mut [u64],
+) -> usize
+    requires some { 0 < length ones.old }
+    requires short { IsShort ones.old }
+    requires seeds { length seeds.old ≡ length ones.old }
+    requires again { length again.old ≡ length ones.old }
+    requires sorted { length hashes.old ≤ length sorted.old }
+    ensures level { (all : List ℕ) → (first : ℕ) → StandFrom all first seeds.new
+        → IsLevel (place_by all first) hashes.old (bits_of ones.new) level 0 (length ones.old) }
+    ensures left { (all : List ℕ) → (first : ℕ) → StandFrom all first seeds.new
+        → take result hashes.new
+        ≡ left_of (place_by all first) hashes.old (bits_of ones.new) level 0 (length ones.old) }
+    ensures few { result ≤ length hashes.old }
+    ensures best { AreBestSeeds level hashes.old (min tries 256) seeds.new }
+{
+    let part = &mut sorted[..hashes.len()];
+    clear(&mut *again);
+    choose_in(&*hashes, level, tries, &mut *again, part, &mut *seeds);
+    clear(&mut *ones);
+    clear(&mut *again);
+    let placing = SeedsView { seeds: &*seeds };
+    split_level_by(&placing, 0, hashes, level, ones, again)
+}
+
 /// Chooses the seeds of a level in the `size` words from word `used` on for the first `left` hashes, makes the level in
 /// these words, and answers how many hashes are left then; these go to the start of the list.
 #[inline(always)]
-#[tactic(auto, using(bit_lists::proofs::BitLaws::zeros_have_no_ones))]
 fn add_level(
     hashes: &mut [u64],
     left: usize,
@@ -94,20 +144,21 @@ fn add_level(
     ensures few { result ≤ left }
     ensures before { take used words.new ≡ take used words.old }
     ensures seeds_before { take used seeds.new ≡ take used seeds.old }
-    ensures best { AreBest level (take left hashes.old) (min tries 256)
+    ensures best { AreBestSeeds level (take left hashes.old) (min tries 256)
         (drop used (take (used + size) seeds.new)) }
 {
-    let room = &mut again[..size];
-    clear(&mut *room);
-    let (part, of_level) = (&mut sorted[..left], &mut seeds[used..used + size]);
-    choose_in(&hashes[..left], level, tries, &mut *room, part, of_level);
-    let placing = SeedsView {
-        seeds: &seeds[..used + size],
-    };
     let ones = &mut words[used..used + size];
-    clear(&mut *ones);
-    clear(&mut *room);
-    split_level_by(&placing, used, &mut hashes[..left], level, ones, room)
+    let of_level = &mut seeds[used..used + size];
+    let room = &mut again[..size];
+    split_level_seeded(
+        &mut hashes[..left],
+        level,
+        tries,
+        ones,
+        of_level,
+        room,
+        sorted,
+    )
 }
 
 /// Makes levels as `build_in_place` does, each with the seed for each of its words by which most of the hashes that

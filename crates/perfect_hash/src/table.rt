@@ -62,7 +62,7 @@ impl<H, I: Access> PerfectHash<H, I> {
     /// A perfect hash over an index of the bits of levels.
     ///
     /// # Conditions
-    /// The bits are those of levels of these sizes, as `Levels::build` makes them.
+    /// The bits are levels of these sizes, as `Levels::build` makes them.
     pub fn over(hasher: H, sizes: Vec<usize>, index: I) -> Self
         requires { AreSizes sizes.items (I.bits index) }
         ensures hasher { result.hasher ≡ hasher }
@@ -78,7 +78,7 @@ impl<H, I: Access, P: Placing> PerfectHash<H, I, P> {
     /// A perfect hash over an index of the bits of levels, and what placed the hashes.
     ///
     /// # Conditions
-    /// The bits are those of levels of these sizes, as `Levels::build_by` makes them.
+    /// The bits are levels of these sizes, as `Levels::build_by` makes them.
     pub fn over_by(hasher: H, placing: P, sizes: Vec<usize>, index: I) -> Self
         requires { AreSizes sizes.items (I.bits index) }
         ensures { result ≡ record {

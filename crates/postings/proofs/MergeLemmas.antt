@@ -3,7 +3,7 @@ use Rattle.std.proofs.Common.{◌≡◌, ℕ, ◌+◌, ◌<◌, ◌≤◌, List,
 use Rattle.std.proofs.lemmas.Bool.{cases_lt}
 use Rattle.std.proofs.lemmas.List.{length-map}
 use Rattle.postings.specs.Next.{IsNextAtLeast}
-use Rattle.postings.specs.Shared.{list_at, AreShared, AskedAtMost, IsAsked, IsInAll, IsNumberIn, IsSharing, KeepsFrom}
+use Rattle.postings.specs.Shared.{list_at, AreInAll, AskedAtMost, IsAsked, IsInAll, IsNumberIn, IsSharing, KeepsFrom}
 use Rattle.postings.specs.declared.sharing.Agreed.{Agreed}
 use Rattle.postings.proofs.SharingLemmas.{keeps_through, next_least}
 use Rattle.postings.proofs.StepLemmas.{step_next, step_next_there, step_keeps, step_asked, step_once}
@@ -27,7 +27,7 @@ module _ {C : Type 0} (L : C → List ℕ) (K : C → ℕ) (old lists : List C) 
       (λ j. omega (arith, sharing.at_most j, few)) (omega (arith, sharing.at_most 0, few))
 
   -- the first list has no more
-  pub first_shared : IsNextAtLeast (L (get_or lists 0 was)) low None (L now) → AreShared (map L old) from n room ys
+  pub first_shared : IsNextAtLeast (L (get_or lists 0 was)) low None (L now) → AreInAll (map L old) from n room ys
   first_shared next =
       ended_first (map L old) (map L lists) (map K old) (map K lists) from n low room ys (L now) sharing fits some
       (step_next L lists 0 was now inside low None next)
@@ -66,7 +66,7 @@ module _ {C : Type 0} (L : C → List ℕ) (K : C → ℕ) (old lists : List C) 
           (λ (past : v ≤ x). none x past (middle x past all))
           (cases_lt x v)
 
-      pub others_ended : AreShared (map L old) from n room ys
+      pub others_ended : AreInAll (map L old) from n room ys
       others_ended = shared_none (map L old) (map L lists) (map K old) (map K lists) from n low room ys sharing fits (λ x l s all. no_more x l all)
 
       pub none_left : (x : ℕ) → from ≤ x → IsInAll (map L old) x → ((k : ℕ) → k < n → get_or ys k 0 < x) → IsInAll (map L after) x

@@ -17,9 +17,10 @@ width_small xs small =
     let quotient : largest xs / length xs < 2 ^ 64 = omega (arith, largest_small xs small, div-le_self (largest xs) (length xs)) in
     omega (arith, (digits_bound_powers (largest xs / length xs) 64).1 quotient)
 
-pub has_lengths : (xs : List ℕ) (n w : ℕ) (low words : List ℕ) → ArePartsOf xs n w low words → HaveLengths n w low
+pub has_lengths : (xs : List ℕ) (n w : ℕ) (low words : List ℕ) → ArePartsOf xs n w low words → HaveLengths n w low words []
 has_lengths xs n w low words h = record {
   short = omega (arith, h.count, h.sequence.short);
   width = omega (arith, h.width, width_small xs h.sequence.small);
   low = h.low_is.words ∙ ap (λ (k : ℕ). div_ceil (k * w) 64) (sym h.count);
+  hints = λ some. absurd (omega (arith, some));
 }

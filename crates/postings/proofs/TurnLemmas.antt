@@ -3,7 +3,7 @@ use Rattle.std.proofs.Common.{◌≡◌, ◌≢◌, ℕ, ◌+◌, ◌^◌, ◌<�
 use Rattle.std.proofs.lemmas.Bool.{cases_lt}
 use Rattle.std.proofs.lemmas.List.{get_or-set_same, get_or-set_other}
 use Rattle.postings.specs.Next.{IsNextAtLeast}
-use Rattle.postings.specs.Shared.{list_at, AreShared, AskedAtMost, IsAmong, IsInAll, IsNumberIn, IsSharing, KeepsFrom}
+use Rattle.postings.specs.Shared.{list_at, AreInAll, AskedAtMost, IsAmong, IsInAll, IsNumberIn, IsSharing, KeepsFrom}
 use Rattle.postings.proofs.SharingLemmas.{next_back, next_none, next_least, next_has, keeps_all, keeps_less, keeps_through}
 
 -- nothing is written yet
@@ -34,7 +34,7 @@ module _ (old now : List (List ℕ)) (asked calls : List ℕ) (from n low room :
   pub still_in_all : (next : List (List ℕ)) → KeepsFrom old next low → (x : ℕ) → from ≤ x → IsInAll old x → ((k : ℕ) → k < n → get_or ys k 0 < x) → IsInAll next x
   still_in_all next keeps x l all more i inside = keeps.kept i x (not_written x l all more) (all i (omega (arith, keeps.count)))
 
-  shared : ((x : ℕ) → low ≤ x → x < 2 ^ 64 → IsInAll old x → (n ≡ room) × ((k : ℕ) → k < n → get_or ys k 0 < x)) → AreShared old from n room ys
+  shared : ((x : ℕ) → low ≤ x → x < 2 ^ 64 → IsInAll old x → (n ≡ room) × ((k : ℕ) → k < n → get_or ys k 0 < x)) → AreInAll old from n room ys
   shared rest = record {
     most = fits;
     rising = was.rising;
@@ -46,17 +46,17 @@ module _ (old now : List (List ℕ)) (asked calls : List ℕ) (from n low room :
         (cases_lt x low);
   }
 
-  pub shared_none : ((x : ℕ) → low ≤ x → x < 2 ^ 64 → IsInAll old x → ⊥) → AreShared old from n room ys
+  pub shared_none : ((x : ℕ) → low ≤ x → x < 2 ^ 64 → IsInAll old x → ⊥) → AreInAll old from n room ys
   shared_none none = shared (λ x l s all. absurd (none x l s all))
 
-  pub shared_full : room ≤ n → AreShared old from n room ys
+  pub shared_full : room ≤ n → AreInAll old from n room ys
   shared_full full = shared (λ x l s all. (omega arith, λ k less. omega (arith, was.below k less)))
 
 -- the first list has no more numbers
 module _ (old now : List (List ℕ)) (asked calls : List ℕ) (from n low room : ℕ) (ys new : List ℕ)
     (was : IsSharing old asked from n ys now calls low) (fits : n ≤ room) (some : 0 < length old)
     (next : IsNextAtLeast (list_at now 0) low None new) where
-  pub ended_first : AreShared old from n room ys
+  pub ended_first : AreInAll old from n room ys
   ended_first = shared_none old now asked calls from n low room ys was fits
       (λ x l s all. next_none (list_at now 0) low new x next l (was.keeps.kept 0 x l (all 0 some)))
 

@@ -2,7 +2,6 @@
 use Rattle.std.specs.Prelude.{◌≡◌, ℕ, ◌^◌, ◌<◌, ◌≤◌, ◌⊎◌, List, length, slice_index, Option, Some, None, MatchOption}
 use Rattle.bitm_tables.specs.Answers.{Right}
 use Rattle.bitm_tables.specs.declared.answer.Answer.{Answer}
-use Rattle.bitm_tables.specs.declared.answer.Answer.TheVariants.{Wrong}
 use Rattle.postings.specs.Shared.{list_at, IsAmong, IsNumberIn, KeepsFrom}
 
 -- x stands in one of the first n lists

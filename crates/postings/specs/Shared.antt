@@ -21,7 +21,7 @@ IsInAll xss x = (i : ℕ) → i < length xss → IsNumberIn (list_at xss i) x
 
 -- the first n of ys rise, each is at least from and stands in each list, and each other such number of 64 digits is more
 -- than all of them, or there is none where fewer were written than there was room for
-pub record AreShared (xss : List (List ℕ)) (from n room : ℕ) (ys : List ℕ) : Type 0 where
+pub record AreInAll (xss : List (List ℕ)) (from n room : ℕ) (ys : List ℕ) : Type 0 where
   pub most : n ≤ room
   pub rising : (j k : ℕ) → j < k → k < n → slice_index ys j < slice_index ys k
   pub from_there : (k : ℕ) → k < n → from ≤ slice_index ys k

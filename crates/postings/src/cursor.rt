@@ -29,10 +29,10 @@ pub trait TotalCursor {
     /// The memory holds a list, and the cursor is a position in it.
     ghost right: { Self → Type 0 };
 
-    /// How often it was called, of what is counted.
+    /// The calls that were counted so far.
     ghost calls: { Self → ℕ };
 
-    /// How often it answered `Wrong`, of what is counted.
+    /// The answers `Wrong` that were counted so far.
     ghost wrong: { Self → ℕ };
 
     /// The type of what no call changes.

@@ -10,7 +10,7 @@ use crate::cursor::{Cursor, TotalCursor};
 use crate::merged::Merged;
 use bitm_tables::answer::Answer;
 
-/// The lesser of two numbers, of which the first may be missing.
+/// The lesser of two numbers; the first may be missing.
 #[inline(always)]
 fn lesser(one: Option<u64>, other: u64) -> u64
     ensures { IsLesser one (Some other) (Some result) }
@@ -89,8 +89,8 @@ pub fn total_union<C: TotalCursor>(lists: &mut [C], from: u64, out: &mut [u64]) 
     Merged::Done(count)
 }
 
-/// Writes the numbers from `from` on that stand in any of the lists, from their cursors on: rising, each once, as many
-/// as there are and there is room for; and answers how many. What is after them stays as it was.
+/// Writes the numbers from `from` on that stand in any of the lists, from their cursors on: rising, each once, until
+/// none is left or `out` is full; and answers how many. What is after them stays as it was.
 ///
 /// Where there was no more room, a call with the last number and one more for `from` goes on: no number was passed that
 /// it has to find.

@@ -59,7 +59,7 @@ fn next_one_on<T: TableSource>(source: &mut T, place: usize) -> Option<usize>
     None
 }
 
-/// The zero with `zeros` zeros before it, if it is in the eight words from that of `one` on, where `at` ones stand
+/// The zero with `zeros` zeros before it, if it is in the eight words from the word of `one` on, where `at` ones stand
 /// before the one at `one`, and no more than `zeros` zeros; some zero, or none, where they do not.
 #[inline(always)]
 fn skip_on<T: TableSource>(source: &mut T, one: usize, at: usize, zeros: usize) -> Option<usize>
@@ -223,8 +223,8 @@ fn near_or_far_on<T: TableSource>(
 }
 
 /// The first number that is at least `v`, which is more than the number at `spot`; `Absent` exactly where there is
-/// none, if these are the parts of a sequence. Whatever they hold, a number that is found has its 1 bit after that of
-/// `spot`.
+/// none, if these are the parts of a sequence. Whatever they hold, a number that is found has its 1 bit after the 1 bit
+/// of `spot`.
 ///
 /// # Cost
 /// At most 25 words are read where the number is near (`near_on`); else also what three selections read.

@@ -26,7 +26,7 @@ use std::marker::Model;
 ///
 /// # Source
 /// Vigna, 'Quasi-succinct indices' (WSDM 2013), and Ottaviano and Venturini, 'Partitioned Elias-Fano indexes' (SIGIR
-/// 2014), of which `next_geq` has its name.
+/// 2014), which gave `next_geq` its name.
 #[derive(Drop)]
 pub struct Seeker<'a> {
     source: Probe<'a>,
@@ -115,9 +115,9 @@ impl<'a> Seeker<'a> {
     /// A cursor at the first of `len` numbers of `width` low bits each, over borrowed parts.
     ///
     /// # Conditions
-    /// The parts are those of a sequence, with the tables of its upper words.
+    /// The parts form a sequence, with the tables of its upper words.
     /// # Cost
-    /// That of `of`.
+    /// The cost of `of`.
     pub fn over(len: usize, width: u8, low: &'a [u64], upper: &'a Lent<'_>) -> Seeker<'a>
         requires { AreParts (parts_of len width low.now upper.now) }
         ensures left { (xs : List ℕ) → Holds xs (parts_of len width low.now upper.now) → result.left ≡ xs }
@@ -140,8 +140,8 @@ impl<'a> Seeker<'a> {
     /// Nothing is read where the number at the cursor is at least `v`. Else at most what three selections by binary
     /// search read and 25 words; and the low bits of at most nine numbers, and of one for each binary digit of how many
     /// numbers share the high bits of `v`. Evident from the code: the selections are made only where the number is not
-    /// near, that is where the 0 bits to skip do not end in the eight words from that of the cursor's 1 bit on, or none
-    /// of the eight numbers from there on is at least `v`.
+    /// near, that is where the 0 bits to skip do not end in the eight words from the word of the cursor's 1 bit on, or
+    /// none of the eight numbers from there on is at least `v`.
     #[inline]
     pub fn seek(&mut self, v: u64) -> Option<u64>
         ensures next { IsNextAtLeast self.old.left v result self.new.left }

@@ -1,7 +1,7 @@
 //! The intersection of lists: the numbers that all of them share.
 ghost use Rattle.std.specs.Prelude.{◌≡◌, ℕ, ◌+◌, ◌<◌, ◌≤◌, All, map, length, slice_index};
 ghost use Rattle.postings.specs.Merged.{written_in, IfDone, IsMerged};
-ghost use Rattle.postings.specs.Shared.{list_at, AreShared, AskedAtMost, IfNext, IsAsked, IsInAll};
+ghost use Rattle.postings.specs.Shared.{list_at, AreInAll, AskedAtMost, IfNext, IsAsked, IsInAll};
 ghost use Rattle.bit_lists.specs.Kept.{IsKeptFrom};
 ghost use Rattle.postings.specs.Shared.{UnlessUnknown};
 
@@ -52,7 +52,8 @@ fn ask_others<C: TotalCursor>(lists: &mut [C], v: u64) -> Agreed
 /// # Conditions
 /// There is a list.
 /// # Cost
-/// That of `intersect`, where all lists are right. Whatever they hold it ends: each turn begins at a greater number.
+/// The cost of `intersect`, where all lists are right. Whatever they hold it ends: each turn begins at a greater
+/// number.
 ///
 /// # Example
 /// ```
@@ -62,7 +63,7 @@ fn ask_others<C: TotalCursor>(lists: &mut [C], v: u64) -> Agreed
 pub fn total_intersect<C: TotalCursor>(lists: &mut [C], from: u64, out: &mut [u64]) -> Merged
     requires { 0 < length lists.old }
     ensures shared { All C.right lists.old → IsMerged result (λ count.
-        AreShared (map C.left lists.old) from count (length out.old) out.new) }
+        AreInAll (map C.left lists.old) from count (length out.old) out.new) }
     ensures most { written_in result ≤ length out.old }
     ensures rest { IsKeptFrom (written_in result) out.old out.new }
     ensures asked { All C.right lists.old → AskedAtMost (map C.calls lists.old) (map C.calls lists.new)
@@ -99,8 +100,8 @@ pub fn total_intersect<C: TotalCursor>(lists: &mut [C], from: u64, out: &mut [u6
     Merged::Done(count)
 }
 
-/// Writes the numbers from `from` on that stand in each of the lists, from their cursors on: rising, each once, as many
-/// as there are and there is room for; and answers how many. What is after them stays as it was.
+/// Writes the numbers from `from` on that stand in each of the lists, from their cursors on: rising, each once, until
+/// none is left or `out` is full; and answers how many. What is after them stays as it was.
 ///
 /// Where there was no more room, a call with the last number and one more for `from` goes on: no number was passed that
 /// it has to find.
@@ -117,7 +118,7 @@ pub fn total_intersect<C: TotalCursor>(lists: &mut [C], from: u64, out: &mut [u6
 /// ```
 pub fn intersect<C: Cursor>(lists: &mut [C], from: u64, out: &mut [u64]) -> usize
     requires { 0 < length lists.old }
-    ensures shared { AreShared (map C.left lists.old) from result (length out.old) out.new }
+    ensures shared { AreInAll (map C.left lists.old) from result (length out.old) out.new }
     ensures rest { IsKeptFrom result out.old out.new }
     ensures asked { AskedAtMost (map C.calls lists.old) (map C.calls lists.new)
         (length (list_at (map C.left lists.old) 0) + 1) }

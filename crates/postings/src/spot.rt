@@ -14,7 +14,7 @@ use bitm_tables::source::TableSource;
 use elias_fano::LowDigits;
 
 /// Where a cursor over a sequence stands: the index of its number, the position of that number's 1 bit among the words
-/// of the high bits, and the number. It is at the end where the index is that of no number.
+/// of the high bits, and the number. It is at the end where no number has the index.
 #[repr(C)]
 #[derive(Clone, Copy)]
 pub struct Spot {
@@ -34,8 +34,8 @@ pub struct Spot {
 /// 2^58 words, and the tables have the right lengths. They may hold anything.
 /// # Cost
 /// What three selections by binary search read, whatever the parts hold, and the low bits of one number, and of one for
-/// each binary digit of how many numbers share the high bits 0; in parts that are not those of a sequence, for each
-/// binary digit of `n`.
+/// each binary digit of how many numbers share the high bits 0; in parts that form no sequence, for each binary digit
+/// of `n`.
 ///
 /// # Example
 /// ```
@@ -72,7 +72,7 @@ pub fn total_start_on<T: TableSource>(
 /// and then the position is the end. Where the number there is at least `v` it stays.
 ///
 /// Whatever the parts and the position hold, a number that is found is at least `v`, and the position stays or moves
-/// forward in the words. Where they are those of a sequence, and the position one of its numbers or its end, as
+/// forward in the words. Where they form a sequence, and the position is at one of its numbers or its end, as
 /// `total_start_on` and this call leave it, the answer is the right one, and never `Wrong`. For `Wrong` the position
 /// stays.
 ///
@@ -81,10 +81,10 @@ pub fn total_start_on<T: TableSource>(
 /// # Cost
 /// Nothing is read where the number at the position is at least `v`. Else at most what three selections by binary
 /// search read and 25 words, whatever the parts hold; and the low bits of at most nine numbers, and of one for each
-/// binary digit of how many numbers share the high bits of `v`; in parts that are not those of a sequence, for each
-/// binary digit of `n`. Evident from the code: the selections are made only where the number is not near, that is where
-/// the 0 bits to skip do not end in the eight words from that of the position on, or none of the eight numbers from
-/// there on is at least `v`.
+/// binary digit of how many numbers share the high bits of `v`; in parts that form no sequence, for each binary digit
+/// of `n`. Evident from the code: the selections are made only where the number is not near, that is where the 0 bits
+/// to skip do not end in the eight words from the word of the position on, or none of the eight numbers from there on
+/// is at least `v`.
 ///
 /// # Example
 /// ```

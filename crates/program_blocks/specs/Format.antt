@@ -1,5 +1,5 @@
 -- Which format a file is in, by the mark that it begins with.
-use Rattle.std.specs.Prelude.{ℕ, ◌/◌, ◌%◌, ◌^◌, ◌==◌, List, [], ◌∷◌, length, Option, None, Some, Result, Ok, Err, if◌then◌else◌}
+use Rattle.std.specs.Prelude.{ℕ, ◌/◌, ◌%◌, ◌^◌, ◌==◌, ◌||◌, List, [], ◌∷◌, length, Option, None, Some, Result, Ok, Err, if◌then◌else◌}
 use Rattle.std.specs.Int.{w64, from_le_bytes}
 use Rattle.std.specs.Simd.{first_chunks}
 use Rattle.program_blocks.specs.declared.failure.Failure.{Failure}
@@ -23,7 +23,8 @@ version_of_file bytes = version_at (first_chunks 8 (length bytes / 8) bytes)
 -- the format of files that say a version, or why they are refused
 abbrev pub format_of : Option ℕ → Result Format Failure
 format_of None = Err Unmarked
-format_of (Some version) = if version == 3 then Ok Block else if version == 2 then Ok Old else Err (OtherVersion version)
+format_of (Some version) =
+    if version == 3 || version == 4 then Ok Block else if version == 2 then Ok Old else Err (OtherVersion version)
 
 -- the format of a file, or why it is refused whatever else it holds
 abbrev pub format_in : List ℕ → Result Format Failure

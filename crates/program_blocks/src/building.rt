@@ -53,18 +53,18 @@ fn block_of_text(alloc: Global, kind: Kind, text: &[u8]) -> Result<Vec<u64>, Fai
 }
 
 /// Writes the block of a kind of the numbers in a text, as bytes. The numbers are positions of 1 bits for `Bits` and
-/// `Sparse`, whose bits end with the last 1 bit; the numbers of a list for `Sequence` and `Matrix`, where those of a
-/// matrix have the fewest bits that all of them fit; and the degrees of nodes, level by level, for `Tree`.
+/// `Sparse`, whose bits end with the last 1 bit; the numbers of a list for `Sequence` and `Matrix`, where the numbers
+/// of a matrix have the fewest bits that all of them fit; and the degrees of nodes, level by level, for `Tree`.
 ///
 /// # Errors
 /// `WrongLine` where a line neither is empty nor has just a number, with the first such line; else `OutOfOrder` where
-/// the numbers of a `Sequence` fall or those of `Sparse` do not rise, with the first line that does it; `NotATree`
-/// where degrees are those of no tree; `TooLarge` where the numbers are too many or too large for a block; `NoMemory`
-/// where memory was refused. Nothing is written then. `CannotWrite` where a write failed; what was written before that
-/// stays.
+/// the numbers of a `Sequence` fall or the numbers of `Sparse` do not rise, with the first line that does it;
+/// `NotATree` where degrees form no tree; `TooLarge` where the numbers are too many or too large for a block;
+/// `NoMemory` where memory was refused. Nothing is written then. `CannotWrite` where a write failed; what was written
+/// before that stays.
 /// # Cost
-/// At most 64 passes over the numbers of a matrix to find their width, and those of the kind's `build` (evident from
-/// the code).
+/// At most 64 passes over the numbers of a matrix to find their width, and the passes of the kind's `build` (evident
+/// from the code).
 ///
 /// ```
 /// build(alloc, Kind::Matrix, b"3\n1\n4\n".as_slice(), &mut out);   // Ok(()): out has the bytes of the block

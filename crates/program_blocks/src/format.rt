@@ -10,7 +10,7 @@ const LETTERS: u64 = 0x62_6174_6d74_6962;
 /// A format of files that the program reads.
 #[derive(Clone, Copy, Debug, PartialEq, Eq)]
 pub enum Format {
-    /// A block: version 3.
+    /// A block: version 3 or 4.
     Block,
     /// Version 2, which releases before 0.3.0 wrote.
     Old,
@@ -42,10 +42,10 @@ fn version_in(bytes: &[u8]) -> Option<u64>
 ///
 /// # Errors
 /// `Unmarked` exactly where these are not the letters `bitmtab` and a version, `OtherVersion` exactly where the version
-/// is neither 2 nor 3.
+/// is none of 2, 3 and 4.
 ///
 /// ```
-/// format_in(b"bitmtab\x03".as_slice());   // Ok(Format::Block)
+/// format_in(b"bitmtab\x04".as_slice());   // Ok(Format::Block)
 /// format_in(b"one\ntwo\n".as_slice());    // Err(Failure::Unmarked)
 /// ```
 pub fn format_in(bytes: &[u8]) -> Result<Format, Failure>
@@ -53,7 +53,7 @@ pub fn format_in(bytes: &[u8]) -> Result<Format, Failure>
 {
     match version_in(bytes) {
         None => Err(Failure::Unmarked),
-        Some(3) => Ok(Format::Block),
+        Some(3 | 4) => Ok(Format::Block),
         Some(2) => Ok(Format::Old),
         Some(version) => Err(Failure::OtherVersion(version)),
     }

@@ -11,7 +11,7 @@ pub enum Kind {
     Bits,
     /// A monotone sequence.
     Sequence,
-    /// Bits of which few are 1.
+    /// Bits with few 1 bits.
     Sparse,
     /// Numbers that are queried by value.
     Matrix,

@@ -91,8 +91,8 @@ pub(crate) fn open_old_sequence(file: &[u64]) -> Option<LentSequence<'_>>
     }
 }
 
-/// Whether a file has bits with the tables of their words, or the parts of a sequence, so that each answer is that of
-/// counting. Its samples are not looked at: they change no answer.
+/// Whether a file has bits with the tables of their words, or the parts of a sequence, so that each answer is what
+/// counting gives. Its samples are not looked at: they change no answer.
 ///
 /// # Cost
 /// Three passes over the file (evident from the code).
@@ -123,7 +123,7 @@ fn kind_of(number: u64) -> Kind
 /// What the header of such a file says; `None` exactly where it is none (`is_old`).
 ///
 /// # Cost
-/// That of `is_old`.
+/// The cost of `is_old`.
 ///
 /// ```
 /// old_head(file.as_slice());   // Some(head): head.len is how many bits or numbers there are

@@ -11,7 +11,7 @@ use crate::kind::Kind;
 use program_runs::{Form, Sources, Stop, end};
 use std::io::Write;
 
-/// What is written where the arguments are not those of a command.
+/// What is written where no command takes the arguments.
 const USAGE: &str = "usage: bitm build KIND | bitm query [--json] BLOCK | bitm check BLOCK | \
     bitm info BLOCK
 KIND is bits, sequence, sparse, matrix or tree; bitm text and bitm strings say what they do with a text";

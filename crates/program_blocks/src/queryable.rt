@@ -8,7 +8,7 @@ pub(crate) trait Queryable: Drop {
     ghost use Rattle.program_blocks.specs.declared.question.Question.{Question};
     ghost use Rattle.program_blocks.specs.declared.reply.Reply.{Reply};
 
-    /// The block is that of such a structure.
+    /// The block holds such a structure.
     ghost holds: { Self → Type 0 };
 
     /// The structure may reply that to a question.

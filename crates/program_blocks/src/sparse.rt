@@ -1,4 +1,4 @@
-//! Blocks of bits of which few are 1.
+//! Blocks of bits with few 1 bits.
 ghost use Rattle.std.specs.Prelude.{◌≡◌, IfErr, IfOk, IfSome, List, SomeIff, ℕ};
 ghost use Rattle.sparse_block.specs.Block.{bits_of, sparse_in, HoldsBits, HoldsOnes, IsSoundBlock};
 ghost use Rattle.program_blocks.specs.Bits.{IsBitsReplyOne};

@@ -1,7 +1,7 @@
 //! Blocks of a tree.
 ghost use Rattle.std.specs.Prelude.{IfErr, IfOk, IfSome, SomeIff};
-ghost use Rattle.louds.specs.Counted.{degrees_in, IsLouds};
-ghost use Rattle.louds_block.specs.Block.{tree_in, HoldsTree, IsBlockOf};
+ghost use Rattle.louds.specs.Counted.{degrees_in};
+ghost use Rattle.louds_block.specs.Block.{tree_in, HoldsIn, HoldsTree, IsBlockOf};
 ghost use Rattle.program_blocks.specs.Tree.{IsTreeReplyOne, IsTreeReplyTwo};
 ghost use Rattle.program_blocks.specs.Failure.{IsBlockFailure};
 
@@ -34,14 +34,14 @@ pub(crate) fn block_of_tree(alloc: Global, degrees: &[u64]) -> Result<Vec<u64>, 
 /// The tree in a block that is as it was written.
 pub(crate) fn open_tree(block: &[u64]) -> Option<LoudsView<'_>>
     ensures opened { SomeIff result (HoldsTree block.now) (tree_in block.now) }
-    ensures holds { IfSome result (λ view. IsLouds view.len view.lists) }
+    ensures holds { IfSome result (λ view. HoldsIn view) }
 {
     LoudsView::open_checked(block)
 }
 
 /// What a tree answers to a question with one number.
 fn reply_to_one(view: &LoudsView<'_>, word: Word, node: usize) -> Reply
-    requires { IsLouds view.now.len view.now.lists }
+    requires { HoldsIn view.now }
     ensures { IsTreeReplyOne (degrees_in view.now.len view.now.lists) word node result }
 {
     match word {
@@ -56,7 +56,7 @@ fn reply_to_one(view: &LoudsView<'_>, word: Word, node: usize) -> Reply
 
 /// What a tree answers to a question with two numbers.
 fn reply_to_two(view: &LoudsView<'_>, word: Word, node: usize, k: usize) -> Reply
-    requires { IsLouds view.now.len view.now.lists }
+    requires { HoldsIn view.now }
     ensures { IsTreeReplyTwo (degrees_in view.now.len view.now.lists) word node k result }
 {
     match word {
@@ -66,10 +66,11 @@ fn reply_to_two(view: &LoudsView<'_>, word: Word, node: usize, k: usize) -> Repl
 }
 
 impl<'a> Queryable for LoudsView<'a> {
-    ghost use Rattle.louds.specs.Counted.{degrees_in, IsLouds};
+    ghost use Rattle.louds.specs.Counted.{degrees_in};
+    ghost use Rattle.louds_block.specs.Block.{HoldsIn};
     ghost use Rattle.program_blocks.specs.Tree.{IsTreeReply};
 
-    ghost holds = { λ view. IsLouds view.len view.lists };
+    ghost holds = { HoldsIn };
 
     ghost replies = { λ view. IsTreeReply (degrees_in view.len view.lists) };
 

@@ -24,7 +24,7 @@ impl fmt::Display for NotWritten {
     }
 }
 
-/// Writes what is said of a topic, and answers that all went well.
+/// Writes the help for a topic, and answers that all went well.
 fn write_help<W: Write>(topic: Topic, out: &mut W) -> Result<bool, Stop<NotWritten>>
     ensures good { IfOk result (λ good. good ≡ true) }
     ensures said { IfOk result (λ _. Appends (W.contents out.old) (W.contents out.new)
@@ -37,8 +37,8 @@ fn write_help<W: Write>(topic: Topic, out: &mut W) -> Result<bool, Stop<NotWritt
     }
 }
 
-/// Writes what is said of a topic, and answers the status that the program ends with: 0 where all of it was written,
-/// and then nothing was written to `err`.
+/// Writes the help for a topic, and answers the status that the program ends with: 0 where all of it was written, and
+/// then nothing was written to `err`.
 ///
 /// # Errors
 /// The status is 2, and a text goes to `err`, where a write or the flush of `out` failed. A failed write to `err`

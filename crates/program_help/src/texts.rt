@@ -1,10 +1,10 @@
-//! What is said of each topic.
+//! The help for each topic.
 ghost use Rattle.std.specs.Prelude.{◌≡◌};
 ghost use Rattle.program_help.specs.Texts.{help_text};
 
 use crate::topic::Topic;
 
-/// What is said of all commands.
+/// The help for all commands.
 const ALL: &str = "bitm builds files of numbers, texts and strings, and answers questions to them.
 
   bitm build KIND < NUMBERS > BLOCK          the block of numbers, one a line
@@ -45,7 +45,7 @@ const ALL: &str = "bitm builds files of numbers, texts and strings, and answers 
 The status is 0 where all went well, 1 where a line is a bad question, a block is wrong, or no pattern or line is found,
 and 2 where there is no answer; then standard error says why.";
 
-/// What is said of `build`.
+/// The help for `build`.
 const BUILD: &str = "bitm build KIND < NUMBERS > BLOCK
 
 Reads numbers, one a line, and writes the block that holds them. KIND is one of these:
@@ -58,7 +58,7 @@ Reads numbers, one a line, and writes the block that holds them. KIND is one of 
 
   seq 0 7 1000 | bitm build bits > sevens.block";
 
-/// What is said of `query`.
+/// The help for `query`.
 const QUERY: &str = "bitm query BLOCK < QUESTIONS
 bitm query --json BLOCK < QUESTIONS
 
@@ -76,7 +76,7 @@ each line is a JSON value: a number, null where there is none, and {\"error\":\"
 
   echo 'rank 100' | bitm query sevens.block";
 
-/// What is said of `check`.
+/// The help for `check`.
 const CHECK: &str = "bitm check BLOCK
 bitm check --json BLOCK
 
@@ -85,7 +85,7 @@ then the status is 1. With --json it writes true or false.
 
   bitm check sevens.block";
 
-/// What is said of `info`.
+/// The help for `info`.
 const INFO: &str = "bitm info BLOCK
 bitm info --json BLOCK
 
@@ -95,7 +95,7 @@ many bits that is for an item, with --json as one JSON object. The whole block i
   bitm info sevens.block
   bitm info --json sevens.block";
 
-/// What is said of the commands after `text`.
+/// The help for the commands after `text`.
 const TEXT: &str = "bitm text build < TEXT > BLOCK
 bitm text count PATTERN BLOCK
 bitm text count -f FILE BLOCK
@@ -115,7 +115,7 @@ Each line that they write is a number, and so a JSON value; --json, before the p
   bitm text locate whale book.block
   bitm text lines -f words.txt book.block";
 
-/// What is said of the commands after `strings`.
+/// The help for the commands after `strings`.
 const STRINGS: &str = "bitm strings build < LINES > BLOCK
 bitm strings find BLOCK < LINES
 bitm strings find --json BLOCK < LINES
@@ -130,7 +130,7 @@ status is 1 where it has none of them.
 /// The name of the program and its version, as `VERSION` at the top of the repository says it.
 pub const VERSION: &str = "bitm 0.3.0";
 
-/// What is said of a topic, without a last line feed.
+/// The help for a topic, without a last line feed.
 pub(crate) fn help_text(topic: Topic) -> &'static str
     ensures { result.now ≡ help_text topic }
 {

@@ -34,7 +34,7 @@ pub fn check(alloc: Global, block: &[u8]) -> Result<bool, AllocError>
 }
 
 /// Whether the bytes are a file of version 2 with bits and the tables of their words, or with the parts of a sequence
-/// (`program_blocks::is_old`): all that can be said of one, which has no checksum but that of its header.
+/// (`program_blocks::is_old`): all that can be said of one, which has no checksum but its header's.
 ///
 /// # Errors
 /// `AllocError` where memory was refused.

@@ -27,7 +27,7 @@ use std::io::Write;
 /// each other (`check_old`). Nothing is written then. `NoMemory` where memory was refused. `CannotWrite` where a write
 /// failed.
 /// # Cost
-/// That of `check` (evident from the code).
+/// The cost of `check` (evident from the code).
 ///
 /// ```
 /// // out has "kind matrix\nlen 6\nwidth 3\nbytes 640\nbits_per_item 853.33\n"
@@ -85,7 +85,7 @@ fn info_of_old<W: Write>(alloc: Global, file: &[u8], form: Form, out: &mut W) ->
     }
 }
 
-/// Writes what is said of a file of version 2.
+/// Writes the description of a file of version 2.
 fn write_old<W: Write>(
     form: Form,
     head: &OldHead,
@@ -115,7 +115,7 @@ fn write_old_kind<W: Write>(
     Ok(())
 }
 
-/// What is said of a block that has this number of bytes, and is as it was written.
+/// The description of a block that has this number of bytes, and is as it was written.
 #[tactic(auto, using(crate::proofs::lemmas::SoundLemmas::sound_block))]
 fn described(block: &[u64], bytes: usize) -> Option<Description>
     ensures described { IfSome result (IsDescribed block.now bytes) }
@@ -135,7 +135,7 @@ fn described(block: &[u64], bytes: usize) -> Option<Description>
     }
 }
 
-/// Writes what is said of a block.
+/// Writes the description of a block.
 fn write_description<W: Write>(
     form: Form,
     description: &Description,
@@ -190,7 +190,7 @@ fn write_rate<W: Write>(form: Form, len: u64, bytes: usize, out: &mut W) -> Resu
     Ok(())
 }
 
-/// What is said of a block: its kind, the numbers of its header, and its bytes.
+/// The description of a block: its kind, the numbers of its header, and its bytes.
 #[derive(Clone, Copy)]
 struct Description {
     kind: Kind,

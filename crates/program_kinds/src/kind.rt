@@ -69,8 +69,8 @@ fn other_kind_in(block: &[u64]) -> Option<Kind>
     }
 }
 
-/// Which perfect hash the sections of a block are those of: one with seeds has these before its sizes, and a dictionary
-/// has its keys after them.
+/// Which perfect hash the sections of a block belong to: one with seeds has the seeds before its sizes, and a
+/// dictionary has its keys after them.
 fn hash_kind_in(block: &[u64]) -> Kind
     ensures { result ≡ hash_kind_in block.now }
 {

@@ -13,10 +13,10 @@ use program_runs::{CannotWrite, Form, Sources, Stop, end};
 use std::alloc::Global;
 use std::io::Write;
 
-/// What is written where the arguments are not those of a command.
+/// What is written where no command takes the arguments.
 const USAGE: &str = "usage: bitm check [--json] BLOCK | bitm info [--json] BLOCK";
 
-/// What is written of a file of version 2 that is right.
+/// The text for a file of version 2 that is right.
 const OLD_IS_GOOD: &str =
     "good: the parts fit each other (version 2, which has no checksum of them)";
 

@@ -1,4 +1,4 @@
-//! The status that a run ends with, and what it says.
+//! The status that a run ends with, and the text that says why.
 ghost use Rattle.std.specs.Prelude.{◌≡◌, ◌≤◌, false, true, IsErr, Ok};
 ghost use Rattle.std.specs.Io.KnownBytes.{Keeps};
 
@@ -10,7 +10,7 @@ use std::io::Write;
 /// Why a program ends with status 2, where `F` is why there is no answer.
 #[derive(Clone, Copy)]
 pub enum Stop<F> {
-    /// The arguments are not those of a command; what is written then.
+    /// No command takes the arguments; what is written then.
     Usage(&'static str),
     /// A file or the standard input can't be read whole.
     CannotRead,

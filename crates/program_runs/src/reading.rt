@@ -14,8 +14,8 @@ pub const CANNOT_READ: &str = "bitm: cannot read";
 #[derive(Clone, Copy)]
 pub struct CannotRead;
 
-/// Where a program reads from. The bytes that are read are those of the file that is named, and of the standard input,
-/// wherever the type says what these hold; a process does not say it.
+/// Where a program reads from. The bytes that are read are the bytes of the file that is named, and of the standard
+/// input, wherever the type says what these hold; a process does not say it.
 pub trait Sources {
     /// What is known of the files and of the standard input.
     ghost known: { Self → Known } = { λ _. unknown };

@@ -30,7 +30,7 @@ enum Failure {
 }
 
 impl Failure {
-    /// What is written of it.
+    /// The text that says why.
     fn text(&self) -> &'static str
         ensures { result.now ≡ failure_text self.now }
     {

@@ -12,7 +12,7 @@ pub enum Failure {
     EqualLines,
     /// The lines are too many, or too long, for a block.
     TooLarge,
-    /// The bytes are not those of a block of strings, or are not as they were written.
+    /// The bytes are no block of strings, or are not as they were written.
     WrongBlock,
     /// Memory was refused.
     NoMemory,

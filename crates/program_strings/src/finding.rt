@@ -17,14 +17,13 @@ use string_block::{Answer, StringsView, check, open};
 /// it is none of them (as JSON `null`), each as a line and in their order, and answers whether one of them has a
 /// number.
 ///
-/// `file` are the bytes that `build` wrote. The whole file is checked first, so that the numbers are those of its
-/// strings.
+/// `file` are the bytes that `build` wrote. The whole file is checked first, so that the numbers belong to its strings.
 ///
 /// # Errors
-/// `WrongBlock` only where the bytes are not those of a block of strings, or not as they were written, and nothing is
-/// written then; `NoMemory` where memory was refused; `CannotWrite` where a write failed.
+/// `WrongBlock` only where the bytes are no block of strings, or are not as they were written, and nothing is written
+/// then; `NoMemory` where memory was refused; `CannotWrite` where a write failed.
 /// # Cost
-/// That of `string_block::check`; then that of `StringsView::find` for each line (evident from the code).
+/// The cost of `string_block::check`; then the cost of `StringsView::find` for each line (evident from the code).
 ///
 /// ```
 /// find(alloc, file, b"bob\neve\n".as_slice(), Form::Text, &mut out);   // Ok(true): out has "0\nnone\n", say

@@ -10,7 +10,7 @@ use crate::finding::find;
 use program_runs::{Form, Sources, Stop, end};
 use std::io::Write;
 
-/// What is written where the arguments are not those of a command.
+/// What is written where no command takes the arguments.
 const USAGE: &str = "usage: bitm strings build | bitm strings find [--json] BLOCK";
 
 /// Does what the arguments after `strings` say, and answers the status that the program ends with: 0 where that was

@@ -110,7 +110,7 @@ impl<'a> Iterator for Lines<'a> {
     }
 }
 
-/// The lines of a text that are not empty (`Lines`). Contracts see those that are left.
+/// The lines of a text that are not empty (`Lines`). Contracts see the lines that are left.
 ///
 /// ```
 /// FilledLines::new(b"1\n\n2".as_slice()).next();   // Some(b"1")

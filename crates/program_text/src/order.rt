@@ -22,7 +22,7 @@ fn may_follow(strict: bool, before: Option<u64>, number: u64) -> bool
     }
 }
 
-/// The first line, the first being 0, whose number is less than that of the line with a number before it, or with
+/// The first line, the first being 0, whose number is less than the number of the line with a number before it, or with
 /// `strict` the same; `None` where there is no such line. Lines that have no number are passed over.
 ///
 /// # Cost

@@ -9,7 +9,7 @@ abbrev pub bytes_in : List (Bor (List ℕ)) → List (List ℕ)
 bytes_in patterns = map (λ pattern. pattern.now) patterns
 
 -- one of the patterns stands at a place of the text, of which its end is one
-pub record StandsAt (patterns : List (List ℕ)) (text : List ℕ) (place : ℕ) : Type 0 where
+pub record SomeStandsAt (patterns : List (List ℕ)) (text : List ℕ) (place : ℕ) : Type 0 where
   pub pattern : List ℕ
   pub one : Contains patterns pattern
   pub inside : place ≤ length text
@@ -17,13 +17,13 @@ pub record StandsAt (patterns : List (List ℕ)) (text : List ℕ) (place : ℕ)
 
 -- these are all places at which one of the patterns stands, some maybe more than once
 pub record AreFoundOf (patterns : List (List ℕ)) (text found : List ℕ) : Type 0 where
-  pub each : All (StandsAt patterns text) found
-  pub all : (place : ℕ) → StandsAt patterns text place → Contains found place
+  pub each : All (SomeStandsAt patterns text) found
+  pub all : (place : ℕ) → SomeStandsAt patterns text place → Contains found place
 
 -- these are all places at which one of the patterns stands, each once and in their order
 pub record ArePlacesOf (patterns : List (List ℕ)) (text places : List ℕ) : Type 0 where
-  pub each : All (StandsAt patterns text) places
-  pub all : (place : ℕ) → StandsAt patterns text place → Contains places place
+  pub each : All (SomeStandsAt patterns text) places
+  pub all : (place : ℕ) → SomeStandsAt patterns text place → Contains places place
   pub rising : IsStrictlyIncreasing places
 
 -- the number of the line that a place of the text is in, the first being 1: one more than the line feeds before it
@@ -34,7 +34,7 @@ line_at text place = count_by (λ letter. letter == 10) (take place text) + 1
 pub record HasPattern (patterns : List (List ℕ)) (text : List ℕ) (line : ℕ) : Type 0 where
   pub place : ℕ
   pub inside : place < length text
-  pub stands : StandsAt patterns text place
+  pub stands : SomeStandsAt patterns text place
   pub line_is : line ≡ line_at text place
 
 -- these are the numbers of the lines that have one of the patterns, each once and in their order

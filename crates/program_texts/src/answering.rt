@@ -23,12 +23,12 @@ use text_block::TextView;
 /// whether one of them stands somewhere. An empty pattern stands at each position, the end too.
 ///
 /// `file` are the bytes that `build` wrote; `sums` says whether its checksums are looked at. Over the index of a text
-/// the answer is that of the text. Any other file that is as long as such a block, as one that was changed, is answered
-/// within what there is: a count is at most one more than the letters, and a position at most their number.
+/// the answer agrees with the text. Any other file that is as long as such a block, as one that was changed, is
+/// answered within what there is: a count is at most one more than the letters, and a position at most their number.
 ///
 /// # Errors
-/// `WrongBlock` only where the bytes are not those of a text's index, or not as they were written, and exactly then
-/// where the checksums are looked at and are wrong; nothing is written then. `NoMemory` where memory was refused;
+/// `WrongBlock` only where the bytes are no index of a text, or are not as they were written, and exactly then where
+/// the checksums are looked at and are wrong; nothing is written then. `NoMemory` where memory was refused;
 /// `CannotWrite` where a write failed.
 /// # Cost
 /// A copy of the file, with `sums` a pass over it, and two ranks for each byte of a pattern and each bit of a letter
@@ -56,9 +56,9 @@ pub fn count<W: Write>(
 /// as a line, and answers whether there are some. An empty pattern stands at each position, the end too.
 ///
 /// # Errors
-/// Those of `count`.
+/// The errors of `count`.
 /// # Cost
-/// That of `count`, and for each position a walk of at most a step, eight bytes of memory, and its part of a sort
+/// The cost of `count`, and for each position a walk of at most a step, eight bytes of memory, and its part of a sort
 /// (evident from the code).
 ///
 /// ```
@@ -84,9 +84,9 @@ pub fn locate<W: Write>(
 /// in the line, or at the line feed that ends it; it may go on after that. An empty pattern stands in each line.
 ///
 /// # Errors
-/// Those of `count`.
+/// The errors of `count`.
 /// # Cost
-/// That of `locate` of the patterns, and that of `locate` of a line feed; for each position of the patterns a search
+/// The cost of `locate` of the patterns, and of `locate` of a line feed; for each position of the patterns a search
 /// among the line feeds (evident from the code).
 ///
 /// ```
@@ -107,7 +107,7 @@ pub fn lines<W: Write>(
     answer(alloc, Asked::Lines, file, patterns, sums, out)
 }
 
-/// Writes what is to be said of patterns in the text of a file, and answers whether one of them was found.
+/// Writes the answers to a query of patterns in the text of a file, and answers whether one of them was found.
 pub(crate) fn answer<W: Write>(
     alloc: Global,
     asked: Asked,
@@ -135,7 +135,7 @@ pub(crate) fn answer<W: Write>(
     Ok(is_found(asked, numbers.as_slice()))
 }
 
-/// The index in a block, of which header and directory are looked at, and its sums where these are wanted.
+/// The index in a block. Its header and directory are looked at, and its checksums where these are wanted.
 fn opened(words: &[u64], sums: bool) -> Option<TextView<'_>>
     ensures { SomeIff result (IsOpened sums words.now) (parts_in words.now) }
 {
@@ -146,7 +146,7 @@ fn opened(words: &[u64], sums: bool) -> Option<TextView<'_>>
     Some(view)
 }
 
-/// What is to be said of patterns in a text.
+/// The answers to a query of patterns in a text.
 fn answers(
     alloc: Global,
     asked: Asked,

@@ -40,8 +40,8 @@ fn block_of_text(alloc: Global, text: &[u8]) -> Result<Vec<u64>, Failure>
 /// `TooLong` exactly where the text has 2^32 - 1 bytes or more; else `NoMemory` where memory was refused. Nothing is
 /// written then. `CannotWrite` where a write failed; what was written before that stays.
 /// # Cost
-/// That of `text_build::build_bytes`, in linear time; eight bytes of memory for each of the text, and those of the file
-/// (evident from the code).
+/// The cost of `text_build::build_bytes`, in linear time; eight bytes of memory for each byte of the text, and the
+/// bytes of the file (evident from the code).
 ///
 /// ```
 /// build(alloc, b"banana", &mut out);   // Ok(()): out has the bytes of the block

@@ -2,7 +2,7 @@
 ghost use Rattle.std.specs.Prelude.{◌≡◌, map, option_map, string_bytes};
 ghost use Rattle.program_texts.specs.Command.{ask_with, asked_by, command_in, option_with};
 
-/// What is to be said of patterns in the text of a file.
+/// A query of patterns in the text of a file.
 #[derive(Clone, Copy)]
 pub(crate) enum Asked {
     /// At how many positions each stands.
@@ -36,7 +36,7 @@ pub(crate) struct Options {
 pub(crate) enum Command {
     /// Writes the file of the text in the standard input.
     Build,
-    /// Says that of patterns in a file's text.
+    /// Answers a query of patterns in a file's text.
     Ask(Asked, Options),
 }
 

@@ -10,7 +10,7 @@ use std::fmt;
 pub enum Failure {
     /// The text has 2^32 - 1 bytes or more.
     TooLong,
-    /// The bytes are not those of the index of a text, or are not as they were written.
+    /// The bytes are no index of a text, or are not as they were written.
     WrongBlock,
     /// Memory was refused.
     NoMemory,

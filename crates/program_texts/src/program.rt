@@ -14,7 +14,7 @@ use crate::patterns::listed;
 use program_runs::{CannotRead, Sources, Stop, end};
 use std::io::Write;
 
-/// What is written where the arguments are not those of a command.
+/// What is written where no command takes the arguments.
 const USAGE: &str = "usage: bitm text build | bitm text count PATTERN BLOCK | \
     bitm text locate PATTERN BLOCK | bitm text lines PATTERN BLOCK
 before PATTERN may stand --no-check and --json; -f FILE instead of PATTERN takes the lines of a file as patterns";
@@ -22,10 +22,10 @@ before PATTERN may stand --no-check and --json; -f FILE instead of PATTERN takes
 /// Does what the arguments after `text` say, and answers the status that the program ends with: 0 where that was done,
 /// on the file that is named, and 1 where it was done and no pattern was found; then nothing was written to `err`.
 ///
-/// `build` reads the text from the standard input; `count PATTERN BLOCK`, `locate PATTERN BLOCK` and
-/// `lines PATTERN BLOCK` read the file alone. The pattern's bytes are those of the argument. With `-f FILE` in place of
-/// the pattern the lines of that file are patterns, and those of the standard input with `-f -`. With `--no-check`
-/// before them the checksums of the file are not looked at; `--json` there changes nothing, since a number is JSON.
+/// `build` reads the text from the standard input; `count PATTERN BLOCK`, `locate PATTERN BLOCK` and `lines PATTERN
+/// BLOCK` read the file alone. The pattern's bytes are the argument's. With `-f FILE` in place of the pattern the lines
+/// of that file are patterns, and with `-f -` the lines of the standard input. With `--no-check` before them the
+/// checksums of the file are not looked at; `--json` there changes nothing, since a number is JSON.
 ///
 /// # Errors
 /// The status is 2, and a text goes to `err`, where the arguments are no command, where something can't be read, where
@@ -94,7 +94,7 @@ fn build_input<R: Sources + AllocGlobal, W: Write>(
     Ok(true)
 }
 
-/// Writes what is to be said of patterns in a file's text.
+/// Writes the answers to a query of patterns in a file's text.
 fn answer_file<R: Sources + AllocGlobal, W: Write>(
     rt: &R,
     asked: Asked,
@@ -131,7 +131,7 @@ fn list_at<R: Sources>(rt: &R, path: &str) -> Result<Vec<u8>, CannotRead>
     }
 }
 
-/// Writes what is to be said of the patterns of a list in a file's text.
+/// Writes the answers to a query of a list of patterns in a file's text.
 fn answer_list<R: Sources + AllocGlobal, W: Write>(
     rt: &R,
     asked: Asked,

@@ -4,7 +4,7 @@ use Rattle.std.proofs.lemmas.List.{append-nil}
 use Rattle.bit_lists.specs.Bits.{bits_of}
 use Rattle.bit_lists.specs.Count.{ones_of}
 use Rattle.bitm_tables.specs.Tables.{bits_in, HasSizes, HasTables, Lists}
-use Rattle.bitm_block.proofs.PartsLemmas.{count_is, entry_is, laid, part, part_is, section_is, HaveLengths, Part}
+use Rattle.bitm_block.proofs.PartsLemmas.{entry_is, is_of_kind, laid, part, part_is, section_is, HaveLengths, Part}
 use Rattle.bitm_block.specs.Header.{section_entry, section_in}
 use Rattle.bitm_block.specs.Layout.{head_of, no_section, part_in}
 use Rattle.bitm_block.specs.Written.{IsSealed}
@@ -58,13 +58,9 @@ module _ (words seeds sizes : List ℕ) (seed keys : ℕ) (old new : List ℕ)
   entry_at : (i : ℕ) → i < 5 → section_entry new i ≡ get_or (seeded_sections (length words) (length sizes)) i no_section
   entry_at i less = entry_is (hash_head keys seed) (seeded_sections (length words) (length sizes)) old new sealed i less
 
-  role_at : (i : ℕ) → i < 5 → slice_index new (16 + 4 * i) ≡ (get_or (seeded_sections (length words) (length sizes)) i no_section).role
-  role_at i less = ap (λ (s : Section). s.role) (entry_at i less)
-
   pub block_is : IsBlockOf sizes (bits_of words) seeds seed new
   block_is =
       let parts = are.parts in
-      let count = count_is (hash_head keys seed) (seeded_sections (length words) (length sizes)) old new sealed in
       let upper = part_in (seeded_sections (length words) (length sizes)) old 1 in
       let lower = part_in (seeded_sections (length words) (length sizes)) old 2 in
       let packed = part_in (seeded_sections (length words) (length sizes)) old 3 in
@@ -85,18 +81,7 @@ module _ (words seeds sizes : List ℕ) (seed keys : ℕ) (old new : List ℕ)
         sound = record {
           seeded_block = record {
             is_block = sealed.is_block;
-            sections = record {
-              tables = record {
-                kind_is = ap (λ (h : Head). h.kind) sealed.head_is;
-                three = omega (arith, count);
-                words = role_at 0 (omega arith);
-                upper = role_at 1 (omega arith);
-                lower = role_at 2 (omega arith);
-              };
-              five = omega (arith, count);
-              seeds = role_at 3 (omega arith);
-              sizes = role_at 4 (omega arith);
-            };
+            sections = is_of_kind (hash_head keys seed) (seeded_sections (length words) (length sizes)) new sealed.head_is sealed.sections_are 5 (omega arith);
             lengths = record {
               lengths = record {
                 sized = subst (λ (l : Lists). HasSizes l) (sym lists) parts.levels.sized;

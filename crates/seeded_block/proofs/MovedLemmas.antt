@@ -34,8 +34,8 @@ section_len block i is less =
 -- there are as many words of seeds as they take
 pub seeds_words : (block : List ℕ) → IsBlock block → HasSeededSections block → length (section_in block 3) ≡ div_ceil (slice_index block 30) 8
 seeds_words block is has =
-    section_len block 3 is (omega (arith, has.five))
-    ∙ ap (λ (role : ℕ). words_of (record { role = role; count = slice_index block 30 })) has.seeds
+    section_len block 3 is (omega (arith, has.many))
+    ∙ ap (λ (role : ℕ). words_of (record { role = role; count = slice_index block 30 })) (has.roles_are 3 (omega arith))
 
 -- eight bits of words
 eight_len : (words : List ℕ) (k : ℕ) → k < 8 * length words → length (stretch (bits_of words) (k * 8) 8) ≡ 8
@@ -70,7 +70,7 @@ seed_moved words begin end k order within less =
 pub seeds_place : (block : List ℕ) → IsSeededBlock block
     → (slice_index block 29 ≡ 8 * begin_in block 3) × (8 * begin_in block 3 + slice_index block 30 ≤ 8 * length block)
 seeds_place block is =
-    let three : 3 < count_in block = omega (arith, is.sections.five) in
+    let three : 3 < count_in block = omega (arith, is.sections.many) in
     let words = seeds_words block is.is_block is.sections in (
       (is.is_block.directory.entries 3 three).at,
       omega (arith, section_end block 3 is.is_block three, section_len block 3 is.is_block three, words),
@@ -90,7 +90,7 @@ seeds_are_bytes block bytes is len same =
         (omega (arith, length-drop (8 * begin_in block 3) bytes, len, (seeds_place block is).1))
 
     words_are : words_of (section_entry block 3) ≡ div_ceil (slice_index block 30) 8
-    words_are = ap (λ (role : ℕ). words_of (record { role = role; count = slice_index block 30 })) is.sections.seeds
+    words_are = ap (λ (role : ℕ). words_of (record { role = role; count = slice_index block 30 })) (is.sections.roles_are 3 (omega arith))
 
     each : (k : ℕ) → k < slice_index block 30
         → slice_index (take (slice_index block 30) (drop (8 * begin_in block 3) bytes)) k ≡ slice_index (seeds_in block) k
@@ -99,5 +99,5 @@ seeds_are_bytes block bytes is len same =
         ∙ get_or-drop (8 * begin_in block 3) bytes k 0
         ∙ same (8 * begin_in block 3 + k) (omega (arith, less, len, (seeds_place block is).1))
         ∙ sym (seed_moved block (begin_in block 3) (begin_in block 3 + words_of (section_entry block 3)) k (omega arith)
-        (section_end block 3 is.is_block (omega (arith, is.sections.five))) (omega (arith, less, words_are)))
+        (section_end block 3 is.is_block (omega (arith, is.sections.many))) (omega (arith, less, words_are)))
         ∙ sym (seed_at (section_in block 3) (slice_index block 30) k less)

@@ -3,10 +3,10 @@ use Rattle.std.specs.Prelude.{◌≡◌, ℕ, ◌^◌, ◌<◌, ◌≤◌, Bool,
 use Rattle.std.specs.Int.{div_ceil}
 use Rattle.bit_lists.specs.Bits.{bits_of}
 use Rattle.bitm_tables.specs.Tables.{bits_in}
-use Rattle.bitm_block.specs.Header.{count_in, section_in, IsBlock, IsVerified}
+use Rattle.bitm_block.specs.Header.{section_in, IsBlock, IsOfKind, IsVerified}
 use Rattle.bitm_block.specs.Layout.{end_of, part_in}
 use Rattle.bitm_block.specs.declared.layout.Section.{Section}
-use Rattle.block_tables.specs.Sections.{section_of, tables_in, HasTableSections}
+use Rattle.block_tables.specs.Sections.{section_of, tables_in}
 use Rattle.hash_levels.specs.Levels.{fall_in}
 use Rattle.hash_levels.specs.Numbers.{AreLevels, AreSizes}
 use Rattle.hash_levels.specs.Perfect.{IsMinimalPerfect}
@@ -39,11 +39,8 @@ seeded_in block = record {
 }
 
 -- the block is of the kind of a hash, and its first five sections are words, two tables, seeds and sizes
-pub record HasSeededSections (block : List ℕ) : Type 0 where
-  pub tables : HasTableSections 5 block
-  pub five : 5 ≤ count_in block
-  pub seeds : slice_index block 28 ≡ 15
-  pub sizes : slice_index block 32 ≡ 4
+abbrev pub HasSeededSections : List ℕ → Type 0
+HasSeededSections block = IsOfKind 5 (1 ∷ 2 ∷ 3 ∷ 15 ∷ 4 ∷ []) block
 
 -- header and directory are those of a hash with seeds, and the sections are as long as they have to be: nothing is said
 -- of what they hold

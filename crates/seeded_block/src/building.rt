@@ -63,8 +63,8 @@ fn write_block(words: &[u64], seeds: &[u8], sizes: &[usize], seed: u64, block: &
 /// # Errors
 /// `TooLong` exactly where there are 2^58 words or more; else `NotLevels` exactly where a level has no word, they have
 /// not all the words together, or there are more than 256; else `NotSeeds` exactly where there are not as many seeds as
-/// words; else `WrongLength` exactly where the words of the block are not as many as it takes (`size`). These stay as
-/// they are then.
+/// words; else `WrongLength` exactly where the words of the block are more or fewer than it takes (`size`). These stay
+/// as they are then.
 /// # Cost
 /// Two passes over the words and one over the block (evident from the code). Nothing is allocated.
 ///

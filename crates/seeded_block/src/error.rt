@@ -8,11 +8,11 @@ use std::fmt;
 pub enum BuildError {
     /// There are 2^58 words or more.
     TooLong,
-    /// The sizes are not those of levels of these words.
+    /// The sizes are not the sizes of levels of these words.
     NotLevels,
     /// There are not as many seeds as words.
     NotSeeds,
-    /// The words of the block are not as many as it takes.
+    /// The words of the block are more or fewer than it takes.
     WrongLength,
 }
 

@@ -1,9 +1,9 @@
 //! A minimal perfect hash with a seed for each word in a block of memory, such as a mapped file: nothing is copied, and
 //! no call has a condition on what the memory holds. With the seeds a hash takes fewer bits a key.
 //!
-//! A block is opened as a `SeededView`: with the block of a hash its answers are those of the hash; if it is stale or
-//! hostile, every call still terminates within its read bound, and a number is below the number of keys. `hash_block`
-//! does not open it, since without the seeds the numbers would be others.
+//! A block is opened as a `SeededView`: with the block of a hash its answers are the hash's; if it is stale or hostile,
+//! every call still terminates within its read bound, and a number is below the number of keys. `hash_block` does not
+//! open it, since without the seeds the numbers would be others.
 //!
 //! ```
 //! let mut block = [0u64; 80];                                    // size(1, 1): Some(80) words

@@ -1,4 +1,4 @@
-//! The view of a block of a hash with seeds, and whether the block holds what it says.
+//! The view of a block of a hash with seeds, and a check of what the block holds.
 ghost use Rattle.std.specs.Prelude.{◌≡◌, ◌↔◌, IsSome, IsTrue, SomeIff};
 ghost use Rattle.hash_block.specs.Block.{IsHashBlock};
 ghost use Rattle.seeded_block.specs.Block.{seeded_in, seeds_in, HasSeededSections, IsSeededBlock, IsSoundBlock};
@@ -7,7 +7,7 @@ use crate::packed::PackedSeeds;
 use crate::sections::SEEDS;
 use crate::view::SeededView;
 use bitm_block::Block;
-use block_tables::{as_entries, has_tables, tables_of};
+use block_tables::{as_entries, tables_of};
 use hash_block::{HASH, HashView, SIZES};
 
 /// Whether a block is of the kind of a hash, and its first five sections are words, two tables, seeds and sizes.
@@ -15,8 +15,7 @@ use hash_block::{HASH, HashView, SIZES};
 fn has_seeded(block: &Block<'_>) -> bool
     ensures { IsTrue result ↔ HasSeededSections block.now }
 {
-    let words = block.words();
-    has_tables(block, HASH) && words[11] >= 5 && words[28] == SEEDS && words[32] == SIZES
+    block.is_of(HASH, [1, 2, 3, SEEDS, SIZES].as_slice())
 }
 
 /// The seeds in a block of a hash with seeds.
@@ -64,8 +63,7 @@ pub fn open(block: &[u64]) -> Option<SeededView<'_>>
     SeededView::over(hash, seeds_of(&opened))
 }
 
-/// Whether the block is opened, is as it was written, and holds a hash: then each number of the view is that of the
-/// hash.
+/// Whether the block is opened, is as it was written, and holds a hash: then each number of the view is the hash's.
 ///
 /// # Cost
 /// Two passes over the words of the block (evident from the code).

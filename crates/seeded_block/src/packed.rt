@@ -48,7 +48,7 @@ fn word_of(x: u64, words: usize) -> usize
 }
 
 impl<'a> PackedSeeds<'a> {
-    /// The first `len` seeds of words; `None` exactly where the words are not as many as these take.
+    /// The first `len` seeds of words; `None` exactly where the words are more or fewer than these take.
     ///
     /// ```
     /// PackedSeeds::over(&[0, 0], 9);   // Some(..)

@@ -17,7 +17,7 @@ use std::marker::Model;
 /// A minimal perfect hash with a seed for each word in memory that may hold anything: the parts of a hash, and the
 /// seeds.
 ///
-/// Contracts see both. A call says what it answers where they are those of a hash, and what it answers otherwise.
+/// Contracts see both. A call says its answer where they form a hash, and where they do not.
 ///
 /// ```
 /// let Some(hash) = open(block.as_slice()) else { .. };
@@ -86,12 +86,12 @@ impl<'a> SeededView<'a> {
 
     /// The number of a hash, below the number of keys.
     ///
-    /// Whatever the memory holds, `Absent` is answered only where the sizes are those of levels in the words and the
-    /// hash falls on no 1 bit. Where it is that of a hash, the number is the hash's, and the answer is never `Wrong`. A
+    /// Whatever the memory holds, `Absent` is answered only where the sizes are sizes of levels in the words and the
+    /// hash falls on no 1 bit. Where it holds a hash, the number is the hash's, and the answer is never `Wrong`. A
     /// value that is no key may have any number.
     ///
     /// # Cost
-    /// That of `get_counted`.
+    /// The cost of `get_counted`.
     ///
     /// ```
     /// hash.get(9);   // Found(number), Absent or Wrong
@@ -107,9 +107,9 @@ impl<'a> SeededView<'a> {
         self.get_counted(hash).0
     }
 
-    /// What `get` answers, and what was read for it, whatever the memory holds: of the words and tables at most one
-    /// word of each level, and one upper entry, one lower entry and eight words for the rank; of the seeds, counted as
-    /// words, at most one for each level.
+    /// The answer of `get`, and its reads, whatever the memory holds: of the words and tables at most one word of each
+    /// level, and one upper entry, one lower entry and eight words for the rank; of the seeds, counted as words, at
+    /// most one for each level.
     ///
     /// ```
     /// hash.get_counted(9);   // of one level at most 9 words, and one seed
@@ -131,8 +131,8 @@ impl<'a> SeededView<'a> {
         (number, probe.into_reads(), seeds)
     }
 
-    /// Whether the tables are those of the words, these those of levels of these sizes, and there is a 1 bit for each
-    /// key: then each number is that of the hash. Any seeds are right.
+    /// Whether the tables match the words, the words are levels of these sizes, and there is a 1 bit for each key: then
+    /// each number is the hash's. Any seeds are right.
     ///
     /// # Cost
     /// One pass over the words, and one over the sizes (evident from the code).

@@ -8,7 +8,7 @@ use std::fmt;
 pub enum BuildError {
     /// There are 2^56 numbers or more.
     TooLong,
-    /// The words are not as many as the block takes.
+    /// The words are more or fewer than the block takes.
     WrongLength,
     /// Some number is less than the one before it.
     NotSorted,

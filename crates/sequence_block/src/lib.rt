@@ -2,10 +2,10 @@
 //! call has a condition on what the memory holds.
 //!
 //! A block is opened as an `elias_fano_view::LentSequence`, which has the queries: with the block of a sequence the
-//! answers are those of its numbers; if it is stale or hostile, every call still terminates within its read bound.
+//! answers are right for its numbers; if it is stale or hostile, every call still terminates within its read bound.
 //!
 //! ```
-//! let mut block = [0u64; 64];                               // size(7, 24): Some(64) words
+//! let mut block = [0u64; 80];                               // size(7, 24): Some(80) words
 //! build(&[2, 3, 5, 7, 11, 13, 24], block.as_mut_slice());   // Ok(())
 //! check(block.as_slice());                                  // true
 //! let Some(primes) = open(block.as_slice()) else { .. };

@@ -1,11 +1,11 @@
-//! The view of a block of a sequence, and whether the block holds what it says.
+//! The view of a block of a sequence, and a check of what the block holds.
 ghost use Rattle.std.specs.Prelude.{◌↔◌, IsTrue, SomeIff};
 ghost use Rattle.sequence_block.specs.Block.{sequence_in, HasSequenceSections, IsSequenceBlock, IsSoundBlock};
 ghost use Rattle.sequence_block.specs.Block.{IsBlockOfKind, IsSoundOfKind};
 
 use crate::sections::SEQUENCE;
 use bitm_block::Block;
-use block_tables::{has_tables, tables_of};
+use block_tables::{hints_of, tables_of};
 use elias_fano_view::LentSequence;
 
 /// Whether a block is of a kind, and its first four sections are words, two tables and low bits.
@@ -13,13 +13,13 @@ use elias_fano_view::LentSequence;
 fn has_sequence(block: &Block<'_>, kind: u64) -> bool
     ensures { IsTrue result ↔ HasSequenceSections kind block.now }
 {
-    let words = block.words();
-    has_tables(block, kind) && words[11] >= 4 && words[28] == 9
+    block.is_of(kind, [1u64, 2, 3, 9].as_slice())
 }
 
 /// The sequence in a block; `None` exactly where the words are no block (`Block::open` says why), the block is of
-/// another kind, or a section is not as long as that of the number of numbers. What the sections hold is not looked at:
-/// the queries of the view have no condition on it.
+/// another kind, or a section has a length that does not fit the number of numbers. What the sections hold is not
+/// looked at: the queries of the view have no condition on it. The view has the hints that a fifth section of the role
+/// `HINTS` holds; where there is none, or it is not as long as the hints of the words, it has none.
 ///
 /// # Cost
 /// Header and directory are read, at most 80 words (evident from the code).
@@ -34,10 +34,10 @@ pub fn open(block: &[u64]) -> Option<LentSequence<'_>>
     open_as(SEQUENCE, block)
 }
 
-/// The sequence in a block of another kind, whose first four sections are those of a sequence; else as `open`.
+/// The sequence in a block of another kind, whose first four sections hold a sequence; else as `open`.
 ///
 /// # Cost
-/// That of `open`.
+/// The cost of `open`.
 ///
 /// ```
 /// open_as(SEQUENCE, block.as_slice());   // as open(block.as_slice())
@@ -54,14 +54,16 @@ pub fn open_as(kind: u64, block: &[u64]) -> Option<LentSequence<'_>>
     }
     let low = opened.section(3)?;
     let tables = tables_of(&opened)?;
-    LentSequence::over(block[3] as usize, block[4] as u8, low, tables)
+    let len = block[3] as usize;
+    let hints = hints_of(&opened, 4, len, tables.words().len());
+    LentSequence::over(len, block[4] as u8, low, tables)?.with_hints(hints)
 }
 
 /// Whether the block is opened, is as it was written, and holds the parts of a sequence: then each answer of the view
-/// is that of the sequence.
+/// agrees with the sequence.
 ///
 /// # Cost
-/// Three passes over the words of the block (evident from the code).
+/// Three passes over the words of the block, and a selection for each hint (evident from the code).
 ///
 /// ```
 /// check(block.as_slice());   // true of a block that `build` wrote
@@ -72,10 +74,10 @@ pub fn check(block: &[u64]) -> bool
     check_as(SEQUENCE, block)
 }
 
-/// As `check`, of a block of another kind, whose first four sections are those of a sequence.
+/// As `check`, of a block of another kind, whose first four sections hold a sequence.
 ///
 /// # Cost
-/// That of `check`.
+/// The cost of `check`.
 ///
 /// ```
 /// check_as(SEQUENCE, block.as_slice());   // as check(block.as_slice())

@@ -5,6 +5,8 @@ ghost use Rattle.elias_fano_view.specs.Sizes.{sizes_of, IsLargest};
 ghost use Rattle.sequence_block.specs.Block.{numbers_head, sequence_sections};
 
 use bitm_block::{Head, Section, aligned};
+use bitm_selection::hints_len;
+use block_tables::HINTS;
 use elias_fano_view::Sizes;
 
 /// The kind of a sequence.
@@ -26,8 +28,10 @@ pub(crate) fn numbers_head(kind: u64, b: u64, len: usize, width: u8) -> Head
     }
 }
 
-/// The sections of a sequence whose parts have these sizes: the words of the high bits, their two tables, the low bits.
-pub(crate) fn sequence_sections(len: usize, largest: u64, sizes: &Sizes) -> [Section; 4]
+/// The sections of a sequence whose parts have these sizes: the words of the high bits, their two tables, the low bits,
+/// and the hints of the words.
+#[tactic(auto, unfolding(crate::specs::Block::numbers_hints))]
+pub(crate) fn sequence_sections(len: usize, largest: u64, sizes: &Sizes) -> [Section; 5]
     requires { sizes.now ≡ sizes_of len largest }
     ensures { result ≡ sequence_sections len largest }
 {
@@ -48,19 +52,25 @@ pub(crate) fn sequence_sections(len: usize, largest: u64, sizes: &Sizes) -> [Sec
             role: 9,
             count: sizes.low as u64,
         },
+        Section {
+            role: HINTS,
+            count: hints_len(len, sizes.words) as u64,
+        },
     ]
 }
 
-/// How many words the block of `len` numbers has, of which the last and largest is `largest`: 0 where there are no
+/// How many words the block of `len` numbers has, where the last and largest number is `largest`, 0 where there are no
 /// numbers. `None` exactly where there are 2^56 numbers or more, or where `len` is 0 and `largest` is not.
 ///
 /// ```
-/// size(7, 24);   // Some(64)
+/// size(7, 24);   // Some(80)
 /// ```
+#[tactic(auto, unfolding(crate::specs::Block::numbers_hints))]
 pub fn size(len: usize, largest: u64) -> Option<usize>
     ensures { SomeIff result (IsLargest len largest) (end_of (sequence_sections len largest)) }
 {
     let sizes = Sizes::of(len, largest)?;
     let tables = aligned(sizes.words) + aligned(sizes.upper) + aligned(sizes.lower);
-    Some(32 + tables + aligned(sizes.low))
+    let hints = aligned(hints_len(len, sizes.words));
+    Some(40 + tables + aligned(sizes.low) + hints)
 }

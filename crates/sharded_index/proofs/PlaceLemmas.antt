@@ -6,7 +6,7 @@ use Rattle.bitm_tables.specs.declared.answer.Answer.{Answer}
 use Rattle.bitm_tables.specs.declared.answer.Answer.TheVariants.{Found, Absent, Wrong}
 use Rattle.sharded_index.proofs.JoinedLemmas.{number_of-next, number_of-nil}
 use Rattle.sharded_index.specs.Joined.{count_of_kind, joined, joined_to, kind_of}
-use Rattle.sharded_index.specs.Prefixes.{claimed, claimed_in_all, ArePrefixes, IsClaimed, IsClaimedBy, IsShardFound, IsWithin, Prefixes}
+use Rattle.sharded_index.specs.Prefixes.{claimed, claimed_in_all, ArePrefixes, IsClaimed, IsClaimedBy, IsShardFound, IsPlaceWithin, Prefixes}
 use Rattle.sharded_index.specs.declared.counts.Kind.{Kind}
 use Rattle.sharded_index.specs.declared.counts.Kind.TheVariants.{Positions, Zeros, Ones}
 use Rattle.sharded_index.specs.declared.counts.Place.{Place}
@@ -39,7 +39,7 @@ module _ (bs : List (List Bool)) (c : Prefixes) (h : ArePrefixes bs c) where
 
   module _ (of : Kind) (number : ℕ) where
     -- a shard that is claimed to hold a number holds it
-    pub placed : (place : Place) → IsClaimed of c number place → IsWithin of bs number place
+    pub placed : (place : Place) → IsClaimed of c number place → IsPlaceWithin of bs number place
     placed place is =
         let k = place.shard in
         let inside : k < length bs = omega (arith, is.inside, h.bits_len) in

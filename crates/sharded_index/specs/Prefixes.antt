@@ -58,11 +58,11 @@ IsClaimedBy of c number Absent = claimed_in_all of c ≤ number
 IsClaimedBy of c number Wrong = (number < claimed of c 0) × (number < claimed_in_all of c)
 
 -- a position of the joined bits, or the bit with a rank there, is in a shard, after the given number of its kind there
-pub record IsWithin (of : Kind) (bs : List (List Bool)) (number : ℕ) (place : Place) : Type 0 where
+pub record IsPlaceWithin (of : Kind) (bs : List (List Bool)) (number : ℕ) (place : Place) : Type 0 where
   pub inside : place.shard < length bs
   pub within : place.within < count_of_kind of (shard_at bs place.shard)
   pub is : count_of_kind of (joined_to bs place.shard) + place.within ≡ number
 
 -- where the numbers are those of the shards: Absent exactly where the joined bits have no more of the kind
 abbrev pub IsShardFound : Kind → List (List Bool) → ℕ → Answer Place → Type 0
-IsShardFound of bs number = Right (λ place. IsWithin of bs number place) (count_of_kind of (joined bs) ≤ number)
+IsShardFound of bs number = Right (λ place. IsPlaceWithin of bs number place) (count_of_kind of (joined bs) ≤ number)

@@ -13,7 +13,7 @@ pub record AreShards {S : Type 0} (bits_of : S → List Bool) (right : S → Typ
   pub tables : All right index.shards.now
 
 -- an index over these shards is right, and no prefix count exceeds the number of their bits
-pub record IsIndexOf {S : Type 0} (bits_of : S → List Bool) (right : S → Type 0) (shards : List S) (index : ShardedIndex S)
+pub record IsIndexOfShards {S : Type 0} (bits_of : S → List Bool) (right : S → Type 0) (shards : List S) (index : ShardedIndex S)
     : Type 0 where
   pub shards_are : index.shards.now ≡ shards
   pub are : AreShards bits_of right index
@@ -22,7 +22,7 @@ pub record IsIndexOf {S : Type 0} (bits_of : S → List Bool) (right : S → Typ
 
 -- there is such an index over the shards
 abbrev pub HaveIndex : {S : Type 0} → (S → List Bool) → (S → Type 0) → List S → Type 0
-HaveIndex bits_of right shards = (index : ShardedIndex _) × IsIndexOf bits_of right shards index
+HaveIndex bits_of right shards = (index : ShardedIndex _) × IsIndexOfShards bits_of right shards index
 
 -- what is answered of a rank of the joined bits, and of a selection
 abbrev pub RankedIn : {S : Type 0} → (S → List Bool) → (S → Type 0) → ShardedIndex S → Bool → ℕ → Answer ℕ → Type 0

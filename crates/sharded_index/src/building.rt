@@ -13,7 +13,7 @@ fn sum_of(numbers: &[u64]) -> Option<u64>
     Some(sum)
 }
 
-/// Writes the sums of the numbers before each number, whose sum fits, and that of all of them.
+/// Writes the sum of the numbers before each number, and at the end the sum of all, which fits.
 fn write_sums(numbers: &[u64], out: &mut [u64])
     requires room { length out.old ≡ length numbers.now + 1 }
     requires fits { sum numbers.now < 2 ^ 64 }
@@ -27,8 +27,8 @@ fn write_sums(numbers: &[u64], out: &mut [u64])
     }
 }
 
-/// Writes the sum of the numbers before each number, and that of all of them. Answers false exactly where there is not
-/// room for one more than numbers, or their sum is 2^64 or more, and nothing is written then.
+/// Writes the sum of the numbers before each number, and at the end the sum of all. Answers false exactly where there
+/// is not room for one more than numbers, or their sum is 2^64 or more, and nothing is written then.
 pub fn prefix_sums(numbers: &[u64], out: &mut [u64]) -> bool
     ensures room { IsTrue result ↔ (length out.old ≡ length numbers.now + 1) × (sum numbers.now < 2 ^ 64) }
     ensures sums { IsTrue result → IsPrefixSums numbers.now out.new }

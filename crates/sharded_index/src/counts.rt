@@ -30,8 +30,8 @@ pub struct Place {
 
 /// How many bits, and how many 1 bits, there are before each shard, and in all: borrowed numbers, one more than shards.
 ///
-/// Contracts see the two lists. They may hold anything: a call says what it answers where they are those of the shards,
-/// and what it answers else.
+/// Contracts see the two lists. They may hold anything: a call says its answer where they match the shards, and where
+/// they do not.
 #[derive(Drop)]
 pub struct PrefixCounts<'a> {
     bits: &'a [u64],
@@ -132,8 +132,8 @@ impl<'a> PrefixCounts<'a> {
     /// The shard that holds a position, or the bit with a rank of its kind, and the position or rank there. `Absent`
     /// exactly where there are no more in all.
     ///
-    /// Whatever the numbers are, a shard that is found is one, and they claim that it holds the number. Where they are
-    /// those of the shards it does, and `Wrong` is never answered.
+    /// Whatever the numbers are, a shard that is found is one, and they claim that it holds the number. Where they
+    /// match the shards it does, and `Wrong` is never answered.
     ///
     /// # Cost
     /// A pair of numbers for each halving of how many there are, and three more: evident from the code.

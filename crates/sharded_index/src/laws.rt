@@ -5,7 +5,7 @@ ghost use Rattle.sharded_index.specs.Sharded.{HaveIndex};
 
 use crate::shard::Shard;
 
-/// An item of a shard is one of the joined bits, after those of the shards before.
+/// An item of a shard is one of the joined bits, after the bits of the shards before.
 #[tactic(auto, using(crate::proofs::JoinedLaws::item_of_joined))]
 pub fn item_of_joined()
     ensures { ItemOfJoined }
@@ -17,7 +17,8 @@ pub fn rank_in_joined()
     ensures { RankInJoined }
 {}
 
-/// A rank selects a position of a shard exactly where, with those before, it selects that position of the joined bits.
+/// A rank selects a position of a shard exactly where, with the count in the shards before added, it selects that
+/// position of the joined bits.
 pub fn picked_in_joined()
     ensures { PickedInJoined }
 {}

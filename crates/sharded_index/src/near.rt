@@ -23,7 +23,7 @@ impl<'a, S: Shard> ShardedIndex<'a, S> {
     /// where there is none, and `Wrong` never.
     ///
     /// # Cost
-    /// That of `rank` and `select`, so of two shards at most: evident from the code.
+    /// The cost of `rank` and `select`, so of two shards at most: evident from the code.
     pub fn next(&self, one: bool, from: usize) -> Answer<usize>
         ensures bit { IfFoundHasBit one (map S.bits self.now.shards.now) self.now.counts result }
         ensures from { IsFoundFrom from (claimed_in_all Positions self.now.counts) result }
@@ -47,7 +47,7 @@ impl<'a, S: Shard> ShardedIndex<'a, S> {
     /// exactly where there is none, and `Wrong` never.
     ///
     /// # Cost
-    /// That of `rank` and `select`, so of two shards at most: evident from the code.
+    /// The cost of `rank` and `select`, so of two shards at most: evident from the code.
     pub fn previous(&self, one: bool, from: usize) -> Answer<usize>
         ensures bit { IfFoundHasBit one (map S.bits self.now.shards.now) self.now.counts result }
         ensures to { IsFoundFrom 0 (from + 1) result }

@@ -140,7 +140,7 @@ impl<'a, S: Shard> ShardedIndex<'a, S> {
         self.rank_groups(one, positions, &*ends, &*order, &*inside, ranks, out);
     }
 
-    /// The code of a rank: a number that is one, or that of the rank asked by itself.
+    /// The code of a rank: the given code where it is a rank; else the code of what `rank` answers.
     #[inline(always)]
     fn rank_code(&self, one: bool, position: usize, code: usize) -> usize
         requires few { claimed_in_all Positions self.now.counts < 2 ^ 64 - 2 }
@@ -165,7 +165,8 @@ impl<'a, S: Shard> ShardedIndex<'a, S> {
     /// # Cost
     /// Evident from the code, and no clause: with that room, and right prefix counts and tables, each shard with
     /// positions in it answers them with one list, and none by itself. The shard of a position is guessed from the
-    /// number of shards: two prefix counts where each has as many bits, and else those of `PrefixCounts::find` too.
+    /// number of shards: two prefix counts where each has as many bits, and else the ones that `PrefixCounts::find`
+    /// reads too.
     pub fn rank_list(
         &self,
         one: bool,

@@ -161,10 +161,10 @@ impl<'a, S: Shard> ShardedIndex<'a, S> {
     /// may give. Answers false exactly where there is not room for as many answers as ranks, or the prefix counts claim
     /// 2^64 - 2 bits or more, whose positions might be codes; nothing is written then.
     ///
-    /// `room` is that of `rank_list`.
+    /// `room` is as for `rank_list`.
     ///
     /// # Cost
-    /// That of `rank_list`, and likewise evident from the code alone.
+    /// The cost of `rank_list`, and likewise evident from the code alone.
     pub fn select_list(
         &self,
         one: bool,

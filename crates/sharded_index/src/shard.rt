@@ -11,7 +11,7 @@ use bitm_view::IndexView;
 pub trait Shard {
     /// The bits.
     ghost bits: { Self → List Bool };
-    /// The tables are those of the bits.
+    /// The tables match the bits.
     ghost right: { Self → Type 0 };
 
     /// How many of the first `index` bits are 1 bits, or 0 bits.

@@ -14,7 +14,8 @@ use crate::counts::{Kind, Place, PrefixCounts};
 use crate::shard::Shard;
 use bitm_tables::answer::Answer;
 
-/// Shards, one after the other, and their prefix counts: the joined bits are ranked and selected as those of one index.
+/// Shards, one after the other, and their prefix counts: the joined bits are ranked and selected as the bits of one
+/// index.
 #[derive(Drop)]
 pub struct ShardedIndex<'a, S> {
     /// How many bits, and 1 bits, there are before each shard.
@@ -77,8 +78,8 @@ impl<'a, S: Shard> ShardedIndex<'a, S> {
     /// bits, and a count is at most `index`. Where they are right it is the right one, and `Wrong` is never answered.
     ///
     /// # Cost
-    /// That of `PrefixCounts::find` and of a rank in one shard; of a rank of all bits, two prefix counts. Evident from
-    /// the code.
+    /// The cost of `PrefixCounts::find` and of a rank in one shard; of a rank of all bits, two prefix counts. Evident
+    /// from the code.
     pub fn rank(&self, one: bool, index: usize) -> Answer<usize>
         ensures within { IsCountWithin (claimed_in_all Positions self.now.counts) index result }
         ensures counts { AreShards S.bits S.right self.now
@@ -109,7 +110,7 @@ impl<'a, S: Shard> ShardedIndex<'a, S> {
         }
     }
 
-    /// The rank of a position that lies in a shard, of which the rank there is known.
+    /// The rank of a position that lies in a shard, where its rank there is known.
     #[inline(always)]
     pub(crate) fn rank_from(
         &self,
@@ -137,7 +138,7 @@ impl<'a, S: Shard> ShardedIndex<'a, S> {
     /// they are right it is the right one, and `Wrong` is never answered.
     ///
     /// # Cost
-    /// That of `PrefixCounts::find` and of a selection in one shard: evident from the code.
+    /// The cost of `PrefixCounts::find` and of a selection in one shard: evident from the code.
     pub fn select(&self, one: bool, rank: usize) -> Answer<usize>
         ensures bit { IfFoundHasBit one (map S.bits self.now.shards.now) self.now.counts result }
         ensures absent { IsOfRank (claimed_in_all (kind_of one) self.now.counts) rank result }
@@ -167,7 +168,7 @@ impl<'a, S: Shard> ShardedIndex<'a, S> {
         }
     }
 
-    /// The position of the bit with a rank that lies in a shard, of which the position there is known.
+    /// The position of the bit with a rank that lies in a shard, where its position there is known.
     #[inline(always)]
     pub(crate) fn select_from(
         &self,

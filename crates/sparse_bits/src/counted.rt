@@ -107,7 +107,7 @@ impl<'a, P: Items> Ones<'a, P> {
     }
 
     /// How many of the first `index` bits are 1 bits. Whatever the positions are, that is at most `index`, and the
-    /// answer is `Absent` exactly where there are fewer bits. Where they are those of 1 bits, it is never `Wrong`.
+    /// answer is `Absent` exactly where there are fewer bits. Where they are positions of 1 bits, it is never `Wrong`.
     ///
     /// ```
     /// Ones::new(&positions, 5000).rank_in(101);   // Found(2), where the 1 bits are at 3, 100, 101 and 4000
@@ -131,7 +131,7 @@ impl<'a, P: Items> Ones<'a, P> {
     }
 
     /// The bit at position `place`, and the number of 1 bits before it. Whatever the positions are, the answer is
-    /// `Absent` exactly where there is no such bit. Where they are those of 1 bits, it is never `Wrong`.
+    /// `Absent` exactly where there is no such bit. Where they are positions of 1 bits, it is never `Wrong`.
     ///
     /// ```
     /// Ones::new(&positions, 5000).bit_and_rank_in(100);   // Found((true, 1))
@@ -177,9 +177,9 @@ impl<'a, P: Items> Ones<'a, P> {
         }
     }
 
-    /// The position of the 1 bit with exactly `rank` 1 bits before it. Whatever the positions are, it is that of a bit,
-    /// and the answer is `Absent` exactly where there are no more than `rank` of them. Where they are those of 1 bits,
-    /// it is never `Wrong`.
+    /// The position of the 1 bit with exactly `rank` 1 bits before it. Whatever the positions are, it is the position
+    /// of a bit, and the answer is `Absent` exactly where there are no more than `rank` of them. Where they are
+    /// positions of 1 bits, it is never `Wrong`.
     ///
     /// ```
     /// Ones::new(&positions, 5000).select_in(3);   // Found(4000)
@@ -206,7 +206,7 @@ impl<'a, P: Items> Ones<'a, P> {
     }
 
     /// How many 1 bits have at most `rank` 0 bits before them, by halving; `None` only where the positions are not
-    /// those of 1 bits.
+    /// positions of 1 bits.
     fn ones_within(&mut self, rank: usize) -> Option<usize>
         ensures within { IfSome result (λ c. c ≤ P.len self.old.positions) }
         ensures parts { (xs : List ℕ)
@@ -232,9 +232,9 @@ impl<'a, P: Items> Ones<'a, P> {
         Some(low)
     }
 
-    /// The position of the 0 bit with exactly `rank` 0 bits before it. Whatever the positions are, it is that of a bit,
-    /// and where there are no more of them than bits, the answer is `Absent` exactly where there are no more than
-    /// `rank` other bits. Where they are those of 1 bits, it is never `Wrong`.
+    /// The position of the 0 bit with exactly `rank` 0 bits before it. Whatever the positions are, it is the position
+    /// of a bit, and where there are no more of them than bits, the answer is `Absent` exactly where there are no more
+    /// than `rank` other bits. Where they are positions of 1 bits, it is never `Wrong`.
     ///
     /// ```
     /// Ones::new(&positions, 5000).select0_in(3);   // Found(4)

@@ -1,5 +1,5 @@
-//! Sparse bits: a bit vector of which few bits are 1, kept as the positions of its 1 bits, with the queries of the
-//! dense index under the same names.
+//! Sparse bits: a bit vector with few 1 bits, kept as the positions of its 1 bits, with the queries of the dense index
+//! under the same names.
 //!
 //! The positions are an Elias-Fano sequence, so `n` 1 bits among `len` bits take about `n * (log2(len / n) + 2)` bits;
 //! `build` has the bound. Contracts see sparse bits as the list of their bits, as they see `bitm::RankSelect101111`, so

@@ -25,8 +25,8 @@ use std::marker::Model;
 
 /// A bit vector that is kept as the positions of its 1 bits, a monotone sequence (`elias_fano::Sequence`).
 ///
-/// A rank is one search for a successor among the positions, a selection reads one of them. So it suits bits of which
-/// few are 1; the bound of `build` says how many bits it takes.
+/// A rank is one search for a successor among the positions, a selection reads one of them. So it suits bits with few 1
+/// bits; the bound of `build` says how many bits it takes.
 ///
 /// # Source
 /// The structure is known as `sd_vector`: Okanohara and Sadakane, 'Practical entropy-compressed rank/select dictionary'
@@ -65,14 +65,14 @@ fn positions_of(alloc: Global, words: &[u64]) -> Result<Vec<u64>, AllocError>
 }
 
 impl<S: SelectForRank101111, S0: Select0ForRank101111> SparseBits<S, S0> {
-    /// `len` bits, of which those at the given positions are 1 bits.
+    /// `len` bits, with 1 bits at the given positions alone.
     ///
     /// # Errors
     /// `TooLong` exactly where there are 2^56 positions or more; else `NotRising` exactly where some position is not
     /// greater than the one before it; else `PastEnd` exactly where some position is not less than `len`; else
     /// `OutOfMemory` if memory was refused. Nothing stays allocated then.
     /// # Cost
-    /// One pass over the positions for the test, and those of `Sequence::build`.
+    /// One pass over the positions for the test, and the passes of `Sequence::build`.
     pub fn build(alloc: Global, positions: &[u64], len: usize) -> Result<Self, SparseError>
         ensures ones { IfOk result (λ made. places true 0 made.bits ≡ positions.now) }
         ensures len { IfOk result (λ made. length made.bits ≡ len) }
@@ -158,7 +158,7 @@ impl<S: SelectForRank101111, S0: Select0ForRank101111> SparseBits<S, S0> {
         self.ones.iter()
     }
 
-    /// The positions of the 1 bits from that with rank `rank` on.
+    /// The positions of the 1 bits from the 1 bit with rank `rank` on.
     ///
     /// # Conditions
     /// There are at least `rank` 1 bits.
@@ -220,7 +220,7 @@ impl<S: SelectForRank101111, S0: Select0ForRank101111> Access for SparseBits<S, 
     /// # Conditions
     /// There is such a bit.
     /// # Cost
-    /// That of `try_get_bit`.
+    /// The cost of `try_get_bit`.
     #[inline]
     fn bit_and_rank(&self, place: usize) -> (bool, usize) {
         match self.asked().bit_and_rank_in(place) {

@@ -14,7 +14,7 @@ pub record SparseParts : Type 0 where
 abbrev pub parts_of : LentParts → ℕ → SparseParts
 parts_of positions n = record { positions = positions; len = n }
 
--- the parts are those of n bits whose 1 bits are at the positions xs, with n as they say, whatever samples they have
+-- the parts are those of n bits whose 1 bits are at the positions xs, with n as they say
 abbrev pub HoldsOnes : List ℕ → SparseParts → Type 0
 HoldsOnes xs v = ArePlacesHeld xs (Holds xs v.positions) v.len
 
@@ -26,7 +26,7 @@ bits_of xs v = bits_at v.len 0 xs
 abbrev pub HoldsBits : SparseParts → Type 0
 HoldsBits v = (xs : List ℕ) × HoldsOnes xs v
 
--- the positions are the first four sections, and the header has the number of bits
+-- the positions are the first five sections, and the header has the number of bits
 abbrev pub sparse_in : List ℕ → SparseParts
 sparse_in block = parts_of (sequence_in block) (slice_index block 9)
 

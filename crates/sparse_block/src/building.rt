@@ -49,19 +49,20 @@ fn write_checked(positions: &[u64], len: usize, block: &mut [u64]) -> Result<(),
     }
 }
 
-/// Writes the block of `len` bits, of which those at the given positions are 1 bits. `SparseView::open` opens it and
-/// `check` accepts it.
+/// Writes the block of `len` bits, with 1 bits at the given positions alone. `SparseView::open` opens it and `check`
+/// accepts it.
 ///
 /// # Errors
-/// `TooLong` exactly where there are 2^56 positions or more; else `WrongLength` exactly where the words are not as many
-/// as the block takes (`size` of the number of positions and the last of them); else `NotRising` exactly where some
-/// position is not greater than the one before it; else `PastEnd` exactly where some position is not less than `len`.
-/// The words stay as they are then.
+/// `TooLong` exactly where there are 2^56 positions or more; else `WrongLength` exactly where the words are more or
+/// fewer than the block takes (`size` of the number of positions and the last of them); else `NotRising` exactly where
+/// some position is not greater than the one before it; else `PastEnd` exactly where some position is not less than
+/// `len`. The words stay as they are then.
 /// # Cost
-/// Six passes over the positions, and three over the block (evident from the code). Nothing is allocated.
+/// Six passes over the positions, and three over the block, and a selection for each hint (evident from the code).
+/// Nothing is allocated.
 ///
 /// ```
-/// let mut block = [0u64; 64];                                // size(4, 4000): Some(64)
+/// let mut block = [0u64; 80];                                // size(4, 4000): Some(80)
 /// build(&[3, 100, 101, 4000], 5000, block.as_mut_slice());   // Ok(())
 /// build(&[3, 3], 5000, block.as_mut_slice());                // Err(BuildError::NotRising)
 /// ```

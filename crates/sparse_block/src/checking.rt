@@ -1,4 +1,4 @@
-//! Whether a block of sparse bits holds what it says.
+//! A check of what a block of sparse bits holds.
 ghost use Rattle.std.specs.Prelude.{◌↔◌, IsTrue, List, ℕ};
 ghost use Rattle.elias_fano.specs.LentParts.{Holds};
 ghost use Rattle.sparse_bits.specs.Positions.{ArePlaces};
@@ -25,11 +25,11 @@ fn rise_below(numbers: &LentSequence<'_>, end: u64) -> bool
     numbers.is_strictly_rising()
 }
 
-/// Whether the block is opened, is as it was written, and holds sparse bits: then each answer of the view is that of
-/// counting.
+/// Whether the block is opened, is as it was written, and holds sparse bits: then each answer of the view is what
+/// counting gives.
 ///
 /// # Cost
-/// Five passes over the words of the block, and one selection (evident from the code).
+/// Five passes over the words of the block, and a selection for each hint and one more (evident from the code).
 ///
 /// ```
 /// check(block.as_slice());   // true of a block that `build` wrote

@@ -8,7 +8,7 @@ use std::fmt;
 pub enum BuildError {
     /// There are 2^56 1 bits or more.
     TooLong,
-    /// The words are not as many as the block takes.
+    /// The words are more or fewer than the block takes.
     WrongLength,
     /// Some position is not greater than the one before it.
     NotRising,

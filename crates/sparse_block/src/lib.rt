@@ -1,12 +1,12 @@
 //! Sparse bits in a block of memory, such as a mapped file: nothing is allocated or copied, and no call has a condition
 //! on what the memory holds.
 //!
-//! A bit vector of which few bits are 1 is kept as the positions of its 1 bits, an Elias-Fano sequence. With the block
-//! of bits the answers are those of counting; if it is stale or hostile, every call still ends, and its answer is
-//! inside the bits or `Wrong`.
+//! A bit vector with few 1 bits is kept as the positions of its 1 bits, an Elias-Fano sequence. With the block of bits
+//! the answers are what counting gives; if it is stale or hostile, every call still ends, and its answer is inside the
+//! bits or `Wrong`.
 //!
 //! ```
-//! let mut block = [0u64; 64];                                       // size(4, 4000): Some(64) words
+//! let mut block = [0u64; 80];                                       // size(4, 4000): Some(80) words
 //! build(&[3, 100, 101, 4000], 5000, block.as_mut_slice());          // Ok(())
 //! let Some(bits) = SparseView::open(block.as_slice()) else { .. };
 //! bits.rank(101);      // Found(2), Absent or Wrong

@@ -14,7 +14,7 @@ impl<'a> SparseView<'a> {
     /// `rank` for the 1 bits, `rank0` for the 0 bits.
     ///
     /// # Cost
-    /// That of `rank`.
+    /// The cost of `rank`.
     ///
     /// ```
     /// bits.rank_of(false, 101);   // Found(99)
@@ -35,7 +35,7 @@ impl<'a> SparseView<'a> {
     /// `select` for the 1 bits, `select0` for the 0 bits: a position that is found is one of the bits.
     ///
     /// # Cost
-    /// That of `select` or `select0`.
+    /// The cost of `select` or `select0`.
     ///
     /// ```
     /// bits.select_of(false, 3);   // Found(4)
@@ -80,7 +80,7 @@ impl<'a> SparseView<'a> {
     /// is `Absent` exactly where there is none, and never `Wrong`.
     ///
     /// # Cost
-    /// That of `next`.
+    /// The cost of `next`.
     ///
     /// ```
     /// bits.previous(false, 101);   // Found(99)

@@ -42,7 +42,7 @@ impl<'a> SparseView<'a> {
     /// How many of the first `index` bits are 0 bits; else as `rank`.
     ///
     /// # Cost
-    /// That of `rank`.
+    /// The cost of `rank`.
     ///
     /// ```
     /// bits.rank0(101);   // Found(99)
@@ -78,9 +78,9 @@ impl<'a> SparseView<'a> {
         self.asked().bit_in(position)
     }
 
-    /// The position of the 1 bit with exactly `rank` 1 bits before it. Whatever the block holds, it is that of a bit,
-    /// and the answer is `Absent` exactly where there are no more than `rank` 1 bits. Where the block holds bits, the
-    /// answer is never `Wrong`.
+    /// The position of the 1 bit with exactly `rank` 1 bits before it. Whatever the block holds, it is the position of
+    /// a bit, and the answer is `Absent` exactly where there are no more than `rank` 1 bits. Where the block holds
+    /// bits, the answer is never `Wrong`.
     ///
     /// # Cost
     /// One position is read (`sparse_bits::Ones::select_in` has the clause).
@@ -97,9 +97,9 @@ impl<'a> SparseView<'a> {
         self.asked().select_in(rank)
     }
 
-    /// The position of the 0 bit with exactly `rank` 0 bits before it. Whatever the block holds, it is that of a bit,
-    /// and where there are no more 1 bits than bits, the answer is `Absent` exactly where there are no more than `rank`
-    /// others. Where the block holds bits, the answer is never `Wrong`.
+    /// The position of the 0 bit with exactly `rank` 0 bits before it. Whatever the block holds, it is the position of
+    /// a bit, and where there are no more 1 bits than bits, the answer is `Absent` exactly where there are no more than
+    /// `rank` others. Where the block holds bits, the answer is never `Wrong`.
     ///
     /// # Cost
     /// At most one position is read for each binary digit of the number of 1 bits (`sparse_bits::Ones::select0_in` has

@@ -9,10 +9,10 @@ use std::marker::Model;
 /// The kind of sparse bits.
 pub const SPARSE_BITS: u64 = 4;
 
-/// A view of sparse bits in a block, of which header and directory are right.
+/// A view of sparse bits in a block whose header and directory are right.
 ///
 /// Contracts see the parts of the sequence of the 1 bits' positions, and the number of bits. These may hold anything: a
-/// call says what it answers where they are those of bits, and what it answers else.
+/// call says its answer where they form sparse bits, and where they do not.
 ///
 /// ```
 /// let Some(bits) = SparseView::open(block.as_slice()) else { .. };
@@ -34,7 +34,7 @@ impl<'a> Model for SparseView<'a> {
 
 impl<'a> SparseView<'a> {
     /// The sparse bits in a block; `None` exactly where the words are no block (`Block::open` says why), the block is
-    /// of another kind, or a section is not as long as that of the number of 1 bits. What the sections hold is not
+    /// of another kind, or a section has a length that does not fit the number of 1 bits. What the sections hold is not
     /// looked at.
     ///
     /// # Cost
@@ -53,8 +53,7 @@ impl<'a> SparseView<'a> {
         })
     }
 
-    /// The sparse bits of which there are `len`, the positions of the 1 bits being these numbers. What the numbers are
-    /// is not looked at.
+    /// `len` sparse bits; these numbers are the positions of the 1 bits. What the numbers are is not looked at.
     ///
     /// ```
     /// SparseView::over(positions, 5000);   // of a LentSequence over 3, 100, 101, 4000

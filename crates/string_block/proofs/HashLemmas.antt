@@ -1,7 +1,7 @@
 -- Hashes of strings.
 use Rattle.std.proofs.Common.{◌≡◌, ℕ, zero, suc, ◌+◌, ◌*◌, ◌/◌, ◌%◌, ◌^◌, ◌<◌, refl, ap, ◌∙◌, if◌then◌else◌, ◌==◌, arith}
 use Rattle.string_block.specs.Kinds.{fnv_of, hash_by, mixed}
-use Rattle.string_block.specs.SipHash.{after_words, finished, hash_of, keyed, last_word, number_from, with_word}
+use Rattle.string_block.specs.SipHash.{after_words, finished, hash_of, keyed, keyed_hash, last_word, number_from, with_word}
 use Rattle.string_block.specs.declared.sip.Sip.{Sip}
 
 -- one more byte is hashed
@@ -62,7 +62,7 @@ same_after_words s string other (suc n) same =
     ∙ ap (with_word (after_words s other n)) (same_number_from string other (8 * n) 8 (λ j less. same j (omega (arith, less))))
 
 same_sip : (seed : ℕ) (string other : ℕ → ℕ) (n : ℕ) → ((j : ℕ) → j < n → string j ≡ other j) → hash_of seed string n ≡ hash_of seed other n
-unfolding hash_of
+unfolding hash_of keyed_hash
 same_sip seed string other n same =
     ap (λ t. finished (with_word t (last_word string n)))
     (same_after_words (keyed seed 0) string other (n / 8) (λ j less. same j (omega (arith, less))))
@@ -70,15 +70,15 @@ same_sip seed string other n same =
     (same_number_from string other (8 * (n / 8)) (n % 8) (λ j less. same j (omega (arith, less))))
 
 -- the hash, of the state after the whole words, and of the bytes that are left
-pub hash_is : (seed : ℕ) (string : ℕ → ℕ) (len : ℕ) (state : Sip) (rest last : ℕ) (next : Sip) (hash : ℕ)
-    → state ≡ after_words (keyed seed 0) string (len / 8) → rest ≡ number_from string (8 * (len / 8)) (len % 8)
-    → last ≡ rest + len % 256 * 2 ^ 56 → next ≡ with_word state last → hash ≡ finished next → hash ≡ hash_of seed string len
-unfolding hash_of
-hash_is seed string len state rest last next hash state_is rest_is last_is next_is is =
+pub hash_is : (k0 k1 : ℕ) (string : ℕ → ℕ) (len : ℕ) (state : Sip) (rest last : ℕ) (next : Sip) (hash : ℕ)
+    → state ≡ after_words (keyed k0 k1) string (len / 8) → rest ≡ number_from string (8 * (len / 8)) (len % 8)
+    → last ≡ rest + len % 256 * 2 ^ 56 → next ≡ with_word state last → hash ≡ finished next → hash ≡ keyed_hash k0 k1 string len
+unfolding keyed_hash
+hash_is k0 k1 string len state rest last next hash state_is rest_is last_is next_is is =
     is
     ∙ ap finished next_is
     ∙ ap (λ t. finished (with_word t last)) state_is
-    ∙ ap (λ w. finished (with_word (after_words (keyed seed 0) string (len / 8)) w)) (last_is ∙ ap (λ r. r + len % 256 * 2 ^ 56) rest_is)
+    ∙ ap (λ w. finished (with_word (after_words (keyed k0 k1) string (len / 8)) w)) (last_is ∙ ap (λ r. r + len % 256 * 2 ^ 56) rest_is)
 
 -- ---- both
 

@@ -4,4 +4,5 @@ pub mod Error
 pub mod Given
 pub mod Kinds
 pub mod Parts
+pub mod Prints
 pub mod SipHash

@@ -1,4 +1,4 @@
--- SipHash-1-3 with the key (seed, 0): Aumasson and Bernstein, 'SipHash: a fast short-input PRF' (INDOCRYPT 2012).
+-- SipHash-1-3: Aumasson and Bernstein, 'SipHash: a fast short-input PRF' (INDOCRYPT 2012).
 use Rattle.std.specs.Prelude.{ℕ, zero, suc, ◌+◌, ◌*◌, ◌/◌, ◌%◌, ◌^◌, bit_xor}
 use Rattle.std.specs.Int.{w64, rotate_left}
 use Rattle.string_block.specs.declared.sip.Sip.{Sip}
@@ -58,6 +58,10 @@ after_words s string (suc n) = with_word (after_words s string n) (number_from s
 abbrev pub last_word : (ℕ → ℕ) → ℕ → ℕ
 last_word string len = number_from string (8 * (len / 8)) (len % 8) + len % 256 * 2 ^ 56
 
--- the hash of the first `len` bytes of a string, by a seed
+-- the hash of the first `len` bytes of a string, by the key of two numbers
+unfoldable pub keyed_hash : ℕ → ℕ → (ℕ → ℕ) → ℕ → ℕ
+keyed_hash k0 k1 string len = finished (with_word (after_words (keyed k0 k1) string (len / 8)) (last_word string len))
+
+-- the hash of the first `len` bytes of a string, by a seed: by the key (seed, 0)
 unfoldable pub hash_of : ℕ → (ℕ → ℕ) → ℕ → ℕ
-hash_of seed string len = finished (with_word (after_words (keyed seed 0) string (len / 8)) (last_word string len))
+hash_of seed string len = keyed_hash seed 0 string len

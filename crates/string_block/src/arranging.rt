@@ -6,8 +6,8 @@ ghost use Rattle.string_block.specs.Given.{total_of, AreArranged, AreGiven};
 use crate::bytes::write_bytes;
 use crate::given::begin_at;
 
-/// Writes the strings one after another in the order of their numbers, and where each begins in place of which it is;
-/// answers false, with the strings in part, exactly where a number is that of none.
+/// Writes the strings one after another in the order of their numbers, and replaces in `starts` which string it is by
+/// where it begins; answers false, with the strings in part, exactly where some number has no string.
 pub(crate) fn arrange(bytes: &[u8], ends: &[usize], starts: &mut [u64], to: &mut [u64]) -> bool
     requires given { AreGiven bytes.now ends.now }
     requires order { (v : ℕ) → v < length ends.now → slice_index starts.old v ≤ length ends.now }

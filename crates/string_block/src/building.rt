@@ -89,10 +89,10 @@ fn write_block(hash: &HashView<'_>, bytes: &[u8], ends: &[usize], block: &mut [u
 ///
 /// # Errors
 /// `TooLong` exactly where there are 2^57 words of levels or strings or more, or 2^60 bytes or more; else `NotGiven`
-/// exactly where the ends fall, or the last is not that of the bytes; else `WrongLength` exactly where the words of the
-/// block are not as many as it takes (`size`); else `NotNumbered` exactly where the parts of the hash are not those of
-/// one, or it does not give each string a number of its own. The block may hold anything after `NotNumbered`, and stays
-/// as it is after another error.
+/// exactly where the ends fall, or the last is not the end of the bytes; else `WrongLength` exactly where the words of
+/// the block are more or fewer than it takes (`size`); else `NotNumbered` exactly where the parts form no hash, or it
+/// does not give each string a number of its own. The block may hold anything after `NotNumbered`, and stays as it is
+/// after another error.
 /// # Cost
 /// Three passes over the words of the levels, two over the bytes, and one over the block, and `HashView::get` for each
 /// string (evident from the code). Nothing is allocated.

@@ -8,9 +8,9 @@ use std::fmt;
 pub enum BuildError {
     /// There are 2^57 words of levels or strings or more, or 2^60 bytes or more.
     TooLong,
-    /// The ends are not those of strings that take all of the bytes.
+    /// No strings that take all of the bytes have these ends.
     NotGiven,
-    /// The words of the block are not as many as it takes.
+    /// The words of the block are more or fewer than it takes.
     WrongLength,
     /// The hash gives not each string a number of its own: it is not of these strings by this seed, or two of them are
     /// equal or have one hash. With another seed they may have two.

@@ -30,7 +30,7 @@
 // - `error`: why no block of strings was written
 // - `fnv`: how the strings of blocks of kind 10 are hashed
 // - `given`: strings that are given one after another
-// - `hashing`: how strings are hashed
+// - `hashing`: how strings are hashed, and keys
 // - `kinds`: the kinds of blocks of strings, and how the strings of each are hashed
 // - `listing`: the hashes of strings that are given one after another
 // - `numbers`: up to eight bytes of a string as a number
@@ -59,7 +59,7 @@ pub use bitm_tables::answer::Answer;
 pub use building::{build, round_trip};
 pub use error::BuildError;
 pub use given::are_given;
-pub use hashing::hash;
+pub use hashing::{hash, key_hash};
 pub use kinds::{FNV_STRINGS, STRINGS};
 pub use listing::hashes;
 pub use opening::{check, open};

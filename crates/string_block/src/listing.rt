@@ -8,7 +8,7 @@ use crate::hashing::hash_between;
 
 /// Writes the hash of each of the strings that stand one after another in `bytes`, each up to its end, by a seed
 /// (`hash`): a perfect hash is built of these. Answers false, and writes nothing, exactly where the ends fall, the last
-/// is not that of the bytes, or `out` is not as long as they are.
+/// is not the end of the bytes, or `out` is not as long as they are.
 ///
 /// # Cost
 /// Each byte and each end is read once more than to test the ends (evident from the code).

@@ -1,4 +1,4 @@
-//! The view of a block of strings, and whether the block holds what it says.
+//! The view of a block of strings, and a check of what the block holds.
 ghost use Rattle.std.specs.Prelude.{◌↔◌, IsTrue, SomeIff};
 ghost use Rattle.string_block.specs.Block.{strings_in, HasStringSections, IsSoundBlock, IsStringBlock};
 

@@ -57,7 +57,7 @@ fn place(hash: &HashView<'_>, bytes: &[u8], ends: &[usize], order: &mut [u64]) -
 }
 
 /// Writes each string at its number, and where each begins; answers false exactly where not each has a number of its
-/// own, or a number is that of none.
+/// own, or some number has no string.
 pub(crate) fn write_placed(
     hash: &HashView<'_>,
     bytes: &[u8],

@@ -21,7 +21,7 @@ use std::marker::Model;
 /// Strings with a number each, in memory that may hold anything: the kind of their block, which says how they are
 /// hashed, a perfect hash, where the string of each number begins and the last one ends, and the words of their bytes.
 ///
-/// Contracts see these. A call says what it answers where they are those of strings, and what it answers otherwise.
+/// Contracts see these. A call says its answer where they hold strings, and where they do not.
 ///
 /// ```
 /// let Some(names) = open(block.as_slice()) else { .. };
@@ -149,7 +149,7 @@ impl<'a> StringsView<'a> {
     /// answer is `Absent` exactly where this is none of them, and never `Wrong`.
     ///
     /// # Cost
-    /// That of `find_counted`.
+    /// The cost of `find_counted`.
     ///
     /// ```
     /// names.find(b"ada".as_slice());   // Found(number), Absent or Wrong
@@ -163,9 +163,9 @@ impl<'a> StringsView<'a> {
         self.find_counted(string).0
     }
 
-    /// What `find` answers, and what was read of the hash for it, whatever the memory holds: at most one word of each
+    /// The answer of `find`, and the reads of the hash for it, whatever the memory holds: at most one word of each
     /// level, and one upper entry, one lower entry and eight words for the rank. Of the starts at most two are read,
-    /// and of the bytes at most as many as the string has (evident from the code).
+    /// and no more bytes than the string has (evident from the code).
     ///
     /// ```
     /// names.find_counted(b"ada".as_slice()).1.words();   // at most 9 of one level
@@ -180,12 +180,12 @@ impl<'a> StringsView<'a> {
         self.find_between(string, 0, string.len())
     }
 
-    /// The number of string `i` of those that stand one after another in `bytes`, each up to its end, as `find`.
+    /// The number of string `i` of the strings that stand one after another in `bytes`, each up to its end, as `find`.
     ///
     /// # Conditions
     /// The ends rise up to the number of the bytes, and there is such a string.
     /// # Cost
-    /// That of `find_counted`.
+    /// The cost of `find_counted`.
     ///
     /// ```
     /// names.find_given(b"adabob".as_slice(), &[3, 6], 1);   // as names.find(b"bob".as_slice())
@@ -201,7 +201,7 @@ impl<'a> StringsView<'a> {
         self.find_between(bytes, begin_at(ends, i), ends[i]).0
     }
 
-    /// The number of the string that stands in `bytes` from `begin` on and before `end`, and what was read.
+    /// The number of the string that stands in `bytes` from `begin` on and before `end`, and the reads.
     #[inline(always)]
     fn find_between(&self, bytes: &[u8], begin: usize, end: usize) -> (Answer<usize>, ReadCounts)
         requires order { begin ≤ end }
@@ -215,7 +215,7 @@ impl<'a> StringsView<'a> {
         (self.kept_if(bytes, begin, end - begin, number), reads)
     }
 
-    /// The number of the string by its hash, and what was read.
+    /// The number of the string by its hash, and the reads.
     #[inline(always)]
     fn number_of(&self, bytes: &[u8], begin: usize, end: usize) -> (Answer<usize>, ReadCounts)
         requires order { begin ≤ end }
@@ -272,9 +272,9 @@ impl<'a> StringsView<'a> {
         is_at(self.bytes, first, bytes, begin, len)
     }
 
-    /// Where the string of a number begins among the bytes, and how many it has, which stand in the words whatever the
-    /// memory holds; `Absent` exactly where there is no such number, and `Wrong` exactly where the starts are not those
-    /// of a string there.
+    /// Where the string of a number begins among the bytes, and how many bytes it has, which stand in the words
+    /// whatever the memory holds; `Absent` exactly where there is no such number, and `Wrong` exactly where the starts
+    /// mark no string there.
     ///
     /// # Cost
     /// Two starts are read (evident from the code).
@@ -297,12 +297,12 @@ impl<'a> StringsView<'a> {
         Answer::Found((begin, end - begin))
     }
 
-    /// Whether the parts are those of strings: of a hash, by which each string has its number, with the strings one
-    /// after another and zeros after the last.
+    /// Whether the parts hold strings: a hash, by which each string has its number, with the strings one after another
+    /// and zeros after the last.
     ///
     /// # Cost
-    /// That of `HashView::check`, one pass over the starts and two over the bytes, and `HashView::get` for each string
-    /// (evident from the code).
+    /// The cost of `HashView::check`, one pass over the starts and two over the bytes, and `HashView::get` for each
+    /// string (evident from the code).
     ///
     /// ```
     /// names.check();   // true of a block that `build` wrote
@@ -313,7 +313,7 @@ impl<'a> StringsView<'a> {
         self.hash.check() && self.starts[0] == 0 && self.is_full() && self.are_own()
     }
 
-    /// Whether the words are as many as the bytes take, and the bytes after the last string are 0.
+    /// Whether there are exactly the words that the bytes take, and the bytes after the last string are 0.
     fn is_full(&self) -> bool
         ensures { IsTrue result ↔ IsFull self.now }
     {

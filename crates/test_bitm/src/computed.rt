@@ -34,7 +34,7 @@ impl Computed {
     /// A source of `len` words, with no reads counted yet.
     ///
     /// # Conditions
-    /// There are fewer than 2^58 words, and as many as fill all lower entries.
+    /// There are fewer than 2^58 words, and they fill all lower entries.
     pub fn new(len: usize) -> Computed
         requires few { len < 2 ^ 58 }
         requires whole { len % 32 ≡ 0 }

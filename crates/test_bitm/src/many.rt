@@ -57,7 +57,7 @@ impl Content {
         }
     }
 
-    /// What it answers.
+    /// The answer by hand.
     fn expected(self, call: Call, asked: usize) -> usize {
         let before = self.empty.wrapping_mul(64);
         match (call, self.empty) {

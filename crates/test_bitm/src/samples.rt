@@ -1,5 +1,5 @@
-//! Selection by samples: those that are kept, and what the index selects by them, worked out by hand.
-//! `test_original` compares others with those of the original crate.
+//! Selection by samples: the samples that are kept, and what the index selects by them, worked out by hand.
+//! `test_original` compares other samples with the samples of the original crate.
 use crate::walk::{Lent, Sampled, lent, one_agrees, zero_agrees};
 use bitm::{
     AdaptiveCombinedSamplingDensity, BinaryRankSearch, BitAccess, BitVec, CombinedSampling,
@@ -36,7 +36,7 @@ fn select_rows<I: Select>(index: &I, rows: &[Row]) -> bool {
     agrees
 }
 
-/// Whether an index over 35 full words keeps and selects what it does by hand.
+/// Whether an index over 35 full words keeps and selects what was worked out by hand.
 fn is_full_kept<D: CombinedSamplingDensity>(
     index: &Lent<'_, CombinedSampling<D>, CombinedSampling<D>>,
 ) -> bool {
@@ -141,7 +141,7 @@ fn replace_ends(words: &mut [u64], first: u64, last: u64) {
     }
 }
 
-/// The given number of equal words, of which the first and then the last is another; `None` where there is no memory.
+/// The given number of equal words, where the first and then the last is another; `None` where there is no memory.
 fn words_of(alloc: Global, len: usize, first: u64, word: u64, last: u64) -> Option<Words> {
     match Words::with_64bit_segments(alloc, word, len) {
         Ok(mut words) => {
@@ -208,8 +208,8 @@ fn is_last(samples: &[u32], count: usize, sample: u32) -> bool {
     count == 0 || count <= samples.len() && samples[count - 1] == sample
 }
 
-/// Whether the samples of one part of words are those of a walk over its bits: an item that is a whole number of
-/// intervals from the first begins a sample, and one half an interval later adds the distance to it.
+/// Whether the samples of one part of words match a walk over its bits: an item that is a whole number of intervals
+/// from the first begins a sample, and one half an interval later adds the distance to it.
 fn are_walked(samples: &[u32], words: &[u64], kind: bool, log2: u8) -> bool {
     let in_interval = 1u64.wrapping_shl(u32::from(log2)).wrapping_sub(1);
     let (mut items, mut count, mut sample) = (0u64, 0usize, 0u32);
@@ -242,7 +242,7 @@ fn is_walked<D: CombinedSamplingDensity>(
     are_walked(kept.samples(), words, kind, kept.items_per_sample_log2())
 }
 
-/// Whether those of both kinds are at this density.
+/// Whether the samples of both kinds are what a walk finds, at this density.
 fn both_are_walked<D: CombinedSamplingDensity>(alloc: Global, words: &[u64]) -> bool {
     match lent::<CombinedSampling<D>, CombinedSampling<D>>(alloc, words) {
         Ok((index, _)) => {

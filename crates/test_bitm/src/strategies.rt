@@ -23,7 +23,7 @@ fn selects_in<I: Select + Select0>(index: &I, word: u16) -> bool {
     agrees
 }
 
-/// Whether those of all words are, and none past them.
+/// Whether the bits of all words are selected, and none past them.
 fn selects_all<I: Select + Select0>(index: &I) -> bool {
     let mut agrees = (index.try_select(180), index.try_select0(3660)) == (None, None);
     for word in 0..60u16 {

@@ -1,6 +1,6 @@
 //! Answers round the end of the first part of 2^32 bits, and in the second, over words that are all 1. By hand: the
 //! ones before place p are p / 64, rounded up; the one of rank r is at 64 r, and the zero of rank r at r + r / 63 + 1.
-//! A part has 2^26 = 67108864 ones; the words here are those of a part and a half.
+//! A part has 2^26 = 67108864 ones; the words here fill a part and a half.
 ghost use Rattle.std.specs.Prelude.{◌≡◌, length};
 
 use crate::computed::Computed;

@@ -127,7 +127,7 @@ fn walk_agrees<I: Rank + Select + Select0>(index: &I, words: &[u64]) -> (bool, u
     (agrees && ends_agree(index, ones, zeros), ones)
 }
 
-/// Whether all answers over borrowed words, and the number of 1 bits, are those of a walk.
+/// Whether all answers over borrowed words, and the number of 1 bits, match a walk.
 pub fn all_agree<S: SelectForRank101111, S0: Select0ForRank101111>(
     alloc: Global,
     words: &[u64],

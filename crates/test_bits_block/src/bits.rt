@@ -1,4 +1,4 @@
-//! The block of a hundred bits: its words, its answers, and those of other words in its place.
+//! The block of a hundred bits: its words, its answers, and the answers of other words in its place.
 use bitm_block::{Block, checksum_of};
 use bits_block::{Answer, BuildError, IndexView, build, check, open, size};
 use std::process::Abort;
@@ -9,7 +9,7 @@ const WORDS: [u64; 2] = [0x0123_4567_89ab_cdef, 0xfedc_ba98_7654_3210];
 
 /// Their block, as a program in Python made it from the tables of docs/FORMAT.md.
 const BLOCK: [u64; 56] = [
-    0x036261746d746962,
+    0x046261746d746962,
     0x0000000000000002,
     0x00000000000001c0,
     0x0000000000000064,
@@ -23,20 +23,20 @@ const BLOCK: [u64; 56] = [
     0x0000000000000003,
     0x0000000000000000,
     0x0000000000000000,
-    0x5d87089bfcbab561,
-    0xd55651c71928bd43,
+    0x59f1ebaa9e3ad5fd,
+    0x8875caee4929264b,
     0x0000000000000001,
     0x0000000000000100,
     0x0000000000000002,
-    0x49d416a508ec4bac,
+    0xef55035369dfb1e4,
     0x0000000000000002,
     0x0000000000000140,
     0x0000000000000001,
-    0x9e3779b9e17d05ac,
+    0xa37da37158bd2c5f,
     0x0000000000000003,
     0x0000000000000180,
     0x0000000000000001,
-    0xa90cd16ad646ad7f,
+    0xf3f87f03fa0f3b3c,
     0x0000000000000000,
     0x0000000000000000,
     0x0000000000000000,

@@ -1,6 +1,7 @@
 //! A small block: its words, its changes and its errors.
 use bitm_block::{
-    Block, Head, OpenError, Section, WriteError, checksum_of, is_verified, len_in, seal, size,
+    Block, Head, OpenError, Section, WriteError, checksum_in, checksum_of, is_verified, len_in,
+    seal, size,
 };
 use std::process::Abort;
 use std::test::Fail;
@@ -19,7 +20,7 @@ const HEAD: Head = Head {
 
 /// A block of three sections, as a program in Python made it from the table of docs/FORMAT.md.
 const WORDS: [u64; 56] = [
-    0x036261746d746962,
+    0x046261746d746962,
     0x0000000000000007,
     0x00000000000001c0,
     0x000000000000012c,
@@ -33,20 +34,20 @@ const WORDS: [u64; 56] = [
     0x0000000000000003,
     0x0000000000000000,
     0x0000000000000000,
-    0x17ef29c8d0f72cd2,
-    0xa58e7e43f9236a12,
+    0xb5ddf98aa2872d73,
+    0x418f62c141a1e849,
     0x0000000000000001,
     0x0000000000000100,
     0x0000000000000003,
-    0x6cac4136a56f3c8e,
+    0x869a5bc2df1e43e7,
     0x0000000000000007,
     0x0000000000000140,
     0x0000000000000003,
-    0xfc9fc62461570396,
+    0x395186e5ceec0461,
     0x0000000000010000,
     0x0000000000000180,
     0x000000000000000a,
-    0xa0b5fa5f4f82c1f2,
+    0x35f0cacdc689adc1,
     0x0000000000000000,
     0x0000000000000000,
     0x0000000000000000,
@@ -76,6 +77,18 @@ const WORDS: [u64; 56] = [
     0x0000000000000000,
     0x0000000000000000,
 ];
+
+/// The same block of version 3, as that program made it: another mark, and other checksums.
+fn words_of_version_3() -> [u64; 56] {
+    let mut words = WORDS;
+    words[0] = 0x036261746d746962;
+    words[14] = 0x17ef29c8d0f72cd2;
+    words[15] = 0xa58e7e43f9236a12;
+    words[19] = 0x6cac4136a56f3c8e;
+    words[23] = 0xfc9fc62461570396;
+    words[27] = 0xa0b5fa5f4f82c1f2;
+    words
+}
 
 /// Its sections: three words, three samples of four bytes, ten bytes.
 fn sections() -> [Section; 3] {
@@ -129,11 +142,23 @@ fn sum_again(words: &mut [u64]) {
 
 #[test]
 fn checksums_are_those_of_another_program(rt: HostRuntime) -> Result<(), Fail> {
-    assert!(rt; checksum_of([].as_slice()) == 0);
-    assert!(rt; checksum_of([0u64].as_slice()) == 0x9e37_79b9_e17d_05ac);
-    assert!(rt; checksum_of([1u64, 2, 3].as_slice()) == 0x17fe_95fe_dfb7_79a5);
-    assert!(rt; checksum_of([0u64; 8].as_slice()) == 0xb5dda96bf4e1ef47);
-    assert!(rt; checksum_of([u64::MAX; 3].as_slice()) == 0x8f24b17964425c75);
+    assert!(rt; checksum_of([].as_slice()) == 0x9736_38d3_ce0f_3ad5);
+    assert!(rt; checksum_of([0u64].as_slice()) == 0xa37d_a371_58bd_2c5f);
+    assert!(rt; checksum_of([1u64, 2, 3].as_slice()) == 0x3079_8c48_7204_7f92);
+    assert!(rt; checksum_of([1u64, 2, 3, 4, 5, 6].as_slice()) == 0xa2c_21bf_8f07_94a5);
+    assert!(rt; checksum_of([0u64; 8].as_slice()) == 0x25f1_e060_4e83_22fe);
+    assert!(rt; checksum_of([u64::MAX; 3].as_slice()) == 0x23a7_9e04_c05c_1694);
+    Ok(())
+}
+
+#[test]
+fn checksums_of_version_3_are_those_of_another_program(rt: HostRuntime) -> Result<(), Fail> {
+    assert!(rt; checksum_in(3, [].as_slice()) == 0);
+    assert!(rt; checksum_in(3, [0u64].as_slice()) == 0x9e37_79b9_e17d_05ac);
+    assert!(rt; checksum_in(3, [1u64, 2, 3].as_slice()) == 0x17fe_95fe_dfb7_79a5);
+    assert!(rt; checksum_in(3, [1u64, 2, 3, 4, 5, 6].as_slice()) == 0xf9da_b302_7b56_6499);
+    assert!(rt; checksum_in(3, [0u64; 8].as_slice()) == 0xb5dda96bf4e1ef47);
+    assert!(rt; checksum_in(3, [u64::MAX; 3].as_slice()) == 0x8f24b17964425c75);
     Ok(())
 }
 
@@ -206,6 +231,39 @@ fn each_flipped_bit_is_seen(rt: HostRuntime) -> Result<(), Fail> {
 }
 
 #[test]
+fn a_block_of_version_3_is_read_and_each_flipped_bit_of_it_is_seen(
+    rt: HostRuntime,
+) -> Result<(), Fail> {
+    let mut words = words_of_version_3();
+    assert!(rt; len_in(&words.as_slice()[..16]) == Ok(56));
+    let Ok(block) = Block::open(words.as_slice()) else {
+        assert!(rt; false, "not opened");
+        return Ok(());
+    };
+    assert!(rt; block.head() == HEAD && block.sections() == 3 && block.verify());
+    assert!(rt; unseen_flips(words.as_mut_slice(), 0) == 0);
+    Ok(())
+}
+
+#[test]
+fn a_checksum_of_the_other_version_is_refused(rt: HostRuntime) -> Result<(), Fail> {
+    let old = words_of_version_3();
+    let mut words = WORDS;
+    words[0] = old[0];
+    assert!(rt; error_of(words.as_slice()) == Some(OpenError::WrongHeader));
+    words[15] = checksum_in(3, &words.as_slice()[..15]);
+    assert!(rt; error_of(words.as_slice()) == Some(OpenError::WrongDirectory));
+    words[14] = old[14];
+    words[15] = checksum_in(3, &words.as_slice()[..15]);
+    assert!(rt; error_of(words.as_slice()) == Some(OpenError::WrongDirectory));
+    // the sections have the checksums of version 4 still
+    words[14] = checksum_in(3, &words.as_slice()[16..32]);
+    words[15] = checksum_in(3, &words.as_slice()[..15]);
+    assert!(rt; error_of(words.as_slice()).is_none() && !is_verified(words.as_slice()));
+    Ok(())
+}
+
+#[test]
 fn no_other_length_is_opened(rt: HostRuntime) -> Result<(), Fail> {
     let words = WORDS;
     assert!(rt; opened_prefixes(words.as_slice()) == 0);
@@ -223,10 +281,12 @@ fn no_other_length_is_opened(rt: HostRuntime) -> Result<(), Fail> {
 #[test]
 fn each_error_has_its_reason(rt: HostRuntime) -> Result<(), Fail> {
     let mut words = WORDS;
-    // the mark of version 2, that of the other byte order, and none
+    // the marks of versions 2 and 5, that of the other byte order, and none
     words[0] = 0x0262_6174_6d74_6962;
     assert!(rt; error_of(words.as_slice()) == Some(OpenError::OtherVersion));
-    words[0] = 0x6269_746d_7461_6203;
+    words[0] = 0x0562_6174_6d74_6962;
+    assert!(rt; error_of(words.as_slice()) == Some(OpenError::OtherVersion));
+    words[0] = 0x6269_746d_7461_6204;
     assert!(rt; error_of(words.as_slice()) == Some(OpenError::NotABlock));
     let mut words = WORDS;
     words[1] = 8;

@@ -35,7 +35,7 @@ fn count_of<V: HasItems>(items: Items<'_, V>) -> usize {
 
 #[test]
 fn a_sequence_gives_its_numbers(rt: HostRuntime) -> Result<(), Fail> {
-    let mut block = [0u64; 64];
+    let mut block = [0u64; 80];
     assert!(rt; sequence_block::build(RISING.as_slice(), block.as_mut_slice()).is_ok());
     let Some(sequence) = sequence_block::open(block.as_slice()) else {
         assert!(rt; false, "not opened");
@@ -50,7 +50,7 @@ fn a_sequence_gives_its_numbers(rt: HostRuntime) -> Result<(), Fail> {
 
 #[test]
 fn sparse_bits_give_the_positions_of_their_ones(rt: HostRuntime) -> Result<(), Fail> {
-    let mut block = [0u64; 64];
+    let mut block = [0u64; 80];
     assert!(rt; sparse_block::build(RISING.as_slice(), 30, block.as_mut_slice()).is_ok());
     let Some(bits) = SparseView::open(block.as_slice()) else {
         assert!(rt; false, "not opened");
@@ -84,10 +84,10 @@ fn a_matrix_gives_its_numbers(rt: HostRuntime) -> Result<(), Fail> {
 
 #[test]
 fn words_of_no_sequence_give_no_more_items_than_are_announced(rt: HostRuntime) -> Result<(), Fail> {
-    let mut block = [0u64; 64];
+    let mut block = [0u64; 80];
     assert!(rt; sequence_block::build(RISING.as_slice(), block.as_mut_slice()).is_ok());
     // The first section: the words of the high bits.
-    block[32] = 0;
+    block[40] = 0;
     let Some(sequence) = sequence_block::open(block.as_slice()) else {
         assert!(rt; false, "not opened");
         return Ok(());
@@ -95,7 +95,7 @@ fn words_of_no_sequence_give_no_more_items_than_are_announced(rt: HostRuntime) -
     let mut items = sequence.iter();
     assert!(rt; first_eight(&mut items) == [0; 8]);
     assert!(rt; count_of(items) == 0);
-    block[32] = u64::MAX;
+    block[40] = u64::MAX;
     let Some(sequence) = sequence_block::open(block.as_slice()) else {
         assert!(rt; false, "not opened");
         return Ok(());

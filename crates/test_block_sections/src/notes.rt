@@ -1,4 +1,4 @@
-//! The block of seven numbers with a note: its words, what it answers, and what is refused.
+//! The block of seven numbers with a note: its words, its answers, and what is refused.
 use bitm_block::{Block, Section};
 use block_sections::{ExtendError, extend, extended_size};
 use sequence_block::{Answer, check, open};
@@ -8,7 +8,7 @@ use std::test::Fail;
 /// The block of the numbers 2, 3, 5, 7, 11, 13 and 24, as a program in Python made it from the tables of
 /// docs/FORMAT.md.
 const PLAIN: [u64; 64] = [
-    0x036261746d746962,
+    0x046261746d746962,
     0x0000000000000003,
     0x0000000000000200,
     0x0000000000000007,
@@ -22,24 +22,24 @@ const PLAIN: [u64; 64] = [
     0x0000000000000004,
     0x0000000000000000,
     0x0000000000000000,
-    0x20ad70a9d843a330,
-    0xe15c736f3a69dbcc,
+    0xafcf3260ef18e354,
+    0x991d9e4736e48afc,
     0x0000000000000001,
     0x0000000000000100,
     0x0000000000000001,
-    0xd6819a2dcdfd670e,
+    0x6167cdd58045d726,
     0x0000000000000002,
     0x0000000000000140,
     0x0000000000000001,
-    0x9e3779b9e17d05ac,
+    0xa37da37158bd2c5f,
     0x0000000000000003,
     0x0000000000000180,
     0x0000000000000001,
-    0x8925764cf66f0a59,
+    0x88858817877cf213,
     0x0000000000000009,
     0x00000000000001c0,
     0x0000000000000001,
-    0xefa6f4a6bcf27d8d,
+    0x059cb294c469d5af,
     0x0000000000040a56,
     0x0000000000000000,
     0x0000000000000000,
@@ -76,7 +76,7 @@ const PLAIN: [u64; 64] = [
 
 /// The same with the note, as that program made it.
 const NOTED: [u64; 80] = [
-    0x036261746d746962,
+    0x046261746d746962,
     0x0000000000000003,
     0x0000000000000280,
     0x0000000000000007,
@@ -90,28 +90,28 @@ const NOTED: [u64; 80] = [
     0x0000000000000005,
     0x0000000000000000,
     0x0000000000000000,
-    0x7ec0b490e6f5f0c5,
-    0xbdc43b3b2b980d2f,
+    0x5fd4714f8817c1e8,
+    0xd9f3deceab56e5e1,
     0x0000000000000001,
     0x0000000000000140,
     0x0000000000000001,
-    0xd6819a2dcdfd670e,
+    0x6167cdd58045d726,
     0x0000000000000002,
     0x0000000000000180,
     0x0000000000000001,
-    0x9e3779b9e17d05ac,
+    0xa37da37158bd2c5f,
     0x0000000000000003,
     0x00000000000001c0,
     0x0000000000000001,
-    0x8925764cf66f0a59,
+    0x88858817877cf213,
     0x0000000000000009,
     0x0000000000000200,
     0x0000000000000001,
-    0xefa6f4a6bcf27d8d,
+    0x059cb294c469d5af,
     0x0000000000010000,
     0x0000000000000240,
     0x000000000000000b,
-    0xe31785d4f81a5fe7,
+    0x1fa1f3119c5d1c48,
     0x0000000000000000,
     0x0000000000000000,
     0x0000000000000000,
@@ -157,6 +157,19 @@ const NOTED: [u64; 80] = [
     0x0000000000000000,
     0x0000000000000000,
 ];
+
+/// The block without the note of version 3, as that program made it: another mark, and other checksums.
+fn plain_of_version_3() -> [u64; 64] {
+    let mut words = PLAIN;
+    words[0] = 0x036261746d746962;
+    words[14] = 0x20ad70a9d843a330;
+    words[15] = 0xe15c736f3a69dbcc;
+    words[19] = 0xd6819a2dcdfd670e;
+    words[23] = 0x9e3779b9e17d05ac;
+    words[27] = 0x8925764cf66f0a59;
+    words[31] = 0xefa6f4a6bcf27d8d;
+    words
+}
 
 /// The note is `hello world`.
 const NOTE: Section = Section {
@@ -220,6 +233,20 @@ fn a_note_is_added(rt: HostRuntime) -> Result<(), Fail> {
     assert!(rt; extend(plain.as_slice(), &NOTE, WORDS.as_slice(), to.as_mut_slice()).is_ok());
     assert!(rt; to == NOTED);
     assert!(rt; is_right(to.as_slice()));
+    Ok(())
+}
+
+#[test]
+fn a_block_of_version_3_becomes_one_of_version_4(rt: HostRuntime) -> Result<(), Fail> {
+    let mut old = plain_of_version_3();
+    assert!(rt; check(old.as_slice()) && number_in(old.as_slice(), 6) == 24);
+    assert!(rt; extended_size(old.as_slice(), &NOTE) == Some(80));
+    let mut to = [0x5555_5555_5555_5555u64; 80];
+    assert!(rt; extend(old.as_slice(), &NOTE, WORDS.as_slice(), to.as_mut_slice()).is_ok());
+    assert!(rt; to == NOTED);
+    // and what was spoiled of it gets no right checksum either
+    old[32] ^= 1;
+    assert!(rt; error_of(old.as_slice()) == (Some(ExtendError::NotVerified), true));
     Ok(())
 }
 

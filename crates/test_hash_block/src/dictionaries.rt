@@ -1,4 +1,4 @@
-//! The block of a dictionary of twelve numbers: its words, its answers, and those of other words in its place.
+//! The block of a dictionary of twelve numbers: its words, its answers, and the answers of other words in its place.
 use bitm_block::checksum_of;
 use hash_block::{
     Added, Answer, BuildError, DictionaryView, build_dictionary, check, check_dictionary,
@@ -11,7 +11,7 @@ use std::test::Fail;
 /// Their block, as a program in Python made it from the tables of docs/FORMAT.md: the squares of 1 to 12, hashed with
 /// the seed 2, at 100 per cent.
 const BLOCK: [u64; 88] = [
-    0x036261746d746962,
+    0x046261746d746962,
     0x0000000000000005,
     0x00000000000002c0,
     0x000000000000000c,
@@ -25,28 +25,28 @@ const BLOCK: [u64; 88] = [
     0x0000000000000005,
     0x0000000000000000,
     0x0000000000000000,
-    0x592a33d00a5b7a12,
-    0x47937ab743240980,
+    0x3b203dc93f32fffa,
+    0xef61208acb24bb6d,
     0x0000000000000001,
     0x0000000000000140,
     0x0000000000000002,
-    0x26f5e9aa1b5e7a86,
+    0x5654ce93be566489,
     0x0000000000000002,
     0x0000000000000180,
     0x0000000000000001,
-    0x9e3779b9e17d05ac,
+    0xa37da37158bd2c5f,
     0x0000000000000003,
     0x00000000000001c0,
     0x0000000000000001,
-    0xc33d2ab5bc7756a0,
+    0xf8b73c191e0d867b,
     0x0000000000000004,
     0x0000000000000200,
     0x0000000000000002,
-    0x04c0b23b96877441,
+    0xda4566576e3ebfd6,
     0x0000000000000005,
     0x0000000000000240,
     0x000000000000000c,
-    0x395792e653f2b063,
+    0x6ab92cc306507aea,
     0x0000000000000000,
     0x0000000000000000,
     0x0000000000000000,

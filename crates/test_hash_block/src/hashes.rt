@@ -1,4 +1,4 @@
-//! The block of a hash of twelve keys: its words, its answers, and those of other words in its place.
+//! The block of a hash of twelve keys: its words, its answers, and the answers of other words in its place.
 use bitm_block::{Block, checksum_of};
 use hash_block::{Answer, BuildError, HashView, build, build_of, check, open, size};
 use perfect_hash::{KeyHash, build_in_place};
@@ -8,7 +8,7 @@ use std::test::Fail;
 /// Their block, as a program in Python made it from the tables of docs/FORMAT.md: its levels are of the squares of 1 to
 /// 12, at 100 per cent, and the seed is 7.
 const BLOCK: [u64; 64] = [
-    0x036261746d746962,
+    0x046261746d746962,
     0x0000000000000005,
     0x0000000000000200,
     0x000000000000000c,
@@ -22,24 +22,24 @@ const BLOCK: [u64; 64] = [
     0x0000000000000004,
     0x0000000000000000,
     0x0000000000000000,
-    0x24d11cd51ba21e40,
-    0x9bfba3198554df66,
+    0x29b769f14e93390e,
+    0x47d364d4872b3de5,
     0x0000000000000001,
     0x0000000000000100,
     0x0000000000000002,
-    0x6326305892e89abc,
+    0xc66d8d2b817a4cb9,
     0x0000000000000002,
     0x0000000000000140,
     0x0000000000000001,
-    0x9e3779b9e17d05ac,
+    0xa37da37158bd2c5f,
     0x0000000000000003,
     0x0000000000000180,
     0x0000000000000001,
-    0xc33d2ab5bc7756a0,
+    0xf8b73c191e0d867b,
     0x0000000000000004,
     0x00000000000001c0,
     0x0000000000000002,
-    0x04c0b23b96877441,
+    0xda4566576e3ebfd6,
     0x042009000c800580,
     0x0000800000000040,
     0x0000000000000000,

@@ -1,4 +1,4 @@
-//! The block of a hash of twelve keys with seeds: its words, its answers, and those of other words in its place.
+//! The block of a hash of twelve keys with seeds: its words, its answers, and the answers of other words in its place.
 use bitm_block::checksum_of;
 use hash_block::Answer;
 use perfect_hash::build_seeded_in_place;
@@ -9,7 +9,7 @@ use std::test::Fail;
 /// Their block, as a program in Python made it from the tables of docs/FORMAT.md: its levels are of the squares of 1 to
 /// 12, at 100 per cent, each seed is the best of four, and the seed of the keys is 7.
 const BLOCK: [u64; 80] = [
-    0x036261746d746962,
+    0x046261746d746962,
     0x0000000000000005,
     0x0000000000000280,
     0x000000000000000c,
@@ -23,28 +23,28 @@ const BLOCK: [u64; 80] = [
     0x0000000000000005,
     0x0000000000000000,
     0x0000000000000000,
-    0x7377fb4bb4ac1ec4,
-    0x55e65b34ebccf30b,
+    0x3c7b5eb4a6d92c40,
+    0x250a2e3b71cae491,
     0x0000000000000001,
     0x0000000000000140,
     0x0000000000000002,
-    0x57c898173f0105db,
+    0x5fb37959c1d66c10,
     0x0000000000000002,
     0x0000000000000180,
     0x0000000000000001,
-    0x9e3779b9e17d05ac,
+    0xa37da37158bd2c5f,
     0x0000000000000003,
     0x00000000000001c0,
     0x0000000000000001,
-    0xc33d2ab5bc7756a0,
+    0xf8b73c191e0d867b,
     0x000000000000000f,
     0x0000000000000200,
     0x0000000000000002,
-    0x0000000000000000,
+    0x973638d3ce0f3ad5,
     0x0000000000000004,
     0x0000000000000240,
     0x0000000000000002,
-    0x04c0b23b96877441,
+    0xda4566576e3ebfd6,
     0x0000000000000000,
     0x0000000000000000,
     0x0000000000000000,

@@ -1,4 +1,4 @@
-//! The block of a small matrix: its words, its answers, and those of other words in its place.
+//! The block of a small matrix: its words, its answers, and the answers of other words in its place.
 use bitm_block::{Block, checksum_of};
 use matrix_block::{Answer, BuildError, MatrixView, build, size};
 use std::process::Abort;
@@ -9,7 +9,7 @@ pub(crate) const NUMBERS: [u64; 6] = [3, 1, 4, 1, 5, 1];
 
 /// The block of these numbers of three bits, as a program in Python made it from the tables of docs/FORMAT.md.
 pub(crate) const MATRIX: [u64; 80] = [
-    0x036261746d746962,
+    0x046261746d746962,
     0x0000000000000006,
     0x0000000000000280,
     0x0000000000000006,
@@ -23,28 +23,28 @@ pub(crate) const MATRIX: [u64; 80] = [
     0x0000000000000005,
     0x0000000000000000,
     0x0000000000000000,
-    0x8d9989a842825a1f,
-    0x048955bc3d29940c,
+    0xa63bab0c5219df35,
+    0xb0f9727d50ebe9ec,
     0x0000000000000001,
     0x0000000000000140,
     0x0000000000000001,
-    0x3ad91027749a72de,
+    0x714d7548b5ceba02,
     0x0000000000000002,
     0x0000000000000180,
     0x0000000000000001,
-    0x9e3779b9e17d05ac,
+    0xa37da37158bd2c5f,
     0x0000000000000003,
     0x00000000000001c0,
     0x0000000000000001,
-    0x61909a611edae674,
+    0xaee0bc5f6c9addff,
     0x000000000000000b,
     0x0000000000000200,
     0x0000000000000003,
-    0x878d0c88c096d03c,
+    0xa6352d1a15be3e65,
     0x000000000000000c,
     0x0000000000000240,
     0x0000000000000003,
-    0x7aefcebc18c2be26,
+    0x2e30c77a6ee4ed8e,
     0x0000000000000000,
     0x0000000000000000,
     0x0000000000000000,
@@ -216,7 +216,7 @@ pub(crate) fn mixed_numbers() -> [u64; 300] {
     all
 }
 
-/// How many numbers, and ranks of these before their indices, are not those of the list.
+/// How many numbers, and ranks of these before their indices, differ from the list.
 pub(crate) fn wrong_answers(matrix: &MatrixView<'_>, numbers: &[u64]) -> usize {
     let mut wrong = 0usize;
     for i in 0..numbers.len() {

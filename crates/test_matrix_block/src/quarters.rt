@@ -4,7 +4,7 @@ use matrix_block::{MatrixView, build, size};
 use std::process::Abort;
 use std::test::Fail;
 
-/// Where the quarters of 300 numbers of ten bits begin: after those of the compact block.
+/// Where the quarters of 300 numbers of ten bits begin: after the sections of the compact block.
 const QUARTERS: usize = 136;
 
 /// The block of the mixed numbers with quarters.

@@ -1,4 +1,4 @@
-//! The ranges of a matrix in a block, beside plain loops, and those of other words in its place.
+//! The ranges of a matrix in a block, beside plain loops, and the ranges of other words in its place.
 use crate::matrices::{MATRIX, NUMBERS, number_told, told};
 use matrix_block::{Answer, MatrixView};
 use std::process::Abort;
@@ -22,7 +22,7 @@ fn between(numbers: &[u64], low: u64, high: u64) -> usize {
     count
 }
 
-/// How many counts of a range between bounds up to 7 are not those of a loop.
+/// How many counts of a range between bounds up to 7 differ from a loop's.
 fn wrong_counts_between(m: &MatrixView<'_>, numbers: &[u64], start: usize, end: usize) -> usize {
     let mut wrong = 0usize;
     for low in 0..8u64 {
@@ -35,7 +35,7 @@ fn wrong_counts_between(m: &MatrixView<'_>, numbers: &[u64], start: usize, end: 
     wrong
 }
 
-/// How many counts of a range, by bounds up to 9, are not those of a loop.
+/// How many counts of a range, by bounds up to 9, differ from a loop's.
 fn wrong_counts_of(matrix: &MatrixView<'_>, numbers: &[u64], start: usize, end: usize) -> usize {
     let mut wrong = 0usize;
     for bound in 0..10u64 {
@@ -45,7 +45,7 @@ fn wrong_counts_of(matrix: &MatrixView<'_>, numbers: &[u64], start: usize, end: 
     wrong
 }
 
-/// How many counts of ranges are not those of a loop.
+/// How many counts of ranges differ from a loop's.
 fn wrong_counts(matrix: &MatrixView<'_>, numbers: &[u64]) -> usize {
     let mut wrong = 0usize;
     for start in 0..numbers.len() {
@@ -98,7 +98,7 @@ fn times(numbers: &[u64], number: u64) -> usize {
     count
 }
 
-/// How many quantiles of a range, with their counts, are not those of a loop.
+/// How many quantiles of a range, with their counts, differ from a loop's.
 fn wrong_quantiles_of(matrix: &MatrixView<'_>, range: &[u64], start: usize, end: usize) -> usize {
     let mut wrong = 0usize;
     let mut k = 0usize;
@@ -115,7 +115,7 @@ fn wrong_quantiles_of(matrix: &MatrixView<'_>, range: &[u64], start: usize, end:
     wrong.wrapping_add((matrix.quantile(start, end, k) != Answer::Absent) as usize)
 }
 
-/// How many quantiles of ranges are not those of a loop.
+/// How many quantiles of ranges differ from a loop's.
 fn wrong_quantiles(matrix: &MatrixView<'_>, numbers: &[u64]) -> usize {
     let mut wrong = 0usize;
     for start in 0..numbers.len() {
@@ -175,7 +175,7 @@ fn previous_of(numbers: &[u64], bound: u64) -> u64 {
     greatest
 }
 
-/// How many numbers of ranges beside bounds up to 9 are not those of a loop.
+/// How many numbers of ranges beside bounds up to 9 differ from a loop's.
 fn wrong_bounds(matrix: &MatrixView<'_>, numbers: &[u64]) -> usize {
     let mut wrong = 0usize;
     for start in 0..numbers.len() {

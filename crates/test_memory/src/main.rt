@@ -1,9 +1,8 @@
 //! Makes each call that takes memory, and prints how it ended.
 //!
-//! A line is `ok`, or `refused` where memory was refused to the call and what it was given is
-//! unharmed, or `unready` where memory was refused to what comes before the call; else it is `wrong`.
-//! The program itself takes no memory but in its calls. So where one of its requests is refused, just
-//! one line has to say so: else a call has overlooked it.
+//! A line is `ok`, or `refused` where memory was refused to the call and its arguments are unharmed, or `unready` where
+//! memory was refused to what comes before the call; else it is `wrong`. The program itself takes no memory but in its
+//! calls. So where one of its requests is refused, just one line has to say so: else a call has overlooked it.
 #![tactic(auto)]
 
 // What is in each file:

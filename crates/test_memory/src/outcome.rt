@@ -37,7 +37,7 @@ pub fn answered(right: bool) -> Outcome {
     }
 }
 
-/// The outcome of a call that was refused memory, and left what it was given as this says.
+/// The outcome of a call that was refused memory: whether its arguments are unharmed.
 pub fn refused(unharmed: bool) -> Outcome {
     if unharmed {
         Outcome::Refused

@@ -1,4 +1,4 @@
-//! The calls of a sequence that take memory, and those of its users.
+//! The calls of a sequence that take memory, and the calls of its users.
 use crate::outcome::{Ended, Outcome, answered, refused};
 use elias_fano::{EfError, EliasFano};
 use example_callers::inverted::common;

@@ -3,7 +3,7 @@ use bitm::CloneWords;
 use std::alloc::{AllocError, Global};
 use std::convert::AsSlice;
 
-/// Words for a copy of which memory is always refused.
+/// Words that can't be copied: memory for the copy is always refused.
 #[derive(Clone, Copy)]
 pub struct Uncopied<'a> {
     pub words: &'a [u64],

@@ -4,7 +4,7 @@ use std::alloc::{AllocError, AllocFailed};
 /// Why a line could not be replayed to its end. Such a line counts as a difference.
 #[derive(Clone, Copy)]
 pub enum Fault {
-    /// Its words are not those of its kind.
+    /// Its words are not the words of its kind.
     Malformed,
     /// It names words other than the last ones.
     OtherContent,

@@ -4,8 +4,8 @@ use crate::text;
 use crate::text::Base;
 use std::alloc::Global;
 
-/// The query whose answer differs from that of the original, or nothing where a line could not be replayed, why it
-/// counts as a difference, and the kind of its line with the line's number, the first being 1.
+/// The query whose answer differs from the original's, or nothing where a line could not be replayed, why it counts as
+/// a difference, and the kind of its line with the line's number, the first being 1.
 #[derive(Clone, Copy)]
 pub struct Difference<'a> {
     pub line: usize,
@@ -138,7 +138,8 @@ impl<'a> Found<'a> {
         Ok(())
     }
 
-    /// Compares a rank with its answer, or with the total where it is that of the exact length, which has no answer.
+    /// Compares a rank with its answer, or with the total where it is the rank of the exact length, which has no
+    /// answer.
     pub fn compare_rank(
         &mut self,
         argument: &'a str,

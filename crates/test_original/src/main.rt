@@ -16,7 +16,7 @@
 //! | `ones ID TOTAL` | the number of 1 bits |
 //! | `rank ID I:V..`, `rank0 ID I:V..` | 1 bits or 0 bits before position I, by `try_rank` and `try_rank0` |
 //! | `select ID R:V..`, `select0 ID R:V..` | the 1 bit or 0 bit with rank R, by `try_select` and `try_select0` |
-//! | `simple ID N..` | the 1 bits before each run of 512 bits, of which the last may be partial |
+//! | `simple ID N..` | the 1 bits before each run of 512 bits; the last run may be partial |
 //! | `l1 ID N..`, `l2 ID WORDS` | the upper and the lower table of an index |
 //! | `l2at ID J:WORD..` | entries J of the lower table, where it is long |
 //! | `samples ID KIND B D BEGINS / WORDS` | where the samples of bits B of each upper block start, and the samples |

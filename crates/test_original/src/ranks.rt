@@ -65,7 +65,7 @@ pub fn ones<'a>(
     compare_totals(alloc, words, theirs, found)
 }
 
-/// The number of 1 bits before each run of 512 bits, of which the last may be partial.
+/// The number of 1 bits before each run of 512 bits; the last run may be partial.
 fn table(alloc: Global, index: &RankSimple<&[u64]>) -> Result<Vec<u64>, AllocError>
     requires { IsShort index.now.now }
 {

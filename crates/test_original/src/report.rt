@@ -49,7 +49,7 @@ impl<'a> Report<'a> {
         }
     }
 
-    /// Adds what a line shows, of its differences as many as are to be printed.
+    /// Adds what a line shows, and its differences until enough are there to be printed.
     pub fn add(&mut self, found: Found<'a>) -> Result<(), AllocError> {
         self.tally(&found)?;
         self.at_length.add(found.at_length);

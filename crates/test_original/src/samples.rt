@@ -54,7 +54,7 @@ fn read_claim<'a>(
     Ok(claim)
 }
 
-/// Compares samples with those of a line.
+/// Compares samples with the samples of a line.
 fn compare_samples<'a>(
     alloc: Global,
     samples: List<'_>,
@@ -68,7 +68,7 @@ fn compare_samples<'a>(
     found.compare_entries(claim.samples, samples)
 }
 
-/// Compares the logarithm of a density, the numbers of samples before each part, and the samples with those of a line.
+/// Compares the logarithm of a density, the numbers of samples before each part, and the samples with a line.
 fn compare_kept<'a, D: CombinedSamplingDensity>(
     alloc: Global,
     kept: &CombinedSampling<D>,

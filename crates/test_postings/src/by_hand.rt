@@ -31,7 +31,7 @@ fn a_cursor_moves_forward_only(rt: HostRuntime) -> Result<(), Fail> {
     Ok(())
 }
 
-/// Three lists, of which 5 and 9 stand in each.
+/// Three lists; 5 and 9 stand in each.
 pub(crate) const LISTS: [&[u64]; 3] = [&[2, 5, 9, 9, 12], &[5, 7, 9, 12], &[1, 5, 9, 30]];
 
 /// Cursors at the first number of each list.

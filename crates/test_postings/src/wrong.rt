@@ -44,7 +44,7 @@ fn over<'a>(list: &'a [u64], calls: usize) -> Option<Breaking<'a>> {
     Some(Breaking { cursor, calls })
 }
 
-/// Cursors over `LISTS`, of which one breaks after the given number of calls.
+/// Cursors over `LISTS`; one breaks after the given number of calls.
 fn three_breaking<'a>(broken: usize, calls: usize) -> Option<[Breaking<'a>; 3]> {
     let of = |list: usize| if list == broken { calls } else { usize::MAX };
     let one = over(LISTS[0], of(0))?;

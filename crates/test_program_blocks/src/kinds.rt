@@ -4,7 +4,7 @@ use program_runs::Form;
 use std::process::Abort;
 use std::test::Fail;
 
-/// The questions to bits of which those at the positions 3, 9 and 100 are 1.
+/// The questions to bits with 1 bits at the positions 3, 9 and 100 alone.
 const BITS_QUESTIONS: &str = "get 3\nget 4\nget 100\nget 101\nget 18446744073709551615\n\
     rank 10\nrank 101\nrank 102\nrank0 10\nselect 0\nselect 2\nselect 3\nselect0 3\nselect0 98\n\
     next 4\nnext 101\nnext0 3\nprevious 8\nprevious 2\nprevious 1000\nprevious0 9\n";

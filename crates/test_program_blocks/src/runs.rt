@@ -94,9 +94,11 @@ fn other_bytes_are_a_wrong_block(rt: HostRuntime) -> Result<(), Fail> {
     let mut block = built(&rt, NUMBERS)?;
     let (text, mut out) = (b"get 0".as_slice(), Vec::new(rt.alloc()));
     for at in 0..block.len() {
-        // the first seven bytes are the letters of the mark, and the eighth the version, which becomes 2
+        // the first seven bytes are the letters of the mark, and the eighth the version, which becomes 5
         let flipped = if at < 7 {
             Failure::Unmarked
+        } else if at == 7 {
+            Failure::OtherVersion(5)
         } else {
             Failure::WrongBlock
         };
@@ -140,7 +142,7 @@ fn a_write_that_fails_is_told(rt: HostRuntime) -> Result<(), Fail> {
     Ok(())
 }
 
-/// Runs `start` and compares its status and what it writes.
+/// Runs `start` and compares its status and its output.
 fn expect_start(
     rt: &(impl Abort + Files + Input + AllocGlobal),
     args: (&str, &str),

@@ -21,13 +21,13 @@ fn expect_numbers(
 fn the_header_of_each_kind_of_numbers_is_said(rt: HostRuntime) -> Result<(), Fail> {
     let said = "kind bits\nlen 101\nwidth 0\nbytes 448\nbits_per_item 35.48\n";
     expect_numbers(&rt, Kind::Bits, "3\n9\n100", said)?;
-    let said = "kind sequence\nlen 5\nwidth 1\nbytes 512\nbits_per_item 819.20\n";
+    let said = "kind sequence\nlen 5\nwidth 1\nbytes 640\nbits_per_item 1024.00\n";
     expect_numbers(&rt, Kind::Sequence, "2\n3\n5\n5\n11", said)?;
-    let said = "kind sparse\nlen 3\nwidth 5\nbytes 512\nbits_per_item 1365.33\n";
+    let said = "kind sparse\nlen 3\nwidth 5\nbytes 640\nbits_per_item 1706.66\n";
     expect_numbers(&rt, Kind::Sparse, "3\n9\n100", said)?;
     let said = "kind matrix\nlen 6\nwidth 3\nbytes 640\nbits_per_item 853.33\n";
     expect_numbers(&rt, Kind::Matrix, "3\n1\n\n4\n1\n5\n1", said)?;
-    let said = "kind tree\nlen 4\nwidth 0\nbytes 448\nbits_per_item 896.00\n";
+    let said = "kind tree\nlen 4\nwidth 0\nbytes 512\nbits_per_item 1024.00\n";
     expect_numbers(&rt, Kind::Tree, "2\n0\n1\n0", said)?;
     let said = "kind bits\nlen 0\nwidth 0\nbytes 256\nbits_per_item none\n";
     expect_numbers(&rt, Kind::Bits, "", said)
@@ -52,9 +52,9 @@ fn the_header_of_strings_is_said(rt: HostRuntime) -> Result<(), Fail> {
 #[test]
 fn the_header_of_a_trie_is_said(rt: HostRuntime) -> Result<(), Fail> {
     let (degrees, labels) = ([2usize, 0, 1, 0], [97u64, 98, 101]);
-    let mut block = [0u64; 80];
+    let mut block = [0u64; 88];
     let _ = trie_block::build(&degrees, &labels, 8, &[0b1110], block.as_mut_slice());
-    let said = "kind trie\nlen 4\nwidth 8\nbytes 640\nbits_per_item 1280.00\n";
+    let said = "kind trie\nlen 4\nwidth 8\nbytes 704\nbits_per_item 1408.00\n";
     expect_said_of_block(&rt, block.as_slice(), said)
 }
 

@@ -1,4 +1,4 @@
-//! Runs with arguments, and what they write, over a source in memory that says what it holds.
+//! Runs with arguments, and what they write, over a source in memory whose bytes contracts know.
 ghost use Rattle.std.specs.Prelude.{◌≡◌, IfOk, None, Some, if◌then◌else◌};
 ghost use Rattle.std.specs.Str.{bytes_eq};
 ghost use Rattle.program_runs.specs.Known.{Known};
@@ -52,7 +52,7 @@ impl Sources for Held<'_> {
     }
 }
 
-/// Runs `start` over a file at the path `held.block`, and compares its status and what it writes.
+/// Runs `start` over a file at the path `held.block`, and compares its status and its output.
 fn expect_start(
     rt: &(impl Abort + AllocGlobal),
     file: &[u8],

@@ -11,7 +11,7 @@ use test_writers::Failing;
 /// What is written where the arguments are no command.
 const USAGE: &str = "usage: bitm strings build | bitm strings find [--json] BLOCK\n";
 
-/// Runs `start` with these arguments after `strings`, and compares its status and what it writes.
+/// Runs `start` with these arguments after `strings`, and compares its status and its output.
 fn expect_start(
     rt: &(impl Abort + Files + Input + AllocGlobal),
     args: &[&str],

@@ -1,4 +1,4 @@
-//! A source in memory, which says what it holds: over it the contract of `start` names the strings and the lines.
+//! A source in memory whose bytes contracts know: over it the contract of `start` names the strings and the lines.
 ghost use Rattle.std.specs.Prelude.{◌≡◌, IfOk, None, Some, if◌then◌else◌};
 ghost use Rattle.std.specs.Str.{bytes_eq};
 ghost use Rattle.program_runs.specs.Known.{Known};

@@ -12,7 +12,7 @@ const USAGE: &str = "usage: bitm text build | bitm text count PATTERN BLOCK | \
     bitm text locate PATTERN BLOCK | bitm text lines PATTERN BLOCK
 before PATTERN may stand --no-check and --json; -f FILE instead of PATTERN takes the lines of a file as patterns\n";
 
-/// Runs `start` with these arguments after `text`, and compares its status and what it writes.
+/// Runs `start` with these arguments after `text`, and compares its status and its output.
 fn expect_start(
     rt: &(impl Abort + Files + Input + AllocGlobal),
     args: &[&str],

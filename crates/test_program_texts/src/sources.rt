@@ -1,4 +1,4 @@
-//! A source in memory, which says what it holds: over it the contract of `start` names the text.
+//! A source in memory whose bytes contracts know: over it the contract of `start` names the text.
 ghost use Rattle.std.specs.Prelude.{None, Some, if◌then◌else◌};
 ghost use Rattle.std.specs.Str.{bytes_eq};
 ghost use Rattle.program_runs.specs.Known.{Known};
@@ -10,7 +10,7 @@ use std::alloc::{Alloc, Global};
 use std::process::Abort;
 use std::test::Fail;
 
-/// A file at a path, and no other; what it holds is the standard input too.
+/// A file at a path, and no other; its bytes are the standard input too.
 #[derive(Drop)]
 struct Held<'a> {
     alloc: Global,

@@ -5,6 +5,9 @@
 #![tactic(auto)]
 
 // What is in each file:
+// - `hints`: blocks with hints, without them, and with wrong ones
 // - `sequences`: the block of seven numbers
+#[cfg(test)]
+mod hints;
 #[cfg(test)]
 mod sequences;

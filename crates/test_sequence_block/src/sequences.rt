@@ -1,17 +1,17 @@
-//! The block of seven numbers: its words, its answers, and those of other words in its place.
+//! The block of seven numbers: its words, its answers, and the answers of other words in its place.
 use bitm_block::{Block, checksum_of};
 use sequence_block::{Answer, BuildError, LentSequence, build, check, open, size};
 use std::process::Abort;
 use std::test::Fail;
 
 /// The numbers of the block.
-const NUMBERS: [u64; 7] = [2, 3, 5, 7, 11, 13, 24];
+pub const NUMBERS: [u64; 7] = [2, 3, 5, 7, 11, 13, 24];
 
 /// Their block, as a program in Python made it from the tables of docs/FORMAT.md.
-const BLOCK: [u64; 64] = [
-    0x036261746d746962,
+pub const BLOCK: [u64; 80] = [
+    0x046261746d746962,
     0x0000000000000003,
-    0x0000000000000200,
+    0x0000000000000280,
     0x0000000000000007,
     0x0000000000000001,
     0x0000000000000000,
@@ -20,27 +20,35 @@ const BLOCK: [u64; 64] = [
     0x0000000000000000,
     0x0000000000000000,
     0x0000000000000000,
-    0x0000000000000004,
+    0x0000000000000005,
     0x0000000000000000,
     0x0000000000000000,
-    0x20ad70a9d843a330,
-    0xe15c736f3a69dbcc,
+    0xc0b91d17fdb7d694,
+    0x58bb0df21bf0b097,
     0x0000000000000001,
-    0x0000000000000100,
-    0x0000000000000001,
-    0xd6819a2dcdfd670e,
-    0x0000000000000002,
     0x0000000000000140,
     0x0000000000000001,
-    0x9e3779b9e17d05ac,
-    0x0000000000000003,
+    0x6167cdd58045d726,
+    0x0000000000000002,
     0x0000000000000180,
     0x0000000000000001,
-    0x8925764cf66f0a59,
-    0x0000000000000009,
+    0xa37da37158bd2c5f,
+    0x0000000000000003,
     0x00000000000001c0,
     0x0000000000000001,
-    0xefa6f4a6bcf27d8d,
+    0x88858817877cf213,
+    0x0000000000000009,
+    0x0000000000000200,
+    0x0000000000000001,
+    0x059cb294c469d5af,
+    0x0000000000000016,
+    0x0000000000000240,
+    0x0000000000000002,
+    0xb214668b4d20dab5,
+    0x0000000000000000,
+    0x0000000000000000,
+    0x0000000000000000,
+    0x0000000000000000,
     0x0000000000040a56,
     0x0000000000000000,
     0x0000000000000000,
@@ -73,6 +81,14 @@ const BLOCK: [u64; 64] = [
     0x0000000000000000,
     0x0000000000000000,
     0x0000000000000000,
+    0xffffffff00000001,
+    0xffffffff00000000,
+    0x0000000000000000,
+    0x0000000000000000,
+    0x0000000000000000,
+    0x0000000000000000,
+    0x0000000000000000,
+    0x0000000000000000,
 ];
 
 /// The number that was found, or 1000 for `Absent`, 1001 for `Wrong`.
@@ -94,7 +110,7 @@ fn place_of(answer: Answer<usize>) -> usize {
 }
 
 /// The numbers, and one after them.
-fn numbers(sequence: &LentSequence<'_>) -> [u64; 8] {
+pub fn numbers(sequence: &LentSequence<'_>) -> [u64; 8] {
     let mut all = [0u64; 8];
     for i in 0..8usize {
         all[i] = number_of(sequence.get(i));
@@ -103,7 +119,7 @@ fn numbers(sequence: &LentSequence<'_>) -> [u64; 8] {
 }
 
 /// The successors of 0, 8, 24 and 25, and the predecessors of 1, 2, 12 and 100.
-fn places(sequence: &LentSequence<'_>) -> [usize; 8] {
+pub fn places(sequence: &LentSequence<'_>) -> [usize; 8] {
     [
         place_of(sequence.first_at_least(0)),
         place_of(sequence.first_at_least(8)),
@@ -140,9 +156,9 @@ fn opened_prefixes(words: &[u64]) -> usize {
 
 #[test]
 fn numbers_are_written_and_answer(rt: HostRuntime) -> Result<(), Fail> {
-    assert!(rt; size(7, 24) == Some(64));
+    assert!(rt; size(7, 24) == Some(80));
     assert!(rt; size(1 << 56, 24).is_none());
-    let mut block = [0x5555_5555_5555_5555u64; 64];
+    let mut block = [0x5555_5555_5555_5555u64; 80];
     assert!(rt; build(NUMBERS.as_slice(), block.as_mut_slice()).is_ok());
     assert!(rt; block == BLOCK);
     assert!(rt; check(block.as_slice()));
@@ -185,20 +201,20 @@ fn other_words_are_no_sequence(rt: HostRuntime) -> Result<(), Fail> {
 
 #[test]
 fn a_wrong_length_is_told_before_numbers_that_fall(rt: HostRuntime) -> Result<(), Fail> {
-    let mut longer = [7u64; 64];
+    let mut longer = [7u64; 80];
     assert!(rt; build([3u64, 2].as_slice(), longer.as_mut_slice()) == Err(BuildError::WrongLength));
-    let mut block = [7u64; 56];
+    let mut block = [7u64; 72];
     assert!(rt; build([3u64, 2].as_slice(), block.as_mut_slice()) == Err(BuildError::NotSorted));
-    assert!(rt; longer == [7u64; 64] && block == [7u64; 56]);
+    assert!(rt; longer == [7u64; 80] && block == [7u64; 72]);
     Ok(())
 }
 
 #[test]
 fn nothing_is_written_where_there_is_no_block(rt: HostRuntime) -> Result<(), Fail> {
-    let mut block = [7u64; 64];
+    let mut block = [7u64; 80];
     assert!(rt;
-        build(NUMBERS.as_slice(), &mut block.as_mut_slice()[..56]) == Err(BuildError::WrongLength)
+        build(NUMBERS.as_slice(), &mut block.as_mut_slice()[..72]) == Err(BuildError::WrongLength)
     );
-    assert!(rt; block == [7u64; 64]);
+    assert!(rt; block == [7u64; 80]);
     Ok(())
 }

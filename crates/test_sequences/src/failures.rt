@@ -68,7 +68,7 @@ fn starts(
     is_status && is_out && err.as_slice() == err_text.as_bytes()
 }
 
-/// Runs `start` with these arguments and compares its status and what it writes.
+/// Runs `start` with these arguments and compares its status and its output.
 fn expect_start(
     rt: &(impl Abort + Files + AllocGlobal),
     words: &[&str],
@@ -103,7 +103,7 @@ fn start_ends_with_the_status_and_text_of_its_file(rt: HostRuntime) -> Result<()
 /// What `start` says where it cannot write.
 const CANNOT_WRITE: &str = "bitm_vectors: cannot write\n";
 
-/// What `start` answers over this writer, and what it writes to the other one.
+/// The answer of `start` over this writer, and its output to the other one.
 fn start_over(
     rt: &(impl Files + AllocGlobal),
     args: &[String],

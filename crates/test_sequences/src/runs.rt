@@ -34,7 +34,7 @@ fn column(alloc: Global, rows: &[(&str, &str)], of_answers: bool) -> Result<Stri
     Ok(text)
 }
 
-/// Compares the answers to an input with those of rows.
+/// Compares the answers to an input with the answers of rows.
 fn expect_rows(
     rt: &(impl Abort + AllocGlobal),
     input: &str,

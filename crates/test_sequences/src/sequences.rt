@@ -186,7 +186,7 @@ fn multiples(alloc: Global, count: u32) -> Result<Vec<u64>, AllocError> {
     Ok(items)
 }
 
-/// Whether each of the numbers, no two of which are equal, is found at its index.
+/// Whether each of the numbers, which all differ, is found at its index.
 fn each_is_found(sequence: &EliasFano, items: &[u64]) -> bool {
     for (i, x) in items.iter().enumerate() {
         if (sequence.try_get(i), sequence.first_at_least(*x)) != (Some(*x), Some(i)) {
@@ -209,7 +209,7 @@ fn each_of_many_numbers_is_found_at_its_place(rt: HostRuntime) -> Result<(), Fai
     Ok(())
 }
 
-/// Whether the searches for a number, all of which are that one, answer the first and the last index.
+/// Whether the searches for a number answer the first and the last index, where all numbers are that one.
 fn finds_ends(sequence: &EliasFano, value: u64, last: Option<usize>) -> bool {
     let found = (sequence.first_at_least(value), sequence.last_at_most(value));
     found == (Some(0), last) && sequence.contains(value)

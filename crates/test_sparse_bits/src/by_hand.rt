@@ -96,7 +96,7 @@ const NONE: Case<'static> = Case {
     zeros: &[(0, None)],
 };
 
-/// Whether both ranks of an index, and the bits that are read, are those of the rows.
+/// Whether both ranks of an index, and the bits that are read, match the rows.
 fn ranks_agree<I: Access>(bits: &I, case: &Case<'_>) -> bool {
     let mut agrees = bits.len() == case.len;
     for (index, ones) in case.ranks {
@@ -112,7 +112,7 @@ fn ranks_agree<I: Access>(bits: &I, case: &Case<'_>) -> bool {
     agrees
 }
 
-/// Whether selections of both kinds are those of the rows.
+/// Whether selections of both kinds match the rows.
 fn selections_agree<I: Select + Select0>(bits: &I, case: &Case<'_>) -> bool {
     let mut agrees = true;
     for (rank, place) in case.ones {

@@ -21,7 +21,7 @@ fn draw(state: &mut u64) -> u64 {
     x
 }
 
-/// Writes words of which each bit is a 1 bit by chance, one of `apart` of them.
+/// Writes words where each bit is a 1 bit by chance, one bit of `apart`.
 fn draw_words(words: &mut [u64], apart: u64) {
     let mut state = 88_172_645_463_325_252;
     for k in 0..words.len() {

@@ -1,4 +1,4 @@
-//! The block of four 1 bits among 5000: its words, its answers, and those of other words in its place.
+//! The block of four 1 bits among 5000: its words, its answers, and the answers of other words in its place.
 use bitm_block::{Block, checksum_of};
 use sparse_block::{Answer, BuildError, SparseView, build, check, size};
 use std::process::Abort;
@@ -8,10 +8,10 @@ use std::test::Fail;
 const POSITIONS: [u64; 4] = [3, 100, 101, 4000];
 
 /// Their block, as a program in Python made it from the tables of docs/FORMAT.md.
-const BLOCK: [u64; 64] = [
-    0x036261746d746962,
+const BLOCK: [u64; 80] = [
+    0x046261746d746962,
     0x0000000000000004,
-    0x0000000000000200,
+    0x0000000000000280,
     0x0000000000000004,
     0x0000000000000009,
     0x0000000000000000,
@@ -20,27 +20,35 @@ const BLOCK: [u64; 64] = [
     0x0000000000000000,
     0x0000000000001388,
     0x0000000000000000,
-    0x0000000000000004,
+    0x0000000000000005,
     0x0000000000000000,
     0x0000000000000000,
-    0x61538fd0bcef7873,
-    0xeff4edd143b6ca1e,
+    0x1ce2a7803ff017ac,
+    0xe8904e17a99dd6ce,
     0x0000000000000001,
-    0x0000000000000100,
-    0x0000000000000001,
-    0x9333c056b69cfc28,
-    0x0000000000000002,
     0x0000000000000140,
     0x0000000000000001,
-    0x9e3779b9e17d05ac,
-    0x0000000000000003,
+    0xa56b82b3991bbbc0,
+    0x0000000000000002,
     0x0000000000000180,
     0x0000000000000001,
-    0xffe40a0d80ae7618,
-    0x0000000000000009,
+    0xa37da37158bd2c5f,
+    0x0000000000000003,
     0x00000000000001c0,
     0x0000000000000001,
-    0x230d0d8223a46da8,
+    0xbe90b554423902f2,
+    0x0000000000000009,
+    0x0000000000000200,
+    0x0000000000000001,
+    0xbebb8afc9acd2f71,
+    0x0000000000000016,
+    0x0000000000000240,
+    0x0000000000000002,
+    0x0d41f1b7dac9fee7,
+    0x0000000000000000,
+    0x0000000000000000,
+    0x0000000000000000,
+    0x0000000000000000,
     0x0000000000000407,
     0x0000000000000000,
     0x0000000000000000,
@@ -67,6 +75,14 @@ const BLOCK: [u64; 64] = [
     0x0000000000000000,
     0x0000000d0194c803,
     0x0000000000000000,
+    0x0000000000000000,
+    0x0000000000000000,
+    0x0000000000000000,
+    0x0000000000000000,
+    0x0000000000000000,
+    0x0000000000000000,
+    0xffffffff00000000,
+    0xffffffff00000003,
     0x0000000000000000,
     0x0000000000000000,
     0x0000000000000000,
@@ -181,8 +197,8 @@ fn unseen_flips(words: &mut [u64]) -> usize {
 
 #[test]
 fn positions_are_written_and_answer(rt: HostRuntime) -> Result<(), Fail> {
-    assert!(rt; size(4, 4000) == Some(64));
-    let mut block = [7u64; 64];
+    assert!(rt; size(4, 4000) == Some(80));
+    let mut block = [7u64; 80];
     assert!(rt; build(POSITIONS.as_slice(), 5000, block.as_mut_slice()) == Ok(()));
     assert!(rt; block == BLOCK);
     assert!(rt; check(block.as_slice()));
@@ -208,7 +224,7 @@ fn positions_are_written_and_answer(rt: HostRuntime) -> Result<(), Fail> {
 fn each_flipped_bit_is_seen(rt: HostRuntime) -> Result<(), Fail> {
     let mut words = BLOCK;
     assert!(rt; unseen_flips(words.as_mut_slice()) == 0);
-    for len in 0..64usize {
+    for len in 0..80usize {
         assert!(rt; SparseView::open(&BLOCK.as_slice()[..len]).is_none());
     }
     Ok(())
@@ -244,23 +260,23 @@ fn other_words_are_no_sparse_bits(rt: HostRuntime) -> Result<(), Fail> {
 
 #[test]
 fn nothing_is_written_where_there_is_no_block(rt: HostRuntime) -> Result<(), Fail> {
-    let mut block = [7u64; 64];
+    let mut block = [7u64; 80];
     let all = block.as_mut_slice();
-    assert!(rt; build([3u64, 3].as_slice(), 5000, &mut all[..56]) == Err(BuildError::NotRising));
-    assert!(rt; build([3u64, 3].as_slice(), 2, &mut all[..56]) == Err(BuildError::NotRising));
+    assert!(rt; build([3u64, 3].as_slice(), 5000, &mut all[..72]) == Err(BuildError::NotRising));
+    assert!(rt; build([3u64, 3].as_slice(), 2, &mut all[..72]) == Err(BuildError::NotRising));
     assert!(rt; build(POSITIONS.as_slice(), 4000, &mut *all) == Err(BuildError::PastEnd));
     // whatever the positions are, a wrong length comes first
-    assert!(rt; build(POSITIONS.as_slice(), 5000, &mut all[..56]) == Err(BuildError::WrongLength));
-    assert!(rt; build(POSITIONS.as_slice(), 4000, &mut all[..56]) == Err(BuildError::WrongLength));
+    assert!(rt; build(POSITIONS.as_slice(), 5000, &mut all[..72]) == Err(BuildError::WrongLength));
+    assert!(rt; build(POSITIONS.as_slice(), 4000, &mut all[..72]) == Err(BuildError::WrongLength));
     assert!(rt; build([3u64, 3].as_slice(), 2, &mut *all) == Err(BuildError::WrongLength));
-    assert!(rt; block == [7u64; 64]);
+    assert!(rt; block == [7u64; 80]);
     Ok(())
 }
 
 #[test]
 fn all_bits_and_none(rt: HostRuntime) -> Result<(), Fail> {
-    let mut block = [0u64; 56];
-    assert!(rt; size(3, 2) == Some(56));
+    let mut block = [0u64; 72];
+    assert!(rt; size(3, 2) == Some(72));
     assert!(rt; build([0u64, 1, 2].as_slice(), 3, block.as_mut_slice()) == Ok(()));
     let Some(bits) = SparseView::open(block.as_slice()) else {
         assert!(rt; false, "not opened");

@@ -1,4 +1,4 @@
-//! Hashes of strings beside those of Rust's standard library.
+//! Hashes of strings beside the hashes of Rust's standard library.
 use std::process::Abort;
 use std::test::Fail;
 use string_block::{hash, hashes};

@@ -1,6 +1,6 @@
-//! The block of five strings: its words, its answers, and those of other words in its place.
+//! The block of five strings: its words, its answers, and the answers of other words in its place.
 use crate::blocks::{BLOCK, FNV_BLOCK};
-use bitm_block::checksum_of;
+use bitm_block::checksum_in;
 use hash_block::{Added, HashView, build_of};
 use perfect_hash::build as build_hash;
 use std::process::Abort;
@@ -61,10 +61,11 @@ fn unseen_flips(words: &mut [u64]) -> usize {
 
 /// Writes the right checksums of the sections after the first, of the directory and of the header.
 fn sum_up(words: &mut [u64; 112]) {
-    words[23] = checksum_of(&words.as_slice()[96..102]);
-    words[27] = checksum_of(&words.as_slice()[104..107]);
-    words[14] = checksum_of(&words.as_slice()[16..32]);
-    words[15] = checksum_of(&words.as_slice()[..15]);
+    let version = words[0] >> 56;
+    words[23] = checksum_in(version, &words.as_slice()[96..102]);
+    words[27] = checksum_in(version, &words.as_slice()[104..107]);
+    words[14] = checksum_in(version, &words.as_slice()[16..32]);
+    words[15] = checksum_in(version, &words.as_slice()[..15]);
 }
 
 /// Whether strings that end at the given places are written, and why not.

@@ -1,4 +1,4 @@
-//! Tests of what no clause says: that keys are numbered where there is memory, and which error comes of which keys.
+//! Tests of what no clause says: that keys are numbered where there is memory, and which keys cause which error.
 use bitm::{ArrayWithRank101111, GetSize};
 use perfect_hash::{
     BuildError, Dictionary, Grouped, KeyHash, PerfectHash, Placing, Plain, Seeded, SeededBytes,
@@ -45,7 +45,7 @@ fn differ<H: KeyHash<u64>, P: Placing>(numbers: &Numbers<H, P>, keys: &[u64]) ->
     true
 }
 
-/// How many bytes the perfect hash of these keys takes, each of which has its own number below their count; `None`
+/// How many bytes the perfect hash of these keys takes, where each key has its own number below their count; `None`
 /// where they are refused, or two of them have one number.
 fn numbered<H: KeyHash<u64> + Drop, P: Placing + GetSize>(
     alloc: Global,

@@ -176,8 +176,8 @@ fn is_walked_up<S: SelectForRank101111, S0: Select0ForRank101111>(
     agrees
 }
 
-/// Whether the nodes of a tree of `len` nodes, at most 1100, each of which has `width` children while there are nodes
-/// left, do so.
+/// Whether the nodes of a tree do so, of `len` nodes, at most 1100, where each has `width` children while there are
+/// nodes left.
 fn wide_agrees(alloc: Global, len: usize, width: usize) -> bool {
     let mut all = [0usize; 1100];
     let mut known = 1usize;

@@ -1,4 +1,4 @@
-//! Blocks that are checked: those of a program in Python are accepted, and changed ones refused.
+//! Blocks that are checked: the blocks of a program in Python are accepted, and changed ones refused.
 use crate::banana::banana;
 use crate::empty::empty;
 use crate::mississippi::mississippi;
@@ -8,7 +8,7 @@ use std::process::Abort;
 use std::test::Fail;
 use text_block::TextView;
 
-/// Whether a block is opened, and what it holds checked.
+/// Whether a block is opened, and its parts checked.
 fn is_accepted(words: &[u64]) -> bool {
     TextView::open_checked(words).is_some()
 }

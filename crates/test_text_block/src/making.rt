@@ -1,5 +1,5 @@
-//! Blocks that are written from the text itself: those of a program in Python word for word, those of `write` of an
-//! index, and what an error leaves.
+//! Blocks that are written from the text itself: the same as of a program in Python, word for word, and as `write` of
+//! an index writes, and what an error leaves.
 
 ghost use Rattle.std.specs.Prelude.{◌≤◌};
 
@@ -63,7 +63,7 @@ fn the_words_of_the_format_are_built(rt: HostRuntime) -> Result<(), Fail> {
     Ok(())
 }
 
-/// Whether the block that is built is that of an index.
+/// Whether the block that is built is the block of an index.
 fn is_as_written(alloc: Global, text: &[u64], letters: u32, step: u32) -> Result<bool, Fail>
     requires { 1 ≤ step }
 {

@@ -1,4 +1,4 @@
-//! Blocks that are written: those of a program in Python word for word, and others that hold their text.
+//! Blocks that are written: the same as of a program in Python, word for word, and others that hold their text.
 ghost use Rattle.std.specs.Prelude.{◌≤◌};
 
 use crate::empty::empty;
@@ -47,7 +47,7 @@ fn the_words_of_the_format_are_written(rt: HostRuntime) -> Result<(), Fail> {
     Ok(())
 }
 
-/// How many lengths up to that of the words are refused, with no word changed.
+/// How many lengths up to the number of words are refused, with no word changed.
 fn refused(index: &TextIndex, words: &mut [u64]) -> usize {
     let mut refused = 0usize;
     for len in 0..words.len() {
@@ -106,7 +106,7 @@ fn sizes_of_bytes_are_those_of_the_sections(rt: HostRuntime) -> Result<(), Fail>
     Ok(())
 }
 
-/// Whether the letters are those of the text in a block.
+/// Whether the letters are the letters of the text in a block.
 fn is_text(view: &TextView<'_>, text: &[u64], letters: &mut [u64]) -> bool {
     let whole = match view.extract(0, &mut *letters) {
         Answer::Found(count) => count == text.len(),

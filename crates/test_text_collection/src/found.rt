@@ -18,7 +18,7 @@ fn is_in(documents: &[&[u64]], d: usize, pattern: &[u64]) -> bool {
     d < documents.len() && walk(&documents[d..d + 1], pattern) > 0
 }
 
-/// Whether the 1 bits are those of the documents in which a walk finds the pattern, and how many these are.
+/// Whether the 1 bits mark the documents in which a walk finds the pattern, and the count is right.
 fn are_marked(documents: &[&[u64]], pattern: &[u64], words: &[u64], count: usize) -> bool {
     let mut expected = 0usize;
     let mut right = true;
@@ -30,7 +30,7 @@ fn are_marked(documents: &[&[u64]], pattern: &[u64], words: &[u64], count: usize
     right && count == expected
 }
 
-/// Whether a collection of at most 192 documents finds those of a pattern, over words that held something else.
+/// Whether a collection of at most 192 documents finds the documents of a pattern, over words that held something else.
 fn finds_documents(collection: &TextCollection, documents: &[&[u64]], pattern: &[u64]) -> bool {
     let mut words = [u64::MAX; 3];
     let len = collection.len().div_ceil(64);

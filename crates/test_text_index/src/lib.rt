@@ -1,5 +1,5 @@
 //! Tests of a text index beside a walk over the text: that a text is indexed where there is memory, that its suffixes
-//! are sorted by induction, of which no clause speaks, and counts worked out by hand.
+//! are sorted by induction, which no clause says, and counts worked out by hand.
 //!
 //! They stand in a crate of their own, since a crate with tests is proved twice.
 #![tactic(auto)]

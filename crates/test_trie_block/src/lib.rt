@@ -5,8 +5,11 @@
 #![tactic(auto)]
 
 // What is in each file:
+// - `hints`: the block of a small trie with hints, without them, and with wrong ones
 // - `tries`: the block of a small trie
 // - `words`: the trie of a few words
+#[cfg(test)]
+mod hints;
 #[cfg(test)]
 mod tries;
 #[cfg(test)]

@@ -1,4 +1,4 @@
-//! The block of a small trie: its words, its answers, and those of other words in its place.
+//! The block of a small trie: its words, its answers, and the answers of other words in its place.
 use bitm_block::{Block, checksum_of};
 use std::process::Abort;
 use std::test::Fail;
@@ -6,10 +6,10 @@ use trie_block::{Answer, BuildError, TrieView, build, size};
 
 /// The block of the words a, b and be, as a program in Python made it from the tables of docs/FORMAT.md: the tree of
 /// the degrees 2, 0, 1, 0, labels of eight bits, and an end at each node but the root.
-const TRIE: [u64; 80] = [
-    0x036261746d746962,
+pub(crate) const TRIE: [u64; 88] = [
+    0x046261746d746962,
     0x0000000000000009,
-    0x0000000000000280,
+    0x00000000000002c0,
     0x0000000000000004,
     0x0000000000000008,
     0x0000000000000000,
@@ -18,35 +18,35 @@ const TRIE: [u64; 80] = [
     0x0000000000000000,
     0x0000000000000000,
     0x0000000000000000,
-    0x0000000000000005,
+    0x0000000000000006,
     0x0000000000000000,
     0x0000000000000000,
-    0x49dae468564c6745,
-    0xf1b2bbb9f11f18eb,
+    0x34d8545cbbf7289b,
+    0xd80f5fc2310b4c29,
     0x0000000000000001,
     0x0000000000000140,
     0x0000000000000001,
-    0xf87823113264f52d,
+    0xd2d2ed26aa6d69ac,
     0x0000000000000002,
     0x0000000000000180,
     0x0000000000000001,
-    0x9e3779b9e17d05ac,
+    0xa37da37158bd2c5f,
     0x0000000000000003,
     0x00000000000001c0,
     0x0000000000000001,
-    0xffe40a0d80ae7618,
+    0xbe90b554423902f2,
     0x0000000000000011,
     0x0000000000000200,
     0x0000000000000001,
-    0x9795e0ada422714d,
+    0x0119d2c400af308f,
     0x0000000000000012,
     0x0000000000000240,
     0x0000000000000001,
-    0x454021de301d64e5,
-    0x0000000000000000,
-    0x0000000000000000,
-    0x0000000000000000,
-    0x0000000000000000,
+    0x3acc325e5809a243,
+    0x0000000000000016,
+    0x0000000000000280,
+    0x0000000000000002,
+    0x2870b15f95c54a72,
     0x000000000000004d,
     0x0000000000000000,
     0x0000000000000000,
@@ -87,6 +87,14 @@ const TRIE: [u64; 80] = [
     0x0000000000000000,
     0x0000000000000000,
     0x0000000000000000,
+    0xffffffff00000000,
+    0xffffffff00000001,
+    0x0000000000000000,
+    0x0000000000000000,
+    0x0000000000000000,
+    0x0000000000000000,
+    0x0000000000000000,
+    0x0000000000000000,
 ];
 
 /// The number that was found, or 1000 for `Absent`, 1001 for `Wrong`.
@@ -117,7 +125,7 @@ fn told_end(answer: Answer<bool>) -> usize {
 }
 
 /// The label, the end and the children by four labels of the four nodes and of one more.
-fn answers(trie: &TrieView<'_>) -> [usize; 30] {
+pub(crate) fn answers(trie: &TrieView<'_>) -> [usize; 30] {
     let mut all = [0usize; 30];
     for node in 0..5usize {
         all[node] = told_label(trie.label(node));
@@ -131,7 +139,7 @@ fn answers(trie: &TrieView<'_>) -> [usize; 30] {
 }
 
 /// Whether each child is after its node, and one of the four.
-fn are_within(all: &[usize]) -> bool {
+pub(crate) fn are_within(all: &[usize]) -> bool {
     let mut within = all.len() == 30;
     for i in 0..20usize {
         if all.len() == 30 {
@@ -164,9 +172,9 @@ fn unseen_flips(words: &mut [u64]) -> usize {
 
 #[test]
 fn a_trie_is_written_and_answers(rt: HostRuntime) -> Result<(), Fail> {
-    assert!(rt; size(4, 8, true) == Some(80));
+    assert!(rt; size(4, 8, true) == Some(88));
     assert!(rt; size(4, 64, true).is_none());
-    let mut block = [0x5555_5555_5555_5555u64; 80];
+    let mut block = [0x5555_5555_5555_5555u64; 88];
     assert!(rt;
         build(
             [2usize, 0, 1, 0].as_slice(),
@@ -281,7 +289,7 @@ fn labels_that_do_not_rise_are_seen_by_check(rt: HostRuntime) -> Result<(), Fail
 #[test]
 fn each_length_cut_off_is_refused(rt: HostRuntime) -> Result<(), Fail> {
     let words = TRIE;
-    for len in 0..80usize {
+    for len in 0..88usize {
         assert!(rt; TrieView::open(&words.as_slice()[..len]).is_none());
     }
     Ok(())
@@ -307,7 +315,7 @@ fn refused(
     ends: &[u64],
     len: usize,
 ) -> Option<BuildError> {
-    let mut words = [7u64; 80];
+    let mut words = [7u64; 88];
     let words = words.as_mut_slice();
     if len > words.len() {
         return None;
@@ -332,28 +340,28 @@ fn no_trie_is_written_where_there_is_none(rt: HostRuntime) -> Result<(), Fail> {
     let labels = labels.as_slice();
     let ends = [14u64];
     let ends = ends.as_slice();
-    assert!(rt; refused(degrees, labels, 0, ends, 80) == Some(BuildError::WrongWidth));
-    assert!(rt; refused(degrees, labels, 64, ends, 80) == Some(BuildError::WrongWidth));
+    assert!(rt; refused(degrees, labels, 0, ends, 88) == Some(BuildError::WrongWidth));
+    assert!(rt; refused(degrees, labels, 64, ends, 88) == Some(BuildError::WrongWidth));
     let own = [1usize, 1];
     let own = own.as_slice();
     let label = [97u64];
     let label = label.as_slice();
-    assert!(rt; refused(own, label, 8, ends, 80) == Some(BuildError::NotATree));
-    assert!(rt; refused(degrees, labels, 6, ends, 80) == Some(BuildError::NotLabels));
+    assert!(rt; refused(own, label, 8, ends, 88) == Some(BuildError::NotATree));
+    assert!(rt; refused(degrees, labels, 6, ends, 88) == Some(BuildError::NotLabels));
     assert!(rt;
-        refused(degrees, [97u64, 97, 1].as_slice(), 8, ends, 80) == Some(BuildError::NotLabels)
+        refused(degrees, [97u64, 97, 1].as_slice(), 8, ends, 88) == Some(BuildError::NotLabels)
     );
     assert!(rt;
-        refused(degrees, [97u64, 98].as_slice(), 8, ends, 80) == Some(BuildError::WrongLabels)
+        refused(degrees, [97u64, 98].as_slice(), 8, ends, 88) == Some(BuildError::WrongLabels)
     );
     // whatever the degrees and the labels are, a wrong length comes first
-    assert!(rt; refused(own, labels, 8, ends, 80) == Some(BuildError::WrongLabels));
-    assert!(rt; refused(own, label, 8, [2u64, 0].as_slice(), 80) == Some(BuildError::WrongEnds));
-    assert!(rt; refused(own, label, 8, ends, 79) == Some(BuildError::WrongLength));
-    assert!(rt; refused(degrees, labels, 6, ends, 79) == Some(BuildError::WrongLength));
+    assert!(rt; refused(own, labels, 8, ends, 88) == Some(BuildError::WrongLabels));
+    assert!(rt; refused(own, label, 8, [2u64, 0].as_slice(), 88) == Some(BuildError::WrongEnds));
+    assert!(rt; refused(own, label, 8, ends, 87) == Some(BuildError::WrongLength));
+    assert!(rt; refused(degrees, labels, 6, ends, 87) == Some(BuildError::WrongLength));
     assert!(rt;
-        refused(degrees, labels, 8, [14u64, 0].as_slice(), 80) == Some(BuildError::WrongEnds)
+        refused(degrees, labels, 8, [14u64, 0].as_slice(), 88) == Some(BuildError::WrongEnds)
     );
-    assert!(rt; refused(degrees, labels, 8, ends, 79) == Some(BuildError::WrongLength));
+    assert!(rt; refused(degrees, labels, 8, ends, 87) == Some(BuildError::WrongLength));
     Ok(())
 }

@@ -59,8 +59,8 @@ fn told(trie: &TrieView<'_>, word: &[u8]) -> usize {
 #[test]
 fn a_block_of_words_finds_them(rt: HostRuntime) -> Result<(), Fail> {
     let mut scratch = [7u64; 26];
-    let mut block = [7u64; 80];
-    assert!(rt; size(9, 8, true) == Some(80));
+    let mut block = [7u64; 88];
+    assert!(rt; size(9, 8, true) == Some(88));
     assert!(rt;
         build(
             BYTES.as_slice(),
@@ -129,15 +129,15 @@ fn what_are_no_sorted_words_is_refused(rt: HostRuntime) -> Result<(), Fail> {
     let starts = [1usize, 2, 3];
     let starts = starts.as_slice();
     let mut scratch = [7u64; 8];
-    let mut words = [7u64; 80];
+    let mut words = [7u64; 88];
     let (room, block) = (scratch.as_mut_slice(), words.as_mut_slice());
     assert!(rt; build(bytes, starts, &mut *room, &mut *block) == Err(WordsError::NotSorted));
     assert!(rt; build(bytes, starts, &mut room[..7], &mut *block) == Err(WordsError::WrongLength));
-    assert!(rt; build(bytes, starts, &mut *room, &mut block[..72]) == Err(WordsError::WrongLength));
+    assert!(rt; build(bytes, starts, &mut *room, &mut block[..80]) == Err(WordsError::WrongLength));
     let starts = [0usize, 5];
     let refused = build(bytes, starts.as_slice(), &mut room[..7], &mut *block);
     assert!(rt; refused == Err(WordsError::NotWords));
-    assert!(rt; words == [7u64; 80]);
+    assert!(rt; words == [7u64; 88]);
     Ok(())
 }
 

@@ -22,7 +22,7 @@ fn keys(alloc: Global, count: usize) -> Result<Vec<u64>, AllocError> {
     Ok(keys)
 }
 
-/// Adds up the numbers of the keys, `AT_ONCE` of which one call looks up.
+/// Adds up the numbers of the keys; one call looks up `AT_ONCE` keys.
 fn sum_of_many<P: Placing>(made: &Hash<P>, keys: &[u64]) -> usize {
     let mut numbers = [0usize; AT_ONCE];
     let mut sum = 0usize;

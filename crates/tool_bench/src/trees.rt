@@ -98,7 +98,7 @@ fn parent_of(tree: &SampledLouds, node: Node) -> Option<Node>
     tree.parent_of(node)
 }
 
-/// The first child of a node, likewise.
+/// The first child of a node, as a call of its own.
 #[inline(never)]
 fn child_of(tree: &SampledLouds, node: Node) -> Option<Node>
     requires { IsNode tree.now.degrees node }

@@ -1,3 +1,4 @@
 pub mod BlockLemmas
 pub mod LabelLemmas
 pub mod RiseLemmas
+pub mod ViewLemmas

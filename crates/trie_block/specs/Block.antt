@@ -1,16 +1,16 @@
 -- A block that holds a trie: a tree, a label for each node but the root, and a bit for each node.
 use Rattle.std.specs.Prelude.{◌≡◌, ◌≢◌, ◌⊎◌, ℕ, ◌-◌, ◌^◌, ◌<◌, ◌≤◌, List, [], ◌∷◌, length, slice_index}
 use Rattle.std.specs.Int.{div_ceil}
-use Rattle.bitm_block.specs.Header.{count_in, section_in, IsBlock, IsVerified}
+use Rattle.bitm_block.specs.Header.{section_in, IsBlock, IsOfKind, IsVerified}
 use Rattle.bitm_block.specs.Layout.{end_of, part_in}
 use Rattle.bitm_block.specs.declared.head.Head.{Head}
 use Rattle.bitm_block.specs.declared.layout.Section.{Section}
 use Rattle.block_tables.specs.Sections.{section_of}
-use Rattle.louds.specs.Counted.{degrees_in, IsLouds}
+use Rattle.louds.specs.Counted.{degrees_in}
 use Rattle.louds.specs.Held.{tree_words}
 use Rattle.louds.specs.Labels.{AreLabels, Rise}
 use Rattle.louds.specs.Tree.{IsTree}
-use Rattle.louds_block.specs.Block.{lower_of_nodes, tree_in, upper_of_nodes, HasLengths, IsTreeOf, TreeParts}
+use Rattle.louds_block.specs.Block.{hints_of_nodes, lower_of_nodes, tree_with_hints, upper_of_nodes, HasLengths, HoldsIn, IsTreeOf, TreeParts}
 use Rattle.trie_block.specs.Labels.{label_words, labels_of, IsLabelWidth, IsShape}
 use Rattle.trie_block.specs.declared.error.BuildError.{BuildError}
 use Rattle.trie_block.specs.declared.error.BuildError.TheVariants.{TooLong, WrongWidth, WrongLabels, WrongEnds, WrongLength, NotATree, NotLabels}
@@ -27,11 +27,11 @@ HasWordEnds ends n = (length ends ≡ 0) ⊎ (length ends ≡ end_words n)
 abbrev pub trie_head : ℕ → ℕ → Head
 trie_head n width = record { kind = 9; len = n; width = width; ones_log2 = 0; zeros_log2 = 0; a = 0; b = 0; c = 0 }
 
--- its sections: the three of its tree, labels, and ends in the given number of words
+-- its sections: the first three of its tree, labels, ends in the given number of words, and the hints of the tree
 abbrev pub trie_sections : ℕ → ℕ → ℕ → List Section
 trie_sections n width ends =
     section_of 1 (tree_words n) ∷ section_of 2 (upper_of_nodes n) ∷ section_of 3 (lower_of_nodes n) ∷ section_of 17 (label_words n width)
-    ∷ section_of 18 ends ∷ []
+    ∷ section_of 18 ends ∷ section_of 22 (hints_of_nodes n) ∷ []
 
 -- a tree, the words of its labels, the bits of a label, and the words of its ends: bit v of these says whether a word ends
 -- at node v
@@ -44,9 +44,9 @@ pub record TrieParts : Type 0 where
 abbrev pub trie_of : TreeParts → List ℕ → ℕ → List ℕ → TrieParts
 trie_of tree labels width ends = record { tree = tree; labels = labels; width = width; ends = ends }
 
--- the trie whose parts are the first five sections
+-- the trie whose parts are the first five sections, with the hints of the sixth, or none
 abbrev pub trie_in : List ℕ → TrieParts
-trie_in block = trie_of (tree_in block) (section_in block 3) (slice_index block 4) (section_in block 4)
+trie_in block = trie_of (tree_with_hints block 5) (section_in block 3) (slice_index block 4) (section_in block 4)
 
 -- the degrees and the labels of the nodes that the parts hold
 abbrev pub degrees_of_parts : TrieParts → List ℕ
@@ -63,14 +63,8 @@ pub record HasTrieLengths (parts : TrieParts) : Type 0 where
   pub ends_len : HasWordEnds parts.ends parts.tree.len
 
 -- the block is of the kind of a trie, and its first five sections are those of one
-pub record HasTrieSections (block : List ℕ) : Type 0 where
-  pub kind : slice_index block 1 ≡ 9
-  pub five : 5 ≤ count_in block
-  pub words : slice_index block 16 ≡ 1
-  pub upper : slice_index block 20 ≡ 2
-  pub lower : slice_index block 24 ≡ 3
-  pub labels : slice_index block 28 ≡ 17
-  pub ends : slice_index block 32 ≡ 18
+abbrev pub HasTrieSections : List ℕ → Type 0
+HasTrieSections block = IsOfKind 9 (1 ∷ 2 ∷ 3 ∷ 17 ∷ 18 ∷ []) block
 
 -- header and directory are right, and the sections are as long as those of the number of nodes
 pub record IsTrieBlock (block : List ℕ) : Type 0 where
@@ -78,9 +72,9 @@ pub record IsTrieBlock (block : List ℕ) : Type 0 where
   pub sections : HasTrieSections block
   pub lengths : HasTrieLengths (trie_in block)
 
--- the parts hold a tree, and the labels of siblings rise
+-- the parts hold a tree, with the hints of its words or none, and the labels of siblings rise
 pub record HoldsTrie (parts : TrieParts) : Type 0 where
-  pub tree : IsLouds parts.tree.len parts.tree.lists
+  pub tree : HoldsIn parts.tree
   pub rise : Rise (degrees_of_parts parts) (labels_of_parts parts)
 
 -- the block is as it was written, and holds a trie
@@ -128,8 +122,8 @@ pub record AreLabelsOf (degrees labels : List ℕ) (width : ℕ) (words : List �
   pub held : labels_of words width (length degrees) ≡ 0 ∷ labels
 
 -- the parts of this trie
-pub record AreParts (degrees labels : List ℕ) (width : ℕ) (ends words upper lower label_part end_part : List ℕ) : Type 0 where
-  pub tree : IsTreeOf degrees words upper lower
+pub record AreParts (degrees labels : List ℕ) (width : ℕ) (ends words upper lower label_part end_part hints : List ℕ) : Type 0 where
+  pub tree : IsTreeOf degrees words upper lower hints
   pub labels_held : AreLabelsOf degrees labels width label_part
   pub ends_kept : end_part ≡ ends
 
@@ -138,6 +132,7 @@ abbrev pub StandsIn : List ℕ → List ℕ → ℕ → List ℕ → List ℕ �
 StandsIn degrees labels width ends block =
     let ss = trie_sections (length degrees) width (length ends) in
     AreParts degrees labels width ends (part_in ss block 0) (part_in ss block 1) (part_in ss block 2) (part_in ss block 3) (part_in ss block 4)
+    (part_in ss block 5)
 
 -- the block is that of this trie
 pub record IsBlockOf (degrees labels : List ℕ) (width : ℕ) (ends block : List ℕ) : Type 0 where

@@ -30,11 +30,13 @@ fn write_parts(degrees: &[usize], labels: &[u64], width: u8, ends: &[u64], block
     let (upper, _gap) = room.split_at_mut(lens.upper);
     let (room, rest) = rest.split_at_mut(aligned(lens.lower));
     let (lower, _gap) = room.split_at_mut(lens.lower);
-    write_tree(degrees, words, upper, lower);
     let (room, rest) = rest.split_at_mut(aligned(labels_len));
     let (label_part, _gap) = room.split_at_mut(labels_len);
+    let (room, rest) = rest.split_at_mut(aligned(ends.len()));
+    let (end_part, _gap) = room.split_at_mut(ends.len());
+    let (hints, _gap) = rest.split_at_mut(lens.hints);
+    write_tree(degrees, words, upper, lower, hints);
     write_numbers(label_part, labels, width);
-    let (end_part, _gap) = rest.split_at_mut(ends.len());
     copy_items(end_part, ends);
 }
 
@@ -59,7 +61,7 @@ fn write_block(degrees: &[usize], labels: &[u64], width: u8, ends: &[u64], block
     seal_trie(degrees.len(), width as usize, ends.len(), block);
 }
 
-/// Whether these are no words, or as many as a bit for each node takes.
+/// Whether these are no words, or the words for one bit for each node.
 #[inline(always)]
 pub(crate) fn has_ends(ends: &[u64], nodes: usize) -> bool
     ensures { IsTrue result ↔ HasWordEnds ends.now nodes }
@@ -102,23 +104,24 @@ fn refusal(
     None
 }
 
-/// Writes the block of the trie of these degrees, which `TrieView::open` opens and `check` accepts. The labels are
-/// those of the nodes from 1 on, and those of the children of a node rise. The ends are no words, or a bit for each
+/// Writes the block of the trie of these degrees, which `TrieView::open` opens and `check` accepts. The labels belong
+/// to the nodes from 1 on, and the labels of the children of a node rise. The ends are no words, or a bit for each
 /// node, lowest bit first, which says whether a word ends there; they are copied as they are, with the bits after the
 /// last node.
 ///
 /// # Errors
 /// `TooLong` exactly where there are 2^57 degrees or more; else `WrongWidth` exactly where the width is not 1 to 63;
 /// else `WrongLabels` exactly where there is not one label for each degree but the first; else `WrongEnds` exactly
-/// where the ends are neither no words nor as many as a bit for each node takes; else `WrongLength` exactly where the
-/// words of the block are not as many as it takes (`size`); else `NotATree` exactly where the degrees are those of no
-/// tree; else `NotLabels` exactly where a label has more bits than the width, or those of the children of a node do not
+/// where the ends are neither no words nor the words for one bit for each node; else `WrongLength` exactly where the
+/// words of the block are more or fewer than it takes (`size`); else `NotATree` exactly where the degrees form no tree;
+/// else `NotLabels` exactly where a label has more bits than the width, or the labels of the children of a node do not
 /// rise. The words of the block stay as they are then.
 /// # Cost
-/// Three passes over the degrees and the labels, and four over the block (evident from the code). Nothing is allocated.
+/// Three passes over the degrees and the labels, four over the block, and one selection for each hint (evident from the
+/// code). Nothing is allocated.
 ///
 /// ```
-/// let mut block = [0u64; 80];              // size(4, 8, true) words
+/// let mut block = [0u64; 88];              // size(4, 8, true) words
 /// // the words a, b and be: nodes 1 to 3 have the letters a, b and e, and a word ends at each of them
 /// build(&[2, 0, 1, 0], &[97, 98, 101], 8, &[0b1110], block.as_mut_slice());   // Ok(())
 /// ```

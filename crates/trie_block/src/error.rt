@@ -12,13 +12,13 @@ pub enum BuildError {
     WrongWidth,
     /// There is not one label for each node but the root.
     WrongLabels,
-    /// The ends are neither no words, nor as many as a bit for each node takes.
+    /// The ends are neither no words, nor the words for one bit for each node.
     WrongEnds,
-    /// The words are not as many as the block takes.
+    /// The words are more or fewer than the block takes.
     WrongLength,
-    /// The degrees are those of no tree.
+    /// The degrees form no tree.
     NotATree,
-    /// A label has more bits than the width, or those of the children of a node do not rise.
+    /// A label has more bits than the width, or the labels of the children of a node do not rise.
     NotLabels,
 }
 

@@ -1,4 +1,4 @@
-//! Whether the labels that are given are those of a tree.
+//! Whether the given labels fit a tree.
 ghost use Rattle.std.specs.Prelude.{◌≡◌, ◌+◌, ◌-◌, ◌<◌, ◌≤◌, ◌↔◌, ◌∷◌, IsTrue, ℕ, length, slice_index};
 ghost use Rattle.louds.specs.Labels.{AreLabels, Rise};
 ghost use Rattle.louds.specs.Tree.{IsTree};
@@ -37,8 +37,8 @@ fn siblings_rise(degrees: &[usize], labels: &[u64]) -> bool
     true
 }
 
-/// Whether these are labels for the nodes of a tree from 1 on: each has at most `width` bits, and those of siblings
-/// rise.
+/// Whether these are labels for the nodes of a tree from 1 on: each has at most `width` bits, and the labels of
+/// siblings rise.
 pub(crate) fn are_labels(degrees: &[usize], labels: &[u64], width: u8) -> bool
     requires tree { IsTree degrees.now }
     requires count { length labels.now ≡ length degrees.now - 1 }

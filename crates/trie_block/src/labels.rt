@@ -51,7 +51,7 @@ impl<'a> LabelProbe<'a> {
     /// The label of a node, of `len` nodes; one more label is read.
     ///
     /// # Conditions
-    /// There is such a node, it is not the root, and the words are as many as the labels of `len` nodes take.
+    /// There is such a node, it is not the root, and there are exactly the words that the labels of `len` nodes take.
     ///
     /// ```
     /// labels.label(4, 1);   // that of node 1

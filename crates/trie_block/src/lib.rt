@@ -1,11 +1,11 @@
 //! A trie in a block of memory, such as a mapped file: nothing is allocated or copied, and no call has a condition on
 //! what the memory holds.
 //!
-//! With the block of a trie the answers are those of the trie. If it is stale or hostile, every call still terminates
+//! With the block of a trie the answers agree with the trie. If it is stale or hostile, every call still terminates
 //! within its read bound, and a child is more than its parent and less than the number of nodes.
 //!
 //! ```
-//! let mut block = [0u64; 80];                                   // size(4, 8, true) words
+//! let mut block = [0u64; 88];                                   // size(4, 8, true) words
 //! // the words a, b and be: nodes 1 to 3 have the letters a, b and e, and a word ends at each of them
 //! build(&[2, 0, 1, 0], &[97, 98, 101], 8, &[0b1110], block.as_mut_slice());   // Ok(())
 //! let Some(trie) = TrieView::open(block.as_slice()) else { .. };
@@ -46,4 +46,4 @@ pub use louds_block::LoudsView;
 pub use queries::{total_child_by_label_on, total_find_on, total_longest_on};
 pub use sections::{TRIE, size};
 pub use view::TrieView;
-pub use words::total_word_on;
+pub use words::{total_word_on, word_by};

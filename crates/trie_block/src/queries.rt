@@ -24,8 +24,8 @@ use suffix_order::Letters;
 /// # Conditions
 /// There are fewer than 2^58 words, and the tables and the labels have the right lengths. They may hold anything.
 /// # Cost
-/// What two selections by binary search read, and as many labels as the number of nodes has binary digits, and one,
-/// whatever they hold.
+/// What two selections by binary search read, two words, and as many labels as the number of nodes has binary digits,
+/// and one, whatever they hold; what one selection reads where the two words have a 0 bit after the node's 1 bits.
 ///
 /// ```
 /// total_child_by_label_on(&mut source, &mut labels, 4, 0, 7);   // Found(2), Absent or Wrong
@@ -44,7 +44,7 @@ pub fn total_child_by_label_on<T: TableSource>(
         → Rise (degrees_in len (T.lists source.old)) (labels_of labels.old.words labels.old.width len)
         → IsChildByLabelOf (degrees_in len (T.lists source.old))
         (labels_of labels.old.words labels.old.width len) node label result }
-    ensures reads { OnlySelects T.lists T.reads source.old source.new 2 0 }
+    ensures reads { OnlySelects T.lists T.reads source.old source.new 2 2 }
     ensures labels { ReadsLabels labels.old labels.new (digit_count len + 1) }
 {
     child_by_label_by(&ByTables, source, labels, len, node, label)
@@ -78,7 +78,8 @@ pub fn total_longest_on<T: TableSource, W: Letters>(
         → Rise (degrees_in len (T.lists source.old)) (labels_of labels.old.words labels.old.width len)
         → IsLongestOf (degrees_in len (T.lists source.old))
         (labels_of labels.old.words labels.old.width len) (W.letters word) result }
-    ensures reads { OnlySelects T.lists T.reads source.old source.new (2 * length (W.letters word)) 0 }
+    ensures reads { OnlySelects T.lists T.reads source.old source.new
+        (2 * length (W.letters word)) (2 * length (W.letters word)) }
     ensures labels { ReadsLabels labels.old labels.new
         (length (W.letters word) * (digit_count len + 1)) }
 {
@@ -112,7 +113,8 @@ pub fn total_find_on<T: TableSource, W: Letters>(
         → Rise (degrees_in len (T.lists source.old)) (labels_of labels.old.words labels.old.width len)
         → IsNodeOf (degrees_in len (T.lists source.old))
         (labels_of labels.old.words labels.old.width len) (W.letters word) result }
-    ensures reads { OnlySelects T.lists T.reads source.old source.new (2 * length (W.letters word)) 0 }
+    ensures reads { OnlySelects T.lists T.reads source.old source.new
+        (2 * length (W.letters word)) (2 * length (W.letters word)) }
     ensures labels { ReadsLabels labels.old labels.new
         (length (W.letters word) * (digit_count len + 1)) }
 {

@@ -5,6 +5,7 @@ ghost use Rattle.trie_block.specs.Block.{end_words, trie_head, trie_sections};
 ghost use Rattle.trie_block.specs.Labels.{label_words, IsShape};
 
 use bitm_block::{Head, Section, aligned};
+use block_tables::HINTS;
 use louds_block::Lens;
 
 /// The kind of a trie.
@@ -48,8 +49,9 @@ pub(crate) fn trie_head(nodes: usize, width: usize) -> Head
     }
 }
 
-/// The sections of a trie: words, upper and lower table of its tree, labels, and ends in the given number of words.
-pub(crate) fn trie_sections(nodes: usize, width: usize, ends: usize) -> [Section; 5]
+/// The sections of a trie: words, upper and lower table of its tree, labels, ends in the given number of words, and the
+/// hints of the tree.
+pub(crate) fn trie_sections(nodes: usize, width: usize, ends: usize) -> [Section; 6]
     requires { IsShape nodes width }
     ensures { result ≡ trie_sections nodes width ends }
 {
@@ -60,6 +62,7 @@ pub(crate) fn trie_sections(nodes: usize, width: usize, ends: usize) -> [Section
         Section::of(3, lens.lower),
         Section::of(17, label_words(nodes, width)),
         Section::of(18, ends),
+        Section::of(HINTS, lens.hints),
     ]
 }
 
@@ -71,15 +74,15 @@ pub(crate) fn block_len(nodes: usize, width: usize, ends: usize) -> usize
     ensures short { result < 2 ^ 59 }
 {
     let lens = Lens::of(nodes);
-    let tables = aligned(lens.upper) + aligned(lens.lower);
-    40 + aligned(lens.words) + tables + aligned(label_words(nodes, width)) + aligned(ends)
+    let tree = aligned(lens.words) + aligned(lens.upper) + aligned(lens.lower);
+    40 + tree + aligned(label_words(nodes, width)) + aligned(ends) + aligned(lens.hints)
 }
 
 /// How many words the block of a trie has, of the given number of nodes, whose labels have `width` bits, with a bit for
 /// each node or without; `None` exactly where there are 2^57 nodes or more, or the width is not 1 to 63.
 ///
 /// ```
-/// size(4, 8, true);   // Some(80)
+/// size(4, 8, true);   // Some(88)
 /// ```
 pub fn size(nodes: usize, width: u8, has_ends: bool) -> Option<usize>
     ensures some { IsSome result ↔ IsShape nodes width }

@@ -9,36 +9,29 @@ ghost use Rattle.trie_block.specs.Block.{HasTrieLengths, HasTrieSections, HoldsT
 
 use crate::building::has_ends;
 use crate::labels::LabelProbe;
-use crate::queries::{total_child_by_label_on, total_find_on, total_longest_on};
 use crate::sections::{TRIE, is_shape, label_words};
-use crate::words::total_word_on;
+use crate::words::word_by;
 use bit_words::words;
 use bitm_block::Block;
 use bitm_tables::answer::Answer;
+use louds::leading::{child_by_label_by, find_by, longest_by};
 use louds::rising::labels_rise;
 use louds_block::LoudsView;
 use std::marker::Model;
 use suffix_order::Letters;
 
-/// Whether header and directory are those of a trie.
+/// Whether header and directory describe a trie.
 #[inline(always)]
 fn is_trie_block(block: &Block<'_>) -> bool
     ensures { IsTrue result ↔ HasTrieSections block.now }
 {
-    let words = block.words();
-    words[1] == TRIE
-        && words[11] >= 5
-        && words[16] == 1
-        && words[20] == 2
-        && words[24] == 3
-        && words[28] == 17
-        && words[32] == 18
+    block.is_of(TRIE, [1u64, 2, 3, 17, 18].as_slice())
 }
 
-/// A view of a trie in a block, of which header and directory are right.
+/// A view of a trie in a block whose header and directory are right.
 ///
 /// Contracts see its tree, the words of its labels, how many bits a label has, and the words of its ends. These may
-/// hold anything: a call says what it answers where they are those of a trie, and what it answers else.
+/// hold anything: a call says its answer where they form a trie, and where they do not.
 ///
 /// ```
 /// let Some(trie) = TrieView::open(&block) else { .. };
@@ -65,8 +58,8 @@ impl<'a> Model for TrieView<'a> {
 
 impl<'a> TrieView<'a> {
     /// The trie in a block; `None` exactly where the words are no block (`Block::open` says why), the block is of
-    /// another kind, or a section is not as long as that of the number of nodes. What the sections hold is not looked
-    /// at.
+    /// another kind, or a section has a length that does not fit the number of nodes. The hints of the tree are in the
+    /// sixth section (`LoudsView::of_block`). What the sections hold is not looked at.
     ///
     /// # Cost
     /// Header and directory are read, at most 80 words (evident from the code).
@@ -83,12 +76,7 @@ impl<'a> TrieView<'a> {
         if !is_trie_block(&block) || words[4] > 63 {
             return None;
         }
-        let tree = match (block.section(0), block.section(1), block.section(2)) {
-            (Some(bits), Some(upper), Some(lower)) => {
-                LoudsView::over(words[3] as usize, bits, upper, lower)?
-            }
-            _ => return None,
-        };
+        let tree = LoudsView::of_block(&block, 5)?;
         match (block.section(3), block.section(4)) {
             (Some(labels), Some(ends)) => TrieView::over(tree, labels, words[4] as u8, ends),
             _ => None,
@@ -96,11 +84,11 @@ impl<'a> TrieView<'a> {
     }
 
     /// The trie in a block that is as it was written; `None` exactly where `open` says so, a section or the zeros after
-    /// it are not those that were written (`Block::verify`), or the sections hold no trie (`check`). So a block in
-    /// which one word was changed is refused, and every answer is that of the trie.
+    /// it are not as they were written (`Block::verify`), or the sections hold no trie (`check`). So a block in which
+    /// one word was changed is refused, and every answer agrees with the trie.
     ///
     /// # Cost
-    /// Four passes over the words (evident from the code).
+    /// Four passes over the words, and one selection for each hint (evident from the code).
     ///
     /// ```
     /// TrieView::open_checked(block.as_slice());   // Some(..) of a block that `build` wrote
@@ -118,8 +106,8 @@ impl<'a> TrieView<'a> {
         if view.check() { Some(view) } else { None }
     }
 
-    /// A tree with the words of labels, of the given number of bits each, and those of ends; `None` exactly where a
-    /// length is not that of the number of nodes.
+    /// A tree with the words of labels, of the given number of bits each, and with the words of ends; `None` exactly
+    /// where a length does not fit the number of nodes.
     ///
     /// ```
     /// TrieView::over(tree, labels, 8, ends);   // Some(..) of one word each, for four nodes
@@ -210,10 +198,10 @@ impl<'a> TrieView<'a> {
         self.ends
     }
 
-    /// Whether the block holds a trie: then the answers are those of the trie.
+    /// Whether the block holds a trie: then the answers agree with the trie.
     ///
     /// # Cost
-    /// Three passes over the words, and one over the labels (evident from the code).
+    /// Three passes over the words, one over the labels, and one selection for each hint (evident from the code).
     ///
     /// ```
     /// trie.check();   // true
@@ -268,7 +256,8 @@ impl<'a> TrieView<'a> {
     /// `Wrong`.
     ///
     /// # Cost
-    /// That of `total_child_by_label_on`.
+    /// Two searches of bits and two words, or one search where the words have a 0 bit after the node's 1 bits; and as
+    /// many labels as the number of nodes has binary digits, and one. A search reads what one of `LoudsView` does.
     ///
     /// ```
     /// trie.child_by_label(0, 98);   // Found(2)
@@ -281,7 +270,15 @@ impl<'a> TrieView<'a> {
     {
         let mut labels = LabelProbe::new(self.labels, self.width);
         let mut source = self.tree.probe();
-        total_child_by_label_on(&mut source, &mut labels, self.tree.len(), node, label)
+        let finder = self.tree.finder();
+        child_by_label_by(
+            &finder,
+            &mut source,
+            &mut labels,
+            self.tree.len(),
+            node,
+            label,
+        )
     }
 
     /// The node to which a word leads from the root, label by label: a list of labels, such as `&[u64]`, or `&[u8]`
@@ -289,7 +286,7 @@ impl<'a> TrieView<'a> {
     /// trie, the answer is `Absent` exactly where the word leads to none, and never `Wrong`.
     ///
     /// # Cost
-    /// That of `total_find_on`.
+    /// For each label of the word at most what `child_by_label` reads.
     ///
     /// ```
     /// trie.find(b"be".as_slice());                        // Found(3)
@@ -303,7 +300,8 @@ impl<'a> TrieView<'a> {
     {
         let mut labels = LabelProbe::new(self.labels, self.width);
         let mut source = self.tree.probe();
-        total_find_on(&mut source, &mut labels, self.tree.len(), word)
+        let finder = self.tree.finder();
+        find_by(&finder, &mut source, &mut labels, self.tree.len(), word)
     }
 
     /// The deepest node to which a beginning of a word leads from the root, and how many labels lead there: all of them
@@ -312,7 +310,7 @@ impl<'a> TrieView<'a> {
     /// block holds a trie, no longer beginning of the word leads to a node, and the answer is never `Wrong`.
     ///
     /// # Cost
-    /// That of `total_longest_on`.
+    /// For each label of the word at most what `child_by_label` reads.
     ///
     /// ```
     /// trie.longest(b"bee".as_slice());   // Found((3, 2)): be leads to node 3
@@ -325,7 +323,8 @@ impl<'a> TrieView<'a> {
     {
         let mut labels = LabelProbe::new(self.labels, self.width);
         let mut source = self.tree.probe();
-        total_longest_on(&mut source, &mut labels, self.tree.len(), word)
+        let finder = self.tree.finder();
+        longest_by(&finder, &mut source, &mut labels, self.tree.len(), word)
     }
 
     /// How many labels the word has that leads from the root to a node. Where `out` has room for them, they are its
@@ -334,7 +333,7 @@ impl<'a> TrieView<'a> {
     /// trie, the answer is never `Wrong`.
     ///
     /// # Cost
-    /// That of `total_word_on`.
+    /// For each label of the word one search of a bit, and that label.
     ///
     /// ```
     /// let mut out = [0u64; 4];
@@ -348,6 +347,14 @@ impl<'a> TrieView<'a> {
     {
         let mut labels = LabelProbe::new(self.labels, self.width);
         let mut source = self.tree.probe();
-        total_word_on(&mut source, &mut labels, self.tree.len(), node, out)
+        let finder = self.tree.finder();
+        word_by(
+            &finder,
+            &mut source,
+            &mut labels,
+            self.tree.len(),
+            node,
+            out,
+        )
     }
 }

@@ -1,15 +1,18 @@
 //! The word that leads to a node, over any source: its words and tables, and the labels, may hold anything.
 ghost use Rattle.std.specs.Prelude.{◌≡◌, ◌+◌, ◌-◌, ◌<◌, ◌∷◌, drop, length, take};
 ghost use Rattle.bitm_tables.specs.Tables.{HasSizes};
+ghost use Rattle.bitm_selection.specs.Selection.{OnlySelectsBy};
 ghost use Rattle.louds.specs.Counted.{degrees_in, IsLouds, OnlySelects};
 ghost use Rattle.trie_block.specs.Answers.{IsWordOf, IsWordWithin};
 ghost use Rattle.louds.specs.Leading.{ReadsLabels};
 ghost use Rattle.trie_block.specs.Labels.{labels_of, HasLabels};
 
 use crate::labels::LabelProbe;
+use bitm_select::search::selecting::ByTables;
+use bitm_selection::Finds;
 use bitm_tables::answer::Answer;
 use bitm_tables::source::TableSource;
-use louds_block::total_parent_on;
+use louds::queries::parent_by;
 
 /// Writes a label before the last `count` ones.
 #[inline(always)]
@@ -42,7 +45,57 @@ fn write_before(out: &mut [u64], count: usize, label: u64)
 /// last items then, and the items before them stay as they are.
 ///
 /// Whatever the source and the labels hold, a word has no more labels than the number of its node, and the answer is
-/// `Absent` exactly where there is no such node. Where they hold a tree with labels, the answer is never `Wrong`.
+/// `Absent` exactly where there is no such node. Where they hold a tree with labels and `finder` finds the tree's bits,
+/// the answer is never `Wrong`.
+///
+/// # Conditions
+/// There are fewer than 2^58 words, and the tables and the labels have the right lengths. They may hold anything.
+/// # Cost
+/// For each label of the word what a search reads, and that label; whatever they hold, no more of these than the number
+/// of the node.
+///
+/// ```
+/// word_by(&ByTables, &mut source, &mut labels, 4, 3, &mut out);   // Found(2), Absent or Wrong
+/// ```
+#[inline(always)]
+pub fn word_by<F: Finds, T: TableSource>(
+    finder: &F,
+    source: &mut T,
+    labels: &mut LabelProbe<'_>,
+    len: usize,
+    node: usize,
+    out: &mut [u64],
+) -> Answer<usize>
+    requires sized { HasSizes (T.lists source.old) }
+    requires labels { HasLabels labels.old.words labels.old.width len }
+    ensures inside { IsWordWithin len node out.old out.new result }
+    ensures answer { IsLouds len (T.lists source.old) → F.finds finder.now (T.lists source.old)
+        → IsWordOf (degrees_in len (T.lists source.old))
+        (labels_of labels.old.words labels.old.width len) node out.new result }
+    ensures reads { OnlySelectsBy T.lists T.reads source.old source.new
+        (F.most (T.lists source.old)) node 0 }
+    ensures labels { ReadsLabels labels.old labels.new node }
+{
+    if node >= len {
+        return Answer::Absent;
+    }
+    let mut at = node;
+    let mut count = 0;
+    while at != 0 {
+        match parent_by(finder, &mut *source, len, at) {
+            Answer::Found(parent) => {
+                write_before(&mut *out, count, labels.label(len, at));
+                count += 1;
+                at = parent;
+            }
+            Answer::Absent => return Answer::Wrong,
+            Answer::Wrong => return Answer::Wrong,
+        }
+    }
+    Answer::Found(count)
+}
+
+/// The word that leads from the root to a node, by binary search: `word_by` with `ByTables`.
 ///
 /// # Conditions
 /// There are fewer than 2^58 words, and the tables and the labels have the right lengths. They may hold anything.
@@ -68,21 +121,5 @@ pub fn total_word_on<T: TableSource>(
     ensures reads { OnlySelects T.lists T.reads source.old source.new node 0 }
     ensures labels { ReadsLabels labels.old labels.new node }
 {
-    if node >= len {
-        return Answer::Absent;
-    }
-    let mut at = node;
-    let mut count = 0;
-    while at != 0 {
-        match total_parent_on(&mut *source, len, at) {
-            Answer::Found(parent) => {
-                write_before(&mut *out, count, labels.label(len, at));
-                count += 1;
-                at = parent;
-            }
-            Answer::Absent => return Answer::Wrong,
-            Answer::Wrong => return Answer::Wrong,
-        }
-    }
-    Answer::Found(count)
+    word_by(&ByTables, source, labels, len, node, out)
 }

@@ -33,6 +33,12 @@ pub record IsWordBefore (u v : List ℕ) : Type 0 where
 abbrev pub AreSorted : Words → Type 0
 AreSorted ws = (j : ℕ) → j + 1 < ws.count → IsWordBefore (ws.word j) (ws.word (j + 1))
 
+-- word j does not stand after the word before it
+pub record IsUnsortedAt (ws : Words) (j : ℕ) : Type 0 where
+  pub second : 1 ≤ j
+  pub inside : j < ws.count
+  pub unsorted : ¬ (IsWordBefore (ws.word (j - 1)) (ws.word j))
+
 -- how many letters word j shares with the word before it: the first one has none before it
 unfoldable pub shared_of : Words → ℕ → ℕ
 shared_of ws zero = 0

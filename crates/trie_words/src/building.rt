@@ -49,18 +49,18 @@ fn write_block(bytes: &[u8], starts: &[usize], count: usize, scratch: &mut [u64]
 ///
 /// The words stand in `bytes` as for `nodes`, which says how many nodes there are, n: one, and one for each letter that
 /// a word does not share with the word before it. The scratch has 3 n - 2 + ceil(n / 64) words: for the degrees of the
-/// nodes, their parents, their labels and where words end. What it holds afterwards is not said.
+/// nodes, their parents, their labels and where words end. Nothing is said of what the scratch holds afterwards.
 ///
 /// # Errors
 /// `NotWords` exactly where `nodes` answers it; else `WrongLength` exactly where n is 2^57 or more, the scratch is not
 /// that long, or the block has not `trie_block::size(n, 8, true)` words; else `NotSorted` exactly where a word does not
 /// stand after the one before it. The block stays as it was then.
 /// # Cost
-/// That of `grow` and of `trie_block::build`. Nothing is allocated.
+/// The cost of `grow` and of `trie_block::build`. Nothing is allocated.
 ///
 /// ```
 /// let mut scratch = [0u64; 14];
-/// let mut block = [0u64; 80];     // trie_block::size(5, 8, true) words
+/// let mut block = [0u64; 88];     // trie_block::size(5, 8, true) words
 /// // the words a, abe and b
 /// build(b"aabeb".as_slice(), &[0, 1, 4, 5], scratch.as_mut_slice(), block.as_mut_slice());   // Ok(())
 /// ```

@@ -8,7 +8,7 @@ use std::fmt;
 pub enum WordsError {
     /// The starts are none, or one is before the one before it, or the last one is past the end of the bytes.
     NotWords,
-    /// The numbers or words that are written are not as many as the trie takes.
+    /// The numbers or words that are written are more or fewer than the trie takes.
     WrongLength,
     /// A word does not stand after the one before it in the order of a dictionary.
     NotSorted,

@@ -71,7 +71,7 @@ fn count_words(bytes: &[u8], starts: &[usize], levels: &mut [usize])
     }
 }
 
-/// Writes the sum of those before it in place of each number.
+/// Writes the sum of the numbers before it in place of each number.
 fn add_up(numbers: &mut [usize])
     requires { sum numbers.old < 2 ^ 64 }
     ensures { (k : ℕ) → k < length numbers.old
@@ -85,7 +85,7 @@ fn add_up(numbers: &mut [usize])
     }
 }
 
-/// Writes the first node of each level, but that of the root's the one after it.
+/// Writes the first node of each level, but for the root's level the node after the root.
 pub(crate) fn begin_levels(bytes: &[u8], starts: &[usize], levels: &mut [usize])
     requires words { AreWords bytes.now starts.now }
     requires room { length levels.old ≡ nodes_of (words_in bytes.now starts.now) }

@@ -35,4 +35,4 @@ mod words;
 pub use building::build;
 pub use error::WordsError;
 pub use growing::grow;
-pub use words::nodes;
+pub use words::{nodes, unsorted_word};

@@ -1,9 +1,10 @@
 //! Words that stand one after another in bytes.
-ghost use Rattle.std.specs.Prelude.{◌≡◌, ◌+◌, ◌-◌, ◌<◌, ◌≤◌, ◌↔◌, IfErr, IfOk, IfSome, IsOk, IsSome, IsTrue};
+ghost use Rattle.std.specs.Prelude.{◌≡◌, ◌+◌, ◌-◌, ◌<◌, ◌≤◌, ◌↔◌, IfErr, IfOk, IfSome, IsNone, IsOk, IsSome, IsTrue};
 ghost use Rattle.std.specs.Prelude.{length, slice_index, slice_range};
+ghost use Rattle.bit_lists.specs.First.{IsFirst};
 ghost use Rattle.trie_words.specs.Room.{AreSortedWords, IsFault};
 ghost use Rattle.trie_words.specs.Words.{common, dictionary_word, nodes_of, shared_of, words_in};
-ghost use Rattle.trie_words.specs.Words.{AreSorted, AreWords, IsWordBefore};
+ghost use Rattle.trie_words.specs.Words.{AreSorted, AreWords, IsUnsortedAt, IsWordBefore};
 
 use crate::error::WordsError;
 
@@ -82,17 +83,49 @@ fn are_words(bytes: &[u8], starts: &[usize]) -> bool
     starts[starts.len() - 1] <= bytes.len()
 }
 
+/// The first word that does not stand after the word before it.
+fn unsorted_in(bytes: &[u8], starts: &[usize]) -> Option<usize>
+    requires { AreWords bytes.now starts.now }
+    ensures some { IfSome result (IsFirst (IsUnsortedAt (words_in bytes.now starts.now))) }
+    ensures none { IsNone result ↔ AreSorted (words_in bytes.now starts.now) }
+{
+    for j in 1..starts.len() - 1 {
+        if !is_before(word_at(bytes, starts, j - 1), word_at(bytes, starts, j)) {
+            return Some(j);
+        }
+    }
+    None
+}
+
 /// Whether each word stands before the next one.
 pub(crate) fn are_sorted(bytes: &[u8], starts: &[usize]) -> bool
     requires { AreWords bytes.now starts.now }
     ensures { IsTrue result ↔ AreSorted (words_in bytes.now starts.now) }
 {
-    for j in 1..starts.len() - 1 {
-        if !is_before(word_at(bytes, starts, j - 1), word_at(bytes, starts, j)) {
-            return false;
-        }
+    unsorted_in(bytes, starts).is_none()
+}
+
+/// The first word that does not stand after the word before it; `Ok(None)` exactly where the words are sorted.
+///
+/// # Errors
+/// `NotWords` exactly where there are no starts, or one is less than the one before it, or the last one is more than
+/// the number of bytes.
+/// # Cost
+/// Two passes over the starts and one over the bytes (evident from the code). Nothing is allocated.
+///
+/// ```
+/// unsorted_word(b"ababe".as_slice(), &[0, 1, 2, 5]);   // Ok(Some(2)): a, b and abe
+/// ```
+pub fn unsorted_word(bytes: &[u8], starts: &[usize]) -> Result<Option<usize>, WordsError>
+    ensures error { IfErr result (λ e. e ≡ WordsError.NotWords) }
+    ensures ok { IsOk result ↔ AreWords bytes.now starts.now }
+    ensures some { IfOk result (λ o. IfSome o (IsFirst (IsUnsortedAt (words_in bytes.now starts.now)))) }
+    ensures none { IfOk result (λ o. IsNone o ↔ AreSorted (words_in bytes.now starts.now)) }
+{
+    if !are_words(bytes, starts) {
+        return Err(WordsError::NotWords);
     }
-    true
+    Ok(unsorted_in(bytes, starts))
 }
 
 /// How many nodes the trie of the words has.

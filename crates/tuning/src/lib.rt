@@ -61,8 +61,8 @@ pub const FEWEST_RANKS: usize = 16;
 /// Measured by the 25th: at 2^28 bits, each search of a list by itself took 1.2 of the time of 16 together.
 pub const SELECTIONS_SIDE_BY_SIDE: usize = 16;
 
-/// The fewest halvings of the entries of an upper block, 2^5 entries, in place of which a selection takes a guess where
-/// the bits lie evenly.
+/// Where the bits lie evenly, a selection takes a guess in place of at least this many halvings of the entries of an
+/// upper block: 2^5 entries.
 ///
 /// Measured on the 28th: at 2^20 bits (2^9 entries) 39.4 ns for 58.5 by halvings alone; where bits do not lie evenly,
 /// the guess costs 4 ns. With fewer entries halving is as fast.

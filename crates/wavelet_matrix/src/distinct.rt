@@ -11,7 +11,7 @@ use std::iter::{FusedIterator, Iterator};
 use std::marker::Model;
 use std::ops::Range;
 
-/// The distinct numbers of a range, rising, each with how often it is in the range, seen as the list of those still to
+/// The distinct numbers of a range, rising, each with how often it is in the range, seen as the list of pairs still to
 /// come.
 #[derive(Drop)]
 pub struct DistinctValues<'a, S: SelectForRank101111, S0: Select0ForRank101111> {
@@ -42,7 +42,7 @@ impl<S: SelectForRank101111, S0: Select0ForRank101111> WaveletMatrix<S, S0> {
     /// # Conditions
     /// The range does not end before it starts, nor past the numbers, and has more than `k` of them.
     /// # Cost
-    /// That of `quantile`.
+    /// The cost of `quantile`.
     #[inline]
     pub fn quantile_and_count(&self, range: Range<usize>, k: usize) -> (u64, usize)
         requires order { range.start ≤ range.end }
@@ -64,7 +64,7 @@ impl<S: SelectForRank101111, S0: Select0ForRank101111> WaveletMatrix<S, S0> {
     /// # Conditions
     /// The range does not end before it starts, nor past the numbers.
     /// # Cost
-    /// For each number that comes that of `quantile`; memory for none.
+    /// For each number that comes, the cost of `quantile`; no memory.
     #[inline]
     pub fn distinct(&self, range: Range<usize>) -> DistinctValues<'_, S, S0>
         requires order { range.start ≤ range.end }

@@ -13,7 +13,7 @@ use std::ops::Range;
 /// last, which then goes; it is greater than all that came. They are a heap where there are `k`.
 ///
 /// # Errors
-/// `AllocError` if memory was refused; what is kept is anything then.
+/// `AllocError` if memory was refused; the kept numbers and counts may be anything then.
 fn keep(
     numbers: &mut Vec<u64>,
     counts: &mut Vec<usize>,
@@ -73,7 +73,7 @@ impl<S: SelectForRank101111, S0: Select0ForRank101111> WaveletMatrix<S, S0> {
     /// # Errors
     /// `AllocError` if memory was refused.
     /// # Cost
-    /// For each distinct number of the range that of `quantile`, and at most log2(k) steps down a heap of the pairs
+    /// For each distinct number of the range the cost of `quantile`, and at most log2(k) steps down a heap of the pairs
     /// that are kept, and twice as many to sort these (evident from the code). While it works it takes 16 bytes for
     /// each pair beside the answer.
     pub fn top_k(

@@ -8,7 +8,7 @@ use bitm_strategies::{Select0ForRank101111, SelectForRank101111};
 use std::iter::{ExactSizeIterator, FusedIterator, Iterator};
 use std::marker::Model;
 
-/// The numbers of a matrix in their order, seen as the list of those still to come.
+/// The numbers of a matrix in their order, seen as the list of numbers still to come.
 #[derive(Drop)]
 pub struct Numbers<'a, S: SelectForRank101111, S0: Select0ForRank101111> {
     matrix: &'a WaveletMatrix<S, S0>,
@@ -30,7 +30,7 @@ impl<S: SelectForRank101111, S0: Select0ForRank101111> WaveletMatrix<S, S0> {
     /// The numbers in their order.
     ///
     /// # Cost
-    /// For each number that comes that of `get`.
+    /// For each number that comes, the cost of `get`.
     #[inline]
     pub fn iter(&self) -> Numbers<'_, S, S0>
         ensures { result ≡ self.now.items }
@@ -43,7 +43,7 @@ impl<S: SelectForRank101111, S0: Select0ForRank101111> WaveletMatrix<S, S0> {
     /// # Conditions
     /// There is a number at that index, or it is the number of all.
     /// # Cost
-    /// For each number that comes that of `get`.
+    /// For each number that comes, the cost of `get`.
     #[inline]
     pub fn iter_from(&self, place: usize) -> Numbers<'_, S, S0>
         requires { place ≤ length self.now.items }

@@ -92,15 +92,15 @@ impl<S: SelectForRank101111, S0: Select0ForRank101111> WaveletMatrix<S, S0> {
         Self::build_by(alloc, numbers, width, false)
     }
 
-    /// A matrix of the numbers, which are not changed, without quarters: it takes an eighth of the bits less than that
-    /// of `build`, and its answers take longer.
+    /// A matrix of the numbers, which are not changed, without quarters: it takes an eighth of the bits less than the
+    /// matrix of `build`, and its answers take longer.
     ///
     /// # Conditions
-    /// Those of `build`.
+    /// The conditions of `build`.
     /// # Errors
     /// `AllocError` if memory was refused; nothing is left.
     /// # Cost
-    /// That of `build`.
+    /// The cost of `build`.
     pub fn build_compact(alloc: Global, numbers: &[u64], width: u8) -> Result<Self, AllocError>
         requires some { 1 ≤ width }
         requires most { width ≤ 64 }
@@ -133,15 +133,15 @@ impl<S: SelectForRank101111, S0: Select0ForRank101111> WaveletMatrix<S, S0> {
     }
 
     /// A matrix of the numbers whose levels the words have from the first bit on, as `matrix_levels::write_levels`
-    /// writes them; the words are kept. Any bits are the levels of some numbers: level by level each bit says where
-    /// the item goes, and the bits that it meets on its way are those of its number.
+    /// writes them; the words are kept. Any bits are the levels of some numbers: level by level each bit says where the
+    /// item goes, and the bits that it meets on its way are the bits of its number.
     ///
     /// # Conditions
-    /// The width is 1 to 64, all bits together are fewer than 2^63, and the words are as many as these take.
+    /// The width is 1 to 64, all bits together are fewer than 2^63, and there are exactly the words that these take.
     /// # Errors
     /// `AllocError` if memory was refused; nothing is left.
     /// # Cost
-    /// One pass over the words, and two ranks for each level. What it allocates it keeps: the index, the tables of the
+    /// One pass over the words, and two ranks for each level. It keeps what it allocates: the index, the tables of the
     /// levels, and unless the matrix is compact the quarters.
     ///
     /// ```

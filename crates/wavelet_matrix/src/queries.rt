@@ -13,7 +13,7 @@ impl<S: SelectForRank101111, S0: Select0ForRank101111> WaveletMatrix<S, S0> {
     /// # Conditions
     /// There is such a number.
     /// # Cost
-    /// That of `LevelsView::total_get_on`.
+    /// The cost of `LevelsView::total_get_on`.
     #[inline]
     pub fn get(&self, i: usize) -> u64
         requires { i < length self.now.items }
@@ -40,7 +40,7 @@ impl<S: SelectForRank101111, S0: Select0ForRank101111> WaveletMatrix<S, S0> {
     /// # Conditions
     /// There are as many `numbers` as `places`, and there is a number at each index.
     /// # Cost
-    /// That of `LevelsView::total_get_list_on`.
+    /// The cost of `LevelsView::total_get_list_on`.
     pub fn get_many(&self, places: &mut [usize], numbers: &mut [u64])
         requires same_length { length numbers.old ≡ length places.old }
         requires inside { All (λ p. p < length self.now.items) places.old }
@@ -55,7 +55,7 @@ impl<S: SelectForRank101111, S0: Select0ForRank101111> WaveletMatrix<S, S0> {
     /// # Conditions
     /// There are no fewer than `i` numbers.
     /// # Cost
-    /// That of `LevelsView::total_rank_on`.
+    /// The cost of `LevelsView::total_rank_on`.
     #[inline]
     pub fn rank(&self, number: u64, i: usize) -> usize
         requires { i ≤ length self.now.items }
@@ -83,7 +83,7 @@ impl<S: SelectForRank101111, S0: Select0ForRank101111> WaveletMatrix<S, S0> {
     /// # Conditions
     /// There are as many `numbers` and `ranks` as `places`, and no index is past the end.
     /// # Cost
-    /// That of `LevelsView::total_rank_list_on`.
+    /// The cost of `LevelsView::total_rank_list_on`.
     pub fn rank_many(&self, numbers: &[u64], places: &[usize], ranks: &mut [usize])
         requires numbers { length numbers.now ≡ length places.now }
         requires ranks { length ranks.old ≡ length places.now }
@@ -99,7 +99,7 @@ impl<S: SelectForRank101111, S0: Select0ForRank101111> WaveletMatrix<S, S0> {
     /// # Conditions
     /// There is such a number.
     /// # Cost
-    /// That of `LevelsView::total_get_and_rank_on`: no more than `rank` takes.
+    /// The cost of `LevelsView::total_get_and_rank_on`: no more than `rank` takes.
     ///
     /// ```
     /// // of 3, 1, 4, 1, 5, 1

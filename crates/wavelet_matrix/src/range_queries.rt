@@ -15,7 +15,7 @@ impl<S: SelectForRank101111, S0: Select0ForRank101111> WaveletMatrix<S, S0> {
     /// # Conditions
     /// The range does not end before it starts, nor past the numbers.
     /// # Cost
-    /// That of `LevelsView::total_count_less_on`.
+    /// The cost of `LevelsView::total_count_less_on`.
     #[inline]
     pub fn count_less(&self, range: Range<usize>, bound: u64) -> usize
         requires order { range.start ≤ range.end }
@@ -34,7 +34,7 @@ impl<S: SelectForRank101111, S0: Select0ForRank101111> WaveletMatrix<S, S0> {
     /// # Conditions
     /// The range does not end before it starts, nor past the numbers.
     /// # Cost
-    /// That of `LevelsView::total_range_count_on`.
+    /// The cost of `LevelsView::total_range_count_on`.
     #[inline]
     pub fn range_count(&self, range: Range<usize>, low: u64, high: u64) -> usize
         requires order { range.start ≤ range.end }
@@ -54,7 +54,7 @@ impl<S: SelectForRank101111, S0: Select0ForRank101111> WaveletMatrix<S, S0> {
     /// # Conditions
     /// The range does not end before it starts, nor past the numbers, and has more than `k` of them.
     /// # Cost
-    /// That of `LevelsView::total_quantile_on`.
+    /// The cost of `LevelsView::total_quantile_on`.
     #[inline]
     pub fn quantile(&self, range: Range<usize>, k: usize) -> u64
         requires order { range.start ≤ range.end }
@@ -74,7 +74,7 @@ impl<S: SelectForRank101111, S0: Select0ForRank101111> WaveletMatrix<S, S0> {
     /// # Conditions
     /// The range does not end before it starts, nor past the numbers.
     /// # Cost
-    /// That of `LevelsView::total_next_value_on`.
+    /// The cost of `LevelsView::total_next_value_on`.
     #[inline]
     pub fn next_value(&self, range: Range<usize>, bound: u64) -> Option<u64>
         requires order { range.start ≤ range.end }
@@ -92,7 +92,7 @@ impl<S: SelectForRank101111, S0: Select0ForRank101111> WaveletMatrix<S, S0> {
     /// # Conditions
     /// The range does not end before it starts, nor past the numbers.
     /// # Cost
-    /// That of `LevelsView::total_previous_value_on`.
+    /// The cost of `LevelsView::total_previous_value_on`.
     #[inline]
     pub fn previous_value(&self, range: Range<usize>, bound: u64) -> Option<u64>
         requires order { range.start ≤ range.end }
@@ -112,7 +112,7 @@ impl<S: SelectForRank101111, S0: Select0ForRank101111> WaveletMatrix<S, S0> {
     /// # Errors
     /// `AllocError` if memory was refused.
     /// # Cost
-    /// That of `LevelsView::intersect_on`: one walk down both ranges, which stops where either is empty.
+    /// The cost of `LevelsView::intersect_on`: one walk down both ranges, which stops where either is empty.
     pub fn intersect(
         &self,
         alloc: Global,

@@ -9,13 +9,14 @@ pub fn item_of_stretch()
     ensures { ItemOfStretch }
 {}
 
-/// The count before a position of a stretch, and the count before the stretch, are together that before the position.
+/// The count before a position of a stretch and the count before the stretch add up to the count before that position
+/// in all.
 #[tactic(auto, using(crate::proofs::BitLaws::count_in_stretch))]
 pub fn count_in_stretch()
     ensures { CountInStretch }
 {}
 
-/// A position is picked in a stretch exactly where it is picked in all, by its rank and those before the stretch.
+/// A position is picked in a stretch exactly where it is picked in all, by its rank plus the count before the stretch.
 pub fn picked_in_stretch()
     ensures { PickedInStretch }
 {}
@@ -26,7 +27,7 @@ pub fn count_is_of_same()
     ensures { CountIsOfSame }
 {}
 
-/// A rank between those of two positions picks a position between them.
+/// A rank between the ranks of two positions picks a position between them.
 pub fn picked_between()
     ensures { PickedBetween }
 {}

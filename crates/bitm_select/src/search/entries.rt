@@ -1,6 +1,6 @@
 //! The search for an entry of an upper block, in tables that may hold anything: binary search, and a guess first where
-//! the bits lie evenly or there are many entries. It ends with some entry of the upper block where the tables are not
-//! those of the words.
+//! the bits lie evenly or there are many entries. It ends with some entry of the upper block where the tables do not
+//! match the words.
 ghost use Rattle.std.specs.Prelude.{◌≡◌, ◌+◌, ◌-◌, ◌*◌, ◌/◌, ◌^◌, ◌<◌, ◌≤◌, ◌⊎◌, length};
 ghost use Rattle.bit_lists.specs.Bits.{digit_count};
 ghost use Rattle.bit_lists.specs.Count.{as_bit};
@@ -21,12 +21,11 @@ use tuning::{FEW_ENTRIES, FEWEST_HALVINGS_TO_GUESS};
 /// The number of halvings that are unrolled at the end of a search.
 const LAST: u32 = 8;
 
-/// The most halvings in place of which a search takes a guess where the bits lie evenly: after a wrong guess, which
+/// Where the bits lie evenly, a search takes a guess in place of at most this many halvings: after a wrong guess, which
 /// reads seven entries, these halvings are within the 23 entries that a search reads at most.
 const MOST_TO_GUESS: u32 = 14;
 
-/// Lower entry `at` of the kind of bit that is sought, where the tables are those of the words: complemented where
-/// `BIT` is 0.
+/// Lower entry `at` of the kind of bit that is sought, where the tables match the words: complemented where `BIT` is 0.
 ///
 /// # Conditions
 /// There is such an entry. It may hold anything.
@@ -252,11 +251,11 @@ fn last_of_few<const BIT: u8, T: TableSource>(
     last_by_halves::<BIT, T>(source, part, entries, size, rank)
 }
 
-/// The last entry of an upper block with at most `rank` bits of the kind before it there, where the tables are those of
-/// the words; some entry of the upper block otherwise. Returns its number in the upper block and what it packs.
+/// The last entry of an upper block with at most `rank` bits of the kind before it there, where the tables match the
+/// words; some entry of the upper block otherwise. Returns its number in the upper block and its packed counts.
 ///
 /// # Conditions
-/// There is such an upper block, and the tables are as long as those of the words. They may hold anything.
+/// There is such an upper block, and the lengths of the tables fit the words. They may hold anything.
 /// # Cost
 /// At most 23 lower entries are read, whatever the tables hold.
 #[inline(always)]

@@ -1,5 +1,5 @@
 //! The last entry of a range of entries, by a guess that narrows the range and by binary search in what is left. The
-//! tables may hold anything: where they are not those of the words, some entry of the range is found.
+//! tables may hold anything: where they do not match the words, some entry of the range is found.
 ghost use Rattle.std.specs.Prelude.{◌≡◌, ◌+◌, ◌-◌, ◌*◌, ◌/◌, ◌^◌, ◌<◌, ◌≤◌, ◌⊎◌, length};
 ghost use Rattle.bit_lists.specs.Bits.{digit_count};
 ghost use Rattle.bit_lists.specs.Count.{as_bit};
@@ -33,7 +33,7 @@ pub struct EntryRange {
 }
 
 /// The side of entry `cut` of a range that has the last entry with at most `rank` bits of the kind before it, where the
-/// tables are those of the words.
+/// tables match the words.
 #[inline(always)]
 fn side_of<const BIT: u8, T: TableSource>(
     source: &mut T,
@@ -132,12 +132,12 @@ pub(crate) fn narrow_by_guess<const BIT: u8, T: TableSource>(
     side_of::<BIT, T>(source, part, near, WINDOW, rank)
 }
 
-/// The last entry of a range with at most `rank` bits of the kind before it in its upper block, where the tables are
-/// those of the words and the range has that entry; some entry of the range otherwise. Returns its number in the upper
-/// block and what it packs.
+/// The last entry of a range with at most `rank` bits of the kind before it in its upper block, where the tables match
+/// the words and the range has that entry; some entry of the range otherwise. Returns its number in the upper block and
+/// its packed counts.
 ///
 /// # Conditions
-/// The tables are as long as those of the words, and the range is a non-empty part of the upper block's entries.
+/// The lengths of the tables fit the words, and the range is a non-empty part of the upper block's entries.
 /// # Cost
 /// For n entries in the range, at most as many lower entries are read as n - 1 has binary digits, and one more where
 /// the range starts with the upper block's first entry, whatever the tables hold.

@@ -1,5 +1,5 @@
 //! Selection in the lower block of an entry that was found: the basic block, its word, the bit of the word. The entry
-//! may be any: where it is not that of the rank, the words decide.
+//! may be any: where it is not the entry of the rank, the words decide.
 ghost use Rattle.std.specs.Prelude.{◌≡◌, ◌+◌, ◌-◌, ◌*◌, ◌/◌, ◌%◌, ◌^◌, ◌<◌, ◌≤◌, ◌≢◌};
 ghost use Rattle.std.specs.Prelude.{length, count_ones, slice_index, IfSome, MatchOption};
 ghost use Rattle.bit_lists.specs.Bits.{bits_of, IsShort};
@@ -69,7 +69,7 @@ pub fn select_in_word(word: u64, rank: usize) -> usize
     select64(word, rank as u8) as usize
 }
 
-/// Word `at`, negated where `BIT` is 0: its 1 bits are those of the sought kind.
+/// Word `at`, negated where `BIT` is 0: its 1 bits are the bits of the sought kind.
 ///
 /// # Conditions
 /// There is such a word. The tables may hold anything.
@@ -153,8 +153,8 @@ fn last_at_most(counts: &[usize; 8], rank: usize) -> usize
     last
 }
 
-/// Selection among the eight words from `first` on, all of which exist: `among` without a branch for each word, which
-/// the processor would often predict wrongly.
+/// Selection among the eight words from `first` on, which all exist: `among` without a branch for each word, which the
+/// processor would often predict wrongly.
 #[inline(always)]
 fn among_all<const BIT: u8, T: TableSource>(
     source: &mut T,
@@ -182,7 +182,7 @@ fn among_all<const BIT: u8, T: TableSource>(
     }
 }
 
-/// Selection among the eight words from `first` on, all of which exist: without a branch for each word among few words,
+/// Selection among the eight words from `first` on, which all exist: without a branch for each word among few words,
 /// and with one among many, where stopping at the right word saves more than a branch costs.
 #[inline(always)]
 fn among_eight<const BIT: u8, T: TableSource>(
@@ -208,8 +208,7 @@ fn among_eight<const BIT: u8, T: TableSource>(
     }
 }
 
-/// Selection among the eight words from `first` on, or among those of them that exist. The rank counts from the first
-/// of these.
+/// Selection among the eight words from `first` on, or among the fewer that exist. The rank counts from word `first`.
 #[inline(always)]
 fn in_record<const BIT: u8, T: TableSource>(
     source: &mut T,
@@ -238,7 +237,7 @@ fn in_record<const BIT: u8, T: TableSource>(
     }
 }
 
-/// Selection among the eight words from `first` on, all of which exist, from their end: the bit from which on they have
+/// Selection among the eight words from `first` on, which all exist, from their end: the bit from which on they have
 /// `rest` bits of the sought kind, itself included.
 #[inline(always)]
 fn among_last<const BIT: u8, T: TableSource>(
@@ -311,8 +310,8 @@ fn from_nearer_end<const BIT: u8, T: TableSource>(
     in_record::<BIT, T>(source, first, rank)
 }
 
-/// The number of bits of the kind in an entry up to the end of its basic block `place`, from what it packs and from the
-/// number before the next entry in its upper block; any number where that entry was not read.
+/// The number of bits of the kind in an entry up to the end of its basic block `place`, from its packed counts and from
+/// the number before the next entry in its upper block; any number where that entry was not read.
 #[inline(always)]
 fn ones_to_end(packed: u64, place: usize, above: usize) -> usize
     requires { place < 4 }

@@ -18,7 +18,7 @@ pub fn found(selected: Answer<usize>) -> Option<usize>
 /// In a list of answers: there is no such position or bit.
 pub const NO_ANSWER: usize = usize::MAX;
 
-/// In a list of answers: the tables are not those of the words.
+/// In a list of answers: the tables do not match the words.
 pub const WRONG_TABLES: usize = usize::MAX - 1;
 
 /// The code of a selection's answer: the position, `NO_ANSWER` or `WRONG_TABLES`.

@@ -1,7 +1,7 @@
 //! Selection over a source, with a bound on its reads: first the upper block, then its entry, then the words of the
 //! entry.
 //!
-//! The tables may hold anything: where they are not those of the words, the search ends with some upper block and some
+//! The tables may hold anything: where they do not match the words, the search ends with some upper block and some
 //! entry.
 ghost use Rattle.std.specs.Prelude.{◌≡◌, ⊤, ℕ, ◌+◌, ◌-◌, ◌*◌, ◌/◌, ◌^◌, ◌<◌, ◌≤◌, ◌≢◌, length};
 ghost use Rattle.bit_lists.specs.Bits.{digit_count};
@@ -31,11 +31,11 @@ pub trait FindsEntry<const BIT: u8, T: TableSource> {
     /// The most lower entries that a search reads where the value leads to the entry.
     ghost lowers_led: { ℕ };
 
-    /// The last entry of an upper block with at most `rank` bits of the kind before it there, and what it packs: the
-    /// right one where the tables are those of the words, some entry of the upper block otherwise.
+    /// The last entry of an upper block with at most `rank` bits of the kind before it there, and its packed counts:
+    /// the right one where the tables match the words, some entry of the upper block otherwise.
     ///
     /// # Conditions
-    /// There is such an upper block, and the tables are as long as those of the words. They may hold anything.
+    /// There is such an upper block, and the lengths of the tables fit the words. They may hold anything.
     fn entry(&self, source: &mut T, part: usize, rank: usize) -> (usize, u64)
         requires sized { HasSizes (T.lists source.old) }
         requires inside { part < length (T.lists source.old).upper }
@@ -66,8 +66,8 @@ impl<const BIT: u8, T: TableSource> FindsEntry<BIT, T> for ByTables {
 /// The position of the 1 bit of the source's words with exactly `rank` 1 bits before it; of the 0 bit with `rank` 0
 /// bits before it where `BIT` is 0.
 ///
-/// Whatever the tables hold, a position that is found is in the words and has such a bit. Where they are those of the
-/// words, it is the right position, the answer is `Absent` exactly where there is no such bit, and it is never `Wrong`.
+/// Whatever the tables hold, a position that is found is in the words and has such a bit. Where they match the words,
+/// it is the right position, the answer is `Absent` exactly where there is no such bit, and it is never `Wrong`.
 ///
 /// # Conditions
 /// There are fewer than 2^58 words, and the tables have the right lengths. They may hold anything.
@@ -90,13 +90,13 @@ pub fn total_select_on<const BIT: u8, T: TableSource>(source: &mut T, rank: usiz
 /// is no such bit; of the 0 bit with `rank` 0 bits before it where `BIT` is 0.
 ///
 /// # Conditions
-/// The source's tables are those of its words, which are fewer than 2^58.
+/// The source's tables match its words, which are fewer than 2^58.
 /// # Cost
 /// With u upper entries, a query reads at most one more of them than u has binary digits, 23 lower entries and eight
 /// words, also where the answer is `None`.
 /// # Source
-/// The levels are those of Zhou, Andersen and Kaminsky, 'Space-efficient, high-performance rank and select structures
-/// on uncompressed bit sequences' (SEA 2013).
+/// The levels are from Zhou, Andersen and Kaminsky, 'Space-efficient, high-performance rank and select structures on
+/// uncompressed bit sequences' (SEA 2013).
 pub fn binary_select_on<const BIT: u8, T: TableSource>(source: &mut T, rank: usize) -> Option<usize>
     requires { IsIndexed (T.lists source.old) }
     ensures answer { IsSelect (bits_in (T.lists source.old)) (as_bit BIT) rank result }
@@ -111,9 +111,9 @@ pub fn binary_select_on<const BIT: u8, T: TableSource>(source: &mut T, rank: usi
 /// it would be `Wrong`.
 ///
 /// # Conditions
-/// Those of `total_select_on`.
+/// The conditions of `total_select_on`.
 /// # Cost
-/// That of `total_select_on`, with the lower entries that `finder` reads in place of 23.
+/// The cost of `total_select_on`, with the lower entries that `finder` reads in place of 23.
 #[inline(always)]
 pub fn search_on<const BIT: u8, const TESTS: u8, T: TableSource, F: FindsEntry<BIT, T>>(
     source: &mut T,
@@ -143,7 +143,7 @@ pub fn search_on<const BIT: u8, const TESTS: u8, T: TableSource, F: FindsEntry<B
     in_packed::<BIT, TESTS, T>(source, part, entry, packed, NOT_READ, in_part)
 }
 
-/// The number of 1 bits before an upper block, or of 0 bits where `BIT` is 0, where the tables are those of the words.
+/// The number of 1 bits before an upper block, or of 0 bits where `BIT` is 0, where the tables match the words.
 #[inline(always)]
 pub fn before_part<const BIT: u8, T: TableSource>(source: &mut T, part: usize) -> usize
     requires { part < length (T.lists source.old).upper }
@@ -161,8 +161,8 @@ pub fn before_part<const BIT: u8, T: TableSource>(source: &mut T, part: usize) -
     }
 }
 
-/// The last upper block with at most `rank` bits of the kind before it, where the tables are those of the words; some
-/// upper block otherwise.
+/// The last upper block with at most `rank` bits of the kind before it, where the tables match the words; some upper
+/// block otherwise.
 ///
 /// # Conditions
 /// There is an upper block. The tables may hold anything.
@@ -190,9 +190,9 @@ pub fn last_part<const BIT: u8, T: TableSource>(source: &mut T, rank: usize) -> 
     low
 }
 
-/// The last upper block with at most `rank` bits of the kind before it and the rank within it, where the tables are
-/// those of the words; some upper block otherwise. In wrong tables the difference may wrap: no basic block has a bit of
-/// such a rank.
+/// The last upper block with at most `rank` bits of the kind before it and the rank within it, where the tables match
+/// the words; some upper block otherwise. In wrong tables the difference may wrap: no basic block has a bit of such a
+/// rank.
 ///
 /// # Conditions
 /// There is an upper block. The tables may hold anything.

@@ -16,8 +16,8 @@ use bitm_tables::source::TableSource;
 /// The number of entries on either side of a guess that are read one after another.
 const STEPS: usize = 4;
 
-/// The last entry of an upper block with at most `rank` bits of the kind before it there, and what it packs: the right
-/// one where the tables are those of the words. The search starts at entry `at`, which packs `packed` and has at most
+/// The last entry of an upper block with at most `rank` bits of the kind before it there, and its packed counts: the
+/// right one where the tables match the words. The search starts at entry `at`, which packs `packed` and has at most
 /// `rank` before it. `None` where the right entry is neither `at` nor one of the three after it.
 #[inline(always)]
 fn steps_on<const BIT: u8, T: TableSource>(
@@ -54,8 +54,8 @@ fn steps_on<const BIT: u8, T: TableSource>(
     None
 }
 
-/// The last entry of an upper block with at most `rank` bits of the kind before it there, and what it packs: the right
-/// one where the tables are those of the words. The search starts at entry `at`, which has more than `rank` before it.
+/// The last entry of an upper block with at most `rank` bits of the kind before it there, and its packed counts: the
+/// right one where the tables match the words. The search starts at entry `at`, which has more than `rank` before it.
 /// `None` where the right entry is not one of the four before it.
 #[inline(always)]
 fn steps_back<const BIT: u8, T: TableSource>(
@@ -87,8 +87,8 @@ fn steps_back<const BIT: u8, T: TableSource>(
     None
 }
 
-/// The last entry of an upper block with at most `rank` bits of the kind before it there, and what it packs: the right
-/// one where the tables are those of the words. The search looks at entry `about` and at most four entries before or
+/// The last entry of an upper block with at most `rank` bits of the kind before it there, and its packed counts: the
+/// right one where the tables match the words. The search looks at entry `about` and at most four entries before or
 /// after it, and returns `None` where this does not find it.
 #[inline(always)]
 pub fn entry_by_steps<const BIT: u8, T: TableSource>(
@@ -143,13 +143,12 @@ fn even_guess<const BIT: u8, T: TableSource>(
     Some(rank.wrapping_mul(last) / all.max(1))
 }
 
-/// The last entry of an upper block with at most `rank` bits of the kind before it there, and what it packs: the right
-/// one where the tables are those of the words. `None` where the bits of the kind do not lie evenly in the upper block,
+/// The last entry of an upper block with at most `rank` bits of the kind before it there, and its packed counts: the
+/// right one where the tables match the words. `None` where the bits of the kind do not lie evenly in the upper block,
 /// which has 2^`size` entries or more, but fewer than twice as many.
 ///
 /// # Conditions
-/// The upper block has this number of entries, and the tables are as long as those of the words. They may hold
-/// anything.
+/// The upper block has this number of entries, and the lengths of the tables fit the words. They may hold anything.
 /// # Cost
 /// At most seven lower entries are read, whatever the tables hold.
 #[inline(always)]

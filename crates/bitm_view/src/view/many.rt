@@ -47,7 +47,7 @@ impl<'a> IndexView<'a> {
     /// `positions`.
     ///
     /// # Cost
-    /// That of `rank_each_on`.
+    /// The cost of `rank_each_on`.
     pub fn rank_each<const BIT: u8>(&self, positions: &[usize], out: &mut [usize]) -> bool
         ensures room { IsTrue result ↔ length out.old ≡ length positions.now }
         ensures ranks { IsTrue result → (j : ℕ) → j < length positions.now → RanksIn (as_bit BIT)
@@ -79,7 +79,7 @@ impl<'a> IndexView<'a> {
         if position > self.len { NO_ANSWER } else { code }
     }
 
-    /// `select_each` over a source of the view's words and tables, of which `finder` finds the entries: `ByTables`, or
+    /// `select_each` over a source of the view's words and tables, where `finder` finds the entries: `ByTables`, or
     /// samples.
     ///
     /// # Cost
@@ -110,12 +110,12 @@ impl<'a> IndexView<'a> {
         done
     }
 
-    /// Writes the position with each rank by the codes of lists: what `select` answers where the tables are those of
-    /// the words, and possibly another position with such a bit in other tables. Returns false, and writes nothing,
-    /// exactly where `out` is not as long as `ranks`.
+    /// Writes the position with each rank by the codes of lists: what `select` answers where the tables match the
+    /// words, and possibly another position with such a bit in other tables. Returns false, and writes nothing, exactly
+    /// where `out` is not as long as `ranks`.
     ///
     /// # Cost
-    /// That of `select_each_on` with the samples, or with `ByTables` where there are no samples of the kind.
+    /// The cost of `select_each_on` with the samples, or with `ByTables` where there are no samples of the kind.
     pub fn select_each<const BIT: u8>(&self, ranks: &[usize], out: &mut [usize]) -> bool
         ensures room { IsTrue result ↔ length out.old ≡ length ranks.now }
         ensures selects { IsTrue result → (j : ℕ) → j < length ranks.now → SelectsIn (as_bit BIT)

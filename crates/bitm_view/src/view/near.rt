@@ -32,7 +32,7 @@ impl<'a> IndexView<'a> {
         self.select_on::<BIT, T, F>(source, finder, rank)
     }
 
-    /// `next` over a source of the view's words and tables, of which `finder` finds the entry.
+    /// `next` over a source of the view's words and tables, where `finder` finds the entry.
     ///
     /// # Cost
     /// One rank and one selection: with u upper entries, at most two more of them than u has binary digits, one lower
@@ -64,11 +64,11 @@ impl<'a> IndexView<'a> {
     /// The least position from `from` on that has a 1 bit; a 0 bit where `BIT` is 0.
     ///
     /// Whatever the tables hold, a position that is found is in the bit vector, not before `from`, and has such a bit.
-    /// Where they are those of the words it is the least one, `Absent` is answered exactly where there is none, and
-    /// `Wrong` never.
+    /// Where they match the words it is the least one, `Absent` is answered exactly where there is none, and `Wrong`
+    /// never.
     ///
     /// # Cost
-    /// That of `next_on` with `ByGuess`, or with `ByTables` where there are no samples of the kind.
+    /// The cost of `next_on` with `ByGuess`, or with `ByTables` where there are no samples of the kind.
     pub fn next<const BIT: u8>(&self, from: usize) -> Answer<usize>
         ensures bit { HasBit (bits_of_cut self.now) (as_bit BIT) result }
         ensures from { IsFoundFrom from self.now.len result }
@@ -82,10 +82,10 @@ impl<'a> IndexView<'a> {
         self.next_on::<BIT, Probe<'_>, ByGuess<'_>>(source, &ByGuess { samples }, from)
     }
 
-    /// `previous` over a source of the view's words and tables, of which `finder` finds the entry.
+    /// `previous` over a source of the view's words and tables, where `finder` finds the entry.
     ///
     /// # Cost
-    /// That of `next_on`.
+    /// The cost of `next_on`.
     #[inline(always)]
     pub fn previous_on<const BIT: u8, T: TableSource, F: FindsEntry<BIT, T>>(
         &self,
@@ -118,11 +118,11 @@ impl<'a> IndexView<'a> {
     /// The greatest position up to `from` that has a 1 bit; a 0 bit where `BIT` is 0. `from` may be past the end.
     ///
     /// Whatever the tables hold, a position that is found is in the bit vector, not after `from`, and has such a bit.
-    /// Where they are those of the words it is the greatest one, `Absent` is answered exactly where there is none, and
-    /// `Wrong` never.
+    /// Where they match the words it is the greatest one, `Absent` is answered exactly where there is none, and `Wrong`
+    /// never.
     ///
     /// # Cost
-    /// That of `previous_on` with `ByGuess`, or with `ByTables` where there are no samples of the kind.
+    /// The cost of `previous_on` with `ByGuess`, or with `ByTables` where there are no samples of the kind.
     pub fn previous<const BIT: u8>(&self, from: usize) -> Answer<usize>
         ensures bit { HasBit (bits_of_cut self.now) (as_bit BIT) result }
         ensures to { IsFoundFrom 0 (from + 1) result }

@@ -3,8 +3,11 @@ use Rattle.std.proofs.Common.{◌≡◌, ℕ, ◌+◌, ◌-◌, ◌/◌, ◌^◌
 use Rattle.bit_lists.proofs.lemmas.BitsLemmas.{length-bits_of}
 use Rattle.bit_lists.specs.Bits.{bits_of}
 use Rattle.bit_lists.specs.Count.{count_of, Picks}
+use Rattle.bitm_select.specs.Answers.{HasBit, IsFoundFrom}
 use Rattle.bitm_tables.specs.Entry.{less}
 use Rattle.bitm_tables.specs.Tables.{Lists, bits_in}
+use Rattle.bitm_tables.specs.declared.answer.Answer.{Answer}
+use Rattle.bitm_tables.specs.declared.answer.Answer.TheVariants.{Found, Absent, Wrong}
 use Rattle.elias_fano.proofs.lemmas.BucketLemmas.{CountsTo-all, begin-at_most, begin-behind, begin-first, ends-counted, ends-whole}
 use Rattle.elias_fano.proofs.lemmas.ItemLemmas.{upper-short}
 use Rattle.elias_fano.proofs.lemmas.SizeLemmas.{few_of_some}
@@ -29,6 +32,13 @@ begin-next a b h p same some zero =
     let P : ℕ → Type 0 = λ z. BeginsAt b z (p + 1) in
     let B : List Bool → Type 0 = λ bits. BeginsAt bits (h - 1 + 1) (p + 1) in
     subst P (omega (arith, some)) (subst B same (begin-behind a (h - 1) p zero))
+
+-- a zero of few words has a place that can be counted on from
+pub found-short : (words : List ℕ) (zero : Answer ℕ) → length words < 2 ^ 58 → HasBit (bits_of words) false zero
+    → IsFoundFrom 0 (2 ^ 64 - 1) zero
+found-short words (Found p) short bit = (omega arith, omega (arith, bit.0, length-bits_of words))
+found-short words Absent short bit = tt
+found-short words Wrong short bit = tt
 
 -- all have less, where there are too few zeros
 pub below-all : (xs : List ℕ) (l : ℕ) (upper : List ℕ) (h : ℕ) (a : List Bool) → IsUpper xs l upper → a ≡ bits_of upper → 0 < h
@@ -87,3 +97,10 @@ module _ (xs : List ℕ) (n : ℕ) (low : Lows) (lists : Lists) (h : Holds xs (p
       let F : ℕ → Type 0 = λ k. HasEnds xs low.width v k end in
       let T : ℕ → Type 0 = λ k. CountsTo xs low.width (v / 2 ^ k) end in
       subst F first (ends-counted xs low.width v lists.words h.are.upper_is p here end (subst T same to))
+
+  -- both ends, with low digits and without
+  pub both-ends : (end : ℕ) → CountsTo xs low.width (v / 2 ^ w) end
+      → CountsBelow xs low.width (v / 2 ^ low.width) (less p (v / 2 ^ w)) × CountsTo xs low.width (v / 2 ^ low.width) end
+  both-ends end to =
+      let T : ℕ → Type 0 = λ k. CountsTo xs low.width (v / 2 ^ k) end in
+      ((counted-ends end to).begins, subst T same to)

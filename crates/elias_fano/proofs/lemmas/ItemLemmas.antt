@@ -1,5 +1,5 @@
 -- The items that the two vectors hold are those of the sequence.
-use Rattle.std.proofs.Common.{◌≡◌, ℕ, ◌+◌, ◌-◌, ◌*◌, ◌/◌, ◌^◌, ◌<◌, ◌≤◌, true, List, length, get_or, sym, refl, ap, ◌∙◌, arith, subst}
+use Rattle.std.proofs.Common.{◌≡◌, ℕ, ◌+◌, ◌-◌, ◌*◌, ◌/◌, ◌^◌, ◌<◌, ◌≤◌, true, List, [], length, get_or, sym, refl, ap, ◌∙◌, arith, subst}
 use Rattle.std.proofs.lemmas.Grind.{same_number_lists}
 use Rattle.std.proofs.lemmas.List.FromFn.{length-map-range_with_len, get_or-map-range_with_len}
 use Rattle.std.proofs.lemmas.Nat.{div-add-mod'}
@@ -66,11 +66,12 @@ module _ (xs : List ℕ) (n l : ℕ) (low upper : List ℕ) (h : ArePartsOf xs n
   upper-short = omega (arith, h.upper_is.words, upper_few_at xs l (largest xs) h.width refl, h.sequence.short)
 
   -- and their lengths are those of parts
-  pub parts-lengths : HaveLengths n l low
+  pub parts-lengths : HaveLengths n l low upper []
   parts-lengths = record {
     short = omega (arith, h.count, h.sequence.short);
     width = parts-width;
     low = h.low_is.words ∙ ap (λ k. div_ceil (k * l) 64) (sym h.count);
+    hints = λ some. absurd (omega (arith, some));
   }
 
 -- there are as many fragments of low digits as items

@@ -7,15 +7,15 @@ ghost use Rattle.elias_fano.specs.Told.{IfLast, TellsAtMost, TellsLess};
 
 use crate::sequence::LentSequence;
 use bitm_tables::answer::Answer;
-use elias_fano::{total_contains_by, total_last_at_most_by};
+use elias_fano::{hinted_contains_on, hinted_last_at_most_on};
 
 impl<'a> LentSequence<'a> {
     /// The predecessor of `v`: the greatest index whose number is at most `v`, and `Absent` exactly where each number
-    /// is greater, where the parts are those of a sequence. Whatever they hold, the answer is `Wrong`, or the parts
-    /// claim that all numbers up to the index are at most `v`, or that none is for `Absent`.
+    /// is greater, where the parts form a sequence. Whatever they hold, the answer is `Wrong`, or the parts claim that
+    /// all numbers up to the index are at most `v`, or that none is for `Absent`.
     ///
     /// # Cost
-    /// That of `total_last_at_most_by`: the cost of `first_at_least` of `v + 1`.
+    /// The cost of `hinted_last_at_most_on`: the cost of `first_at_least` of `v + 1`.
     #[inline]
     pub fn last_at_most(&self, v: u64) -> Answer<usize>
         ensures inside { IsPlaceOf self.now.len result }
@@ -23,15 +23,15 @@ impl<'a> LentSequence<'a> {
         ensures answer { (xs : List ℕ) → Holds xs self.now → IsPredecessorOf xs v result }
     {
         let (source, low) = (&mut self.upper.probe(), &mut self.low_digits());
-        total_last_at_most_by(source, &self.by_zeros(), low, self.len, v)
+        hinted_last_at_most_on(source, self.hints, low, self.len, v)
     }
 
-    /// Whether `v` is one of the numbers, where the parts are those of a sequence; in other parts the answer may be
-    /// either, or `None`. Whatever they hold, with an answer they claim how many numbers are less than `v`, and the
-    /// answer is false where that is all of them.
+    /// Whether `v` is one of the numbers, where the parts form a sequence; in other parts the answer may be either, or
+    /// `None`. Whatever they hold, with an answer they claim how many numbers are less than `v`, and the answer is
+    /// false where that is all of them.
     ///
     /// # Cost
-    /// That of `total_contains_by`: the cost of `first_at_least`, and that of `get` where it finds an index.
+    /// The cost of `hinted_contains_on`: the cost of `first_at_least`, and the low bits of one number more.
     #[inline]
     pub fn contains(&self, v: u64) -> Option<bool>
         ensures answer { (xs : List ℕ) → Holds xs self.now
@@ -40,6 +40,6 @@ impl<'a> LentSequence<'a> {
             × (p ≡ self.now.len → is ≡ false)) }
     {
         let (source, low) = (&mut self.upper.probe(), &mut self.low_digits());
-        total_contains_by(source, &self.by_zeros(), &self.by_ones(), low, self.len, v)
+        hinted_contains_on(source, self.hints, low, self.len, v)
     }
 }

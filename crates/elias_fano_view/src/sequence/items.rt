@@ -13,8 +13,9 @@ ghost use Rattle.elias_fano.specs.Low.{ReadsFragments};
 
 use crate::sequence::LentSequence;
 use bit_words::words;
+use bitm_selection::{Hints, hinted_select_on};
 use bitm_tables::answer::Answer;
-use bitm_tables::source::TableSource;
+use bitm_tables::source::{Probe, TableSource};
 use elias_fano::LowDigits;
 use elias_fano::building::item_at_one;
 
@@ -64,8 +65,8 @@ fn next_one_on<T: TableSource>(
 /// where these have no more 1 bits, and returns how many.
 ///
 /// # Cost
-/// Reads each word from that of the first number's 1 bit to that of the last number's once, and the low bits of each
-/// number.
+/// Reads each word once, from the word of the first number's 1 bit to the word of the last number's, and the low bits
+/// of each number.
 fn write_items_on<T: TableSource>(
     source: &mut T,
     low: &mut LowDigits<'_>,
@@ -111,11 +112,11 @@ fn write_items_on<T: TableSource>(
 
 impl<'a> LentSequence<'a> {
     /// Writes the numbers from number `from` on until none is left or `out` is full, and returns how many. The rest of
-    /// `out` keeps its values. In parts that are not those of a sequence these are some numbers, and may be fewer.
+    /// `out` keeps its values. In parts that form no sequence these are some numbers, and may be fewer.
     ///
     /// # Cost
-    /// One selection; then each word of the high bits is read once, from that of the first number to that of the last,
-    /// and the low bits of each number. Nothing is read where there is no number to write.
+    /// One selection; then each word of the high bits is read once, from the word of the first number to the word of
+    /// the last, and the low bits of each number. Nothing is read where there is no number to write.
     pub fn items_from(&self, from: usize, out: &mut [u64]) -> usize
         ensures most { result ≤ min (length out.old) (self.now.len - from) }
         ensures all { (xs : List ℕ) → Holds xs self.now
@@ -127,7 +128,8 @@ impl<'a> LentSequence<'a> {
         if most == 0 {
             return 0;
         }
-        let first = match self.upper.sampled_select::<1>(&self.ones, from) {
+        let ones = Hints::over(self.hints, self.len).ones;
+        let first = match hinted_select_on::<1, Probe<'_>>(&mut self.upper.probe(), ones, from) {
             Answer::Found(first) => first,
             Answer::Absent => return 0,
             Answer::Wrong => return 0,

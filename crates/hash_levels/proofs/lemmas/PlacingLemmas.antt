@@ -12,6 +12,21 @@ use Rattle.hash_levels.proofs.lemmas.CountingLemmas.{count_by-agree}
 use Rattle.hash_levels.proofs.lemmas.LevelLemmas.{FallsInside}
 use Rattle.hash_levels.proofs.lemmas.NumberLemmas.{sum-first}
 
+-- where keys fall in a level as they did, its ones are the same
+pub IsLevel-alike : {K : Type 0} (fall other : K → ℕ → ℕ → ℕ) (keys : List K) (b : List Bool) (level begin words : ℕ)
+    → ((k : K) → fall k level words ≡ other k level words) → IsLevel fall keys b level begin words → IsLevel other keys b level begin words
+IsLevel-alike fall other keys b level begin words same is p less =
+    is p less
+    ∙ ap (λ (n : ℕ). eqb n 1) (count_by-agree (λ k. eqb (fall k level words) p) (λ k. eqb (other k level words) p) (λ k. ap (λ (q : ℕ). eqb q p) (same k)) keys)
+
+-- and it leaves the same
+pub left_of-alike : {K : Type 0} (fall other : K → ℕ → ℕ → ℕ) (keys : List K) (b : List Bool) (level begin words : ℕ)
+    → ((k : K) → fall k level words ≡ other k level words)
+    → left_of fall keys b level begin words ≡ left_of other keys b level begin words
+left_of-alike fall other keys b level begin words same =
+    filter_agree (λ k. not (item b (begin + fall k level words))) (λ k. not (item b (begin + other k level words)))
+    (λ k. ap (λ (q : ℕ). not (item b (begin + q))) (same k)) keys
+
 -- where keys fall in each level as they did, they lead to the same
 LeadTo-alike : {K : Type 0} (fall other : K → ℕ → ℕ → ℕ) (keys : List K) (b : List Bool) (level begin : ℕ) (sizes : List ℕ) (left : List K)
     → ((k : K) (i : ℕ) → i < length sizes → fall k (level + i) (slice_index sizes i) ≡ other k (level + i) (slice_index sizes i))
@@ -25,11 +40,8 @@ LeadTo-alike {K} fall other keys b level begin (w ∷ sizes) left same lead =
     subst P e (same k 0 (omega arith)) in
     let Q : List K → Type 0 = λ xs. LeadTo other xs b (level + 1) (begin + 64 * w) sizes left in (
       lead.0,
-      (λ p less. lead.1 p less
-          ∙ ap (λ (n : ℕ). eqb n 1) (count_by-agree (λ k. eqb (fall k level w) p) (λ k. eqb (other k level w) p) (λ k. ap (λ (q : ℕ). eqb q p) (here k)) keys)),
-      subst Q
-          (filter_agree (λ k. not (item b (begin + fall k level w))) (λ k. not (item b (begin + other k level w)))
-          (λ k. ap (λ (q : ℕ). not (item b (begin + q))) (here k)) keys)
+      IsLevel-alike fall other keys b level begin w here lead.1,
+      subst Q (left_of-alike fall other keys b level begin w here)
           (LeadTo-alike fall other (left_of fall keys b level begin w) b (level + 1) (begin + 64 * w) sizes left
           (λ k i less.
           let P : ℕ → Type 0 = λ l. fall k l (slice_index sizes i) ≡ other k l (slice_index sizes i) in
@@ -52,8 +64,7 @@ sized-more {K} taken fall other falls keys left b c level begin (w ∷ sizes) si
     let e : level + 0 ≡ level = omega arith in
     subst P e (alike k 0 (omega arith)) in
     let moved : left_of fall keys b level begin w ≡ left_of other keys b level begin w =
-    filter_agree (λ k. not (item b (begin + fall k level w))) (λ k. not (item b (begin + other k level w)))
-    (λ k. ap (λ (q : ℕ). not (item b (begin + q))) (here k)) keys in
+    left_of-alike fall other keys b level begin w here in
     let grown : left_of other keys b level begin w ≡ left_of other keys c level begin w =
     left_of-same other falls keys b c level begin begin w lead.0 (λ p less. kept (begin + p) (omega (arith, less, sum-first w sizes))) in
     let P : List K → Type 0 = λ xs. AreSized taken other xs c (level + 1) (begin + 64 * w) (sizes ++ size ∷ []) in (
@@ -90,8 +101,7 @@ chosen-more {P} chooses fall other falls keys left b c level first begin (w ∷ 
     let e : level + 0 ≡ level = omega arith in
     subst Q e (alike k 0 (omega arith)) in
     let moved : left_of fall keys b level begin w ≡ left_of other keys b level begin w =
-    filter_agree (λ k. not (item b (begin + fall k level w))) (λ k. not (item b (begin + other k level w)))
-    (λ k. ap (λ (n : ℕ). not (item b (begin + n))) (here k)) keys in
+    left_of-alike fall other keys b level begin w here in
     let grown : left_of other keys b level begin w ≡ left_of other keys c level begin w =
     left_of-same other falls keys b c level begin begin w lead.0 (λ i less. kept (begin + i) (omega (arith, less, sum-first w sizes))) in
     let S : List ℕ → Type 0 = λ xs. AreChosen chooses other xs c (level + 1) (first + w) (begin + 64 * w) (sizes ++ size ∷ []) chosen.0 r in (

@@ -19,7 +19,7 @@ use bitm_tables::source::Probe;
 impl<'a> Lent<'a> {
     /// Writes the samples of 1 bits, one for each 2^`log2` of them in an upper block, and the number of samples before
     /// each upper block, and returns the number of samples; of 0 bits where `BIT` is 0. The rest of `samples` keeps its
-    /// values. Where the tables are those of the words, so are the samples; otherwise they are some numbers.
+    /// values. Where the tables match the words, so do the samples; otherwise they are some numbers.
     ///
     /// Returns `None`, and writes nothing, exactly where `samples` is shorter than `samples_len`, or `starts` is not as
     /// long as the upper table. The logarithm is clamped to 7 to 31.
@@ -65,9 +65,9 @@ impl<'a> Lent<'a> {
     ///
     /// # Cost
     /// With u upper entries, a query reads at most one more of them than u has binary digits, 51 lower entries and
-    /// eight words, whatever the tables and samples hold. Where tables and samples are those of the words, it reads at
-    /// most 28 lower entries: five near a guess between the rank's sample and the next and, after a wrong guess, two
-    /// more and one for each halving between the two samples.
+    /// eight words, whatever the tables and samples hold. Where tables and samples match the words, it reads at most 28
+    /// lower entries: five near a guess between the rank's sample and the next and, after a wrong guess, two more and
+    /// one for each halving between the two samples.
     #[inline(always)]
     pub fn sampled_select<const BIT: u8>(
         &self,

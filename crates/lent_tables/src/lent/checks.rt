@@ -1,4 +1,4 @@
-//! Whether borrowed samples are those of the words.
+//! Whether borrowed samples match the words.
 ghost use Rattle.std.specs.Prelude.{IsTrue, ◌↔◌};
 ghost use Rattle.bit_lists.specs.Count.{as_bit};
 ghost use Rattle.bitm_tables.specs.Tables.{HasTables, bits_in};
@@ -10,8 +10,8 @@ use crate::samples::{LentSamples, clamped_log};
 use bitm_strategies::Summary;
 
 impl<'a> Lent<'a> {
-    /// Whether the samples of 1 bits and their starts are those that `build_samples` writes; of 0 bits where `BIT` is
-    /// 0. Where the tables are not those of the words, which `check` finds out, the answer may be either.
+    /// Whether the samples of 1 bits and their starts are as `build_samples` writes them; of 0 bits where `BIT` is
+    /// 0. Where the tables do not match the words, which `check` finds out, the answer may be either.
     ///
     /// # Cost
     /// Each lower entry is read at most once, up to two are read again for each sample, and at most eight words are

@@ -3,68 +3,35 @@ use Rattle.std.proofs.Common.{◌≡◌, ℕ, ◌+◌, ◌*◌, ◌≤◌, List,
 use Rattle.std.proofs.Math.Nat.{mul-le-mul_left}
 use Rattle.bitm_tables.specs.declared.source.counts.ReadCounts.{ReadCounts}
 use Rattle.bitm_tables.specs.Tables.{Lists}
-use Rattle.bitm_selection.specs.Selection.{by_halves}
-use Rattle.louds.specs.Counted.{OnlySelects}
+use Rattle.bitm_selection.specs.Selection.{OnlySelectsBy}
 use Rattle.louds.specs.Leading.{LabelReads, ReadsLabels}
 
-module _ {S : Type 0} (lists_of : S → Lists) (reads_of : S → ReadCounts) where
-  -- two selections more
-  pub selects_more : (s t r : S) (k : ℕ) → OnlySelects lists_of reads_of s t (2 * k) 0 → OnlySelects lists_of reads_of t r 2 0
-      → OnlySelects lists_of reads_of s r (2 * (k + 1)) 0
-  selects_more s t r k first next =
-      let each = by_halves (lists_of s) in
-      let other = by_halves (lists_of t) in
-      let upper : other.upper ≡ each.upper = ap (λ l. (by_halves l).upper) first.same in
+module _ {S : Type 0} (lists_of : S → Lists) (reads_of : S → ReadCounts) (most : Lists → ReadCounts) where
+  -- the selections and words of two calls, and no more than that
+  pub selects_then : (s t r : S) (a b n v w x : ℕ) → OnlySelectsBy lists_of reads_of s t (most (lists_of s)) a v
+      → OnlySelectsBy lists_of reads_of t r (most (lists_of t)) b w → a + b ≤ n → v + w ≤ x
+      → OnlySelectsBy lists_of reads_of s r (most (lists_of s)) n x
+  selects_then s t r a b n v w x first next selections words =
+      let each = most (lists_of s) in
+      let other = most (lists_of t) in
+      let upper : b * other.upper ≡ b * each.upper = ap (λ l. b * (most l).upper) first.same in
+      let lower : b * other.lower ≡ b * each.lower = ap (λ l. b * (most l).lower) first.same in
+      let word : b * other.words ≡ b * each.words = ap (λ l. b * (most l).words) first.same in
       record {
         at_most = record {
-          upper = omega (arith, first.at_most.upper, next.at_most.upper, ap (λ u. 2 * u) upper);
-          lower = omega (arith, first.at_most.lower, next.at_most.lower);
-          words = omega (arith, first.at_most.words, next.at_most.words);
+          upper = omega (arith, first.at_most.upper, next.at_most.upper, upper, mul-le-mul_left each.upper selections);
+          lower = omega (arith, first.at_most.lower, next.at_most.lower, lower, mul-le-mul_left each.lower selections);
+          words = omega (arith, first.at_most.words, next.at_most.words, word, mul-le-mul_left each.words selections);
           upper_kept = omega (arith, first.at_most.upper_kept, next.at_most.upper_kept);
           lower_kept = omega (arith, first.at_most.lower_kept, next.at_most.lower_kept);
           words_kept = omega (arith, first.at_most.words_kept, next.at_most.words_kept);
         };
         same = next.same ∙ first.same;
-      }
-
-  -- one selection more
-  pub selects_next : (s t r : S) (k : ℕ) → OnlySelects lists_of reads_of s t k 0 → OnlySelects lists_of reads_of t r 1 0
-      → OnlySelects lists_of reads_of s r (k + 1) 0
-  selects_next s t r k first next =
-      let each = by_halves (lists_of s) in
-      let other = by_halves (lists_of t) in
-      let upper : other.upper ≡ each.upper = ap (λ l. (by_halves l).upper) first.same in
-      record {
-        at_most = record {
-          upper = omega (arith, first.at_most.upper, next.at_most.upper, upper);
-          lower = omega (arith, first.at_most.lower, next.at_most.lower);
-          words = omega (arith, first.at_most.words, next.at_most.words);
-          upper_kept = omega (arith, first.at_most.upper_kept, next.at_most.upper_kept);
-          lower_kept = omega (arith, first.at_most.lower_kept, next.at_most.lower_kept);
-          words_kept = omega (arith, first.at_most.words_kept, next.at_most.words_kept);
-        };
-        same = next.same ∙ first.same;
-      }
-
-  pub selects_within : (s t : S) (k n : ℕ) → OnlySelects lists_of reads_of s t k 0 → k ≤ n → OnlySelects lists_of reads_of s t n 0
-  selects_within s t k n first within =
-      let each = by_halves (lists_of s) in
-      let upper = mul-le-mul_left each.upper within in
-      record {
-        at_most = record {
-          upper = omega (arith, first.at_most.upper, upper);
-          lower = omega (arith, first.at_most.lower, within);
-          words = omega (arith, first.at_most.words, within);
-          upper_kept = first.at_most.upper_kept;
-          lower_kept = first.at_most.lower_kept;
-          words_kept = first.at_most.words_kept;
-        };
-        same = first.same;
       }
 
   -- nothing was read
-  pub selects_nothing : (s : S) (k : ℕ) → OnlySelects lists_of reads_of s s k 0
-  selects_nothing s k = record {
+  pub selects_nothing : (s : S) (k w : ℕ) → OnlySelectsBy lists_of reads_of s s (most (lists_of s)) k w
+  selects_nothing s k w = record {
     at_most = record {
       upper = omega arith;
       lower = omega arith;
@@ -76,9 +43,11 @@ module _ {S : Type 0} (lists_of : S → Lists) (reads_of : S → ReadCounts) whe
     same = refl;
   }
 
-  -- no more than two for each label
-  pub selects_most : (s t : S) (k n : ℕ) → OnlySelects lists_of reads_of s t (2 * k) 0 → k ≤ n → OnlySelects lists_of reads_of s t (2 * n) 0
-  selects_most s t k n first within = selects_within s t (2 * k) (2 * n) first (omega (arith, within))
+  -- and so no more than more
+  pub selects_within : (s t : S) (k n v x : ℕ) → OnlySelectsBy lists_of reads_of s t (most (lists_of s)) k v → k ≤ n → v ≤ x
+      → OnlySelectsBy lists_of reads_of s t (most (lists_of s)) n x
+  selects_within s t k n v x first selections words =
+      selects_then s t t k 0 n v 0 x first (selects_nothing t 0 0) (omega (arith, selections)) (omega (arith, words))
 
 -- labels that were read one after another
 pub labels_more : (s t r : LabelReads) (k m : ℕ) → ReadsLabels s t (k * m) → ReadsLabels t r m → ReadsLabels s r ((k + 1) * m)

@@ -1,7 +1,8 @@
 -- Levels with seeds, which are made one after another in the first words of a slice.
-use Rattle.std.proofs.Common.{◌≡◌, ℕ, ◌+◌, ◌*◌, ◌/◌, ◌%◌, ◌^◌, ◌<◌, ◌≤◌, List, [], ◌++◌, length, length-drop, min, slice_index, take, drop, set, refl, sym, ap, subst, ◌∙◌, true, arith}
-use Rattle.std.proofs.Math.Seq.{take-add}
-use Rattle.std.proofs.lemmas.List.{get_or-take, length-take-le, take-take, take_more_set}
+use Rattle.std.proofs.Common.{◌≡◌, ℕ, ◌+◌, ◌*◌, ◌/◌, ◌%◌, ◌^◌, ◌<◌, ◌≤◌, List, [], ◌++◌, length, length-drop, min, slice_index, take, drop, set, refl, sym, ap, subst, ◌∙◌, Bool, true, arith}
+use Rattle.std.proofs.Math.Seq.{take-add, take-length}
+use Rattle.std.proofs.lemmas.List.{drop-take, get_or-drop, get_or-take, length-take-le, take-append-le, take-take, take_more_set}
+use Rattle.std.proofs.lemmas.Slice.{between_is, between-put_mid}
 use Rattle.std.specs.List.{sum}
 use Rattle.bit_lists.specs.Bits.{bits_of, IsShort}
 use Rattle.bit_lists.specs.Count.{ones_before, ones_of}
@@ -10,12 +11,13 @@ use Rattle.hash_levels.specs.Inside.{fraction_below, places_inside}
 use Rattle.hash_levels.specs.Levels.{fall_in, left_of, AddsLevel, AreChosen, AreSized, IsLevel, Leave}
 use Rattle.hash_levels.specs.Numbers.{AreLevels}
 use Rattle.hash_levels.specs.Places.{bit_by, place_by, spread, words_for}
-use Rattle.hash_levels.specs.Seeds.{AreBest, HasBest}
+use Rattle.hash_levels.specs.Seeds.{AreBestSeeds, HasBest}
 use Rattle.hash_levels.proofs.lemmas.BuildLemmas.{adds_level, are_sizes, perfect}
 use Rattle.hash_levels.proofs.lemmas.LevelLemmas.{FallsInside}
 use Rattle.hash_levels.proofs.lemmas.NumberLemmas.{numbered}
-use Rattle.hash_levels.proofs.lemmas.PlacingLemmas.{AreChosen-next, AreSized-next, Leave-next}
-use Rattle.perfect_hash.specs.Seeded.{seeds_with}
+use Rattle.hash_levels.proofs.lemmas.PlacingLemmas.{left_of-alike, AreChosen-next, AreSized-next, IsLevel-alike, Leave-next}
+use Rattle.perfect_hash.specs.Seeded.{seeds_with, StandFrom}
+use borrow.Rule.Slice.PartMut.{put_mid}
 
 -- hashes fall alike in levels whose seeds are the same
 pub place_by-alike : (old new : List ℕ) (n first hash level words : ℕ) → take n new ≡ take n old → 0 < words → first + words ≤ n
@@ -28,6 +30,73 @@ place_by-alike old new n first hash level words same some before =
     ap (λ (seed : ℕ). 64 * word + bit_by seed x)
     (sym (get_or-take n new (first + word) 0 inside) ∙ ap (λ (s : List ℕ). slice_index s (first + word)) same
     ∙ get_or-take n old (first + word) 0 inside)
+
+-- hashes fall in a level by its seeds alone as by those of all words, wherever its seeds stand among them
+pub place_by-alone : (all : List ℕ) (first : ℕ) (seeds : List ℕ) (hash level words : ℕ) → StandFrom all first seeds → 0 < words → words ≤ length seeds
+    → place_by seeds 0 hash level words ≡ place_by all first hash level words
+unfolding place_by
+place_by-alone all first seeds hash level words stand some enough =
+    let x = spread hash level in
+    let word = x % 2 ^ 64 * words / 2 ^ 64 in
+    let inside : word < length seeds = omega (arith, fraction_below (x % 2 ^ 64) words (omega arith) some) in
+    ap (λ (seed : ℕ). 64 * word + bit_by seed x)
+    (ap (slice_index seeds) (omega arith) ∙ ap (λ (s : List ℕ). slice_index s word) (sym stand)
+    ∙ get_or-take (length seeds) (drop first all) word 0 inside ∙ get_or-drop first all word 0)
+
+pub IsLevel-alone : (all : List ℕ) (first : ℕ) (seeds hashes : List ℕ) (b : List Bool) (level words size : ℕ) → StandFrom all first seeds
+    → words ≡ size → 0 < size → size ≤ length seeds → IsLevel (place_by seeds 0) hashes b level 0 words
+    → IsLevel (place_by all first) hashes b level 0 size
+IsLevel-alone all first seeds hashes b level words size stand same some enough is =
+    IsLevel-alike (place_by seeds 0) (place_by all first) hashes b level 0 size
+    (λ hash. place_by-alone all first seeds hash level size stand some enough)
+    (subst (λ (n : ℕ). IsLevel (place_by seeds 0) hashes b level 0 n) same is)
+
+pub left_of-alone : (all : List ℕ) (first : ℕ) (seeds hashes : List ℕ) (b : List Bool) (level words size : ℕ) → StandFrom all first seeds
+    → words ≡ size → 0 < size → size ≤ length seeds
+    → left_of (place_by seeds 0) hashes b level 0 words ≡ left_of (place_by all first) hashes b level 0 size
+left_of-alone all first seeds hashes b level words size stand same some enough =
+    ap (λ (n : ℕ). left_of (place_by seeds 0) hashes b level 0 n) same
+    ∙ left_of-alike (place_by seeds 0) (place_by all first) hashes b level 0 size
+    (λ hash. place_by-alone all first seeds hash level size stand some enough)
+
+-- what is written into a stretch of a list stands there
+pub written_is : (old new : List ℕ) (used size k : ℕ) → used ≤ length old → length new ≡ size
+    → drop used (take (used + size) (put_mid used k old new)) ≡ new
+written_is old new used size k inside long =
+    sym (between_is (put_mid used k old new) used (used + size)) ∙ between-put_mid used k old new (used + size) inside (omega (arith, long))
+
+-- the seeds of a level that are written where its words are
+pub stand_written : (old new : List ℕ) (used size k : ℕ) → used ≤ length old → length new ≡ size
+    → StandFrom (take (used + size) (put_mid used k old new)) used new
+stand_written old new used size k inside long = ap (take (length new)) (written_is old new used size k inside long) ∙ take-length new
+
+-- a level whose words and seeds are written into stretches of those of all levels
+module _ (words ones seeds own hashes : List ℕ) (level used size k n : ℕ)
+    (inside : used ≤ length words) (seeds_inside : used ≤ length seeds) (long : length ones ≡ size) (own_long : length own ≡ size) (is : n ≡ size) where
+  all_seeds : List ℕ
+  all_seeds = take (used + size) (put_mid used k seeds own)
+
+  ones_are : take size (drop used (put_mid used k words ones)) ≡ ones
+  ones_are = sym (drop-take used size (put_mid used k words ones)) ∙ written_is words ones used size k inside long
+
+  pub IsLevel-written : ((all : List ℕ) (first : ℕ) → StandFrom all first own → IsLevel (place_by all first) hashes (bits_of ones) level 0 n)
+      → IsLevel (place_by (take (used + size) (put_mid used k seeds own)) used) hashes
+      (bits_of (take size (drop used (put_mid used k words ones)))) level 0 size
+  unfolding all_seeds
+  IsLevel-written made =
+      let P : ℕ → Type 0 = λ m. IsLevel (place_by all_seeds used) hashes (bits_of ones) level 0 m in
+      let Q : List ℕ → Type 0 = λ ws. IsLevel (place_by all_seeds used) hashes (bits_of ws) level 0 size in
+      subst Q (sym ones_are) (subst P is (made all_seeds used (stand_written seeds own used size k seeds_inside own_long)))
+
+  pub left_of-written : (after rest : List ℕ) (left : ℕ) → left ≤ length after
+      → ((all : List ℕ) (first : ℕ) → StandFrom all first own → take left after ≡ left_of (place_by all first) hashes (bits_of ones) level 0 n)
+      → take left (after ++ rest) ≡ left_of (place_by (take (used + size) (put_mid used k seeds own)) used) hashes
+      (bits_of (take size (drop used (put_mid used k words ones)))) level 0 size
+  unfolding all_seeds
+  left_of-written after rest left few made =
+      take-append-le left after rest few ∙ made all_seeds used (stand_written seeds own used size k seeds_inside own_long)
+      ∙ ap (λ (m : ℕ). left_of (place_by all_seeds used) hashes (bits_of ones) level 0 m) is
+      ∙ ap (λ (ws : List ℕ). left_of (place_by all_seeds used) hashes (bits_of ws) level 0 size) (sym ones_are)
 
 -- where hashes fall by the first seeds, in levels of the first sizes
 abbrev pub fall_with : List ℕ → List ℕ → ℕ → ℕ → ℕ → ℕ
@@ -50,7 +119,7 @@ module _ (percent tries : ℕ) (keys hashes hashes' words words' seeds seeds' si
     (some : 0 < size) (is : size ≡ words_for percent left) (few : left ≤ length hashes)
     (made : IsLevel (place_by (take (used + size) seeds') used) (take left hashes) (bits_of (take size (drop used words'))) level 0 size)
     (after : take left' hashes' ≡ left_of (place_by (take (used + size) seeds') used) (take left hashes) (bits_of (take size (drop used words'))) level 0 size)
-    (best : AreBest level (take left hashes) (min tries 256) (drop used (take (used + size) seeds'))) where
+    (best : AreBestSeeds level (take left hashes) (min tries 256) (drop used (take (used + size) seeds'))) where
   ones : List ℕ
   ones = take size (drop used words')
 

@@ -1,11 +1,13 @@
 -- Which files are refused: each that is right has the format that it says.
-use Rattle.std.proofs.Common.{◌≡◌, ℕ, List, Option, None, Some, Ok, Err, IsSomeAnd, refl, arith}
+use Rattle.std.proofs.Common.{◌≡◌, ℕ, List, Option, None, Some, Result, Ok, Err, IfErr, IsErrOf, IsSomeAnd, inl, inr, refl, ap, arith}
 use Rattle.bitm_block.specs.Header.{IsBlock}
 use Rattle.program_blocks.specs.Bytes.{words_of_bytes}
+use Rattle.program_blocks.specs.Failure.{IsAnswerFailure, IsRefusal}
 use Rattle.program_blocks.specs.Format.{format_in}
 use Rattle.program_blocks.specs.Old.{IsOld, IsOldFile}
 use Rattle.program_blocks.specs.Sound.{AreSoundNumbers, AreSoundNumbersOf, IsFileOfSoundNumbers}
 use Rattle.program_blocks.specs.declared.failure.Failure.{Failure}
+use Rattle.program_blocks.specs.declared.failure.Failure.TheVariants.{WrongBlock}
 use Rattle.program_blocks.specs.declared.format.Format.TheVariants.{Block, Old}
 use Rattle.program_blocks.specs.declared.kind.Kind.{Kind}
 use Rattle.program_blocks.specs.declared.kind.Kind.TheVariants.{Bits, Sequence, Sparse, Matrix, Tree}
@@ -40,3 +42,10 @@ not_sound bytes is h = let other = sound_format bytes h in cc
 
 pub refused : (bytes : List ℕ) (e : Failure) → format_in bytes ≡ Err e → (¬ (IsFileOfSoundNumbers bytes)) × (¬ (IsOldFile bytes))
 refused bytes e is = (λ h. let other = sound_format bytes h in cc, λ h. let other = old_file_format bytes h in cc)
+
+-- what is no P is none of both where it is refused as no Q, and memory and writing did not fail
+pub old_refused : {T : Type 0} (P Q : Type 0) (r : Result T Failure) → ¬ P → IfErr r IsAnswerFailure → (IsErrOf r WrongBlock → ¬ Q)
+    → IfErr r (λ e. IsRefusal e → (¬ P) × (¬ Q))
+old_refused P Q (Ok done) other why wrong = tt
+old_refused P Q (Err e) other (inl same) wrong = λ refusal. (other, wrong (ap Err same))
+old_refused P Q (Err e) other (inr failed) wrong = λ refusal. absurd (refusal failed)

@@ -18,7 +18,7 @@ use Rattle.text_index.proofs.lemmas.SearchLemmas.{begins_from, begins_to}
 use Rattle.text_index.proofs.lemmas.TotalLemmas.{range_more, suffixes-count}
 use Rattle.text_index.specs.Text.{begins_with, stands_at}
 use Rattle.program_texts.specs.Answers.{AreFound, ArePositions}
-use Rattle.program_texts.specs.Lines.{bytes_in, line_among, line_at, AreFoundOf, AreLinesOf, ArePlacesOf, LinesWith, StandsAt}
+use Rattle.program_texts.specs.Lines.{bytes_in, line_among, line_at, AreFoundOf, AreLinesOf, ArePlacesOf, LinesWith, SomeStandsAt}
 use denote.Ref.{Bor}
 
 -- as many pass as there are before the point from which on none does
@@ -153,14 +153,14 @@ count-there text pattern places are p inside =
 
 pub places-of-none : (text : List ℕ) → AreFoundOf [] text []
 places-of-none text = record {
-  each = All-nil (StandsAt [] text);
+  each = All-nil (SomeStandsAt [] text);
   all = λ place has. let (k, inside, is) = has.one in absurd (omega (arith, inside));
 }
 
 pub places-of-more : (patterns : List (List ℕ)) (text found pattern more : List ℕ) (n : ℕ) → n ≡ length text → AreFoundOf patterns text found
     → AreFound text pattern more → All (λ p. p ≤ n) more → AreFoundOf (patterns ++ pattern ∷ []) text (found ++ more)
 places-of-more patterns text found pattern more n long so_far are within = record {
-  each = All-append (StandsAt (patterns ++ pattern ∷ []) text) found more
+  each = All-append (SomeStandsAt (patterns ++ pattern ∷ []) text) found more
       (λ k d h. let old = so_far.each k d h in record {
         pattern = old.pattern;
         one = Contains-append_left patterns (pattern ∷ []) old.pattern old.one;
@@ -190,8 +190,8 @@ bytes-more xs i d h = ap bytes_in (take_more xs i d h) ∙ map-append (λ patter
 pub places-sorted : (patterns : List (List ℕ)) (text found sorted made : List ℕ) → AreFoundOf patterns text found → IsPermutation found sorted
     → made ≡ dedup eqb sorted → IsStrictlyIncreasing made → ArePlacesOf patterns text made
 places-sorted patterns text found sorted made are same is rises = record {
-  each = subst (All (StandsAt patterns text)) (sym is)
-      (All-dedup eqb (StandsAt patterns text) sorted (All-permutation (StandsAt patterns text) found sorted same are.each));
+  each = subst (All (SomeStandsAt patterns text)) (sym is)
+      (All-dedup eqb (SomeStandsAt patterns text) sorted (All-permutation (SomeStandsAt patterns text) found sorted same are.each));
   all = λ place has. subst (λ xs. Contains xs place) (sym is)
       (Contains-dedup_nat sorted place (Contains-permutation found sorted place same (are.all place has)));
   rising = rises;
@@ -211,7 +211,7 @@ lines-found patterns text places ends lines n long feeds_are are of = record {
       record {
         place = has.place;
         inside = omega (arith, has.inside, long);
-        stands = subst (StandsAt patterns text) j_is (are.each j has.place j_in);
+        stands = subst (SomeStandsAt patterns text) j_is (are.each j has.place j_in);
         line_is = has.line_is ∙ line-is text ends has.place feeds_are (omega (arith, has.inside, long));
       };
   all = λ line has. of.all line (record {

@@ -16,7 +16,7 @@ use types.Kit.{‵, ◌⊛◌, at_ret, ◌$◌, ◌∵◌, !, qed, move, keep, f
 use types.Part.{whole, sub, agg}
 use types.Run.{load, stop, fld, hop, from, addr, of_opd, and_then, no_more, first, blocks, exec, returns, enter}
 use types.ByLocal.{alloc_all, pass_all, free_all, look_at, look_in_at, get, sets, sets_last, env}
-use denote.Builtin.{u64, usize}
+use denote.Builtin.{u64}
 use denote.Exit.{no}
 use denote.RattleType.{owns}
 use denote.Signature.{plain, mut_slice_of}

@@ -11,4 +11,4 @@ contains_by-requires-clause-sized g c =
     (upper-short _ _ _ _ _ c.requires.parts.1.are)
 
 pub returns-clause-answer : goal.returns-clause-answer
-returns-clause-answer g c = λ xs h. c.in-Some.ensures.answer xs h tt tt
+returns-clause-answer g c = λ xs h. c.in-Some.ensures.answer xs h tt

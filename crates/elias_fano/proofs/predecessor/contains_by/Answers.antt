@@ -1,17 +1,74 @@
--- The first number that is at least the value is the value, if one is.
-use Rattle.std.proofs.Common.{subst, sym, ◌∙◌}
-use Rattle.std.proofs.lemmas.Bool.{eqb-true, eq-eqb}
-use Rattle.bitm_tables.specs.Tables.{Lists}
-use Rattle.elias_fano.proofs.lemmas.FragmentLemmas.{holds-kept}
-use Rattle.elias_fano.proofs.lemmas.SequenceLemmas.{contains-first}
+-- The bucket of the value has the ends that are found, and none is there where no number has its upper digits or more.
+use Rattle.std.proofs.Common.{ℕ, ◌-◌, ◌/◌, ◌^◌, ◌≤◌, sym, ap, refl, subst, arith}
+use Rattle.bitm_tables.specs.Entry.{less}
+use Rattle.bitm_tables.specs.Tables.{bits_in, Lists}
+use Rattle.elias_fano.proofs.lemmas.EndsLemmas.{both-ends, high}
+use Rattle.elias_fano.proofs.lemmas.FragmentLemmas.{bucket-shared, fragments-more}
+use Rattle.elias_fano.proofs.lemmas.MemberLemmas.{below-held}
+use Rattle.elias_fano.proofs.lemmas.SizeLemmas.{digits-grow}
+use Rattle.elias_fano.proofs.lemmas.ToldLemmas.{told_all, told_member}
+use Rattle.elias_fano.specs.Buckets.{BeginsAt}
+use Rattle.elias_fano.specs.Ends.{HoldsHigh}
+use Rattle.elias_fano.specs.Told.{TellsBelow, TellsTo}
 use Rattle.elias_fano.proofs.predecessor.contains_by.Goals as goal
 
-pub returns-in-Found-item_by-clause-answer : goal.returns-in-Found-item_by-clause-answer
-returns-in-Found-item_by-clause-answer g c = λ xs h f o.
-    let first = contains-first xs c.args.v _ h.are.sequence.rising (c.in-Found.ensures.answer xs h f) in
-    let kept = holds-kept xs c.args.n _ _ _ _ _ (c.in-Found.ensures.shared xs h f) c.in-Found.ensures.reads.same h in
-    let there = subst (λ (l : Lists). g.G.FindsOne.finds c.args.of_ones.now l) (sym c.in-Found.ensures.reads.same) o in
-    let item = (c.in-Found-item_by.ensures.answer xs kept there).1 in (
-      λ yes. first.0 (sym item ∙ eqb-true _ _ yes),
-      λ held. eq-eqb _ _ (item ∙ first.1 held),
+pub returns-in-Absent-clause-answer : goal.returns-in-Absent-clause-answer
+returns-in-Absent-clause-answer g c = λ xs h f.
+    let all = c.in-Absent.ensures.begin xs _ (high xs c.args.n c.args.low.now _ h) f in (
+      λ no. cc,
+      λ held. absurd (below-held xs c.args.low.now.width _ c.args.v all (ap (λ w. c.args.v / 2 ^ w) c.width.ensures) held),
     )
+
+pub returns-in-Absent-clause-told : goal.returns-in-Absent-clause-told
+returns-in-Absent-clause-told g c = λ tells.
+    let lists = g.T.TableSource.lists c.args.source.now in
+    let P : ℕ → Type 0 = λ k. TellsBelow lists c.args.n (c.args.v / 2 ^ k) c.args.n × TellsTo lists c.args.n (c.args.v / 2 ^ k) c.args.n in
+    let told = subst P c.width.ensures (c.in-Absent.ensures.told tells) in
+    (c.args.n, told_all c.args.n c.args.low.now lists c.args.v told.0 told.1, λ _. refl)
+
+-- ---- the source's lists are the same when the end is sought
+
+pub returns-in-Some-clause-told : goal.returns-in-Some-clause-told
+returns-in-Some-clause-told g c = λ tells.
+    let lists = g.T.TableSource.lists c.args.source.now in
+    let first = less c.in-Found.begin (c.args.v / 2 ^ c.width.result) in
+    let B : ℕ → Type 0 = λ k. TellsBelow lists c.args.n (c.args.v / 2 ^ k) first in
+    let L : Lists → Type 0 = λ l. TellsTo l c.args.n (c.args.v / 2 ^ c.width.result) c.in-Some.end in
+    let E : ℕ → Type 0 = λ k. TellsTo lists c.args.n (c.args.v / 2 ^ k) c.in-Some.end in
+    told_member c.args.n c.args.low.now lists c.args.v first c.in-Some.end (subst B c.width.ensures (c.in-Found.ensures.told tells))
+    (λ _. subst E c.width.ensures (subst L c.in-Found.ensures.reads.same (c.in-Some.ensures.told tells)))
+    c.in-Some.ensures.within c.is_in_bucket.result c.is_in_bucket.ensures.told
+
+pub returns-in-Some-clause-answer : goal.returns-in-Some-clause-answer
+returns-in-Some-clause-answer g c = λ xs h f.
+    let here = high xs c.args.n c.args.low.now _ h in
+    let at = c.in-Found.ensures.begin xs _ here f in
+    let P : Lists → Type 0 =
+    λ l. HoldsHigh xs c.args.n c.args.low.now.width l × g.F.FindsEnds.finds c.args.finder.now l
+    × BeginsAt (bits_in l) (c.args.v / 2 ^ c.width.result) c.in-Found.begin in
+    let now = subst P (sym c.in-Found.ensures.reads.same) (here, f, at) in
+    let ends =
+    both-ends xs c.args.n c.args.low.now _ h c.args.v c.in-Found.begin _ c.width.ensures at c.in-Some.end
+    (c.in-Some.ensures.count xs _ now.0 now.1 now.2) in
+    c.is_in_bucket.ensures.answer xs c.args.n _ h.are ends.0 ends.1
+
+pub returns-in-Some-clause-fragments : goal.returns-in-Some-clause-fragments
+returns-in-Some-clause-fragments g c =
+    let size = c.in-Some.end - less c.in-Found.begin (c.args.v / 2 ^ c.width.result) in
+    let order : size ≤ c.args.n = omega (arith, c.in-Some.ensures.within) in
+    let digits = digits-grow _ _ order in
+    fragments-more _ _ _ _ c.is_in_bucket.ensures.fragments (omega (arith, digits))
+
+pub returns-in-Some-clause-shared : goal.returns-in-Some-clause-shared
+returns-in-Some-clause-shared g c = λ xs h f.
+    let here = high xs c.args.n c.args.low.now _ h in
+    let at = c.in-Found.ensures.begin xs _ here f in
+    let P : Lists → Type 0 =
+    λ l. HoldsHigh xs c.args.n c.args.low.now.width l × g.F.FindsEnds.finds c.args.finder.now l
+    × BeginsAt (bits_in l) (c.args.v / 2 ^ c.width.result) c.in-Found.begin in
+    let now = subst P (sym c.in-Found.ensures.reads.same) (here, f, at) in
+    let ends =
+    both-ends xs c.args.n c.args.low.now _ h c.args.v c.in-Found.begin _ c.width.ensures at c.in-Some.end
+    (c.in-Some.ensures.count xs _ now.0 now.1 now.2) in
+    let digits = digits-grow _ _ (bucket-shared xs c.args.low.now.width c.args.v _ _ ends.0 ends.1) in
+    fragments-more _ _ _ _ c.is_in_bucket.ensures.fragments (omega (arith, digits))

@@ -1,5 +1,5 @@
 -- The bucket of the value has the ends that are found.
-use Rattle.std.proofs.Common.{◌≡◌, ℕ, ◌/◌, ◌^◌, sym, ap, subst, arith}
+use Rattle.std.proofs.Common.{ℕ, ◌/◌, ◌^◌, sym, ap, subst, arith}
 use Rattle.bitm_tables.specs.Entry.{less}
 use Rattle.bitm_tables.specs.Reads.{ReadsAtMost}
 use Rattle.bitm_tables.specs.Tables.{bits_in, Lists}
@@ -57,11 +57,12 @@ returns-in-Some-clause-answer g c = λ xs h f.
     let here = high xs c.args.n c.args.low.now _ h in
     let at = c.in-Found.ensures.begin xs _ here f in
     let P : Lists → Type 0 =
-    λ l. HoldsHigh xs c.args.n c.args.low.now.width l × BeginsAt (bits_in l) (c.args.v / 2 ^ c.width-width.result) c.in-Found.begin in
-    let now = subst P (sym c.in-Found.ensures.reads.same) (here, at) in
+    λ l. HoldsHigh xs c.args.n c.args.low.now.width l × g.F.FindsEnds.finds c.args.finder.now l
+    × BeginsAt (bits_in l) (c.args.v / 2 ^ c.width-width.result) c.in-Found.begin in
+    let now = subst P (sym c.in-Found.ensures.reads.same) (here, f, at) in
     c.place_in_bucket-in-Some.ensures.answer xs _ h.are
     (counted-ends xs c.args.n c.args.low.now _ h c.args.v c.in-Found.begin _ c.width-width.ensures at c.in-Some.end
-    (c.in-Some.ensures.count xs _ now.0 now.1))
+    (c.in-Some.ensures.count xs _ now.0 now.1 now.2))
 
 pub returns-in-Some-clause-few : goal.returns-in-Some-clause-few
 returns-in-Some-clause-few g c = λ spares few.
@@ -78,8 +79,9 @@ returns-in-Some-clause-shared g c = λ xs h f.
     let here = high xs c.args.n c.args.low.now _ h in
     let at = c.in-Found.ensures.begin xs _ here f in
     let P : Lists → Type 0 =
-    λ l. HoldsHigh xs c.args.n c.args.low.now.width l × BeginsAt (bits_in l) (c.args.v / 2 ^ c.width-width.result) c.in-Found.begin in
-    let now = subst P (sym c.in-Found.ensures.reads.same) (here, at) in
+    λ l. HoldsHigh xs c.args.n c.args.low.now.width l × g.F.FindsEnds.finds c.args.finder.now l
+    × BeginsAt (bits_in l) (c.args.v / 2 ^ c.width-width.result) c.in-Found.begin in
+    let now = subst P (sym c.in-Found.ensures.reads.same) (here, f, at) in
     c.place_in_bucket-in-Some.ensures.shared xs _ h.are
     (counted-ends xs c.args.n c.args.low.now _ h c.args.v c.in-Found.begin _ c.width-width.ensures at c.in-Some.end
-    (c.in-Some.ensures.count xs _ now.0 now.1))
+    (c.in-Some.ensures.count xs _ now.0 now.1 now.2))

@@ -1,8 +1,7 @@
 -- The place is among the items with the upper digits of the value, or the one after them; without low
 -- digits it is the first.
-use Rattle.std.proofs.Common.{◌≡◌, ℕ, ◌-◌, ◌%◌, ◌^◌, ◌<◌, ◌≤◌, List, ap, sym, ◌∙◌, subst, ⊎_elim, bit_and, arith}
+use Rattle.std.proofs.Common.{◌≡◌, ℕ, ◌-◌, ◌%◌, ◌^◌, ◌<◌, ◌≤◌, List, sym, subst, ⊎_elim, arith}
 use Rattle.std.proofs.lemmas.Bool.{cases_eq}
-use Rattle.std.proofs.lemmas.Nat.{and_mask}
 use Rattle.elias_fano.proofs.lemmas.BucketLemmas.{IsBucket, bucket-reaches, bucket-none, fragments-rise, whole-reaches, whole-none}
 use Rattle.elias_fano.proofs.lemmas.FragmentLemmas.{bucket-shared, fragments-more, fragments-none}
 use Rattle.elias_fano.proofs.lemmas.SizeLemmas.{digits-grow}
@@ -15,12 +14,6 @@ use Rattle.elias_fano.specs.Told.{PartsAt}
 use Rattle.elias_fano.proofs.searching.place_in_bucket.Goals as goal
 use Rattle.elias_fano.proofs.searching.place_in_bucket.Goals.{After-split_low-place}
 
--- the low digits of the value
-rest : (c : After-split_low-place) → bit_and c.args.v c.n_lowest_bits.result ≡ c.args.v % 2 ^ c.args.low.now.width
-rest c =
-    let mask : c.n_lowest_bits.result ≡ 2 ^ c.args.low.now.width - 1 = c.n_lowest_bits.ensures ∙ ap (λ w. 2 ^ w - 1) c.width.ensures in
-    ap (bit_and c.args.v) mask ∙ and_mask c.args.v c.args.low.now.width
-
 -- the ends of the bucket, and where its low digits part
 bucket : (c : After-split_low-place) (xs upper : List ℕ)
     → ArePartsOf xs c.args.n c.args.low.now.width c.args.low.now.words upper
@@ -31,7 +24,7 @@ bucket c xs upper h e some =
     let ends = e.ends some in
     let rise = fragments-rise xs c.args.n low upper h _ _ _ e.begins ends in
     let P : ℕ → Type 0 = λ r. Splits (fragment low) c.args.first c.args.end r c.split_low-place.result in
-    record { begins = e.begins; ends = ends; splits = subst P (rest c) (c.split_low-place.ensures.splits rise) }
+    record { begins = e.begins; ends = ends; splits = subst P c.low_part-rest.ensures (c.split_low-place.ensures.splits rise) }
 
 pub returns-then-end-first-clause-answer : goal.returns-then-end-first-clause-answer
 returns-then-end-first-clause-answer c = λ xs upper h e. omega (arith, e.order, c.if-end-first.true)
@@ -40,7 +33,7 @@ parting : (c : After-split_low-place) → PartsAt (fragment c.args.low.now) c.ar
     (c.args.v % 2 ^ c.args.low.now.width) c.split_low-place.result
 parting c =
     let P : ℕ → Type 0 = λ r. PartsAt (fragment c.args.low.now) c.args.low.now.width c.args.first c.args.end r c.split_low-place.result in
-    subst P (rest c) c.split_low-place.ensures.told
+    subst P c.low_part-rest.ensures c.split_low-place.ensures.told
 
 pub returns-then-place-n-clause-told : goal.returns-then-place-n-clause-told
 returns-then-place-n-clause-told c = parting (goal.at.returns-then-place-n-clause-told c).After-split_low-place

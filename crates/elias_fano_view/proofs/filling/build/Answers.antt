@@ -1,6 +1,7 @@
 -- Sorted numbers are a sequence, and what was written are its parts.
 use Rattle.std.proofs.Common.{ℕ, ◌<◌, ◌^◌, List, length, get_or, refl, Fits, w64, arith}
 use Rattle.std.specs.List.Sorted.{IsNonDecreasing}
+use Rattle.elias_fano.proofs.lemmas.HintLemmas.{none_lead}
 use Rattle.elias_fano.proofs.lemmas.SequenceLemmas.{is_sequence}
 use Rattle.elias_fano.proofs.lemmas.SizeLemmas.{width-small}
 use Rattle.elias_fano.specs.Sequence.{IsSequence}
@@ -40,4 +41,5 @@ returns-clause-parts c = record {
     upper_is = c.write_tested.ensures.upper;
   };
   tables = c.in-Some-build.ensures.tables;
+  lead = none_lead _ _;
 }

@@ -1,5 +1,6 @@
 -- The parts of a sequence hold its numbers.
 use Rattle.std.proofs.Common.{ℕ, sym, subst}
+use Rattle.elias_fano.proofs.lemmas.HintLemmas.{none_lead}
 use Rattle.elias_fano.specs.Parts.{IsLow, IsUpper}
 use Rattle.example_callers.proofs.between.between.Goals as goal
 
@@ -17,5 +18,6 @@ indexes_between-requires g c =
           upper_is = subst (λ (l : ℕ). IsUpper xs l c.probe.result.lists.words) width c.probe.ensures.words;
         };
         tables = c.probe.ensures.tables;
+        lead = none_lead _ _;
       },
     )

@@ -1,11 +1,11 @@
 -- One label more leads to the one child that has it.
-use Rattle.std.proofs.Common.{◌≡◌, ℕ, ◌+◌, ◌<◌, List, length, take, get_or, refl, sym, arith, subst}
+use Rattle.std.proofs.Common.{◌≡◌, ℕ, ◌+◌, ◌*◌, ◌<◌, ◌≤◌, List, length, take, get_or, refl, sym, arith, subst}
 use Rattle.bit_lists.specs.Bits.{digit_count}
 use Rattle.bitm_tables.specs.Tables.{HasSizes, Lists}
 use Rattle.louds.specs.Counted.{degrees_in, IsLouds}
 use Rattle.louds.specs.Labels.{IsChildWith, Leads, Rise}
 use Rattle.louds.proofs.lemmas.LeadingLemmas.{down_more, leads_nowhere, on_more}
-use Rattle.louds.proofs.lemmas.ReadLemmas.{labels_more, labels_most, moved, same_held, same_read, selects_more, selects_most, selects_nothing}
+use Rattle.louds.proofs.lemmas.ReadLemmas.{labels_more, labels_most, moved, same_held, same_read, selects_nothing, selects_then}
 use Rattle.louds.proofs.leading.longest_by.Goals as goal
 
 -- what a child that was found says, in the source and the labels that were given
@@ -33,7 +33,7 @@ loop-i-init g c =
       inside = omega (arith, c.if-len-eq0.false);
       down = λ held finds rise. refl;
       on = λ held finds rise k from to v leads. leads;
-      reads = selects_nothing T.lists T.reads c.args.source.now 0;
+      reads = selects_nothing T.lists T.reads g.F.Finds.most c.args.source.now 0 0;
       labels = record { at_most = omega arith; words = refl; width = refl };
     }
 
@@ -44,7 +44,7 @@ loop-i-preserved g c =
     let old = T.lists c.args.source.now in
     let d = degrees_in n old in
     let L = g.L.Labels in
-    let finds_in = g.F.FindsChildren.finds_in c.args.finder.now in
+    let finds_in = g.F.Finds.finds c.args.finder.now in
     let seen = L.seen c.args.labels.now in
     let ls = L.listed seen.words seen.width n in
     let word = g.W.Letters.letters c.args.word in
@@ -61,7 +61,9 @@ loop-i-preserved g c =
       inside = c.in-Found.ensures.inside.1;
       down = λ held finds rise. down_more d ls word i at child inside (has held finds rise) (inv.down held finds rise);
       on = λ held finds rise. on_more d ls word i at child rise (has held finds rise) (inv.on held finds rise);
-      reads = selects_more T.lists T.reads c.args.source.now c.loop-i.source _ i inv.reads c.in-Found.ensures.reads;
+      reads =
+          selects_then T.lists T.reads g.F.Finds.most c.args.source.now c.loop-i.source _ (2 * i) 2 (2 * (i + 1)) (2 * i) 2 (2 * (i + 1)) inv.reads
+          c.in-Found.ensures.reads (omega arith) (omega arith);
       labels = labels_more seen (L.seen c.loop-i.labels) _ i (digit_count n + 1) inv.labels c.in-Found.ensures.labels;
     }
 
@@ -71,7 +73,7 @@ returns-in-Absent-clause-answer g c =
     let n = c.args.len in
     let old = T.lists c.args.source.now in
     let L = g.L.Labels in
-    let finds_in = g.F.FindsChildren.finds_in c.args.finder.now in
+    let finds_in = g.F.Finds.finds c.args.finder.now in
     let seen = L.seen c.args.labels.now in
     let ls = L.listed seen.words seen.width n in
     let word = g.W.Letters.letters c.args.word in
@@ -88,9 +90,10 @@ pub returns-in-Absent-clause-reads : goal.returns-in-Absent-clause-reads
 returns-in-Absent-clause-reads g c =
     let T = g.T.TableSource in
     let i = c.loop-i.i in
-    let inv = c.loop-i.invariant in
-    selects_most T.lists T.reads c.args.source.now _ (i + 1) (length (g.W.Letters.letters c.args.word))
-    (selects_more T.lists T.reads c.args.source.now c.loop-i.source _ i inv.reads c.in-Absent.ensures.reads) (omega (arith, c.loop-i-test.true, c.letters_len-count.ensures))
+    let n = 2 * length (g.W.Letters.letters c.args.word) in
+    let inside : 2 * i + 2 ≤ n = omega (arith, c.loop-i-test.true, c.letters_len-count.ensures) in
+    selects_then T.lists T.reads g.F.Finds.most c.args.source.now c.loop-i.source _ (2 * i) 2 n (2 * i) 2 n c.loop-i.invariant.reads
+    c.in-Absent.ensures.reads inside inside
 
 pub returns-in-Absent-clause-labels : goal.returns-in-Absent-clause-labels
 returns-in-Absent-clause-labels g c =
@@ -103,9 +106,10 @@ pub returns-in-Wrong-clause-reads : goal.returns-in-Wrong-clause-reads
 returns-in-Wrong-clause-reads g c =
     let T = g.T.TableSource in
     let i = c.loop-i.i in
-    let inv = c.loop-i.invariant in
-    selects_most T.lists T.reads c.args.source.now _ (i + 1) (length (g.W.Letters.letters c.args.word))
-    (selects_more T.lists T.reads c.args.source.now c.loop-i.source _ i inv.reads c.in-Wrong.ensures.reads) (omega (arith, c.loop-i-test.true, c.letters_len-count.ensures))
+    let n = 2 * length (g.W.Letters.letters c.args.word) in
+    let inside : 2 * i + 2 ≤ n = omega (arith, c.loop-i-test.true, c.letters_len-count.ensures) in
+    selects_then T.lists T.reads g.F.Finds.most c.args.source.now c.loop-i.source _ (2 * i) 2 n (2 * i) 2 n c.loop-i.invariant.reads
+    c.in-Wrong.ensures.reads inside inside
 
 pub returns-in-Wrong-clause-labels : goal.returns-in-Wrong-clause-labels
 returns-in-Wrong-clause-labels g c =
@@ -120,7 +124,7 @@ returns-clause-answer g c = λ held finds rise.
     let n = c.args.len in
     let d = degrees_in n (T.lists c.args.source.now) in
     let L = g.L.Labels in
-    let finds_in = g.F.FindsChildren.finds_in c.args.finder.now in
+    let finds_in = g.F.Finds.finds c.args.finder.now in
     let seen = L.seen c.args.labels.now in
     let ls = L.listed seen.words seen.width n in
     let word = g.W.Letters.letters c.args.word in

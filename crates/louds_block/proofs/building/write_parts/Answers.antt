@@ -23,7 +23,7 @@ pub returns : goal.returns
 returns c =
     let at = c.of-lens.ensures in
     stands c.args.degrees.now c.split_at_mut-head.result.0.now c.write_tree.new.words c.split_at_mut-words.result.1.now c.write_tree.new.upper
-    c.split_at_mut-upper.result.1.now c.write_tree.new.lower c.split_at_mut-lower.result.1.now
+    c.split_at_mut-upper.result.1.now c.write_tree.new.lower c.split_at_mut-lower.result.1.now c.write_tree.new.hints c.split_at_mut-hints.result.1.now
     (record {
       head_len = c.split_at_mut-head.ensures.front_len;
       words_len = c.write_tree.ensures.words_len;
@@ -33,5 +33,8 @@ returns c =
       gap2_len =
           omega (arith, c.split_at_mut-upper.ensures.back_len, c.split_at_mut-room-2.ensures.front_len, c.aligned-2.ensures, at.upper);
       lower_len = c.write_tree.ensures.lower_len;
+      gap3_len =
+          omega (arith, c.split_at_mut-lower.ensures.back_len, c.split_at_mut-room-3.ensures.front_len, c.aligned-3.ensures, at.lower);
+      hints_len = c.write_tree.ensures.hints_len;
     })
     c.write_tree.ensures

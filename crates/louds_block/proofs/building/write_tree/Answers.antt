@@ -3,6 +3,8 @@ use Rattle.std.proofs.Common.{◌≡◌, ℕ, length, ap, sym, arith, subst, Lis
 use Rattle.std.proofs.lemmas.List.{length-replicate}
 use Rattle.bit_lists.specs.Bits.{bits_of, item}
 use Rattle.bit_lists.proofs.BitLaws.{bits_are_counted, zeros_have_no_ones}
+use Rattle.bitm_selection.specs.Hints.{Lead}
+use Rattle.bitm_tables.specs.Tables.{Lists}
 use Rattle.louds.proofs.lemmas.HeldLemmas.{degrees_of-is, held, held_degrees}
 use Rattle.louds.specs.Held.{tree_words, IsHeld}
 use Rattle.louds_block.proofs.building.write_tree.Goals as goal
@@ -28,5 +30,7 @@ returns c =
         indexed = record { tables = c.fill_tables.ensures.tables; short = c.fill_tables.ensures.sizes.short };
         held = held_degrees d n (bits_of ws) h;
       };
+      hints_len = omega (arith, c.write_hints.ensures.len, c.requires.hints);
       degrees_are = degrees_of-is d n (bits_of ws) h;
+      lead = subst (λ (l : Lists). Lead n c.write_hints.new.hints l.words) c.probe.ensures.lists c.write_hints.ensures.lead;
     }

@@ -1,7 +1,7 @@
 -- One more word is hashed, and then the last one.
 use Rattle.std.proofs.Common.{◌≡◌, ◌-◌, ◌/◌, ap, ◌∙◌, arith}
 use Rattle.string_block.specs.Bytes.{stored_from}
-use Rattle.string_block.specs.SipHash.{after_words, keyed}
+use Rattle.string_block.specs.SipHash.{after_words, hash_of, keyed}
 use Rattle.string_block.proofs.HashLemmas.{hash_is, words_more}
 use Rattle.string_block.proofs.NumberLemmas.{below_highest}
 use Rattle.string_block.proofs.hashing.hash_stored.Goals as goal
@@ -19,10 +19,11 @@ pub last_word-requires : goal.last_word-requires
 last_word-requires c = below_highest c.stored_number-rest.result _ c.stored_number-rest.ensures.bound (omega arith)
 
 pub returns : goal.returns
+unfolding hash_of
 returns c =
     let string = stored_from c.args.words.now c.args.begin in
     let len = c.args.end - c.args.begin in
     let all : c.loop-i.i ≡ len / 8 = omega (arith, c.loop-i-test.false, c.loop-i.auto.i-end) in
-    hash_is c.args.seed string len c.loop-i.state c.stored_number-rest.result c.last_word.result c.with_word.result c.finish.result
+    hash_is c.args.seed 0 string len c.loop-i.state c.stored_number-rest.result c.last_word.result c.with_word.result c.finish.result
     (c.loop-i.invariant ∙ ap (after_words (keyed c.args.seed 0) string) all) c.stored_number-rest.ensures.value c.last_word.ensures c.with_word.ensures
     c.finish.ensures

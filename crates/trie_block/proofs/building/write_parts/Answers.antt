@@ -54,7 +54,7 @@ returns c =
     stands d ls width c.args.ends.now c.split_at_mut-head.result.0.now c.write_tree.new.words c.split_at_mut-words.result.1.now
     c.write_tree.new.upper c.split_at_mut-upper.result.1.now c.write_tree.new.lower c.split_at_mut-lower.result.1.now
     c.write_numbers.new.words c.split_at_mut-label_part.result.1.now c.copy_items.new.to c.split_at_mut-end_part.result.1.now
-    c.split_at_mut-head.ensures.front_len (
+    c.write_tree.new.hints c.split_at_mut-hints.result.1.now c.split_at_mut-head.ensures.front_len (
       tree.words_len,
       omega (arith, tree.words_len, at.words, c.split_at_mut-words.ensures.back_len, c.split_at_mut-room.ensures.front_len, c.aligned.ensures),
       (
@@ -68,27 +68,34 @@ returns c =
             omega (arith, labels_len, len, c.split_at_mut-label_part.ensures.back_len, c.split_at_mut-room-4.ensures.front_len, c.aligned-4.ensures),
             (
               ends_len,
-              omega (
-                arith,
-                ends_len,
-                at.words,
-                at.upper,
-                at.lower,
-                len,
-                c.split_at_mut-end_part.ensures.back_len,
-                c.split_at_mut-room-4.ensures.back_len,
-                c.split_at_mut-room-3.ensures.back_len,
-                c.split_at_mut-room-2.ensures.back_len,
-                c.split_at_mut-room.ensures.back_len,
-                c.split_at_mut-head.ensures.back_len,
-                ap length c.clear.ensures,
-                c.aligned.ensures,
-                c.aligned-2.ensures,
-                c.aligned-3.ensures,
-                c.aligned-4.ensures,
-                c.requires.room,
+              omega (arith, ends_len, c.split_at_mut-end_part.ensures.back_len, c.split_at_mut-room-5.ensures.front_len, c.aligned-5.ensures),
+              (
+                tree.hints_len,
+                omega (
+                  arith,
+                  tree.hints_len,
+                  at.words,
+                  at.upper,
+                  at.lower,
+                  at.hints,
+                  len,
+                  c.split_at_mut-hints.ensures.back_len,
+                  c.split_at_mut-room-5.ensures.back_len,
+                  c.split_at_mut-room-4.ensures.back_len,
+                  c.split_at_mut-room-3.ensures.back_len,
+                  c.split_at_mut-room-2.ensures.back_len,
+                  c.split_at_mut-room.ensures.back_len,
+                  c.split_at_mut-head.ensures.back_len,
+                  ap length c.clear.ensures,
+                  c.aligned.ensures,
+                  c.aligned-2.ensures,
+                  c.aligned-3.ensures,
+                  c.aligned-4.ensures,
+                  c.aligned-5.ensures,
+                  c.requires.room,
+                ),
+                tt,
               ),
-              tt,
             ),
           ),
         ),

@@ -1,5 +1,5 @@
 -- What is answered is the number by the seeds, or by the bits of the hash alone.
-use Rattle.std.proofs.Common.{◌≡◌, ◌<◌, length, subst, arith}
+use Rattle.std.proofs.Common.{subst, arith}
 use Rattle.hash_levels.specs.Places.{place_by, place_in}
 use Rattle.bitm_abi.specs.Hash.{HashLists, IsHashNumber}
 use Rattle.bitm_abi.proofs.HashLemmas.{falls_by, falls_plain, total_is}

@@ -1,5 +1,5 @@
 -- Each code is that of the number by the seeds, or by the bits of the hash alone.
-use Rattle.std.proofs.Common.{◌≡◌, ◌<◌, length, slice_index, subst, arith}
+use Rattle.std.proofs.Common.{slice_index, subst, arith}
 use Rattle.bitm_view.specs.Queries.{ranked_by}
 use Rattle.hash_levels.specs.Places.{place_by, place_in}
 use Rattle.bitm_abi.specs.Hash.{HashLists, IsHashNumber}

@@ -9,4 +9,5 @@ returns-clause-lengths g c = record {
   short = c.rise.ensures.short;
   width = omega (arith, c.low_digits.ensures.width, width-small _ c.rise.ensures.small);
   low = c.low_digits.ensures.words.words ∙ ap (λ k. div_ceil (length c.args.self.now.items * k) 64) (sym c.low_digits.ensures.width);
+  hints = λ some. absurd (omega (arith, some));
 }

@@ -6,9 +6,9 @@ use Rattle.louds_block.proofs.lists.DegreesAsks0.answer_on.Goals as goal
 pub returns-clause-holds : goal.returns-clause-holds
 returns-clause-holds g c = λ told.
     record {
-      inside = c.degree_after_on.ensures.inside;
+      inside = c.degree_after_by.ensures.inside;
       right = λ h.
           let within : c.args.node ≤ c.args.len = omega (arith, c.if-node-len.false) in
-          c.degree_after_on.ensures.answer h
-          (zero_is _ _ _ h.held c.args.node c.args.code within (told.some h.indexed.tables (has_zero _ _ _ h.held c.args.node within)));
+          c.degree_after_by.ensures.answer h.louds tt
+          (zero_is _ _ _ h.louds.held c.args.node c.args.code within (told.some h.louds.indexed.tables (has_zero _ _ _ h.louds.held c.args.node within)));
     }

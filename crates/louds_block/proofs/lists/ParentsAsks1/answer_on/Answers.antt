@@ -7,7 +7,7 @@ returns-clause-holds g c = λ told.
     record {
       inside = c.parent_at.ensures.inside;
       right = λ h.
-          c.parent_at.ensures.answer _ h.held.count
-          (one_is _ _ _ h.held c.args.node c.args.code c.if-node-len.false
-          (told.some h.indexed.tables (has_one _ _ _ h.held c.args.node c.if-node-len.false)));
+          c.parent_at.ensures.answer _ h.louds.held.count
+          (one_is _ _ _ h.louds.held c.args.node c.args.code c.if-node-len.false
+          (told.some h.louds.indexed.tables (has_one _ _ _ h.louds.held c.args.node c.if-node-len.false)));
     }

@@ -1,5 +1,5 @@
 -- The number of 0 bits before the 1 bits never falls.
-use Rattle.std.proofs.Common.{◌≡◌, ℕ, ◌+◌, ◌/◌, ◌-◌, ◌<◌, List, get_or, sym, ◌∙◌, subst, arith}
+use Rattle.std.proofs.Common.{◌+◌, ◌/◌, ◌-◌, sym, ◌∙◌, subst, arith}
 use Rattle.sparse_bits.proofs.lemmas.HalfLemmas.{digit_less}
 use Rattle.sparse_bits.proofs.lemmas.LookLemmas.{item_found, one_get, same_len, same_positions, same_searches}
 use Rattle.sparse_bits.proofs.lemmas.PositionLemmas.{grow_to}

@@ -1,34 +1,10 @@
--- The source and the labels are those of the view.
-use Rattle.std.proofs.Common.{ℕ, List, sym, ap, subst}
-use Rattle.bitm_tables.specs.declared.answer.Answer.{Answer}
-use Rattle.bitm_tables.specs.Tables.{Lists}
-use Rattle.louds.specs.Counted.{degrees_in, IsLouds}
+-- The source, the finder and the labels are those of the view.
 use Rattle.trie_block.specs.Answers.{IsWordOf}
-use Rattle.trie_block.specs.Block.{degrees_of_parts, labels_of_parts, HoldsTrie, TrieParts}
-use Rattle.louds.specs.Leading.{LabelReads}
-use Rattle.trie_block.specs.Labels.{labels_of}
-use Rattle.louds.proofs.lemmas.ReadLemmas.{moved}
+use Rattle.trie_block.proofs.ViewLemmas.{answered}
 use Rattle.trie_block.proofs.view.TrieView.word.Goals as goal
-
--- what is answered of n nodes in the lists of a source with these labels
-abbrev Says : ℕ → List ℕ → Answer ℕ → ℕ → Lists → List ℕ → Type 0
-Says node out result n lists ls = IsLouds n lists → IsWordOf (degrees_in n lists) ls node out result
 
 pub returns-clause-answer : goal.returns-clause-answer
 returns-clause-answer c =
     let t = c.self.inside in
-    let n = t.tree.len in
-    let node = c.args.node in
-    let out = c.total_word_on.new.out in
-    let result = c.total_word_on.result in
-    let given : LabelReads = c.new-labels.result in
-    let lists : Lists = c.probe-source.result.lists in
-    let first : Says node out result c.len.result lists (labels_of given.words given.width c.len.result) = c.total_word_on.ensures.answer in
-    let second : Says node out result n lists (labels_of given.words given.width n) =
-    subst (λ (k : ℕ). Says node out result k lists (labels_of given.words given.width k)) c.len.ensures.len first in
-    let says : Says node out result n t.tree.lists (labels_of t.labels.now t.width n) =
-    moved (Says node out result n) t.tree.lists lists (labels_of t.labels.now t.width n) (labels_of given.words given.width n)
-    c.probe-source.ensures.lists (ap (λ (l : LabelReads). labels_of l.words l.width n) c.new-labels.ensures) second in
-    λ h.
-    let own = subst (λ (p : TrieParts). HoldsTrie p) (sym c.self.view_is) h in
-    subst (λ (p : TrieParts). IsWordOf (degrees_of_parts p) (labels_of_parts p) node out result) c.self.view_is (says own.tree)
+    answered (λ d ls. IsWordOf d ls c.args.node c.word_by.new.out c.word_by.result) c.len.result c.probe-source.result.lists c.new-labels.result t.tree t.labels.now t.width
+    t.ends.now _ _ _ c.self.view_is c.len.ensures.len c.probe-source.ensures.lists c.new-labels.ensures (λ h f _. c.word_by.ensures.answer h f) c.finder-finder.ensures

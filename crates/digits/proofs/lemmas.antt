@@ -1,0 +1,9 @@
+pub mod MaskLemmas
+pub mod DigitLemmas
+pub mod MiddleLemmas
+pub mod TableLemmas
+pub mod PartLemmas
+pub mod CountedLemmas
+pub mod HalvingLemmas
+pub mod PickedLemmas
+pub mod LawLemmas

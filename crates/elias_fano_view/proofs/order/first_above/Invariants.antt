@@ -1,0 +1,7 @@
+use Rattle.std.proofs.Common.{ℕ, ◌<◌}
+use Rattle.elias_fano_view.specs.Order.{IsAboveAt}
+use Rattle.elias_fano_view.proofs.order.first_above.Given as goal
+
+-- it is no index so far
+abbrev pub invariant-loop-i : goal.invariant-loop-i
+invariant-loop-i l = (k : ℕ) → k < l.i → ¬ (IsAboveAt l.numbers l.most k)

@@ -1,0 +1,172 @@
+-- A block of a matrix that is written level by level.
+use Rattle.std.proofs.Common.{◌≡◌, ℕ, zero, suc, ◌+◌, ◌-◌, ◌*◌, ◌<◌, ◌≤◌, Bool, true, false, IsTrue, List, ◌++◌, length, take, drop, refl, sym, ap, ◌∙◌, subst, arith, add-one}
+use Rattle.std.proofs.lemmas.List.{drop-take, length-drop, length-take-le, take-take}
+use Rattle.std.specs.List.{slice_range}
+use Rattle.bit_lists.specs.Bits.{bits_of}
+use Rattle.bit_lists.proofs.BitLaws.{bits_are_counted}
+use Rattle.bitm_tables.specs.Tables.{IsIndexed}
+use Rattle.bitm_block.proofs.PartsLemmas.{cut}
+use Rattle.bitm_block.specs.Layout.{end_of}
+use Rattle.bitm_block.specs.Written.{IsSealed}
+use Rattle.lent_levels.specs.Check.{AreCounts}
+use Rattle.lent_levels.specs.Levels.{levels_of, AreNumbers}
+use Rattle.lent_tables.specs.Sizes.{lists_of}
+use Rattle.matrix_levels.specs.Levels.{column, columns, partition}
+use Rattle.matrix_levels.specs.Matrix.{level_items, matrix_words}
+use Rattle.matrix_levels.proofs.lemmas.ColumnLemmas.{length-level}
+use Rattle.matrix_levels.proofs.lemmas.DecodeLemmas.{any-levels, items-fit, items-len}
+use Rattle.matrix_levels.proofs.lemmas.MakeLemmas.{columns-held, columns-none, level-more, level-none}
+use Rattle.matrix_block.proofs.BlockLemmas.{block_is, parts-are, stands, stands-on, HaveLengths}
+use Rattle.matrix_block.specs.Block.{end_at, lists_in, lower_of_numbers, matrix_head, sections_with, upper_of_numbers, CanHold, HaveQuarters, IsBlockOf, IsSoundBlock, StandsIn}
+use Rattle.matrix_block.specs.Levelwise.{level_bits, AreLevelsWritten, Completes, HoldsLevels, LevelsRoundTrip, WritesLevel, WritesLevels}
+
+-- the words of the levels, where a block is split at them
+pub words-of : (block : List ℕ) (m : ℕ) → slice_range block 40 (40 + m) ≡ take m (drop 40 block)
+words-of block m = let n : 40 + m - 40 ≡ m = omega arith in ap (λ k. take k (drop 40 block)) n
+
+-- and where it is put together
+pub words-in : (head words tables : List ℕ) (m : ℕ) → length head ≡ 40 → length words ≡ m → slice_range (head ++ (words ++ tables)) 40 (40 + m) ≡ words
+words-in head words tables m head_len words_len = cut head words tables 40 (40 + m) (sym head_len) (omega (arith, words_len))
+
+-- those of a block's front are the block's
+pub words-front : (block : List ℕ) (m k : ℕ) → 40 + m ≤ k → slice_range (take k block) 40 (40 + m) ≡ slice_range block 40 (40 + m)
+words-front block m k less =
+    let all : k ≡ 40 + (k - 40) = omega (arith, less) in
+    words-of (take k block) m
+    ∙ ap (λ j. take m (drop 40 (take j block))) all
+    ∙ ap (take m) (drop-take 40 (k - 40) block)
+    ∙ take-take m (k - 40) (drop 40 block) (omega (arith, less))
+    ∙ sym (words-of block m)
+
+-- ---- level by level
+
+-- before the first level there is nothing to keep
+pub no-level : (d n : ℕ) (a b : List Bool) → d ≡ 0 → take (d * n) a ≡ take (d * n) b
+no-level d n a b e = let none : d * n ≡ 0 = omega (arith, ap (λ k. k * n) e) in ap (λ k. take k a) none ∙ sym (ap (λ k. take k b) none)
+
+-- a level that is written where the block has its words
+pub writes-level : (w d : ℕ) (old new block head before first words tables : List ℕ) → length head ≡ 40
+    → length words ≡ matrix_words (length old) w → before ≡ take (matrix_words (length old) w) (drop 40 block)
+    → take (d * length old) (bits_of first) ≡ take (d * length old) (bits_of before)
+    → take ((d + 1) * length old) (bits_of words) ≡ take (d * length old) (bits_of first) ++ column (w - 1 - d) old
+    → new ≡ partition (w - 1 - d) old → WritesLevel w d old new block (head ++ (words ++ tables))
+writes-level w d old new block head before first words tables head_len words_len own kept written sorted =
+    let n = length old in
+    let m = matrix_words n w in
+    let stays : take (d * n) (bits_of first) ≡ take (d * n) (level_bits block n w) =
+    kept ∙ ap (λ ws. take (d * n) (bits_of ws)) (own ∙ sym (words-of block m)) in
+    record {
+      bits =
+          ap (λ ws. take ((d + 1) * n) (bits_of ws)) (words-in head words tables m head_len words_len)
+          ∙ written ∙ ap (λ l. l ++ column (w - 1 - d) old) stays;
+      numbers = sorted;
+    }
+
+level-step : (xs : List ℕ) (w d : ℕ) (old new old_block new_block : List ℕ) → AreLevelsWritten xs w d old_block old
+    → WritesLevel w d old new old_block new_block → AreLevelsWritten xs w (d + 1) new_block new
+level-step xs w d old new old_block new_block before writes =
+    let same : length old ≡ length xs = ap (λ (l : List ℕ). length l) before.order ∙ length-level xs w d in
+    let P : ℕ → Type 0 = λ n. take ((d + 1) * n) (level_bits new_block n w) ≡ take (d * n) (level_bits old_block n w) ++ column (w - 1 - d) old in
+    record {
+      levels =
+          columns-held xs w d old (level_bits old_block (length xs) w) (level_bits new_block (length xs) w) before.order before.levels (subst P same writes.bits);
+      order = level-more xs new w d old before.order writes.numbers;
+    }
+
+all-written : (xs : List ℕ) (w d : ℕ) (blocks rests : ℕ → List ℕ) → WritesLevels xs w blocks rests → d ≤ w
+    → AreLevelsWritten xs w d (blocks d) (rests d)
+all-written xs w zero blocks rests writes most = record {
+  levels = columns-none xs w (level_bits (blocks 0) (length xs) w);
+  order = writes.first ∙ level-none xs w;
+}
+all-written xs w (suc d) blocks rests writes most =
+    let P : ℕ → Type 0 = λ k. AreLevelsWritten xs w k (blocks k) (rests k) in
+    subst P (add-one d)
+    (level-step xs w d _ _ _ _ (all-written xs w d blocks rests writes (omega (arith, most))) (writes.each d (omega (arith, most))))
+
+pub levels_round_trip : LevelsRoundTrip
+levels_round_trip = record {
+  written = all-written;
+  block = λ xs w blocks rests block writes can completes.
+      completes xs refl can (all-written xs w w blocks rests writes (omega arith)).levels;
+}
+
+-- ---- the block that is completed
+
+-- the tables of the words that stand in a block, where its sections are
+pub parts-stand : (n w k : ℕ) (old head words gap upper gap2 lower gap3 ones gap4 zeros tail : List ℕ)
+    → HaveLengths n w head words gap upper gap2 lower gap3 ones gap4 zeros → words ≡ slice_range old 40 (40 + matrix_words n w) → k ≡ w
+    → IsIndexed (lists_of words upper lower) → AreCounts (levels_of n k ones zeros) (bits_of words)
+    → (xs : List ℕ) → length xs ≡ n → CanHold xs w → HoldsLevels xs w w old
+    → StandsIn xs w (head ++ ((words ++ gap) ++ ((upper ++ gap2) ++ ((lower ++ gap3) ++ ((ones ++ gap4) ++ (zeros ++ tail))))))
+parts-stand n w k old head words gap upper gap2 lower gap3 ones gap4 zeros tail has own same indexed counts xs len can holds =
+    let lens = subst (λ m. HaveLengths m w head words gap upper gap2 lower gap3 ones gap4 zeros) (sym len) has in
+    let those : words ≡ slice_range old 40 (40 + matrix_words (length xs) w) = subst (λ m. words ≡ slice_range old 40 (40 + matrix_words m w)) (sym len) own in
+    stands xs w head words gap upper gap2 lower gap3 ones gap4 zeros tail lens
+    (parts-are xs w k words upper lower ones zeros can lens.words_len lens.upper_len lens.lower_len lens.ones_len lens.zeros_len same
+    (ap (λ ws. take (w * length xs) (bits_of ws)) those ∙ holds) indexed
+    (subst (λ m. AreCounts (levels_of m k ones zeros) (bits_of words)) (sym len) counts))
+
+-- whatever the numbers, a call writes the sections of those whose levels stand in the old block
+abbrev pub Stands : ℕ → ℕ → List ℕ → List ℕ → Type 0
+Stands n w old new = (xs : List ℕ) → length xs ≡ n → CanHold xs w → HoldsLevels xs w w old → StandsIn xs w new
+
+-- what stands in the front
+pub front-stands : (n w : ℕ) (block front back : List ℕ) → length front ≡ end_at n w → Stands n w (take (end_at n w) block) front
+    → Stands n w block (front ++ back)
+front-stands n w block front back whole has xs len can holds =
+    let full : length front ≡ end_at (length xs) w = subst (λ m. length front ≡ end_at m w) (sym len) whole in
+    let words : level_bits (take (end_at n w) block) (length xs) w ≡ level_bits block (length xs) w =
+    ap bits_of (words-front block (matrix_words (length xs) w) (end_at n w)
+    (subst (λ m. 40 + matrix_words (length xs) w ≤ end_at m w) len (omega arith))) in
+    stands-on xs w front back full (has xs len can (ap (take (w * length xs)) words ∙ holds))
+
+-- a block has room for the levels
+pub has-room : (n w : ℕ) (q : Bool) → 40 + matrix_words n w ≤ end_of (sections_with n w q)
+has-room n w true = omega arith
+has-room n w false = omega arith
+
+-- any words hold numbers
+module _ (n w : ℕ) (block : List ℕ) (numbers : AreNumbers n w) (room : 40 + matrix_words n w ≤ length block) where
+  abbrev bits : List Bool
+  bits = level_bits block n w
+
+  enough : w * n ≤ length bits
+  enough =
+      let m = matrix_words n w in
+      omega (
+        arith,
+        bits_are_counted (slice_range block 40 (40 + m)),
+        ap (λ (ws : List ℕ). length ws) (words-of block m),
+        length-take-le m (drop 40 block) (omega (arith, length-drop 40 block, room)),
+      )
+
+  abbrev held : List ℕ
+  held = level_items bits w n
+
+  held-len : length held ≡ n
+  held-len = items-len bits w n enough
+
+  held-fit : CanHold held w
+  held-fit = record {
+    numbers = subst (λ m. AreNumbers m w) (sym held-len) numbers;
+    fit = items-fit bits w n enough;
+  }
+
+  held-stand : HoldsLevels held w w block
+  held-stand = subst (λ m. take (w * m) (level_bits block m w) ≡ columns held w w) (sym held-len) (any-levels bits w n enough)
+
+  -- so that the tables are always those of the words
+  pub are-indexed : (new : List ℕ) → Stands n w block new → IsIndexed (lists_in new n w)
+  are-indexed new has = subst (λ m. IsIndexed (lists_in new m w)) held-len (has held held-len held-fit held-stand).matrix.indexed
+
+  -- and a block that is completed holds a matrix
+  pub is-sound : (new : List ℕ) → Completes n w block new → IsSoundBlock new
+  is-sound new completes = (completes held held-len held-fit held-stand).sound
+
+-- a sealed block is completed
+pub is-completed : (n w : ℕ) (q : Bool) (old mid new : List ℕ) → IsSealed (matrix_head n w) (sections_with n w q) mid new → Stands n w old mid
+    → (IsTrue q → HaveQuarters n w mid) → Completes n w old new
+is-completed n w q old mid new sealed has quarters xs len can holds =
+    block_is xs w q mid new can (subst (λ m. IsSealed (matrix_head m w) (sections_with m w q) mid new) (sym len) sealed)
+    (has xs len can holds) (λ asked. subst (λ m. HaveQuarters m w mid) (sym len) (quarters asked))
