@@ -36,6 +36,24 @@ template <class Error, class Call> static bool throws(Call call)
 
 static std::mt19937_64 draw(29);
 
+// What `build` makes while it tells how far it is: the same as `wanted`, in steps up to `total`. What is thrown at a
+// step ends the build, whichever it is.
+template <class Owner, class Build> static void told(const Owner &wanted, u64 total, Build build)
+{
+    std::vector<std::pair<u64, u64>> steps;
+    const Owner made = build([&](u64 done, u64 of) { steps.emplace_back(done, of); });
+    MUST(made == wanted && !steps.empty() && steps.back() == std::make_pair(total, total));
+    MUST(std::is_sorted(steps.begin(), steps.end()));
+    for (std::size_t last = 0; last < steps.size(); last++) {
+        MUST(steps[last].second == total);
+        std::size_t calls = 0;
+        const auto stop = [&](u64, u64) {
+            if (calls++ == last) throw std::runtime_error("stop");
+        };
+        MUST(throws<std::runtime_error>([&] { (void)build(stop); }) && calls == last + 1);
+    }
+}
+
 // Copies and moves of an owner that is not empty. `full` says that an owner or a view has all that the given one has,
 // `none` that it has nothing.
 template <class Owner, class Full, class None> static void copies_and_moves(Owner a, Full full, None none)
@@ -56,7 +74,8 @@ template <class Owner, class Full, class None> static void copies_and_moves(Owne
 // Whether a file is of no other structure than this owner's.
 template <class Other, class Owner> static bool apart(const std::string &path)
 {
-    return std::is_same_v<Other, Owner> || (!Other::try_load(path) && !Other::try_map(path));
+    return std::is_same_v<Other, Owner> || (Other::try_load(path).error().code == bitm::errc::other_kind &&
+                                            Other::try_map(path).error().code == bitm::errc::other_kind);
 }
 
 // The file of an owner: copied, mapped, from a stream, as bytes, and in words of the caller's; none for other
@@ -74,12 +93,14 @@ template <class Owner, class Full> static void files_of(const Owner &given, cons
     MUST(stream.get() == 'm' && !Owner::try_load(cut) && mapped == given && Owner(Owner::map(path)) == given);
     MUST(Owner::of_bytes(given.bytes()) == given);
     MUST(apart<bitm::rank_index, Owner>(path) && apart<bitm::sequence, Owner>(path));
-    constexpr bool is_dictionary = std::is_same_v<Owner, bitm::dictionary>; // whose block is that of a hash too
-    MUST((is_dictionary || apart<bitm::perfect_hash, Owner>(path)) && apart<bitm::tree, Owner>(path));
+    constexpr bool of_keys = std::is_same_v<Owner, bitm::key_hash>; // whose block is that of a hash too
+    constexpr bool is_hash = of_keys || std::is_same_v<Owner, bitm::dictionary>;
+    MUST((is_hash || apart<bitm::perfect_hash, Owner>(path)) && apart<bitm::tree, Owner>(path));
     MUST(apart<bitm::wavelet_matrix, Owner>(path) && apart<bitm::sparse_bits, Owner>(path));
     MUST(apart<bitm::dictionary, Owner>(path) && apart<bitm::text_index, Owner>(path) &&
          apart<bitm::trie, Owner>(path));
-    MUST(apart<bitm::strings, Owner>(path) && apart<bitm::seeded_hash, Owner>(path));
+    MUST(apart<bitm::strings, Owner>(path) && (of_keys || apart<bitm::seeded_hash, Owner>(path)));
+    MUST(apart<bitm::key_hash, Owner>(path));
     Words file(given.block().begin(), given.block().end());
     file.resize(file.size() + 7, 5); // words after the block are not its own
     const View view = View::in(file);
@@ -87,16 +108,17 @@ template <class Owner, class Full> static void files_of(const Owner &given, cons
     for (const bool is_tree : {false, true}) {
         if (is_tree && std::is_same_v<Owner, bitm::tree>) continue;
         is_tree ? bitm::tree{1, 0}.save(path) : bitm::rank_index(bitm::bits("0101")).save(path);
-        MUST(Owner::try_load(path).error().code == bitm::errc::wrong_file && !Owner::try_map(path));
+        MUST(Owner::try_load(path).error().code == bitm::errc::other_kind && !Owner::try_map(path));
     }
     MUST(Owner::try_load("no/such/file").error().code == bitm::errc::no_file);
     std::remove(path.c_str());
 }
 
 // Blocks with a changed bit (each, or one in `step`), cut off, or of random words: opening compares the checksums of
-// the header and the directory, which `head` words are, and `any` queries what is opened, which may hold anything.
+// the header and the directory, which `head` words are, and may look at one word more; `any` queries what is opened,
+// which may hold anything.
 template <class Owner, class Any>
-static void spoilt_blocks(const Owner &given, std::size_t head, unsigned step, Any any)
+static void spoilt_blocks(const Owner &given, std::size_t head, unsigned step, Any any, std::size_t seen = 0)
 {
     using View = decltype(given.view());
     const Words good(given.block().begin(), given.block().end()), few(2);
@@ -105,7 +127,7 @@ static void spoilt_blocks(const Owner &given, std::size_t head, unsigned step, A
             Words block = good;
             block[word] ^= u64{1} << bit;
             const auto view = View::try_in(block);
-            MUST(view.has_value() == (word >= head));
+            MUST(word == seen || view.has_value() == (word >= head));
             const bitm::span<const unsigned char> bytes(reinterpret_cast<const unsigned char *>(block.data()),
                                                         8 * block.size());
             MUST(!Owner::try_of_bytes(bytes, bitm::verify::yes));
@@ -115,7 +137,7 @@ static void spoilt_blocks(const Owner &given, std::size_t head, unsigned step, A
     for (int turn = 0; turn < 300; turn++) {
         Words block = good;
         for (std::size_t word = head; word < block.size(); word++)
-            block[word] = draw() & draw() & (turn % 2 ? ~u64{} : draw());
+            if (word != seen) block[word] = draw() & draw() & (turn % 2 ? ~u64{} : draw());
         any(View::in(block));
     }
     MUST(!Owner::try_of_bytes({}) && !View::try_in(few) && !View::try_in({}));

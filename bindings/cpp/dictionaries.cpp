@@ -1,5 +1,5 @@
-// Dictionaries in C++ beside plain lists of keys: owners, views, lists, files, threads; keys that are refused, blocks that
-// are spoilt or cut, and what is left of an owner that was moved.
+// Dictionaries in C++ beside plain lists of keys: owners, views, lists, files, threads; keys that are refused, blocks
+// that are spoilt or cut, and what is left of an owner that was moved.
 #include "blocks.hpp"
 
 #include <set>
@@ -43,7 +43,9 @@ template <class D> static void same(const D &d, const Words &keys)
 static void refused()
 {
     const Words twice{3, 9, 3};
-    MUST(Dictionary::try_of(twice).error().code == bitm::errc::equal_keys && Dictionary::try_of(twice).error().at == 2);
+    const bitm::failure why = Dictionary::try_of(twice).error();
+    MUST(why == bitm::failure{bitm::errc::equal_keys, 0, 2, "keys", 0, 0, bitm::item_fault::equal});
+    MUST(bitm::message(why) == "bitm: keys 0 and 2 are equal" && Dictionary::try_of(twice, 100, 7).error() == why);
     MUST(throws<std::invalid_argument>([&] { Dictionary d(twice); }));
     MUST(Dictionary({7}).size() == 1 && Dictionary(bitm::words_in()).empty());
 }
@@ -52,7 +54,8 @@ static void owners(const Words &keys)
 {
     const Dictionary a(keys, 120, 5);
     MUST(a == Dictionary(keys, 120, 5) && a != Dictionary(keys, 120, 6) && a.seed() == 5);
-    copies_and_moves(a, [&](const auto &it) { same(it, keys); }, [](const auto &it) { same(it, {}); });
+    copies_and_moves(
+        a, [&](const auto &it) { same(it, keys); }, [](const auto &it) { same(it, {}); });
 }
 
 // Answers of a block that may hold anything: a key stands at the number that is found, or there is an error.

@@ -76,6 +76,7 @@ static void damage(const fs::path &path)
     flipped(bitm::sequence(old_numbers()), path), flipped(bitm::sparse_bits(some, 5000), path);
     flipped(bitm::perfect_hash(bitm::words_in(old_hashes())), path);
     flipped(bitm::seeded_hash(bitm::words_in(old_hashes())), path);
+    flipped(bitm::key_hash(some), path), flipped(bitm::key_hash(some, {8, 100, 5}), path);
     flipped(bitm::dictionary(some), path), flipped(bitm::strings{"ada", "bob", "eve"}, path);
     flipped(bitm::tree(degrees), path), flipped(bitm::trie::of_words({"a", "b", "be"}), path);
     flipped(bitm::wavelet_matrix(some), path);
@@ -124,7 +125,7 @@ static void nothing(const fs::path &path)
     of_nothing(bitm::sparse_bits(some, 5000), path), of_nothing(bitm::perfect_hash(some), path);
     of_nothing(bitm::seeded_hash(some), path), of_nothing(bitm::dictionary(some), path);
     of_nothing(bitm::strings{"ada"}, path), of_nothing(bitm::wavelet_matrix(some), path);
-    of_nothing(bitm::text_index("banana"), path);
+    of_nothing(bitm::text_index("banana"), path), of_nothing(bitm::key_hash(some), path);
     of_no_nodes(bitm::tree{1, 0}, path), of_no_nodes(bitm::trie::of_words({"a"}), path);
     MUST(bitm::text_index() == bitm::text_index::of_letters({}, 0) &&
          bitm::sequence() == bitm::sequence(bitm::words_in()));
@@ -137,7 +138,7 @@ static void nothing(const fs::path &path)
 template <class Owner> static void becomes(const Owner &made, const fs::path &old, const fs::path &path)
 {
     const Bytes file = read_file(old), block = bytes_of(made);
-    MUST(file.size() > 0 && file[7] == 2 && block[7] == 3);
+    MUST(file.size() > 0 && file[7] == 2 && block[7] == 4);
     std::stringstream stream;
     stream.write(reinterpret_cast<const char *>(file.data()), static_cast<std::streamsize>(file.size())) << "more";
     for (const verify how : {verify::no, verify::yes}) {

@@ -303,6 +303,7 @@ static void any_file(const unsigned char *data, std::size_t size)
     (void)bitm::sequence::try_of_bytes({data, size}, bitm::verify::yes).has_value();
     (void)bitm::perfect_hash::try_of_bytes({data, size}, bitm::verify::yes).has_value();
     (void)bitm::seeded_hash::try_of_bytes({data, size}, bitm::verify::yes).has_value();
+    (void)bitm::key_hash::try_of_bytes({data, size}, bitm::verify::yes).has_value();
     (void)bitm::tree::try_of_bytes({data, size}, bitm::verify::yes).has_value();
     (void)bitm::trie::try_of_bytes({data, size}, bitm::verify::yes).has_value();
     (void)bitm::wavelet_matrix::try_of_bytes({data, size}, bitm::verify::yes).has_value();

@@ -1,6 +1,6 @@
 // Perfect hashes in C++, without seeds and with them: numbers, lists and fingerprints; of those with seeds also owners,
-// views, files and threads; what is refused, blocks that are spoilt or cut, and what is left of an owner that was
-// moved.
+// views, files and threads; levels one by one; what is refused, blocks that are spoilt or cut, and what is left of an
+// owner that was moved.
 #include "blocks.hpp"
 
 #include <set>
@@ -145,12 +145,36 @@ static void refused()
 {
     const Words twice{3, 9, 3};
     const auto why = Hash::try_of(twice);
-    MUST(why.error().code == bitm::errc::equal_keys && why.error().at == 2 && why.error().of == 3);
+    const bitm::failure equal{bitm::errc::equal_keys, 0, 2, "hashes", 0, 0, bitm::item_fault::equal};
+    MUST(why.error() == equal && bitm::message(equal) == "bitm: hashes 0 and 2 are equal");
+    MUST(bitm::perfect_hash::try_of(twice).error() == equal);
+    MUST(bitm::perfect_hash::try_of(twice, 100, [](u64, u64) {}).error() == equal);
     MUST(throws<std::invalid_argument>([&] { Hash h(twice); }));
+    Words some_twice = drawn(3000);
+    for (const std::size_t at : {7u, 7u, 2000u, 9u, 7u}) some_twice.push_back(some_twice[at]);
+    const bitm::failure first = Hash::try_of(some_twice).error();
+    MUST(first.at == 7 && first.of == 3000 && bitm::perfect_hash::try_of(some_twice).error() == first);
     MUST(Hash(Words{7}).size() == 1 && Hash(bitm::words_in()).empty() && !Hash()(7) && !View()(7));
     const Words some = drawn(500);
     const Hash most(some, 100, ~0u), all(some, 100, 256), fewer(some, 100, 255);
     MUST(most == all && all.size() == fewer.size() && Hash(some, 0, 3) == Hash(some, 50, 3));
+}
+
+// Level by level: the same blocks, with how many keys have a number so far.
+static void levels(const Words &hashes)
+{
+    const auto whole = [](u64 it) { return it; };
+    for (const unsigned percent : {0u, 100u, 250u}) {
+        told(bitm::perfect_hash(bitm::words_in(hashes), percent), hashes.size(),
+             [&](auto step) { return bitm::perfect_hash(hashes, percent, step); });
+        told(bitm::perfect_hash(bitm::words_in(hashes), percent), hashes.size(),
+             [&](auto step) { return bitm::perfect_hash(hashes.begin(), hashes.end(), whole, percent, step); });
+        for (const unsigned tries : {0u, 1u, 20u, 300u})
+            told(Hash(hashes, percent, tries, 5), hashes.size(),
+                 [&](auto step) { return Hash(hashes, percent, tries, 5, step); });
+    }
+    told(Hash(hashes), hashes.size(),
+         [&](auto step) { return Hash(hashes.begin(), hashes.end(), whole, 100, 64, 0, step); });
 }
 
 static void owners(const Words &hashes)
@@ -174,7 +198,7 @@ static void other_blocks()
     Words block(len);
     MUST(bitm_hash_block_build(raw.index.words, raw.index.words_len, raw.sizes, raw.sizes_len, 7, block.data(), len) ==
          BITM_OK);
-    MUST(View::try_in(block).error().code == bitm::errc::wrong_file);
+    MUST(View::try_in(block).error().code == bitm::errc::other_kind);
     const Hash h(hashes);
     bitm_hash opened{};
     MUST(bitm_hash_block_open(h.block().data(), h.block().size(), &opened, &seed) == BITM_WRONG);
@@ -218,6 +242,7 @@ int main(int, char **argv)
         files_of(Hash(hashes), path, [&](const auto &it) { same(it, hashes); });
     }
     owners(drawn(3)), owners(drawn(900));
+    for (const u64 count : {0u, 1u, 2u, 70u, 3000u}) levels(drawn(count));
     std::puts("hashes: ok");
     return 0;
 }

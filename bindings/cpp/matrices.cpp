@@ -50,7 +50,8 @@ template <class M> static void lists_of_ranges(const M &m, const Words &plain, u
     const auto are = [&](std::size_t written, const Words &these) {
         return written == these.size() && std::equal(these.begin(), these.end(), numbers.begin());
     };
-    MUST(are(m.distinct(from, to, least, numbers, of_each), wanted) && std::equal(often.begin(), often.end(), of_each.begin()));
+    MUST(are(m.distinct(from, to, least, numbers, of_each), wanted) &&
+         std::equal(often.begin(), often.end(), of_each.begin()));
     MUST(are(m.intersect(from, to, other, n, least, numbers), shared));
     std::stable_sort(all.begin(), all.end(), [](const auto &a, const auto &b) { return a.second > b.second; });
     wanted.clear(), often.clear();
@@ -147,6 +148,28 @@ static void refused()
     MUST(Matrix({0, 0}).width() == 1 && Matrix({~u64{}}).width() == 64 && Matrix(bitm::words_in()).width() == 1);
 }
 
+// A number that is too wide is named, at once and level by level; the levels make the same block.
+static void wide_numbers()
+{
+    const Words wide{1, 255, 3, 0, 300, 256};
+    const bitm::failure why = Matrix::try_of(wide, 8).error();
+    MUST(why == bitm::failure{bitm::errc::bad_size, 4, 6, "number", 300, 8, bitm::item_fault::too_wide});
+    MUST(bitm::message(why) == "bitm: number 4 (300) has more than 8 bits");
+    u64 calls = 0;
+    const auto count = [&](u64, u64) { calls++; };
+    MUST(Matrix::try_of(wide, 8, bitm::quarters::no, count).error() == why);
+    MUST(!Matrix::try_of(wide, 65, bitm::quarters::no, count) && calls == 0);
+    MUST(Matrix::try_of(Words{0, u64{1} << 63}, 63).error().at == 1);
+}
+
+static void levels(const Words &plain, bitm::quarters kept)
+{
+    for (const std::uint32_t width : {0u, 64u}) {
+        const Matrix at_once(plain, width, kept);
+        told(at_once, at_once.width(), [&](auto step) { return Matrix(plain, width, kept, step); });
+    }
+}
+
 static void owners(const Words &plain)
 {
     const Matrix a(plain), b(plain.begin(), plain.end(), 64);
@@ -154,7 +177,8 @@ static void owners(const Words &plain)
     MUST(a == Matrix(listed.begin(), listed.end()) && b.width() == 64), same(b, plain);
     const Matrix c(listed.begin(), listed.end(), 64, bitm::quarters::yes);
     MUST(c.block().size() > b.block().size()), same(c, plain);
-    copies_and_moves(a, [&](const auto &it) { same(it, plain); }, [](const auto &it) { same(it, {}); });
+    copies_and_moves(
+        a, [&](const auto &it) { same(it, plain); }, [](const auto &it) { same(it, {}); });
 }
 
 // Answers of a block that may hold anything: inside, or an error.
@@ -174,8 +198,10 @@ static void any(const View &m)
             MUST(!it || !*it || **it <= end);
         const Words index{i};
         Words one(1);
-        if (i == n) MUST(throws<std::out_of_range>([&] { m.at(index, one); }));
-        else MUST(throws<bitm::wrong_tables>([&] { m.at(index, one); }) || one[0] <= end);
+        if (i == n)
+            MUST(throws<std::out_of_range>([&] { m.at(index, one); }));
+        else
+            MUST(throws<bitm::wrong_tables>([&] { m.at(index, one); }) || one[0] <= end);
     }
 }
 
@@ -203,13 +229,14 @@ static void threads()
 int main(int, char **argv)
 {
     const std::string path = argv[0] + std::string(".numbers");
-    refused(), spoilt(), threads();
+    refused(), wide_numbers(), spoilt(), threads();
     std::vector<Words> all{{}, {0}, {~u64{}}, {3, 1, 4, 1, 5, 1}, Words(700, 6)};
     for (u64 count = 1; count < 20; count++) all.push_back(drawn(count * count, 1 + static_cast<unsigned>(count * 3)));
     all.push_back(drawn(3000, 12));
     for (const Words &plain : all) {
         for (const bitm::quarters kept : {bitm::quarters::no, bitm::quarters::yes}) {
             const Matrix m(plain, 0, kept);
+            if (plain.size() < 1000) levels(plain, kept);
             same(m, plain), files_of(m, path, [&](const auto &it) { same(it, plain); });
         }
     }

@@ -15,6 +15,7 @@ bitm::sequence numbers() { return {1, 2, 3}; }
 bitm::tree grown() { return {2, 0, 1, 0}; }
 bitm::wavelet_matrix listed() { return {3, 1, 4}; }
 bitm::seeded_hash hashed() { return bitm::seeded_hash(words(1, 5)); }
+bitm::key_hash keyed() { return bitm::key_hash{"a", "b"}; }
 bitm::prefix_counts counted() { return bitm::prefix_counts({100, 200}, {1, 1}); }
 bitm::sharded_index joined() { return bitm::sharded_index({made(), made()}); }
 words file_of_tree()
@@ -346,6 +347,22 @@ int main()
     const bitm_index &r = bitm::rank_index::try_load("a").value().view().raw();
 #elif CASE == 91
     bitm_index &r = x.view().raw();
+#elif CASE == 92 // of hashes of keys
+    auto v = keyed().view();
+#elif CASE == 93
+    auto w = keyed().block();
+#elif CASE == 94
+    auto &r = keyed().raw();
+#elif CASE == 95
+    auto v = bitm::key_hash_view::in(words(100));
+#elif CASE == 96
+    bitm::key_hash h = words(1, 5);
+#elif CASE == 97 // a letter, a truth value and a fraction are no keys
+    (void)keyed()('a');
+#elif CASE == 98
+    (void)keyed()(true);
+#elif CASE == 99
+    const bitm::key_hash h(std::vector<double>{0.5});
 #elif CASE == 110 // an answer that is not looked at
     bitm::rank_index::try_load("a");
 #elif CASE >= 100

@@ -19,10 +19,10 @@ static void added()
         for (u64 &it : words) it = draw();
         const Words longer = with(block, bitm::own_role, count, words);
         MUST(bitm::is_written(longer) && bitm::tree_view::in(longer).parent(3) == maybe_position(2));
-        const auto section = bitm::section_at(longer, 3).value();
+        const auto section = bitm::section_at(longer, 4).value();
         MUST(section.role == bitm::own_role && section.count == count && section.words.size() == words.size());
-        MUST(std::equal(words.begin(), words.end(), section.words.begin()) && !bitm::section_at(longer, 4));
-        for (std::size_t i = 0; i < 3; i++) {
+        MUST(std::equal(words.begin(), words.end(), section.words.begin()) && !bitm::section_at(longer, 5));
+        for (std::size_t i = 0; i < 4; i++) {
             const auto was = bitm::section_at(block, i).value(), is = bitm::section_at(longer, i).value();
             MUST(was.role == is.role && was.count == is.count);
             MUST(std::equal(was.words.begin(), was.words.end(), is.words.begin(), is.words.end()));
@@ -72,9 +72,9 @@ static void overlapping()
 static void sixteen()
 {
     Words block = block_of(bitm::tree{2, 0, 1, 0});
-    for (u64 i = 3; i < 16; i++) block = with(block, bitm::own_role + i, 3, Words{i});
+    for (u64 i = 4; i < 16; i++) block = with(block, bitm::own_role + i, 3, Words{i});
     MUST(bitm::is_written(block) && bitm::tree_view::in(block).check() && bitm::tree_view::in(block).size() == 4);
-    for (u64 i = 3; i < 16; i++)
+    for (u64 i = 4; i < 16; i++)
         MUST(bitm::section_at(block, i)->role == bitm::own_role + i && bitm::section_at(block, i)->words[0] == i);
     MUST(!bitm::section_at(block, 16) && !bitm::section_at(block, ~std::size_t{}));
     MUST(bitm::try_extended_size(block, bitm::own_role, 3).error().code == bitm::errc::bad_size);

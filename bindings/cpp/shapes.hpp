@@ -21,6 +21,7 @@ static_assert(regular<bitm::sparse_bits>() && regular<bitm::sparse_bits_view>())
 static_assert(regular<bitm::text_index>() && regular<bitm::text_index_view>());
 static_assert(regular<bitm::dictionary>() && regular<bitm::dictionary_view>());
 static_assert(regular<bitm::seeded_hash>() && regular<bitm::seeded_hash_view>());
+static_assert(regular<bitm::key_hash>() && regular<bitm::key_hash_view>());
 static_assert(regular<bitm::wavelet_matrix>() && regular<bitm::wavelet_matrix_view>());
 static_assert(regular<bitm::strings>() && regular<bitm::strings_view>());
 static_assert(regular<bitm::prefix_counts>() && regular<bitm::sharded_index>());
@@ -28,7 +29,8 @@ static_assert(regular<bitm::prefix_counts>() && regular<bitm::sharded_index>());
 template <class... Views> constexpr bool plain = (std::is_trivially_copyable_v<Views> && ...);
 static_assert(plain<bitm::bits_view, bitm::rank_index_view, bitm::sequence_view, bitm::wavelet_matrix_view, bitm::tree_view,
                     bitm::trie_view, bitm::strings_view, bitm::dictionary_view, bitm::sparse_bits_view,
-                    bitm::text_index_view, bitm::seeded_hash_view, bitm::words_in, bitm::words_out>);
+                    bitm::text_index_view, bitm::seeded_hash_view, bitm::key_hash_view, bitm::words_in,
+                    bitm::words_out>);
 // Bits are made of a size, and of text, but not of a truth value, a fraction or a null pointer.
 template <class From> constexpr bool from = std::is_constructible_v<bitm::bits, From>;
 static_assert(from<int> && from<unsigned> && from<long long> && from<std::size_t> && from<const char *> &&
@@ -47,7 +49,7 @@ static_assert(apart<bitm::bits, bitm::bits_view> && apart<bitm::rank_index, bitm
               apart<bitm::wavelet_matrix, bitm::wavelet_matrix_view> &&
               apart<bitm::sparse_bits, bitm::sparse_bits_view> && apart<bitm::dictionary, bitm::dictionary_view> &&
               apart<bitm::text_index, bitm::text_index_view> && apart<bitm::trie, bitm::trie_view> &&
-              apart<bitm::seeded_hash, bitm::seeded_hash_view>);
+              apart<bitm::seeded_hash, bitm::seeded_hash_view> && apart<bitm::key_hash, bitm::key_hash_view>);
 // Bits are no container of words: their size counts bits.
 static_assert(!std::is_convertible_v<bitm::bits &, bitm::words_in> &&
               !std::is_constructible_v<bitm::words_in, bitm::bits_view &> &&
@@ -84,7 +86,7 @@ static_assert(owning<bitm::bits> && owning<bitm::rank_index> && owning<bitm::seq
 template <class View> constexpr bool no_range = !sr::range<View> && std::semiregular<View>;
 static_assert(no_range<bitm::tree_view> && no_range<bitm::trie_view> && no_range<bitm::strings_view> &&
               no_range<bitm::dictionary_view> && no_range<bitm::sparse_bits_view> && no_range<bitm::text_index_view> &&
-              no_range<bitm::seeded_hash_view>);
+              no_range<bitm::seeded_hash_view> && no_range<bitm::key_hash_view>);
 static_assert(sr::random_access_range<bitm::wavelet_matrix> && sr::sized_range<bitm::wavelet_matrix> &&
               sr::view<bitm::wavelet_matrix_view> && !sr::borrowed_range<bitm::wavelet_matrix>);
 #endif

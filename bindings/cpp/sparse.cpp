@@ -115,8 +115,15 @@ template <class S> static void same(const S &s, const Plain &plain)
 static void refused()
 {
     const Words twice{3, 3}, falls{4, 3}, some{3, 9};
-    MUST(Sparse::try_of(twice, 100).error().code == bitm::errc::unsorted && !Sparse::try_of(falls, 100));
-    MUST(Sparse::try_of(some, 9).error() == bitm::failure{bitm::errc::outside, 9, 9, "a position"});
+    const auto why = [](const Words &positions, u64 size) { return Sparse::try_of(positions, size).error(); };
+    const auto rises = bitm::item_fault::not_above;
+    MUST(why(twice, 100) == bitm::failure{bitm::errc::unsorted, 1, 2, "position", 3, 3, rises});
+    MUST(why(falls, 100) == bitm::failure{bitm::errc::unsorted, 1, 2, "position", 3, 4, rises});
+    MUST(why(some, 9) == bitm::failure{bitm::errc::outside, 1, 2, "position", 9, 9, bitm::item_fault::not_below});
+    MUST(bitm::message(why({1, 2, 17, 17}, 99)) == "bitm: position 3 (17) is not above position 2 (17)");
+    MUST(bitm::message(why({1, 2, 17, 200}, 100)) == "bitm: position 3 (200) is not below 100");
+    MUST(bitm::message(why({1, 2, 17, 200}, 0)) == "bitm: position 0 (1) is not below 0");
+    MUST(bitm::message(why({5, 2}, 1)) == "bitm: position 1 (2) is not above position 0 (5)"); // sorted comes first
     MUST(throws<std::out_of_range>([&] { Sparse s(some, 9); }) &&
          throws<std::invalid_argument>([&] { Sparse s(twice, 100); }));
     MUST(Sparse(some, 10).size() == 10 && Sparse({}, 7).size() == 7 && Sparse({}, 0).empty());
@@ -126,7 +133,8 @@ static void owners(const Plain &plain)
 {
     const Sparse a(plain.positions, plain.size);
     MUST(a == Sparse(plain.positions, plain.size) && a != Sparse(plain.positions, plain.size + 1));
-    copies_and_moves(a, [&](const auto &it) { same(it, plain); }, [](const auto &it) { same(it, {}); });
+    copies_and_moves(
+        a, [&](const auto &it) { same(it, plain); }, [](const auto &it) { same(it, {}); });
 }
 
 // Answers of a block that may hold anything: inside, or an error.
@@ -147,8 +155,8 @@ static void spoilt()
 {
     const Plain plain = drawn(50, 90, 4);
     const Sparse s(plain.positions, plain.size);
-    MUST(s.raw().positions.words == s.block().data() + 32);
-    spoilt_blocks(s, 32, 1, any);
+    MUST(s.raw().positions.words == s.block().data() + 40);
+    spoilt_blocks(s, 40, 1, any);
 }
 
 static void threads()

@@ -1,5 +1,5 @@
-// Strings in C++ beside plain lists: owners, views, files, threads; strings that are refused, blocks that are spoilt or cut,
-// and what is left of an owner that was moved.
+// Strings in C++ beside plain lists: owners, views, files, threads; strings that are refused, blocks that are spoilt or
+// cut, and what is left of an owner that was moved.
 #include "blocks.hpp"
 
 #include <iterator>
@@ -15,7 +15,8 @@ static Texts drawn(u64 count, unsigned longest)
     std::set<std::string> all;
     while (all.size() < count) {
         std::string one;
-        for (u64 len = draw() % (longest + 1); len > 0; len--) one += static_cast<char>(draw() % 4 ? 'a' + draw() % 26 : draw());
+        for (u64 len = draw() % (longest + 1); len > 0; len--)
+            one += static_cast<char>(draw() % 4 ? 'a' + draw() % 26 : draw());
         all.insert(one);
     }
     Texts list(all.begin(), all.end());
@@ -49,7 +50,11 @@ template <class S> static void same(const S &s, const Texts &all)
 static void refused()
 {
     const Texts twice{"ada", "bob", "ada"};
-    MUST(Strings::try_of(twice.begin(), twice.end()).error().code == bitm::errc::equal_keys);
+    const bitm::failure why = Strings::try_of(twice.begin(), twice.end()).error();
+    MUST(why.code == bitm::errc::equal_keys && why.item == bitm::item_fault::equal);
+    MUST(bitm::message(why) ==
+         "bitm: strings " + std::to_string(why.at) + " and " + std::to_string(why.of) + " are equal");
+    MUST(why.at < why.of && twice[why.at] == twice[why.of]);
     MUST(throws<std::invalid_argument>([&] { of(twice); }));
     MUST(Strings({"ada"}).size() == 1 && Strings().empty() && of({}).empty() && !Strings().contains(""));
 }
@@ -58,7 +63,8 @@ static void owners(const Texts &all)
 {
     const Strings a = of(all, 120, 5);
     MUST(a == of(all, 120, 5) && a != of(all, 120, 6) && a.seed() == 5);
-    copies_and_moves(a, [&](const auto &it) { same(it, all); }, [](const auto &it) { same(it, {}); });
+    copies_and_moves(
+        a, [&](const auto &it) { same(it, all); }, [](const auto &it) { same(it, {}); });
 }
 
 // Answers of a block that may hold anything: the string stands at the number that is found, or there is an error.

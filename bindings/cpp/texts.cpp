@@ -79,7 +79,8 @@ template <class T> static void same(const T &t, const std::string &text)
 static void owners(const Text &given)
 {
     MUST(Text(given) == given && given.view() == given && given.width() == 4 && Text().width() == 1);
-    copies_and_moves(given, [](const auto &it) { same(it, verse); }, [](const auto &it) { same(it, ""); });
+    copies_and_moves(
+        given, [](const auto &it) { same(it, verse); }, [](const auto &it) { same(it, ""); });
 }
 
 // What is built of bytes and of numbers, beside plain searches, and what is refused.
@@ -111,6 +112,29 @@ static void built(const Text &given)
         MUST(!made && made.error().code == bitm::errc::bad_size);
     MUST(throws<std::invalid_argument>([] { Text(verse, 0); }));
     MUST(throws<std::invalid_argument>([&] { (void)Text::of_letters(numbers, 1); }));
+}
+
+// In two steps: the same blocks; a letter that is not below the size of the alphabet is named, at once and in two
+// steps.
+static void steps()
+{
+    for (const std::string &text :
+         {std::string(), std::string("a"), std::string("banana"), std::string(300, 'x'), verse})
+        for (const std::uint32_t step : {1u, 4u, 32u}) {
+            told(Text(text, step), 2, [&](auto told_of) { return Text(text, step, told_of); });
+            const Words letters = letters_of(Text(), "", text);
+            told(Text::of_letters(letters, 256, step), 2,
+                 [&](auto told_of) { return Text::of_letters(letters, 256, step, told_of); });
+        }
+    const Words numbers{0, 3, 4, 9};
+    const auto none = [](u64, u64) {};
+    const bitm::failure why = Text::try_of_letters(numbers, 4).error();
+    MUST(why == bitm::failure{bitm::errc::bad_size, 2, 4, "letter", 4, 4, bitm::item_fault::not_below});
+    MUST(bitm::message(why) == "bitm: letter 2 (4) is not below 4" && Text::try_of_letters(numbers, 0).error().at == 0);
+    MUST(Text::try_of_letters(numbers, 4, 32, none).error() == why && !Text::try_of("a", 0, none));
+    Words changed{1, 0, 1};
+    const auto change = [&](u64, u64) { changed[0] = 0; };
+    MUST(!Text::try_of_letters(changed, 2, 32, change)); // no longer the text that was sorted
 }
 
 // Answers of a block that may hold anything: inside, or an error.
@@ -146,7 +170,7 @@ static void threads(const Text &given)
 int main(int, char **argv)
 {
     const Text given = Text::load(argv[1], bitm::verify::yes);
-    same(given, verse), owners(given), built(given), threads(given);
+    same(given, verse), owners(given), built(given), steps(), threads(given);
     files_of(given, argv[0] + std::string(".text"), [](const auto &it) { same(it, verse); });
     MUST(given.raw().letters.words == given.block().data() + 72);
     spoilt_blocks(given, 72, 5, any);

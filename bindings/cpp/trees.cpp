@@ -104,10 +104,15 @@ static void refused()
     const std::vector<Words> of_none{{}, {0, 0}, {1, 1}, {0, 1}, {2, 0}, {1, 0, 1}, {~u64{}, 1}, {~u64{}, 2}};
     for (const Words &degrees : of_none) {
         const auto none = bitm::tree::try_of(degrees);
-        MUST(!none && none.error().code == bitm::errc::no_tree);
+        MUST(!none && none.error().code == bitm::errc::no_tree && none.error().of == degrees.size());
         MUST(throws<std::invalid_argument>([&] { bitm::tree t(degrees); }));
     }
-    MUST(bitm::message({bitm::errc::no_tree}) == "bitm: the degrees are those of no tree");
+    const auto why = [](const Words &degrees) { return bitm::tree::try_of(degrees).error(); };
+    MUST(why({0, 1}) == bitm::failure{bitm::errc::no_tree, 1, 2, "node", 1, 0, bitm::item_fault::no_child});
+    MUST(why({2, 1, 0, 1}).at == 3 && why({1, 0, 1}).at == 2 && why({~u64{}, 1}).at == 0 && why({3, 0}).value == 3);
+    MUST(bitm::message(why({2, 1, 0, 1})) ==
+         "bitm: node 3 is a child of no node before it, or has more children than there are nodes left");
+    MUST(bitm::message(why({})) == "bitm: the degrees are those of no tree");
     MUST(bitm::tree::try_map("/dev/null").error().code == bitm::errc::wrong_file);
 }
 
@@ -125,7 +130,8 @@ static void owners(const Words &degrees)
     const bitm::tree a(degrees), b(degrees.begin(), degrees.end());
     const std::list<u64> listed(degrees.begin(), degrees.end());
     MUST(a == b && a == bitm::tree(listed.begin(), listed.end()));
-    copies_and_moves(a, [&](const auto &it) { same(it, degrees); }, [](const auto &it) { of_none(it); });
+    copies_and_moves(
+        a, [&](const auto &it) { same(it, degrees); }, [](const auto &it) { of_none(it); });
     // Changed after the call: the tree is the owner's.
     Words mine = degrees;
     const bitm::tree kept(mine);
@@ -159,10 +165,7 @@ static void any(const bitm::tree_view &t)
     }
 }
 
-static void spoilt()
-{
-    spoilt_blocks(bitm::tree(drawn(90, 4)), 32, 1, any);
-}
+static void spoilt() { spoilt_blocks(bitm::tree(drawn(90, 4)), 32, 1, any); }
 
 static void threads()
 {

@@ -176,10 +176,13 @@ static void words_that_do_not_rise()
     const auto at = [](const std::vector<std::string> &words) {
         const auto none = bitm::trie::try_of_words(words);
         MUST(!none && none.error().code == bitm::errc::unsorted && none.error().of == words.size());
+        MUST(none.error().item == bitm::item_fault::not_after);
         MUST(throws<std::invalid_argument>([&] { (void)bitm::trie::of_words(words); }));
         return none.error().at;
     };
     MUST(at({"b", "a"}) == 1 && at({"a", "a"}) == 1 && at({"", ""}) == 1 && at({"a", "b", "c", "bc"}) == 3);
+    const std::vector<std::string> swapped{"a", "c", "b"};
+    MUST(bitm::message(bitm::trie::try_of_words(swapped).error()) == "bitm: word 2 does not stand after word 1");
     MUST(at({"ab", "a"}) == 1 && at({"a", "", "b"}) == 1 && at({"a", "\xc3\xa4", "z"}) == 2); // bytes have no sign
     MUST(bitm::trie::of_words({"z", "\xc3\xa4", "\xff"}).contains("\xc3\xa4"));
     const bitm::trie none = bitm::trie::of_words({}), empty = bitm::trie::of_words({""}),
@@ -203,6 +206,14 @@ static void refused()
     MUST(why(bitm::trie::try_of(Words{0, 1}, Words{1}, 8)) == bitm::errc::no_tree);
     MUST(why(bitm::trie::try_of(Words{}, Words{}, 8)) == bitm::errc::no_tree);
     MUST(throws<std::invalid_argument>([&] { bitm::trie t(degrees, labels, 6, ends); }));
+    const auto text = [](const Words &children, const Words &letters) {
+        return bitm::message(bitm::trie::try_of(children, letters, 8).error());
+    };
+    MUST(text(degrees, {97, 98, 300}) == "bitm: label 2 (300) has more than 8 bits");
+    MUST(text(degrees, {98, 97, 101}) == "bitm: label 1 (97) is not above label 0 (98)");
+    MUST(text({1, 2, 0, 0}, {9, 5, 5}) == "bitm: label 2 (5) is not above label 1 (5)");
+    MUST(text({0, 1}, {300}).find("bitm: node 1 is a child of no node") == 0);
+    MUST(text({}, {}) == "bitm: the degrees are those of no tree");
     MUST(!bitm::trie(degrees, labels, 8).contains("be") && bitm::trie(degrees, labels, 8, ends).contains("be"));
     MUST(!bitm::trie(degrees, labels, 8).has_ends() && bitm::trie(degrees, labels, 8, ends).find("be") == 3);
     MUST(bitm::trie::try_map("/dev/null").error().code == bitm::errc::wrong_file);

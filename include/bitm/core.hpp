@@ -16,77 +16,7 @@
 #ifndef BITM_CORE_HPP
 #define BITM_CORE_HPP
 
-#if defined __GNUC__
-#pragma GCC diagnostic push
-#pragma GCC diagnostic ignored "-Wold-style-cast" // of C
-#endif
-#include <bitm.h>
-#if defined __GNUC__
-#pragma GCC diagnostic pop
-#endif
-
-#include <cstddef>
-#include <cstdint>
-#include <cstdio>
-#include <cstdlib>
-#include <cstring>
-#include <initializer_list>
-#include <iterator>
-#include <limits>
-#include <new>
-#include <optional>
-#include <type_traits>
-#include <utility>
-
-#if defined __cpp_exceptions
-#include <stdexcept>
-#include <string>
-#endif
-#if __cplusplus >= 202002L
-#include <ranges>
-#include <version>
-#endif
-#if defined __cpp_lib_expected
-#include <expected>
-#endif
-
-// The result, or the object, points into what the argument, or *this, holds: clang warns where that ends first. Each
-// compiler refuses views and walks of temporaries. None sees a view that outlives its owner in a container or a class of
-// yours, a copy of what raw() gives, a view by `in(x.block())` in place of `x.view()`, or a view of an owner that is
-// assigned to or grows.
-#if defined __has_cpp_attribute
-#if __has_cpp_attribute(clang::lifetimebound)
-#define BITM_LIFETIMEBOUND [[clang::lifetimebound]]
-#elif __has_cpp_attribute(msvc::lifetimebound)
-#define BITM_LIFETIMEBOUND [[msvc::lifetimebound]]
-#endif
-#if __has_cpp_attribute(gsl::Pointer)
-#define BITM_POINTER [[gsl::Pointer]]
-#define BITM_OWNER [[gsl::Owner]]
-#endif
-#endif
-#ifndef BITM_LIFETIMEBOUND
-#define BITM_LIFETIMEBOUND
-#endif
-#ifndef BITM_POINTER
-#define BITM_POINTER
-#define BITM_OWNER
-#endif
-
-#if defined __GNUC__
-#define BITM_RARELY(condition) __builtin_expect(static_cast<bool>(condition), 0)
-#define BITM_COLD __attribute__((cold, noinline))
-#else
-#define BITM_RARELY(condition) (condition)
-#define BITM_COLD
-#endif
-
-#if defined __cpp_exceptions
-#define BITM_NAMESPACE_BEGIN namespace bitm { inline namespace v1 {
-#else
-#define BITM_NAMESPACE_BEGIN namespace bitm { inline namespace v1_no_exceptions {
-#endif
-#define BITM_NAMESPACE_END } }
+#include <bitm/failure.hpp>
 
 BITM_NAMESPACE_BEGIN
 
@@ -101,98 +31,6 @@ inline constexpr std::uint64_t wrong_answer = BITM_WRONG_TABLES;
 // Whether the library that is linked is one for programs that were compiled with these headers.
 inline bool version_fits() noexcept { return bitm_version_fits(); }
 
-// ---- errors
-
-enum class errc : std::uint8_t {
-    none = 0,
-    bad_size = BITM_BAD_SIZE, // a size or a length is wrong
-    wrong = BITM_WRONG,       // the tables are not those of the words, the parts not those of a sequence
-    unsorted = BITM_UNSORTED, // a number is less than the one before it, or a position or a word does not rise
-    outside = 16,             // a position past the end
-    wrong_file,               // not a file of this format, or not a whole one
-    no_file,                  // the system does not open, read, map or write it
-    equal_keys,               // two keys of a perfect hash have one hash
-    overlap,                  // memory that is written overlaps what is read
-    no_tree                   // the degrees are those of no tree
-};
-
-// What went wrong: position `at` of `of` where it is `outside`, and word `at` of `of` where words are `unsorted`; `at`
-// is errno where it is `no_file`. `which` says which argument or length is wrong, in memory that stays; nullptr where
-// nothing more is known.
-struct failure {
-    // The kind of failure.
-    errc code = errc::none;
-    // The position that is outside; errno for a file.
-    std::uint64_t at = 0;
-    // The size that `at` is past.
-    std::uint64_t of = 0;
-    // The argument or length that is wrong, or the name of the file in what load, map and save throw.
-    const char *which = nullptr;
-
-    // The kind of failure in words, in memory that stays.
-    const char *text() const noexcept
-    {
-        switch (code) {
-        case errc::none: return "bitm: no error";
-        case errc::bad_size: return "bitm: a size or a length is wrong";
-        case errc::wrong: return "bitm: the tables are not those of the words";
-        case errc::unsorted: return "bitm: a number is less than the one before it";
-        case errc::outside: return "bitm: a position past the end";
-        case errc::wrong_file: return "bitm: not a file of this format, or not a whole one";
-        case errc::no_file: return "bitm: the file cannot be opened, read or written";
-        case errc::equal_keys: return "bitm: two keys are equal, or their hashes are";
-        case errc::overlap: return "bitm: memory that is written overlaps what is read";
-        case errc::no_tree: return "bitm: the degrees are those of no tree";
-        }
-        return "bitm: not an error of this library";
-    }
-    friend bool operator==(const failure &a, const failure &b) noexcept
-    {
-        return a.code == b.code && a.at == b.at && a.of == b.of;
-    }
-    friend bool operator!=(const failure &a, const failure &b) noexcept { return !(a == b); }
-};
-
-#if defined __cpp_exceptions
-// A failure in words: what went wrong, and which argument or length it is.
-inline std::string message(const failure &why)
-{
-    std::string text = why.text();
-    if (why.which) text += std::string(": ") + why.which;
-    if (why.code == errc::no_file) text += std::string(": ") + std::strerror(static_cast<int>(why.at));
-    if (why.code == errc::outside)
-        text += (why.which ? " is " : ": ") + std::to_string(why.at) + " of " + std::to_string(why.of);
-    return text;
-}
-
-struct wrong_tables : std::runtime_error {
-    // With the text of `errc::wrong`.
-    wrong_tables() : std::runtime_error("bitm: the tables are not those of the words") {}
-};
-struct wrong_file : std::runtime_error {
-    using std::runtime_error::runtime_error;
-};
-#endif
-
-// Throws the exception of an error: std::invalid_argument, std::out_of_range, bitm::wrong_tables or bitm::wrong_file.
-// Without exceptions it ends the program with a line that says what was wrong: use the `try_` calls there.
-[[noreturn]] BITM_COLD inline void fail(const failure &why)
-{
-#if defined __cpp_exceptions
-    switch (why.code) {
-    case errc::wrong: throw wrong_tables();
-    case errc::wrong_file:
-    case errc::no_file: throw wrong_file(message(why));
-    case errc::outside: throw std::out_of_range(message(why));
-    default: throw std::invalid_argument(message(why));
-    }
-#else
-    std::fprintf(stderr, "%s%s%s: %llu of %llu\n", why.text(), why.which ? ": " : "", why.which ? why.which : "",
-                 static_cast<unsigned long long>(why.at), static_cast<unsigned long long>(why.of));
-    std::abort();
-#endif
-}
-
 // A value, or the error because of which there is none. Converts to std::expected where there is one.
 template <class T> class [[nodiscard]] result {
 public:
@@ -205,18 +43,18 @@ public:
     explicit operator bool() const noexcept { return has_value(); }
     // The value: fails where there is none.
     T &value() & BITM_LIFETIMEBOUND { return checked(), value_; }
-    const T &value() const & BITM_LIFETIMEBOUND { return checked(), value_; }
+    const T &value() const &BITM_LIFETIMEBOUND { return checked(), value_; }
     T value() && { return checked(), std::move(value_); }
     T &operator*() & BITM_LIFETIMEBOUND { return value(); }
-    const T &operator*() const & BITM_LIFETIMEBOUND { return value(); }
+    const T &operator*() const &BITM_LIFETIMEBOUND { return value(); }
     T operator*() && { return std::move(*this).value(); }
     T *operator->() & BITM_LIFETIMEBOUND { return &value(); }
-    const T *operator->() const & BITM_LIFETIMEBOUND { return &value(); }
+    const T *operator->() const &BITM_LIFETIMEBOUND { return &value(); }
     void operator->() const && = delete; // a view of its value would end with the line: write (*try_load(..)).rank(5)
     T value_or(T other) const & { return has_value() ? value_ : std::move(other); }
     T value_or(T other) && { return has_value() ? std::move(value_) : std::move(other); }
-    const failure &error() const & noexcept BITM_LIFETIMEBOUND { return error_; }
-    failure error() && noexcept { return error_; }
+    const failure &error() const &noexcept BITM_LIFETIMEBOUND { return error_; }
+    failure error() &&noexcept { return error_; }
 #if defined __cpp_lib_expected
     operator std::expected<T, failure>() const &
     {
@@ -315,7 +153,8 @@ template <class T> using bare = std::remove_cv_t<std::remove_reference_t<T>>;
 template <class Held> using data_of = decltype(std::declval<Held &>().data());
 // Containers of numbers one after another: data() points at the items that begin() reads and size() counts. (The size
 // of bits counts bits, so they are none.)
-template <class Held, class T, class = void> struct holds : std::false_type {};
+template <class Held, class T, class = void> struct holds : std::false_type {
+};
 template <class Held, class T> struct holds<
     Held, T,
     std::void_t<data_of<Held>, decltype(std::declval<Held &>().size()), decltype(*std::declval<Held &>().begin())>>
@@ -325,12 +164,18 @@ template <class Held, class T> struct holds<
           std::is_same_v<std::remove_cv_t<std::remove_pointer_t<data_of<Held>>>, std::remove_cv_t<T>>> {
 };
 
+// What a build calls with how far it is: a function of two numbers, of what is done and of all there is to do.
+template <class Progress> using if_progress =
+    std::enable_if_t<std::is_invocable_v<Progress &, std::uint64_t, std::uint64_t>, int>;
+
 // Types whose data outlive them: a view may keep what a temporary of such a type points at.
 template <class T> struct borrows
 #if __cplusplus >= 202002L
-    : std::bool_constant<std::ranges::borrowed_range<T>> {};
+    : std::bool_constant<std::ranges::borrowed_range<T>> {
+};
 #else
-    : std::false_type {};
+    : std::false_type {
+};
 #endif
 
 } // namespace detail

@@ -49,6 +49,13 @@ public:
     }
     std::uint64_t operator*() const { return value(); }
     std::uint64_t position() const noexcept { return raw_.index; }
+    // Where it stands: `cursor(index=0, number=2)`, at the end `number=none`.
+    template <class Char, class Traits>
+    friend std::basic_ostream<Char, Traits> &operator<<(std::basic_ostream<Char, Traits> &to, const cursor &of)
+    {
+        to << "cursor(index=" << of.position() << ", number=";
+        return (of.done() ? to << "none" : to << of.here()) << ')';
+    }
 
     // Moves to the first number from here on that is at least a value, or stays where the number here is: that number,
     // or none, and then it is at the end. It never goes back. Reads 25 words where the number is near, else what three

@@ -17,6 +17,9 @@ namespace detail {
 
 // The block of a dictionary.
 struct dictionary_kind : block_kind<dictionary_kind, bitm_dictionary, bitm_dictionary_open> {
+    static constexpr kind number = kind::dictionary;
+    static constexpr const char *name = "dictionary";
+    static std::array<field, 1> fields(const bitm_dictionary &raw) noexcept { return {{{"keys", raw.keys_len}}}; }
     static constexpr std::size_t nothing_len = 40;
     static std::uint32_t build_nothing(std::uint64_t *to) noexcept
     {
@@ -86,8 +89,8 @@ private:
 class BITM_OWNER dictionary : public detail::dictionary_calls<dictionary>,
                               public detail::stored_calls<dictionary, detail::dictionary_kind> {
 public:
-    // No keys; of keys, words or a list: fails where one comes twice. `percent` bits of a level for 100 keys: 100 takes
-    // least memory, 200 less time.
+    // No keys; of keys, words or a list: fails where one comes twice, with errc::equal_keys and the indices of the
+    // first two that are equal. `percent` bits of a level for 100 keys: 100 takes least memory, 200 less time.
     dictionary() noexcept = default;
     explicit dictionary(words_in keys, unsigned percent = 100, std::uint64_t seed = 0)
         : dictionary(try_of(keys, percent, seed).value())
@@ -98,9 +101,11 @@ public:
     {
         detail::block hashes(keys.size());
         for (std::size_t i = 0; i < keys.size(); i++) hashes.data()[i] = keys.data()[i] + seed;
-        return detail::by_levels<dictionary>(
-            words_in(hashes.data(), hashes.size()), percent,
-            [&](words_in words, words_in sizes) { return of_levels(words, sizes, keys, seed); });
+        result<dictionary> made = detail::by_levels<dictionary>(
+            words_in(hashes.data(), hashes.size()), {percent, false, 0},
+            [&](const detail::levels_in &it) { return of_levels(it.words, it.sizes, keys, seed); });
+        if (made) return made;
+        return detail::of_items(made.error(), "keys", [](auto...) { return true; }); // a hash is the key and the seed
     }
 
     // Views, which the owner has to outlive, of the dictionary and of its keys; the block, and all of it as C takes it.

@@ -9,7 +9,8 @@
 //     x.save(stream);
 //     const auto sent = bitm::rank_index::load(stream);                // or of_bytes(x.bytes())
 //     std::cout << copied.rank(4) << ' ' << sent.select(1).value() << '\n'; // 2 3
-//     std::cout << bitm::sequence::try_map("a.bitm").has_value() << '\n';   // 0
+//     const auto none = bitm::sequence::try_map("a.bitm");              // "the file holds an index, not a sequence"
+//     std::cout << (none.error().code == bitm::errc::other_kind) << '\n'; // 1
 #ifndef BITM_FILE_HPP
 #define BITM_FILE_HPP
 
@@ -203,7 +204,8 @@ template <class T> T of_file(result<T> made, const path_of &path)
 {
     if (BITM_RARELY(!made.has_value())) {
         failure why = made.error();
-        if (why.code == errc::no_file || why.code == errc::wrong_file) why.which = path.get();
+        if (why.code == errc::no_file || why.code == errc::wrong_file || why.code == errc::other_kind)
+            why.which = path.get();
         fail(why);
     }
     return std::move(made).value();

@@ -51,18 +51,6 @@ inline bitm_samples samples_in(words_in block, const bitm_index &of, samples_rol
     return {};
 }
 
-// A block with one section more.
-inline result<block> with_section(const block &of, std::uint64_t role, std::uint64_t count, words_in words)
-{
-    std::uint64_t len = 0;
-    std::uint32_t status = bitm_block_extended_size(of.data(), of.size(), role, count, &len);
-    if (status != BITM_OK) return error_of(status);
-    block all(len);
-    status = bitm_block_extend(of.data(), of.size(), role, count, words.data(), words.size(), all.data(), all.size());
-    if (status != BITM_OK) return error_of(status);
-    return all;
-}
-
 // A block of an index with samples of a kind.
 inline result<block> with_samples(const block &of, bool one, std::uint32_t log2)
 {
@@ -104,7 +92,8 @@ inline result<block> index_block(words_in words, std::uint64_t size, sampling ho
 }
 
 // The block of an index, or its file of version 2.
-struct index_kind : stored_kind<index_kind, bitm_index, bitm_index_block_open, BITM_STORED_INDEX> {
+struct index_kind : stored_kind<index_kind, bitm_index, bitm_index_block_open> {
+    static constexpr kind number = kind::index;
     static constexpr std::size_t nothing_len = 32;
     static std::uint32_t build_nothing(std::uint64_t *to) noexcept
     {

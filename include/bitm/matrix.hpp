@@ -42,6 +42,12 @@ namespace detail {
 
 // Of no numbers: of one bit each.
 struct matrix_kind : block_kind<matrix_kind, bitm_matrix, bitm_matrix_open> {
+    static constexpr kind number = kind::wavelet_matrix;
+    static constexpr const char *name = "wavelet_matrix";
+    static std::array<field, 2> fields(const bitm_matrix &raw) noexcept
+    {
+        return {{{"numbers", raw.len}, {"width", raw.width}}};
+    }
     static constexpr std::size_t nothing_len = 56;
     static std::uint32_t build_nothing(std::uint64_t *to) noexcept
     {
@@ -217,6 +223,13 @@ private:
     }
 };
 
+// The width of a matrix, whether it has quarters, and how many words its block has.
+struct matrix_shape {
+    std::uint32_t width;
+    bool quarters;
+    std::uint64_t len;
+};
+
 } // namespace detail
 
 // A list of numbers whose block is in memory of the caller's, who keeps it: a mapped file, say.
@@ -263,8 +276,8 @@ public:
     using iterator = matrix_iterator;
 
     // No numbers; those of words, a list or iterators, of `width` bits at most, or 0 for as many as the largest one
-    // has: fails where one has more. With quarters the block takes an eighth more, and most queries read fewer words
-    // (evident from the code).
+    // has: fails where one has more, with errc::bad_size, its index and item_fault::too_wide. With quarters the block
+    // takes an eighth more, and most queries read fewer words (evident from the code).
     wavelet_matrix() noexcept = default;
     explicit wavelet_matrix(words_in numbers, std::uint32_t width = 0, quarters kept = quarters::no)
         : wavelet_matrix(try_of(numbers, width, kept).value())
@@ -282,15 +295,41 @@ public:
     }
     static result<wavelet_matrix> try_of(words_in numbers, std::uint32_t width = 0, quarters kept = quarters::no)
     {
-        std::uint64_t len = 0;
-        if (width == 0) width = width_of(numbers);
-        if (bitm_matrix_size(numbers.size(), width, kept == quarters::yes, &len) != BITM_OK)
-            return detail::bad_size("the width is above 64, or the numbers have 2^63 bits or more");
-        detail::block all(len), scratch(2 * numbers.size());
-        const std::uint32_t status = bitm_matrix_build(numbers.data(), numbers.size(), width, kept == quarters::yes,
+        const result<detail::matrix_shape> wanted = shape_of(numbers, width, kept);
+        if (!wanted) return wanted.error();
+        detail::block all(wanted->len), scratch(2 * numbers.size());
+        const std::uint32_t status = bitm_matrix_build(numbers.data(), numbers.size(), wanted->width, wanted->quarters,
                                                        scratch.data(), scratch.size(), all.data(), all.size());
-        if (status == BITM_WRONG) return detail::bad_size("a number has more bits than the width");
+        if (status == BITM_WRONG) return detail::too_wide(numbers, wanted->width, errc::bad_size, "number");
         if (status != BITM_OK) return detail::error_of(status);
+        return opened(std::move(all), verify::no);
+    }
+
+    // The same matrix, built level by level: `progress` is called after each of its `width` levels with how many are
+    // done, and how many there are. What it throws ends the build.
+    template <class Progress, detail::if_progress<Progress> = 0>
+    wavelet_matrix(words_in numbers, std::uint32_t width, quarters kept, Progress &&progress)
+        : wavelet_matrix(try_of(numbers, width, kept, progress).value())
+    {
+    }
+    template <class Progress, detail::if_progress<Progress> = 0>
+    static result<wavelet_matrix> try_of(words_in numbers, std::uint32_t width, quarters kept, Progress &&progress)
+    {
+        const result<detail::matrix_shape> wanted = shape_of(numbers, width, kept);
+        if (!wanted) return wanted.error();
+        const failure wide = detail::too_wide(numbers, wanted->width, errc::bad_size, "number");
+        if (wide.item != item_fault::none) return wide;
+        detail::block all(wanted->len), scratch(numbers.size()), sorted(numbers.size());
+        if (!numbers.empty()) std::memcpy(sorted.data(), numbers.data(), 8 * numbers.size());
+        for (std::uint32_t depth = 0; depth < wanted->width; depth++) {
+            std::uint32_t status =
+                bitm_matrix_write_level(sorted.data(), sorted.size(), wanted->width, wanted->quarters, depth,
+                                        scratch.data(), scratch.size(), all.data(), all.size());
+            if (status == BITM_OK && depth + 1 == wanted->width)
+                status = bitm_matrix_seal(numbers.size(), wanted->width, wanted->quarters, all.data(), all.size());
+            if (status != BITM_OK) return detail::error_of(status);
+            progress(std::uint64_t{depth} + 1, std::uint64_t{wanted->width});
+        }
         return opened(std::move(all), verify::no);
     }
 
@@ -309,9 +348,12 @@ public:
 
 private:
     friend class detail::matrix_calls<wavelet_matrix>;
-    wavelet_matrix(const detail::gathered &numbers, std::uint32_t width, quarters kept)
-        : wavelet_matrix(words_in(numbers.data(), numbers.size()), width, kept)
+
+    static result<detail::matrix_shape> shape_of(words_in numbers, std::uint32_t width, quarters kept) noexcept
     {
+        detail::matrix_shape wanted{width == 0 ? width_of(numbers) : width, kept == quarters::yes, 0};
+        if (bitm_matrix_size(numbers.size(), wanted.width, wanted.quarters, &wanted.len) == BITM_OK) return wanted;
+        return detail::bad_size("the width is above 64, or the numbers have 2^63 bits or more");
     }
     // How many bits the largest number has, and at least 1.
     static std::uint32_t width_of(words_in numbers) noexcept

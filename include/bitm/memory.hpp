@@ -58,7 +58,8 @@ private:
     std::size_t size_ = 0;
 };
 
-template <class T> struct detail::borrows<span<T>> : std::true_type {};
+template <class T> struct detail::borrows<span<T>> : std::true_type {
+};
 
 // Words that a call reads, and words that it writes.
 using words_in = span<const std::uint64_t>;
@@ -209,11 +210,49 @@ public:
     }
     std::uint64_t *data() const noexcept { return all_.data(); }
     std::size_t size() const noexcept { return len_; }
+    operator words_in() const noexcept { return {all_.data(), len_}; }
 
 private:
     block all_;
     std::size_t len_ = 0;
 };
+
+// ---- items at fault, looked for once a call of C has refused a list
+
+// The number that is less than the one before it or, if `strictly`, not above it.
+inline failure unsorted(words_in numbers, bool strictly, const char *which) noexcept
+{
+    std::uint64_t at = 0;
+    if (bitm_numbers_unsorted(numbers.data(), numbers.size(), strictly, &at) != BITM_OK) return {errc::unsorted};
+    return {errc::unsorted,
+            at,
+            numbers.size(),
+            which,
+            numbers.data()[at],
+            numbers.data()[at - 1],
+            strictly ? item_fault::not_above : item_fault::less};
+}
+// The number that is above `most`: what is wrong is given, and stays without an item where there is none.
+inline failure above(words_in numbers, std::uint64_t most, failure why) noexcept
+{
+    std::uint64_t at = 0;
+    if (bitm_numbers_above(numbers.data(), numbers.size(), most, &at) != BITM_OK) return {why.code};
+    why.at = at, why.of = numbers.size(), why.value = numbers.data()[at];
+    return why;
+}
+inline failure too_wide(words_in numbers, std::uint32_t width, errc code, const char *which) noexcept
+{
+    const std::uint64_t most = width < 64 ? (std::uint64_t{1} << width) - 1 : ~std::uint64_t{0};
+    return above(numbers, most, {code, 0, 0, which, 0, width, item_fault::too_wide});
+}
+// The number that is not below a bound.
+inline failure not_below(words_in numbers, std::uint64_t bound, errc code, const char *which) noexcept
+{
+    const failure why{code, 0, numbers.size(), which, 0, bound, item_fault::not_below};
+    if (bound > 0 || numbers.empty()) return above(numbers, bound - 1, why);
+    failure first = why;
+    return first.value = numbers.data()[0], first;
+}
 
 constexpr std::uint64_t lesser(std::uint64_t a, std::uint64_t b) noexcept { return b < a ? b : a; }
 constexpr std::uint64_t greater(std::uint64_t a, std::uint64_t b) noexcept { return a < b ? b : a; }

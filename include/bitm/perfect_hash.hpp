@@ -11,22 +11,11 @@
 #define BITM_PERFECT_HASH_HPP
 
 #include <bitm/file.hpp>
+#include <bitm/levels.hpp>
 
 BITM_NAMESPACE_BEGIN
 
 namespace detail {
-
-// The block of the words and sizes of levels.
-inline result<block> hash_block(words_in words, words_in sizes, std::uint64_t seed)
-{
-    std::uint64_t len = 0;
-    if (bitm_hash_block_size(words.size(), sizes.size(), &len) != BITM_OK) return bad_size("2^58 words or more");
-    block all(len);
-    const std::uint32_t status =
-        bitm_hash_block_build(words.data(), words.size(), sizes.data(), sizes.size(), seed, all.data(), all.size());
-    if (status != BITM_OK) return error_of(status);
-    return all;
-}
 
 // The block of a hash: the hash as C takes it, and the seed of whoever wrote it.
 struct hash_parts {
@@ -40,7 +29,7 @@ inline std::uint32_t open_hash(const std::uint64_t *block, std::size_t words, ha
 
 // What follows the index in the file of version 2 of a hash: mark, keys, bits of fingerprints, seed, levels, words of
 // fingerprints, and the sizes of the levels. Its words in all, 0 where it is not one that is read here.
-constexpr std::size_t hash_head = 6, hash_levels = 256;
+constexpr std::size_t hash_head = 6;
 constexpr std::uint64_t hash_mark = 0x687361686D746962; // "bitmhash"
 inline std::size_t hash_tail_len(const std::uint64_t *tail, std::size_t tail_len, std::uint64_t words) noexcept
 {
@@ -51,6 +40,7 @@ inline std::size_t hash_tail_len(const std::uint64_t *tail, std::size_t tail_len
 
 // The block of a hash, or its file of version 2.
 struct hash_kind : block_kind<hash_kind, hash_parts, open_hash> {
+    static constexpr kind number = kind::perfect_hash;
     static constexpr std::size_t nothing_len = 32;
     static std::uint32_t build_nothing(std::uint64_t *to) noexcept
     {
@@ -66,12 +56,12 @@ struct hash_kind : block_kind<hash_kind, hash_parts, open_hash> {
     static result<in_block<hash_kind>> in(const std::uint64_t *file, std::size_t words) noexcept
     {
         if (is_block({file, words})) return block_kind::in(file, words);
-        const result<bitm_stored> header = header_of(file, words, BITM_STORED_INDEX);
-        if (!header) return header.error();
+        const result<bitm_stored> header = header_of(file, words, kind::index);
+        if (!header) return block_kind::in(file, words);
         const std::size_t begin = header->size / 8;
         const std::uint64_t *const tail = file + begin;
         const std::size_t tail_len = hash_tail_len(tail, words - begin, header->words.len);
-        if (tail_len == 0) return failure{errc::wrong_file};
+        if (tail_len == 0) return not_of(number, words == begin ? kind::index : kind::unknown);
         hash_parts raw{};
         raw.hash.index = bitm_stored_index_of(file, &*header);
         raw.hash.keys = tail[1], raw.hash.sizes = tail + hash_head, raw.hash.sizes_len = tail[4], raw.seed = tail[3];
@@ -82,7 +72,8 @@ struct hash_kind : block_kind<hash_kind, hash_parts, open_hash> {
         const hash_parts &raw = old.raw();
         const bitm_index &index = raw.hash.index;
         if (!is_counted(raw.hash)) return failure{errc::wrong};
-        result<block> all = hash_block({index.words, index.words_len}, {raw.hash.sizes, raw.hash.sizes_len}, raw.seed);
+        const levels_in levels{{index.words, index.words_len}, {}, {raw.hash.sizes, raw.hash.sizes_len}};
+        result<block> all = hash_block(levels, raw.seed);
         if (!all) return failure{errc::wrong};
         return all;
     }
@@ -101,48 +92,6 @@ private:
         return bitm_index_count(&hash.index, true, &ones) == BITM_OK && ones == hash.keys;
     }
 };
-
-// Memory for the levels of some hashes, how many levels and words of it are used, and how many hashes have no number.
-struct level_room {
-    level_room(words_in hashes, std::size_t room, std::size_t first)
-        : own(hashes.size()), words(room), again(first), sizes(hash_levels)
-    {
-        if (hashes.size()) std::memcpy(own.data(), hashes.data(), 8 * hashes.size());
-    }
-    words_in used_words() const noexcept { return {words.data(), static_cast<std::size_t>(used)}; }
-    words_in used_sizes() const noexcept { return {sizes.data(), static_cast<std::size_t>(levels)}; }
-
-    block own, words, again, sizes;
-    std::uint64_t levels = 0, used = 0, left = 0;
-};
-
-// What is made of the levels that `build` writes: fails where two hashes are equal. The levels have about
-// e^(100 / percent) * percent / 100 bits for each key: more room where that is not enough.
-template <class Made, class Build, class Make>
-result<Made> by_room(words_in hashes, unsigned percent, Build &&build, Make &&make)
-{
-    const std::size_t first = bitm_hash_level_len(hashes.size(), percent);
-    for (std::size_t room = 4 * first + hash_levels;; room = 2 * room) {
-        level_room levels(hashes, room, first);
-        const std::uint32_t status = build(levels);
-        if (status == BITM_OK && levels.left == 0) return make(levels);
-        if (levels.levels == hash_levels || room > 64 * first + 64 * hash_levels)
-            return status == BITM_OK ? failure{errc::equal_keys, levels.left, hashes.size()} : error_of(status);
-    }
-}
-
-// The same of the words and sizes of levels without seeds.
-template <class Made, class Make> result<Made> by_levels(words_in hashes, unsigned percent, Make &&make)
-{
-    return by_room<Made>(
-        hashes, percent,
-        [&](level_room &it) {
-            return bitm_hash_build(it.own.data(), it.own.size(), percent, it.words.data(), it.words.size(),
-                                   it.again.data(), it.again.size(), it.sizes.data(), it.sizes.size(), &it.levels,
-                                   &it.used, &it.left);
-        },
-        [&](const level_room &it) { return make(it.used_words(), it.used_sizes()); });
-}
 
 // The hashes of a range, by a function.
 template <class It, class Hash> gathered hashed(It first, It last, Hash &&hash)
@@ -238,20 +187,33 @@ class BITM_OWNER perfect_hash : public detail::hash_queries<perfect_hash, detail
 public:
     // Of no keys.
     perfect_hash() noexcept = default;
-    // `percent` bits of a level for 100 keys: 100 takes least memory, 200 less time. Fails where two hashes are equal.
+    // `percent` bits of a level for 100 keys: 100 takes least memory, 200 less time. Fails where two hashes are equal,
+    // with errc::equal_keys and the indices of the first two. `progress` is called after each level, of which there are
+    // some ten, with how many keys have a number so far, and how many there are, the last time with all; what it throws
+    // ends the build. The hashes have to stay as they are meanwhile.
     explicit perfect_hash(words_in hashes, unsigned percent = 100) : perfect_hash(try_of(hashes, percent).value()) {}
+    template <class Progress, detail::if_progress<Progress> = 0>
+    perfect_hash(words_in hashes, unsigned percent, Progress &&progress)
+        : perfect_hash(try_of(hashes, percent, progress).value())
+    {
+    }
     template <class It, class Hash> perfect_hash(It first, It last, Hash &&hash, unsigned percent = 100)
-        : perfect_hash(of_hashes(detail::hashed(first, last, hash), percent).value())
+        : perfect_hash(detail::hashed(first, last, hash), percent)
+    {
+    }
+    template <class It, class Hash, class Progress, detail::if_progress<Progress> = 0>
+    perfect_hash(It first, It last, Hash &&hash, unsigned percent, Progress &&progress)
+        : perfect_hash(detail::hashed(first, last, hash), percent, progress)
     {
     }
     static result<perfect_hash> try_of(words_in hashes, unsigned percent = 100)
     {
-        return detail::by_levels<perfect_hash>(hashes, percent,
-                                               [](words_in words, words_in sizes) -> result<perfect_hash> {
-                                                   result<detail::block> all = detail::hash_block(words, sizes, 0);
-                                                   if (!all) return all.error();
-                                                   return opened(std::move(*all), verify::no);
-                                               });
+        return detail::by_levels<perfect_hash>(hashes, {percent, false, 0}, of_levels);
+    }
+    template <class Progress, detail::if_progress<Progress> = 0>
+    static result<perfect_hash> try_of(words_in hashes, unsigned percent, Progress &&progress)
+    {
+        return detail::by_levels<perfect_hash>(hashes, {percent, false, 0}, of_levels, progress);
     }
 
     // How many keys.
@@ -269,17 +231,25 @@ public:
     void block() const && = delete;
     void raw() const && = delete;
 
-    // The same hash: the same bytes.
+    // The same hash: the same bytes, of the same version of the format.
     friend bool operator==(const perfect_hash &a, const perfect_hash &b) noexcept
     {
         return detail::same_words(a.own_.words(), b.own_.words());
     }
     friend bool operator!=(const perfect_hash &a, const perfect_hash &b) noexcept { return !(a == b); }
+    // What it is: `perfect_hash(keys=3)`.
+    template <class Char, class Traits>
+    friend std::basic_ostream<Char, Traits> &operator<<(std::basic_ostream<Char, Traits> &to, const perfect_hash &of)
+    {
+        return detail::shown(to, "perfect_hash", std::array<detail::field, 1>{{{"keys", of.size()}}});
+    }
 
 private:
-    static result<perfect_hash> of_hashes(const detail::gathered &hashes, unsigned percent)
+    static result<perfect_hash> of_levels(const detail::levels_in &levels)
     {
-        return try_of(words_in(hashes.data(), hashes.size()), percent);
+        result<detail::block> all = detail::hash_block(levels, 0);
+        if (!all) return all.error();
+        return opened(std::move(*all), verify::no);
     }
 };
 

@@ -5,7 +5,7 @@
 //     std::vector<std::uint64_t> noted(bitm::extended_size(of_four.block(), bitm::own_role, 7));
 //     bitm::extend(of_four.block(), bitm::own_role, 7, {note, 1}, noted);
 //     const bitm::tree_view still = bitm::tree_view::in(noted);                // the tree of before
-//     const bitm::section its = bitm::section_at(noted, 3).value();
+//     const bitm::section its = bitm::section_at(noted, 4).value();
 //     std::cout << still.size() << ' ' << its.count << ' ' << (its.words[0] == note[0]) << '\n'; // 4 7 1
 //     noted.back() = 1;                                                        // no longer as it was written
 //     std::cout << bitm::is_written(of_four.block()) << ' ' << bitm::is_written(noted) << '\n';  // 1 0
@@ -37,6 +37,18 @@ namespace detail {
 inline failure section_error(std::uint32_t status, const char *which) noexcept
 {
     return status == BITM_WRONG ? failure{errc::wrong_file} : error_of(status, 0, 0, which);
+}
+
+// A block with one section more.
+inline result<block> with_section(const block &of, std::uint64_t role, std::uint64_t count, words_in words)
+{
+    std::uint64_t len = 0;
+    std::uint32_t status = bitm_block_extended_size(of.data(), of.size(), role, count, &len);
+    if (status != BITM_OK) return error_of(status);
+    block all(len);
+    status = bitm_block_extend(of.data(), of.size(), role, count, words.data(), words.size(), all.data(), all.size());
+    if (status != BITM_OK) return error_of(status);
+    return all;
 }
 
 } // namespace detail

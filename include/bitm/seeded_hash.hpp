@@ -30,6 +30,9 @@ inline std::uint32_t open_seeded(const std::uint64_t *block, std::size_t words, 
     return bitm_hash_block_open_seeded(block, words, &parts->hash, &parts->seed);
 }
 struct seeded_kind : block_kind<seeded_kind, seeded_parts, open_seeded> {
+    static constexpr kind number = kind::seeded_hash;
+    static constexpr const char *name = "seeded_hash";
+    static std::array<field, 1> fields(const bitm_seeded_hash &raw) noexcept { return {{{"keys", raw.hash.keys}}}; }
     static constexpr std::size_t nothing_len = 40;
     static std::uint32_t build_nothing(std::uint64_t *to) noexcept
     {
@@ -93,36 +96,44 @@ private:
 class BITM_OWNER seeded_hash : public detail::seeded_calls<seeded_hash>,
                                public detail::stored_calls<seeded_hash, detail::seeded_kind> {
 public:
-    // No keys; of the hashes of keys, or of keys and a function that hashes them: fails where two hashes are equal.
-    // `percent` bits of a level for 100 keys: 100 takes least memory, 200 less time. Of the first `tries` seeds, at
-    // most 256, each word gets the one by which most of its hashes fall on a bit alone: more take less memory, and more
-    // time to build. The block keeps `seed`, which is yours.
+    // No keys; of the hashes of keys, or of keys and a function that hashes them: fails where two hashes are equal,
+    // with errc::equal_keys and the indices of the first two. `percent` bits of a level for 100 keys: 100 takes least
+    // memory, 200 less time. Of the first `tries` seeds, at most 256, each word gets the one by which most of its
+    // hashes fall on a bit alone: more take less memory, and more time to build. The block keeps `seed`, which is
+    // yours. `progress` is called as that of a perfect_hash.
     seeded_hash() noexcept = default;
     explicit seeded_hash(words_in hashes, unsigned percent = 100, unsigned tries = 64, std::uint64_t seed = 0)
         : seeded_hash(try_of(hashes, percent, tries, seed).value())
     {
     }
+    template <class Progress, detail::if_progress<Progress> = 0>
+    seeded_hash(words_in hashes, unsigned percent, unsigned tries, std::uint64_t seed, Progress &&progress)
+        : seeded_hash(try_of(hashes, percent, tries, seed, progress).value())
+    {
+    }
     template <class It, class Hash>
     seeded_hash(It first, It last, Hash &&hash, unsigned percent = 100, unsigned tries = 64, std::uint64_t seed = 0)
-        : seeded_hash(of_hashes(detail::hashed(first, last, hash), percent, tries, seed).value())
+        : seeded_hash(detail::hashed(first, last, hash), percent, tries, seed)
+    {
+    }
+    template <class It, class Hash, class Progress, detail::if_progress<Progress> = 0>
+    seeded_hash(It first, It last, Hash &&hash, unsigned percent, unsigned tries, std::uint64_t seed,
+                Progress &&progress)
+        : seeded_hash(detail::hashed(first, last, hash), percent, tries, seed, progress)
     {
     }
     static result<seeded_hash> try_of(words_in hashes, unsigned percent = 100, unsigned tries = 64,
                                       std::uint64_t seed = 0)
     {
-        detail::block seeds, sorted(hashes.size());
-        return detail::by_room<seeded_hash>(
-            hashes, percent,
-            [&](detail::level_room &it) {
-                seeds = detail::block(bytes_in_words(it.words.size()));
-                return bitm_hash_build_seeded(it.own.data(), it.own.size(), percent, tries_of(tries), it.words.data(),
-                                              it.words.size(), bytes_of(seeds), it.words.size(), it.again.data(),
-                                              it.again.size(), sorted.data(), sorted.size(), it.sizes.data(),
-                                              it.sizes.size(), &it.levels, &it.used, &it.left);
-            },
-            [&](const detail::level_room &it) {
-                return of_levels(it.used_words(), bytes_of(seeds), it.used_sizes(), seed);
-            });
+        return detail::by_levels<seeded_hash>(hashes, {percent, true, tries_of(tries)},
+                                              [&](const detail::levels_in &it) { return of_levels(it, seed); });
+    }
+    template <class Progress, detail::if_progress<Progress> = 0> static result<seeded_hash>
+    try_of(words_in hashes, unsigned percent, unsigned tries, std::uint64_t seed, Progress &&progress)
+    {
+        return detail::by_levels<seeded_hash>(
+            hashes, {percent, true, tries_of(tries)}, [&](const detail::levels_in &it) { return of_levels(it, seed); },
+            progress);
     }
 
     // A view, which the owner has to outlive; the block, and the hash as C takes it. Deleted for temporaries.
@@ -136,31 +147,15 @@ public:
 private:
     friend class detail::seeded_calls<seeded_hash>;
 
-    static constexpr std::size_t bytes_in_words(std::size_t bytes) noexcept { return bytes / 8 + (bytes % 8 != 0); }
-    static std::uint8_t *bytes_of(const detail::block &all) noexcept
-    {
-        return reinterpret_cast<std::uint8_t *>(all.data());
-    }
     static constexpr std::uint16_t tries_of(unsigned tries) noexcept
     {
         return static_cast<std::uint16_t>(tries < 256 ? tries : 256);
     }
-    static result<seeded_hash> of_hashes(const detail::gathered &hashes, unsigned percent, unsigned tries,
-                                         std::uint64_t seed)
+    static result<seeded_hash> of_levels(const detail::levels_in &levels, std::uint64_t seed)
     {
-        return try_of(words_in(hashes.data(), hashes.size()), percent, tries, seed);
-    }
-    // The block of the words, seeds and sizes of levels.
-    static result<seeded_hash> of_levels(words_in words, const std::uint8_t *seeds, words_in sizes, std::uint64_t seed)
-    {
-        std::uint64_t len = 0;
-        const std::uint32_t status = bitm_hash_block_size_seeded(words.size(), sizes.size(), &len);
-        if (status != BITM_OK) return detail::error_of(status);
-        detail::block all(len);
-        const std::uint32_t built = bitm_hash_block_build_seeded(
-            words.data(), words.size(), seeds, words.size(), sizes.data(), sizes.size(), seed, all.data(), all.size());
-        if (built != BITM_OK) return detail::error_of(built);
-        return opened(std::move(all), verify::no);
+        result<detail::block> all = detail::hash_block(levels, seed);
+        if (!all) return all.error();
+        return opened(std::move(*all), verify::no);
     }
 };
 

@@ -150,13 +150,15 @@ inline result<block> sequence_block(words_in numbers)
         return bad_size("2^56 numbers or more");
     block all(len);
     const std::uint32_t status = bitm_sequence_block_build(numbers.data(), numbers.size(), all.data(), all.size());
+    if (status == BITM_UNSORTED) return unsorted(numbers, false, "number");
     if (status != BITM_OK) return error_of(status);
     return all;
 }
 
 // The block of a sequence, or its file of version 2.
-struct sequence_kind : stored_kind<sequence_kind, bitm_sequence, bitm_sequence_block_open, BITM_STORED_SEQUENCE> {
-    static constexpr std::size_t nothing_len = 56;
+struct sequence_kind : stored_kind<sequence_kind, bitm_sequence, bitm_sequence_block_open> {
+    static constexpr kind number = kind::sequence;
+    static constexpr std::size_t nothing_len = 72;
     static std::uint32_t build_nothing(std::uint64_t *to) noexcept
     {
         return bitm_sequence_block_build(nullptr, 0, to, nothing_len);

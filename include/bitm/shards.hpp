@@ -151,6 +151,15 @@ public:
     std::uint64_t rank(std::uint64_t position) const { return counted(true, position); }
     std::uint64_t rank0(std::uint64_t position) const { return counted(false, position); }
 
+    // What it is: `sharded_index(bits=300, ones=2, shards=2)`.
+    template <class Char, class Traits>
+    friend std::basic_ostream<Char, Traits> &operator<<(std::basic_ostream<Char, Traits> &to, const sharded_index &of)
+    {
+        const std::array<detail::field, 3> fields{
+            {{"bits", of.size()}, {"ones", of.count()}, {"shards", of.counts_.shards()}}};
+        return detail::shown(to, "sharded_index", fields);
+    }
+
     // The position, in the joined bits, of the 1 bit, or 0 bit, with a rank; none where there is none.
     maybe_position select(std::uint64_t rank) const { return placed(bitm_shards_select, true, rank); }
     maybe_position select0(std::uint64_t rank) const { return placed(bitm_shards_select, false, rank); }

@@ -4,8 +4,8 @@
 //     std::cout << b.rank(101) << ' ' << b.select(3).value() << ' ' << b[100] << '\n'; // 2 4000 1
 //     for (const std::uint64_t position : b.positions()) std::cout << position << ' '; // 3 100 101 4000
 //
-// The positions of the 1 bits are kept as a monotone sequence: about 2 + log2(n / m) bits for each of m 1 bits among n
-// bits. The queries are those of a rank_index. The file of sparse bits is their block, the same bytes from each
+// The positions of the 1 bits are kept as a monotone sequence: about 2.6 + log2(n / m) bits for each of m 1 bits among
+// n bits. It answers the queries of a rank_index. The file of sparse bits is their block, the same bytes from each
 // language.
 #ifndef BITM_SPARSE_HPP
 #define BITM_SPARSE_HPP
@@ -18,7 +18,13 @@ BITM_NAMESPACE_BEGIN
 namespace detail {
 
 struct sparse_kind : block_kind<sparse_kind, bitm_sparse, bitm_sparse_open> {
-    static constexpr std::size_t nothing_len = 56;
+    static constexpr kind number = kind::sparse_bits;
+    static constexpr const char *name = "sparse_bits";
+    static std::array<field, 2> fields(const bitm_sparse &raw) noexcept
+    {
+        return {{{"bits", raw.bits_len}, {"ones", raw.positions.len}}};
+    }
+    static constexpr std::size_t nothing_len = 72;
     static std::uint32_t build_nothing(std::uint64_t *to) noexcept
     {
         return bitm_sparse_build(nullptr, 0, 0, to, nothing_len);
@@ -151,7 +157,7 @@ class BITM_OWNER sparse_bits : public detail::sparse_calls<sparse_bits>,
                                public detail::stored_calls<sparse_bits, detail::sparse_kind> {
 public:
     // No bits; `size` bits of which those at the positions are 1 bits, words or a list: fails where a position is not
-    // greater than the one before it, or not less than `size`.
+    // above the one before it (errc::unsorted), or not below `size` (errc::outside), with its index.
     sparse_bits() noexcept = default;
     sparse_bits(words_in positions, std::uint64_t size) : sparse_bits(try_of(positions, size).value()) {}
     sparse_bits(std::initializer_list<std::uint64_t> positions, std::uint64_t size)
@@ -166,7 +172,8 @@ public:
             return detail::bad_size("2^56 positions or more");
         detail::block all(len);
         const std::uint32_t status = bitm_sparse_build(positions.data(), count, size, all.data(), all.size());
-        if (status == BITM_WRONG) return failure{errc::outside, positions.data()[count - 1], size, "a position"};
+        if (status == BITM_UNSORTED) return detail::unsorted(positions, true, "position");
+        if (status == BITM_WRONG) return detail::not_below(positions, size, errc::outside, "position");
         if (status != BITM_OK) return detail::error_of(status);
         return opened(std::move(all), verify::no);
     }

@@ -22,6 +22,9 @@ BITM_NAMESPACE_BEGIN
 namespace detail {
 
 struct strings_kind : block_kind<strings_kind, bitm_strings, bitm_strings_open> {
+    static constexpr kind number = kind::strings;
+    static constexpr const char *name = "strings";
+    static std::array<field, 1> fields(const bitm_strings &raw) noexcept { return {{{"strings", raw.hash.keys}}}; }
     static constexpr std::size_t nothing_len = 72;
     static std::uint32_t build_nothing(std::uint64_t *to) noexcept
     {
@@ -94,7 +97,7 @@ class BITM_OWNER strings : public detail::strings_calls<strings>,
                            public detail::stored_calls<strings, detail::strings_kind> {
 public:
     // None; those of iterators, which are gone through once, or a list: fails where one comes twice, or, which another
-    // seed mends, two have one hash.
+    // seed mends, two have one hash, with errc::equal_keys and the indices of the first two.
     // `percent` bits of a level for 100 strings: 100 takes least memory, 200 less time.
     strings() noexcept = default;
     template <class It> strings(It first, It last, unsigned percent = 100, std::uint64_t seed = 0)
@@ -116,8 +119,16 @@ public:
                                                          seed, hashes.data(), hashes.size());
         if (status != BITM_OK) return detail::error_of(status);
         const words_in hashed(hashes.data(), hashes.size());
-        return detail::by_levels<strings>(
-            hashed, percent, [&](words_in words, words_in sizes) { return of_levels(words, sizes, bytes, all, seed); });
+        result<strings> made =
+            detail::by_levels<strings>(hashed, {percent, false, 0}, [&](const detail::levels_in &it) {
+                return of_levels(it.words, it.sizes, bytes, all, seed);
+            });
+        if (made) return made;
+        const auto string = [&](std::uint64_t i) {
+            const std::uint64_t begin = i ? all[i - 1] : 0;
+            return std::string_view(bytes).substr(begin, all[i] - begin);
+        };
+        return detail::of_items(made.error(), "strings", [&](auto i, auto j) { return string(i) == string(j); });
     }
 
     // A view, which the owner has to outlive; the string of a number, the block, and all of it as C takes it. Deleted

@@ -23,6 +23,12 @@ namespace detail {
 
 // Of no letters, which are numbers: the index of an empty text.
 struct text_kind : block_kind<text_kind, bitm_text, bitm_text_open> {
+    static constexpr kind number = kind::text_index;
+    static constexpr const char *name = "text_index";
+    static std::array<field, 2> fields(const bitm_text &raw) noexcept
+    {
+        return {{{"letters", raw.letters.len}, {"width", raw.letters.width}}};
+    }
     static constexpr std::size_t nothing_len = 136;
     static std::uint32_t build_nothing(std::uint64_t *to) noexcept
     {
@@ -35,6 +41,78 @@ inline const std::uint8_t *bytes_of(std::string_view pattern) noexcept
 {
     return reinterpret_cast<const std::uint8_t *>(pattern.data());
 }
+
+// A text of bytes, and one of numbers below `letters`: how their indexes are built, by the calls of C.
+using halves = span<std::uint32_t>;
+struct bytes_in {
+    std::string_view text;
+
+    std::uint32_t sizes(std::uint32_t step, std::uint64_t *len, std::uint64_t *needed) const noexcept
+    {
+        return bitm_text_size_bytes(bytes_of(text), text.size(), step, len, needed);
+    }
+    std::uint32_t build(std::uint32_t step, halves room, words_out to) const noexcept
+    {
+        return bitm_text_build_bytes(bytes_of(text), text.size(), step, room.data(), room.size(), to.data(), to.size());
+    }
+    std::uint32_t order(halves room) const noexcept
+    {
+        return bitm_text_order_bytes(bytes_of(text), text.size(), room.data(), room.size());
+    }
+    std::uint32_t build_ordered(std::uint32_t step, halves room, words_out to) const noexcept
+    {
+        return bitm_text_build_ordered_bytes(bytes_of(text), text.size(), step, room.data(), room.size(), to.data(),
+                                             to.size());
+    }
+    static failure unfit() noexcept { return {errc::wrong}; }
+};
+struct letters_in {
+    words_in text;
+    std::uint32_t letters;
+
+    std::uint32_t sizes(std::uint32_t step, std::uint64_t *len, std::uint64_t *needed) const noexcept
+    {
+        return bitm_text_size_letters(text.size(), letters, step, len, needed);
+    }
+    std::uint32_t build(std::uint32_t step, halves room, words_out to) const noexcept
+    {
+        return bitm_text_build(text.data(), text.size(), letters, step, room.data(), room.size(), to.data(), to.size());
+    }
+    std::uint32_t order(halves room) const noexcept
+    {
+        return bitm_text_order(text.data(), text.size(), letters, room.data(), room.size());
+    }
+    std::uint32_t build_ordered(std::uint32_t step, halves room, words_out to) const noexcept
+    {
+        return bitm_text_build_ordered(text.data(), text.size(), letters, step, room.data(), room.size(), to.data(),
+                                       to.size());
+    }
+    // The first letter that is not below the size of the alphabet.
+    failure unfit() const noexcept { return not_below(text, letters, errc::bad_size, "letter"); }
+};
+
+// The ways to build an index: at once, or in two steps after each of which `progress` is called.
+struct at_once {
+    template <class Text>
+    std::uint32_t operator()(const Text &text, std::uint32_t step, halves room, words_out to) const noexcept
+    {
+        return text.build(step, room, to);
+    }
+};
+template <class Progress> struct in_two_steps {
+    Progress &progress;
+
+    template <class Text>
+    std::uint32_t operator()(const Text &text, std::uint32_t step, halves room, words_out to) const
+    {
+        std::uint32_t status = text.order(room);
+        if (status != BITM_OK) return status;
+        progress(std::uint64_t{1}, std::uint64_t{2});
+        status = text.build_ordered(step, room, to);
+        if (status == BITM_OK) progress(std::uint64_t{2}, std::uint64_t{2});
+        return status;
+    }
+};
 
 template <class Self> class text_calls : public block_calls<Self, text_kind> {
 public:
@@ -154,19 +232,12 @@ public:
     // Of no letters; of bytes; of numbers below `letters`, the size of the alphabet, of each of which a word is kept. A
     // position is kept each `step` letters: the fewer, the less memory, and the longer it takes to find a position or a
     // part. Takes linear time, and eight bytes for each letter while it works. Fails where the step is 0, the text has
-    // 2^32 - 1 letters or more, or a number is not below `letters`.
+    // 2^32 - 1 letters or more, or a number is not below `letters`: with its index and item_fault::not_below.
     text_index() noexcept = default;
     explicit text_index(std::string_view text, std::uint32_t step = 32) : text_index(try_of(text, step).value()) {}
     static result<text_index> try_of(std::string_view text, std::uint32_t step = 32)
     {
-        std::uint64_t len = 0, needed = 0;
-        if (bitm_text_size_bytes(detail::bytes_of(text), text.size(), step, &len, &needed) != BITM_OK)
-            return detail::bad_size("the step is 0, or the text has 2^32 - 1 letters or more");
-        detail::block all(len), scratch(needed / 2 + 1);
-        const std::uint32_t status = bitm_text_build_bytes(detail::bytes_of(text), text.size(), step,
-                                                           halves_of(scratch), needed, all.data(), all.size());
-        if (status != BITM_OK) return detail::error_of(status);
-        return opened(std::move(all), verify::no);
+        return built(detail::bytes_in{text}, step, detail::at_once{});
     }
     static text_index of_letters(words_in numbers, std::uint32_t letters, std::uint32_t step = 32)
     {
@@ -174,15 +245,30 @@ public:
     }
     static result<text_index> try_of_letters(words_in numbers, std::uint32_t letters, std::uint32_t step = 32)
     {
-        std::uint64_t len = 0, needed = 0;
-        if (bitm_text_size_letters(numbers.size(), letters, step, &len, &needed) != BITM_OK)
-            return detail::bad_size("the step is 0, or the text has 2^32 - 1 letters or more");
-        detail::block all(len), scratch(needed / 2 + 1);
-        const std::uint32_t status = bitm_text_build(numbers.data(), numbers.size(), letters, step, halves_of(scratch),
-                                                     needed, all.data(), all.size());
-        if (status == BITM_WRONG) return detail::bad_size("a letter is not below the size of the alphabet");
-        if (status != BITM_OK) return detail::error_of(status);
-        return opened(std::move(all), verify::no);
+        return built(detail::letters_in{numbers, letters}, step, detail::at_once{});
+    }
+
+    // The same index, built in two steps: `progress` is called with 1 and 2 once the text's suffixes are sorted, and
+    // with 2 and 2 at the end. What it throws ends the build. The text has to stay as it is meanwhile.
+    template <class Progress, detail::if_progress<Progress> = 0>
+    text_index(std::string_view text, std::uint32_t step, Progress &&progress)
+        : text_index(try_of(text, step, progress).value())
+    {
+    }
+    template <class Progress, detail::if_progress<Progress> = 0>
+    static result<text_index> try_of(std::string_view text, std::uint32_t step, Progress &&progress)
+    {
+        return built(detail::bytes_in{text}, step, detail::in_two_steps<Progress>{progress});
+    }
+    template <class Progress, detail::if_progress<Progress> = 0>
+    static text_index of_letters(words_in numbers, std::uint32_t letters, std::uint32_t step, Progress &&progress)
+    {
+        return try_of_letters(numbers, letters, step, progress).value();
+    }
+    template <class Progress, detail::if_progress<Progress> = 0> static result<text_index>
+    try_of_letters(words_in numbers, std::uint32_t letters, std::uint32_t step, Progress &&progress)
+    {
+        return built(detail::letters_in{numbers, letters}, step, detail::in_two_steps<Progress>{progress});
     }
 
     // A view, which the owner has to outlive; the block, and all of it as C takes it. Deleted for temporaries.
@@ -195,9 +281,19 @@ public:
 
 private:
     friend class detail::text_calls<text_index>;
-    static std::uint32_t *halves_of(detail::block &scratch) noexcept
+
+    template <class Text, class Way> static result<text_index> built(const Text &text, std::uint32_t step, Way &&way)
     {
-        return reinterpret_cast<std::uint32_t *>(scratch.data());
+        std::uint64_t len = 0, needed = 0;
+        if (text.sizes(step, &len, &needed) != BITM_OK)
+            return detail::bad_size("the step is 0, or the text has 2^32 - 1 letters or more");
+        const detail::block scratch(needed / 2 + 1);
+        detail::block all(len);
+        const detail::halves room(reinterpret_cast<std::uint32_t *>(scratch.data()), needed);
+        const std::uint32_t status = way(text, step, room, words_out(all.data(), all.size()));
+        if (status == BITM_WRONG) return text.unfit();
+        if (status != BITM_OK) return detail::error_of(status);
+        return opened(std::move(all), verify::no);
     }
 };
 

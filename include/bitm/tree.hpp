@@ -5,7 +5,7 @@
 //     for (const std::uint64_t child : t.children(0)) std::cout << child << ' ';                              // 1 2
 //
 // Nodes are numbered level by level: the root is node 0, and the children of a node follow one another, after those of
-// the node before it. A tree takes about 2.1 bits a node. The file of a tree is its block, the same bytes from each
+// the node before it. A tree takes about 2.6 bits a node. The file of a tree is its block, the same bytes from each
 // language.
 #ifndef BITM_TREE_HPP
 #define BITM_TREE_HPP
@@ -57,9 +57,20 @@ inline bitm_tree tree_of_nothing() noexcept
     return raw;
 }
 struct tree_kind : block_kind<tree_kind, bitm_tree, bitm_tree_open> {
+    static constexpr kind number = kind::tree;
+    static constexpr const char *name = "tree";
+    static std::array<field, 1> fields(const bitm_tree &raw) noexcept { return {{{"nodes", raw.len}}}; }
     static in_block<tree_kind> nothing() noexcept { return {tree_of_nothing(), {}}; }
     static const bitm_tree &nodes(const bitm_tree &raw) noexcept { return raw; }
 };
+
+// The first node at which degrees form no tree; of none there is no node.
+inline failure misfit(words_in degrees) noexcept
+{
+    std::uint64_t at = 0;
+    if (bitm_tree_misfit(degrees.data(), degrees.size(), &at) != BITM_OK) return {errc::no_tree};
+    return {errc::no_tree, at, degrees.size(), "node", degrees.data()[at], 0, item_fault::no_child};
+}
 
 // The queries of nodes, of each kind of block that has a tree in it.
 template <class Self, class Kind> class node_calls : public block_calls<Self, Kind> {
@@ -210,7 +221,7 @@ public:
         if (bitm_tree_size(degrees.size(), &len) != BITM_OK) return detail::bad_size("2^60 nodes or more");
         detail::block all(len);
         const std::uint32_t status = bitm_tree_build(degrees.data(), degrees.size(), all.data(), all.size());
-        if (status == BITM_WRONG) return failure{errc::no_tree};
+        if (status == BITM_WRONG) return detail::misfit(degrees);
         if (status != BITM_OK) return detail::error_of(status);
         return opened(std::move(all), verify::no);
     }

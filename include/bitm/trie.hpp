@@ -39,6 +39,12 @@ namespace detail {
 
 // What an owner or a view that was default constructed queries: a trie of no nodes, which has no block.
 struct trie_kind : block_kind<trie_kind, bitm_trie, bitm_trie_open> {
+    static constexpr kind number = kind::trie;
+    static constexpr const char *name = "trie";
+    static std::array<field, 2> fields(const bitm_trie &raw) noexcept
+    {
+        return {{{"nodes", raw.tree.len}, {"width", raw.width}}};
+    }
     static in_block<trie_kind> nothing() noexcept
     {
         bitm_trie raw{};
@@ -201,9 +207,7 @@ public:
         detail::block all(len);
         const std::uint32_t status = bitm_trie_build(degrees.data(), degrees.size(), labels.data(), labels.size(),
                                                      width, ends.data(), ends.size(), all.data(), all.size());
-        if (status == BITM_WRONG)
-            return failure{errc::no_tree, 0, 0,
-                           "or a label is not of at most that width, or those of the children of a node do not rise"};
+        if (status == BITM_WRONG) return no_trie(degrees, labels, width);
         if (status != BITM_OK)
             return detail::bad_size("the labels are not one for each node but the root, or the ends not a bit for "
                                     "each node");
@@ -213,7 +217,8 @@ public:
     // Of words, with labels of 8 bits and ends: iterators, a container or a list of what converts to std::string_view,
     // each read once. They have to rise in the order of their bytes, each once, as those of a std::set<std::string> do;
     // the empty one may be among them. Fails with errc::unsorted, `at` the first word that does not stand after the one
-    // before it. Needs memory for a copy of the words, and three numbers a node and one a word besides.
+    // before it, and item_fault::not_after. Needs memory for a copy of the words, and three numbers a node and one a
+    // word besides.
     template <class It> static trie of_words(It first, It last) { return try_of_words(first, last).value(); }
     template <class Words, class = detail::item_as_word<Words>> static trie of_words(const Words &words)
     {
@@ -269,11 +274,33 @@ private:
     // The first word that does not stand after the one before it.
     static failure unsorted(std::string_view bytes, words_in starts) noexcept
     {
-        const std::size_t words = starts.size() - 1;
-        const auto word = [&](std::size_t i) { return bytes.substr(starts[i], starts[i + 1] - starts[i]); };
-        std::size_t at = 1;
-        while (at < words && word(at - 1) < word(at)) at++;
-        return {errc::unsorted, at, words, "words rise in the order of their bytes, each once"};
+        std::uint64_t at = 0;
+        const std::uint32_t status =
+            bitm_trie_unsorted_word(detail::labels_of(bytes), bytes.size(), starts.data(), starts.size(), &at);
+        if (status != BITM_OK) return {errc::unsorted};
+        return {errc::unsorted, at, starts.size() - 1, "word", 0, 0, item_fault::not_after};
+    }
+    // Why parts of right lengths are those of no trie: the first node, or the first label, that does not fit.
+    static failure no_trie(words_in degrees, words_in labels, std::uint32_t width) noexcept
+    {
+        const failure node = detail::misfit(degrees);
+        if (node.item != item_fault::none || degrees.empty()) return node;
+        const failure wide = detail::too_wide(labels, width, errc::no_tree, "label");
+        return wide.item != item_fault::none ? wide : falling_label(degrees, labels);
+    }
+    // The first label that is not above the label of the child before it; the degrees are those of a tree.
+    static failure falling_label(words_in degrees, words_in labels) noexcept
+    {
+        const std::uint64_t *child = labels.data();
+        for (const std::uint64_t degree : degrees) {
+            for (std::uint64_t k = 1; k < degree; k++) {
+                const std::uint64_t at = static_cast<std::uint64_t>(child - labels.data()) + k;
+                if (child[k] <= child[k - 1])
+                    return {errc::no_tree, at, labels.size(), "label", child[k], child[k - 1], item_fault::not_above};
+            }
+            child += degree;
+        }
+        return {errc::no_tree};
     }
 };
 
