@@ -3,6 +3,7 @@
  * All is beside pages that may not be touched (places.h). */
 #define _DEFAULT_SOURCE
 #include "changed.h"
+#include "hinted.h"
 
 enum { WORDS = 150, ITEMS = 900, SMALL = 9 };
 enum { OF_GIVEN = OF_MORE };
@@ -165,7 +166,7 @@ static uint32_t open_sequence(const uint64_t *block, size_t words, void *opened)
     return bitm_sequence_block_open(block, words, opened);
 }
 
-static const struct kind of_sequence = {32, sizeof(struct bitm_sequence), bitm_sequence_block_check, open_sequence,
+static const struct kind of_sequence = {40, sizeof(struct bitm_sequence), bitm_sequence_block_check, open_sequence,
                                         sequence_within};
 
 static void draw_items(size_t len, uint64_t most)
@@ -178,6 +179,17 @@ static void draw_items(size_t len, uint64_t most)
     }
 }
 
+/* A block that was written before there were hints is that of the same sequence. */
+static void no_hints(const uint64_t *block, size_t len)
+{
+    static uint64_t older[4096];
+    const size_t words = without_hints(block, older);
+    struct bitm_sequence sequence = {.hints_len = UNTOUCHED};
+    MUST(bitm_sequence_block_check(older, words) == BITM_OK && opens(&of_sequence, older, words, &sequence));
+    MUST(sequence.hints_len == 0);
+    sequence_answers(&sequence, len);
+}
+
 static void drawn_sequences(void)
 {
     for (size_t turn = 0; turn < 60; turn++) {
@@ -188,6 +200,8 @@ static void drawn_sequences(void)
         uint64_t *block = sequence_built(len, &words);
         MUST(opens(&of_sequence, block, words, &sequence) && bitm_sequence_block_check(block, words) == BITM_OK);
         sequence_answers(&sequence, len);
+        MUST(has_hints(sequence.hints, sequence.hints_len, sequence.words, sequence.words_len, len));
+        no_hints(block, len);
         draw_words(block + of_sequence.head, words - of_sequence.head);
         MUST(opens_to_queries(&of_sequence, block, words));
     }
@@ -205,8 +219,8 @@ static void no_sequences(void)
     draw_items(4, 9);
     MUST(bitm_sequence_block_size(4, items_of[3], &words) == BITM_OK);
     block = block_of(words + 8);
-    for (size_t len = 0; len < 60; len++) /* four numbers, the last of them 4: no low bits, and 56 words */
-        MUST(bitm_sequence_block_build(falls, 4, block, len) == (len == 56 ? BITM_UNSORTED : BITM_BAD_SIZE));
+    for (size_t len = 0; len < 80; len++) /* four numbers, the last of them 4: no low bits, and 72 words */
+        MUST(bitm_sequence_block_build(falls, 4, block, len) == (len == 72 ? BITM_UNSORTED : BITM_BAD_SIZE));
     for (size_t len = 0; len < words + 8; len++)
         if (len != words) MUST(bitm_sequence_block_build(items_of, 4, block, len) == BITM_BAD_SIZE);
     MUST(is_untouched(block, 8 * (words + 8)));

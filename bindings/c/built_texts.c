@@ -1,5 +1,5 @@
-/* What bitm_text_build and bitm_text_build_bytes write, beside the blocks that plain_texts.h writes by docs/FORMAT.md;
- * and what they refuse, with nothing written. */
+/* What bitm_text_build and bitm_text_build_bytes write, and what is built in two steps, beside the blocks that
+ * plain_texts.h writes by docs/FORMAT.md; and what they refuse, with nothing written. */
 #define _GNU_SOURCE
 #include "plain_texts.h"
 
@@ -52,6 +52,73 @@ static uint32_t build(const struct plain *plain, const void *text, uint32_t lett
     return status;
 }
 
+/* The first step, in a room at the guard: nothing is written but where BITM_OK is returned. */
+static uint32_t *ordered(const struct plain *plain, const void *text, uint32_t letters, size_t scratch_len,
+                         uint32_t wanted_status)
+{
+    uint32_t *const scratch = untouched_at(OF_LIST, 4 * scratch_len);
+    const uint32_t status = plain->is_of_bytes ? bitm_text_order_bytes(text, plain->len, scratch, scratch_len)
+                                               : bitm_text_order(text, plain->len, letters, scratch, scratch_len);
+    MUST(status == wanted_status && (status == BITM_OK || is_untouched(scratch, 4 * scratch_len)));
+    return scratch;
+}
+
+/* The second step, from what stands in the room of the first. The block is written only where BITM_OK is returned, and
+ * the scratch stays where a length is wrong. */
+static uint32_t build_ordered(const struct plain *plain, const void *text, uint32_t letters, uint32_t step,
+                              struct lens lens)
+{
+    static uint32_t before[2 * LETTERS + 1000];
+    uint64_t *const block = untouched_at(OF_BLOCK, 8 * lens.block);
+    uint32_t *const scratch = placed(OF_LIST, 4 * lens.scratch);
+    MUST(lens.scratch <= sizeof before / 4);
+    memcpy(before, scratch, 4 * lens.scratch);
+    const uint32_t status =
+        plain->is_of_bytes
+            ? bitm_text_build_ordered_bytes(text, plain->len, step, scratch, lens.scratch, block, lens.block)
+            : bitm_text_build_ordered(text, plain->len, letters, step, scratch, lens.scratch, block, lens.block);
+    MUST(status == BITM_OK || is_untouched(block, 8 * lens.block));
+    MUST(status != BITM_BAD_SIZE || memcmp(scratch, before, 4 * lens.scratch) == 0);
+    return status;
+}
+
+/* The order is the one by comparison; each other order of the suffixes is refused, and so are numbers that are none. */
+static void other_orders(const struct plain *plain, const void *text, struct lens lens, const size_t *positions)
+{
+    const uint32_t letters = (uint32_t)plain->alphabet, others[3] = {0, (uint32_t)plain->len + 1, UINT32_MAX};
+    for (size_t turn = 0; turn < 12; turn++) {
+        uint32_t *const scratch = ordered(plain, text, letters, lens.scratch, BITM_OK);
+        const size_t at = draw() % (plain->len + 1), other = draw() % (plain->len + 1);
+        const uint32_t was = scratch[at], placed_at = turn < 3 ? others[turn] : scratch[other];
+        if (turn % 2) scratch[other] = was; /* two that are swapped, or one that stands there twice */
+        scratch[at] = placed_at;
+        if (placed_at != was) MUST(build_ordered(plain, text, letters, plain->step, lens) == BITM_WRONG);
+    }
+    const uint32_t *const scratch = ordered(plain, text, letters, lens.scratch, BITM_OK);
+    for (size_t i = 0; i <= plain->len; i++) MUST(scratch[i] == positions[i]);
+}
+
+/* In two steps: the block of the format too, and each length one less and one more is refused. */
+static void built_in_steps(const struct plain *plain, const void *text, struct lens lens, const uint64_t *by_format)
+{
+    static size_t positions[LETTERS + 1];
+    const uint32_t letters = (uint32_t)plain->alphabet;
+    sort_suffixes(plain, positions);
+    for (int more = -1; more < 2; more += 2) {
+        (void)ordered(plain, text, letters, lens.scratch + (size_t)more, BITM_BAD_SIZE);
+        (void)ordered(plain, text, letters, lens.scratch, BITM_OK);
+        MUST(build_ordered(plain, text, letters, plain->step, (struct lens){lens.block + (size_t)more, lens.scratch}) ==
+             BITM_BAD_SIZE);
+        (void)untouched_at(OF_LIST, 4 * (lens.scratch + 1));
+        MUST(build_ordered(plain, text, letters, plain->step, (struct lens){lens.block, lens.scratch + (size_t)more}) ==
+             BITM_BAD_SIZE);
+    }
+    other_orders(plain, text, lens, positions);
+    MUST(build_ordered(plain, text, letters, 0, lens) == BITM_BAD_SIZE);
+    MUST(build_ordered(plain, text, letters, plain->step, lens) == BITM_OK);
+    MUST(memcmp(placed(OF_BLOCK, 8 * lens.block), by_format, 8 * lens.block) == 0);
+}
+
 /* The calls that say how much is needed. */
 static void sizes_as(const struct plain *plain, const uint8_t *bytes, struct lens lens)
 {
@@ -95,6 +162,7 @@ static void built_as(const struct plain *plain)
     MUST(build(plain, text, letters, plain->step, lens) == BITM_OK);
     const uint64_t *const block = placed(OF_BLOCK, 8 * lens.block);
     MUST(memcmp(block, by_format, 8 * lens.block) == 0 && bitm_text_check(block, lens.block) == BITM_OK);
+    built_in_steps(plain, text, lens, by_format);
     for (size_t i = 0; i < plain->len; i++) /* nor is the text written */
         MUST(plain->is_of_bytes ? ((const uint8_t *)text)[i] == byte_of(plain, plain->letters[i])
                                 : ((const uint64_t *)text)[i] == plain->letters[i]);
@@ -156,6 +224,9 @@ static void letters_outside(void)
         MUST(build(&plain, text, 5, 0, lens) == BITM_BAD_SIZE);
         MUST(build(&plain, text, 5, plain.step, (struct lens){0, 0}) == BITM_BAD_SIZE);
         MUST(build(&plain, text, 5, plain.step, (struct lens){lens.block, lens.scratch - 1}) == BITM_BAD_SIZE);
+        (void)ordered(&plain, text, 5, lens.scratch, BITM_WRONG);
+        (void)untouched_at(OF_LIST, 4 * lens.scratch);
+        MUST(build_ordered(&plain, text, 5, plain.step, lens) == BITM_WRONG);
         plain.letters[at] = was;
     }
     MUST(build(&plain, letters_at(&plain), 0, 1, lens) == BITM_BAD_SIZE);
@@ -184,6 +255,8 @@ static void long_texts(void)
         MUST(status == BITM_BAD_SIZE && *words == UNTOUCHED);
         struct plain plain = {.len = len, .is_of_bytes = true};
         MUST(build(&plain, text, 0, 1, (struct lens){72, 9}) == BITM_BAD_SIZE);
+        (void)ordered(&plain, text, 0, 9, BITM_BAD_SIZE);
+        MUST(build_ordered(&plain, text, 0, 1, (struct lens){72, 9}) == BITM_BAD_SIZE);
         plain.len = (size_t)1 << 30, plain.is_of_bytes = false; /* 2^33 bytes of zeros, of which none is below 0 */
         MUST(build(&plain, text, 0, 1, (struct lens){72, 9}) == BITM_BAD_SIZE);
     }

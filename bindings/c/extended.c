@@ -1,10 +1,14 @@
 /* Blocks with sections of a caller's own: each section is as it was given, the sequence before them answers as before,
- * and with samples among them; what is too large, too long or spoiled is refused; each changed byte and each prefix is.
- * All is beside pages that may not be touched (places.h). */
+ * and an index by samples among them; what is too large, too long or spoiled is refused; each changed byte and each
+ * prefix is. All is beside pages that may not be touched (places.h). */
 #define _DEFAULT_SOURCE
 #include "changed.h"
+#include "hinted.h"
 
-enum { ITEMS = 900, SMALL = 9, OWN = 65536, SECTIONS = 16, ROOM = 8 * 4096 };
+enum { ITEMS = 900, SMALL = 9, WORDS = 100, OWN = 65536, SECTIONS = 16, ROOM = 8 * 4096 };
+
+/* The sections of a sequence, and of an index. */
+enum { OF_SEQUENCE = 5, OF_INDEX = 3 };
 enum { OF_GIVEN = OF_MORE, OF_LONGER, OF_SECTION };
 
 static uint64_t items_of[ITEMS], given_words[ROOM / 8];
@@ -87,12 +91,12 @@ static uint64_t *extended(uint64_t *block, uint64_t *words, size_t sections, uin
 /* Of each length that a last word can have, and of the roles that have four bytes an item, eight and one. */
 static void sections_of_each_length(void)
 {
-    static const uint64_t roles[] = {7, 8, 9, 15, 1, OWN - 1, OWN, UINT64_MAX};
+    static const uint64_t roles[] = {7, 8, 9, 15, 1, 22, OWN - 1, OWN, UINT64_MAX};
     for (size_t role = 0; role < sizeof roles / sizeof *roles; role++)
         for (uint64_t count = 0; count < 40; count += 1 + draw() % 3) {
             uint64_t words;
             uint64_t *block = sequence_of(SMALL, &words);
-            block = extended(block, &words, 4, roles[role], count);
+            block = extended(block, &words, OF_SEQUENCE, roles[role], count);
             struct bitm_sequence *const sequence = placed(OF_LIST, sizeof *sequence);
             *sequence = (struct bitm_sequence){0};
             MUST(bitm_sequence_block_check(block, words) == BITM_OK);
@@ -113,7 +117,7 @@ static void what_is_too_large(void)
     MUST(status == BITM_BAD_SIZE);
     ANSWER(bitm_block_extended_size(block, words, 9, ((uint64_t)1 << 58) - 1, out));
     MUST(status == BITM_OK);
-    for (size_t n = 4; n < SECTIONS; n++) block = extended(block, &words, n, OWN + n, draw() % 100);
+    for (size_t n = OF_SEQUENCE; n < SECTIONS; n++) block = extended(block, &words, n, OWN + n, draw() % 100);
     ANSWER(bitm_block_extended_size(block, words, OWN, 0, out));
     MUST(status == BITM_BAD_SIZE);
     uint64_t *const to = untouched_at(OF_LONGER, 8 * (words + 8));
@@ -154,7 +158,7 @@ static void spoiled(void)
         MUST(bitm_block_check(block, words) == BITM_WRONG);
         MUST(bitm_block_extend(block, words, OWN, 16, given, 2, to, longer) == BITM_WRONG);
         ANSWER(bitm_block_extended_size(block, words, OWN, 16, out));
-        MUST(status == (at < 32 * 8 ? BITM_WRONG : BITM_OK));
+        MUST(status == (at < 40 * 8 ? BITM_WRONG : BITM_OK));
         bytes[at] ^= 16;
     }
     MUST(bitm_block_extend(block, words - 1, OWN, 16, given, 2, to, longer) == BITM_WRONG);
@@ -165,7 +169,7 @@ static void spoiled(void)
 
 static uint32_t open_note(const uint64_t *block, size_t words, void *opened)
 {
-    return bitm_block_section(block, words, 4, opened);
+    return bitm_block_section(block, words, OF_SEQUENCE, opened);
 }
 
 static void read_note(const void *opened)
@@ -181,7 +185,7 @@ static const struct kind of_note = {40, sizeof(struct bitm_section), bitm_block_
 static void changed_notes(void)
 {
     uint64_t words;
-    uint64_t *const made = extended(sequence_of(SMALL, &words), &words, 4, OWN, 21);
+    uint64_t *const made = extended(sequence_of(SMALL, &words), &words, OF_SEQUENCE, OWN, 21);
     uint64_t *const block = copied(OF_BLOCK, made, words);
     changed_bytes(&of_note, block, words, 1);
     cut_off(&of_note, block, words);
@@ -192,11 +196,9 @@ static void changed_notes(void)
 static struct bitm_samples kept_samples(uint64_t **block, uint64_t *words, size_t sections, bool one)
 {
     static const uint64_t zero[1] = {0};
-    struct bitm_sequence high = {0};
-    MUST(bitm_sequence_block_open(*block, *words, &high) == BITM_OK);
-    const struct bitm_index index =
-        index_over(high.words, high.words_len, high.upper, high.upper_len, high.lower, high.lower_len);
-    const size_t most = bitm_index_samples_len(high.words_len, 7);
+    struct bitm_index index = {0};
+    MUST(bitm_index_block_open(*block, *words, &index) == BITM_OK);
+    const size_t most = bitm_index_samples_len(index.words_len, 7);
     uint32_t *const samples = calloc(most + 1, 4);
     uint64_t start, used, longer;
     MUST(samples && bitm_index_build_samples(&index, one, 7, samples, most, &start, 1, &used) == BITM_OK && start == 0);
@@ -215,20 +217,49 @@ static struct bitm_samples kept_samples(uint64_t **block, uint64_t *words, size_
 
 static void samples_in_a_block(void)
 {
-    uint64_t words;
-    uint64_t *block = sequence_of(ITEMS, &words);
-    struct bitm_samples both[2] = {kept_samples(&block, &words, 4, true), {0}};
-    both[1] = kept_samples(&block, &words, 5, false);
-    const struct bitm_section ones = section_in(block, words, 4);
-    both[0].samples = (const uint32_t *)ones.words;
-    struct bitm_sequence sequence = {0};
-    MUST(bitm_sequence_block_check(block, words) == BITM_OK);
-    MUST(bitm_sequence_block_open(block, words, &sequence) == BITM_OK);
-    sequence.samples = both, sequence.samples_len = 2;
-    struct bitm_index index = index_over(sequence.words, sequence.words_len, sequence.upper, sequence.upper_len,
-                                         sequence.lower, sequence.lower_len);
-    MUST(check_samples(&index, true, &both[0]) == BITM_OK && check_samples(&index, false, &both[1]) == BITM_OK);
-    MUST(answers(&sequence, ITEMS));
+    uint64_t bits[WORDS], words, ranks[2] = {0, 0}, got;
+    for (size_t i = 0; i < WORDS; i++) bits[i] = draw();
+    MUST(bitm_index_block_size(64 * WORDS, &words) == BITM_OK);
+    uint64_t *block = malloc(8 * words);
+    MUST(block && bitm_index_block_build(bits, WORDS, 64 * WORDS, block, words) == BITM_OK);
+    struct bitm_samples ones = kept_samples(&block, &words, OF_INDEX, true);
+    const struct bitm_samples zeros = kept_samples(&block, &words, OF_INDEX + 1, false);
+    ones.samples = (const uint32_t *)section_in(block, words, OF_INDEX).words;
+    struct bitm_index index = {0};
+    MUST(bitm_index_block_check(block, words) == BITM_OK && bitm_index_block_open(block, words, &index) == BITM_OK);
+    index.ones = ones, index.zeros = zeros;
+    MUST(bitm_index_check_samples(&index, true) == BITM_OK && bitm_index_check_samples(&index, false) == BITM_OK);
+    for (uint64_t i = 0; i < 64 * WORDS; i++) {
+        const bool one = bit_of(bits, i);
+        MUST(bitm_index_select(&index, one, ranks[one]++, &got) == BITM_OK && got == i);
+    }
+    free(block);
+}
+
+/* A block without hints takes them as a section more: then it is the one that is built. Of another role, or of another
+ * number, they are no hints; wrong ones are, and the check refuses them. */
+static void hints_added(void)
+{
+    static uint64_t older[ROOM / 8], to[ROOM / 8];
+    uint64_t words, longer;
+    uint64_t *const block = sequence_of(ITEMS, &words);
+    struct bitm_sequence sequence = {0}, other = {0};
+    MUST(bitm_sequence_block_open(block, words, &sequence) == BITM_OK && sequence.hints_len > 1);
+    const size_t len = without_hints(block, older), hints = sequence.hints_len;
+    MUST(bitm_block_extended_size(older, len, 22, hints, &longer) == BITM_OK && longer == words);
+    MUST(bitm_block_extend(older, len, 22, hints, sequence.hints, hints, to, longer) == BITM_OK);
+    MUST(memcmp(to, block, 8 * words) == 0);
+    for (size_t i = 0; i < 3; i++) { /* one too few, another role, and other hints */
+        memcpy(given_words, sequence.hints, 8 * hints);
+        const uint64_t role = i == 1 ? 23 : 22;
+        const size_t count = hints - (i == 0);
+        if (i == 2) given_words[0]++;
+        MUST(bitm_block_extended_size(older, len, role, count, &longer) == BITM_OK);
+        MUST(bitm_block_extend(older, len, role, count, given_words, count, to, longer) == BITM_OK);
+        MUST(bitm_sequence_block_open(to, longer, &other) == BITM_OK && other.hints_len == (i == 2 ? hints : 0));
+        MUST(bitm_sequence_block_check(to, longer) == (i == 2 ? BITM_WRONG : BITM_OK));
+        MUST(i == 2 || answers(&other, ITEMS));
+    }
     free(block);
 }
 
@@ -239,6 +270,7 @@ static void tests(void)
     wrong_lengths();
     spoiled();
     changed_notes();
+    hints_added();
     samples_in_a_block();
 }
 
@@ -246,7 +278,7 @@ int main(int argc, char **argv)
 {
     take_seed(argc, argv);
     on_either_side(ROOM, tests);
-    puts("extended: blocks with sections of a caller's own have each section as it was given, and a sequence answers as "
-         "before, with samples among them too; what is too large, of another length or spoiled is refused");
+    puts("extended: blocks with sections of a caller's own have each section as it was given, a sequence answers as "
+         "before, and an index by samples among them; what is too large, of another length or spoiled is refused");
     return 0;
 }

@@ -147,8 +147,10 @@ static unsigned long query_a_sequence(void)
     if (draw() % 2)
         MUST(bitm_sequence_build(items, n, low, lens.low_len, words, lens.words_len, upper, lens.upper_len, lower,
                                  lens.lower_len, &width) == BITM_OK);
-    const struct bitm_sequence view = {n,     width,          low,   lens.low_len,   words,  lens.words_len,
-                                       upper, lens.upper_len, lower, lens.lower_len, NULL, 0};
+    const size_t hints_len = draw() % 4 ? bitm_hints_len(n, lens.words_len) : 0;
+    const struct bitm_sequence view = {n,     width,          low,   lens.low_len,   words,
+                                       lens.words_len, upper, lens.upper_len, lower, lens.lower_len,
+                                       numbers(&samples_of, hints_len, true), hints_len};
     for (unsigned turn = 0; turn < 40; turn++) {
         size_t index = draw() % 4 ? draw() % (n + 2) : draw();
         uint64_t out = UNTOUCHED;

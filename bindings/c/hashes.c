@@ -136,10 +136,28 @@ static void alone_by(const uint64_t *hashes, uint64_t count, uint32_t level, siz
     }
 }
 
+/* A level with seeds by itself is the one of the call that builds all: its words and seeds, and the hashes that are left.
+ */
+static void level_by_itself(const uint64_t *before, uint64_t count, uint32_t level, uint16_t tries, const uint64_t *ones,
+                            const uint8_t *seeds, size_t len, const uint64_t *kept, uint64_t left)
+{
+    uint64_t *hashes = room(count, 8), *sorted = room(count, 8), *words = room(len, 8), *again = room(len, 8);
+    uint64_t found = UNTOUCHED;
+    uint8_t *own = room(len, 1);
+    memcpy(hashes, before, 8 * count);
+    memset(words, UNTOUCHED, 8 * len), memset(own, UNTOUCHED, len);
+    MUST(bitm_hash_level_seeded(hashes, count, level, tries, words, len, own, len, again, len, sorted, count, &found) ==
+         BITM_OK);
+    MUST(found == left && memcmp(words, ones, 8 * len) == 0 && memcmp(own, seeds, len) == 0);
+    MUST(memcmp(hashes, kept, 8 * left) == 0);
+    free(hashes), free(sorted), free(words), free(again), free(own);
+}
+
 /* Each word has the first of the seeds by which most fall on a bit alone, and these bits; the others are left. */
 static uint64_t right_seeds(uint64_t *hashes, uint64_t count, uint32_t level, unsigned tries, const uint64_t *ones,
                             const uint8_t *seeds, size_t len)
 {
+    uint64_t *before = memcpy(room(count, 8), hashes, 8 * count);
     uint8_t *hits = room(64 * len, 1), *alone = room(len, 1), *most = room(len, 1), *best = room(len, 1);
     uint64_t left = 0;
     for (unsigned seed = 0; seed < tries; seed++) {
@@ -157,7 +175,8 @@ static uint64_t right_seeds(uint64_t *hashes, uint64_t count, uint32_t level, un
     for (uint64_t i = 0; i < count; i++)
         if (hits[seeded_position(hashes[i], level, len, best[fraction(spread(hashes[i], level), len)])] != 1)
             hashes[left++] = hashes[i];
-    free(hits), free(alone), free(most), free(best);
+    level_by_itself(before, count, level, (uint16_t)tries, ones, seeds, len, hashes, left);
+    free(before), free(hits), free(alone), free(most), free(best);
     return left;
 }
 
@@ -314,6 +333,12 @@ static void refused(void)
                                 &left) == BITM_BAD_SIZE);
     MUST(bitm_hash_build_seeded(some, 3, 100, 4, zeros, 2, seeds, 2, zeros, 2, zeros, 2, sizes, LEVELS, &levels, &used,
                                 &left) == BITM_BAD_SIZE);
+    MUST(bitm_hash_level_seeded(some, 3, 0, 4, NULL, 0, NULL, 0, NULL, 0, zeros, 3, &left) == BITM_BAD_SIZE);
+    MUST(bitm_hash_level_seeded(some, 3, 0, 4, zeros, 2, seeds, 2, zeros, 1, zeros, 3, &left) == BITM_BAD_SIZE);
+    MUST(bitm_hash_level_seeded(some, 3, 0, 4, zeros, 2, seeds, 1, zeros, 2, zeros, 3, &left) == BITM_BAD_SIZE);
+    MUST(bitm_hash_level_seeded(some, 3, 0, 4, zeros, 2, seeds, 2, zeros, 2, zeros, 2, &left) == BITM_BAD_SIZE);
+    MUST(bitm_hash_level_seeded(some, 3, 0, 4, zeros, too_many, seeds, too_many, zeros, too_many, zeros, 3, &left) ==
+         BITM_BAD_SIZE);
     MUST(levels == UNTOUCHED && used == UNTOUCHED && seeds[0] == 3 && seeds[1] == 4);
     MUST(bitm_hash_get(&bad, 7, &out) == BITM_BAD_SIZE && bitm_hash_get(&many, 7, &out) == BITM_BAD_SIZE);
     MUST(bitm_hash_get(&empty, 7, &out) == BITM_NONE && bitm_hash_get(&past, 7, &out) == BITM_NONE);

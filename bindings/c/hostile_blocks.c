@@ -273,8 +273,8 @@ static void seeded_queried(uint64_t at, uint64_t other)
 
 static const struct kind kinds[] = {
     {"bits", bits_built, 32, bits_open, bits_queried},
-    {"sequence", sequence_built, 32, sequence_opens, sequence_queried},
-    {"sparse bits", sparse_built, 32, sparse_opens, sparse_queried},
+    {"sequence", sequence_built, 40, sequence_opens, sequence_queried},
+    {"sparse bits", sparse_built, 40, sparse_opens, sparse_queried},
     {"tree", tree_built, 32, tree_opens, tree_queried},
     {"trie", trie_built, 40, trie_opens, trie_queried},
     {"matrix", matrix_built, 40, matrix_opens, matrix_queried},

@@ -40,6 +40,12 @@ static bool agrees(uint32_t status, const char *fault, const char *names)
     return strstr(names, name) != NULL;
 }
 
+/* None, or as many words as the hints take, or nearly so. */
+static size_t drawn_hints(size_t ones, size_t words_len)
+{
+    return draw() % 2 ? near_to(bitm_hints_len(ones, words_len)) : 0;
+}
+
 /* Lengths past the memory are wrong ones, which no call may take for right. */
 static void drawn(void)
 {
@@ -62,9 +68,10 @@ static void drawn(void)
         const uint64_t width = draw() % 66;
         const size_t len = draw() % 8 ? draw() % 8 : ((size_t)1 << 56) - draw() % 2;
         const struct bitm_sequence sequence = {len, width, low, near_to(bitm_bits_words_len(len % 8 * width)), words,
-                                               words_len, upper, uppers, lower, lowers, NULL, 0};
+                                               words_len, upper, uppers, lower, lowers, zeros,
+                                               drawn_hints(len, words_len)};
         MUST(agrees(bitm_sequence_get(&sequence, 0, &out), bitm_sequence_fault(&sequence),
-                    " len width low_len words_len upper_len lower_len "));
+                    " len width low_len words_len upper_len lower_len hints_len "));
     }
 }
 
@@ -79,8 +86,10 @@ static void drawn_tables(uint64_t bits, size_t *words_len, size_t *upper_len, si
 static struct bitm_tree drawn_tree(void)
 {
     const size_t few = draw() % 3000, many = ((size_t)1 << (draw() % 2 ? 57 : 60)) - draw() % 2;
-    struct bitm_tree tree = {.len = draw() % 8 ? few : many, .words = zeros, .upper = zeros, .lower = zeros};
+    struct bitm_tree tree = {
+        .len = draw() % 8 ? few : many, .words = zeros, .upper = zeros, .lower = zeros, .hints = zeros};
     drawn_tables(2 * few + 1, &tree.words_len, &tree.upper_len, &tree.lower_len);
+    tree.hints_len = drawn_hints(tree.len, tree.words_len);
     return tree;
 }
 
@@ -88,13 +97,13 @@ static void drawn_nodes(void)
 {
     uint64_t out;
     const struct bitm_tree tree = drawn_tree();
-    MUST(agrees(bitm_tree_degree(&tree, 0, &out), bitm_tree_fault(&tree), " len words_len upper_len lower_len "));
+    MUST(agrees(bitm_tree_degree(&tree, 0, &out), bitm_tree_fault(&tree), " len words_len upper_len lower_len hints_len "));
     struct bitm_trie trie = {.tree = tree, .width = draw() % 66, .labels = zeros, .ends = zeros};
     const size_t nodes = tree.len % 4096;
     trie.labels_len = near_to(bitm_bits_words_len((nodes ? nodes - 1 : 0) * trie.width));
     trie.ends_len = draw() % 2 ? near_to(bitm_bits_words_len(nodes)) : 0;
     MUST(agrees(bitm_trie_label(&trie, 1, &out), bitm_trie_fault(&trie),
-                " len tree.len width labels_len ends_len words_len upper_len lower_len "));
+                " len tree.len width labels_len ends_len words_len upper_len lower_len hints_len "));
 }
 
 static struct bitm_matrix drawn_matrix(size_t len, uint64_t width)
@@ -125,11 +134,12 @@ static void drawn_numbers(void)
                 " len letters.len marks.len marks.width first step used_len width words_len upper_len lower_len "
                 "ones_len zeros_len quarters_len "));
     struct bitm_sparse sparse = {.positions = {.len = draw() % 8, .width = draw() % 66, .low = zeros, .words = zeros,
-                                               .upper = zeros, .lower = zeros}, .bits_len = draw()};
+                                               .upper = zeros, .lower = zeros, .hints = zeros}, .bits_len = draw()};
     drawn_tables(draw() % 4096, &sparse.positions.words_len, &sparse.positions.upper_len, &sparse.positions.lower_len);
     sparse.positions.low_len = near_to(bitm_bits_words_len(sparse.positions.len * sparse.positions.width));
+    sparse.positions.hints_len = drawn_hints(sparse.positions.len, sparse.positions.words_len);
     MUST(agrees(bitm_sparse_rank(&sparse, true, 0, &out), bitm_sparse_fault(&sparse),
-                " len width low_len words_len upper_len lower_len "));
+                " len width low_len words_len upper_len lower_len hints_len "));
 }
 
 static void drawn_shards(void)
@@ -157,7 +167,12 @@ static void by_hand(void)
     MUST(strcmp(bitm_bits_fault((size_t)1 << 58, 7), "words_len is 2^58 or more") == 0);
     struct bitm_sequence sequence = {3, 5, low, 2, words, WORDS, upper, 1, lower, LOWERS, NULL, 0};
     MUST(strcmp(bitm_sequence_fault(&sequence), "low_len is not bitm_bits_words_len(len * width)") == 0);
-    sequence.low_len = 1;
+    sequence.low_len = 1, sequence.hints_len = 1;
+    MUST(strcmp(bitm_sequence_fault(&sequence), "hints_len is neither 0 nor bitm_hints_len(len, words_len)") == 0);
+    MUST(bitm_hints_len(3, WORDS) == 1 + 24 && bitm_hints_len(SIZE_MAX, WORDS) == 24 && bitm_hints_len(1, 0) == 0);
+    MUST(bitm_hints_len(256, 4) == 1 && bitm_hints_len(257, 5) == 3 && bitm_hints_len(7, (size_t)1 << 26) == 0);
+    MUST(bitm_hints_len(0, ((size_t)1 << 26) - 1) == ((size_t)1 << 24) && bitm_hints_len(7, SIZE_MAX) == 0);
+    sequence.hints_len = 0;
     MUST(!bitm_sequence_fault(&sequence));
     struct bitm_tree tree = {.len = 4, .words = zeros, .words_len = 1, .upper = zeros, .upper_len = 1};
     tree.lower = zeros;

@@ -3,6 +3,7 @@
  * array, and each number that is written, is once where such pages end and once where they begin, beside a page that
  * stays closed: a read or write of one number outside, on either side, ends the program. */
 #define _DEFAULT_SOURCE
+#include "hinted.h"
 #include "pages_of_blocks.h"
 
 /* The bounds of bitm.h: a rank reads one lower entry, a selection 23, and both eight words of one block. */
@@ -117,6 +118,29 @@ static void query_the_bytes(uint64_t *one)
     TOUCHES_ANY(bitm_bits_select_in_word(UINT64_MAX, 63, one));
 }
 
+/* By hints a selection takes one of these and nine words. Numbers that are drawn like these are never far from their
+ * hint, and those that share high bits end near where they begin: no table is touched. */
+static void query_by_hints(struct bitm_sequence view, uint64_t last, uint64_t *one)
+{
+    const size_t len = bitm_hints_len(view.len, view.words_len);
+    uint64_t *hints = placed(OF_SAMPLES, 8 * len);
+    plain_hints(view.words, view.words_len, view.len, hints);
+    view.hints = hints, view.hints_len = len;
+    TOUCHES_ANY(bitm_sequence_check(&view));
+    const struct bitm_sparse sparse = {view, last + 1, {0, 0}};
+    for (unsigned turn = 0; turn < 20; turn++) {
+        const size_t index = draw() % ITEMS;
+        const uint64_t value = draw() % last;
+        TOUCHES(2, 0, 2, bitm_sequence_get(&view, index, one));
+        TOUCHES(3, 0, 12, bitm_sequence_first_at_least(&view, value, one));
+        TOUCHES(3, 0, 12, bitm_sequence_last_at_most(&view, value, one));
+        TOUCHES(3, 0, 14, bitm_sequence_contains(&view, value, one));
+        TOUCHES(3, 0, 14, bitm_sparse_get(&sparse, value, one));
+        TOUCHES(3, 0, 12, bitm_sparse_rank(&sparse, turn % 2, value, one));
+        TOUCHES(2, 0, 2, bitm_sparse_select(&sparse, true, index, one));
+    }
+}
+
 /* A number takes one selection and its low bits; a search for a value two, and low bits of the few numbers that share
  * high bits. The eight words of a selection may be of two pages here. */
 static void query_a_sequence(uint64_t *one)
@@ -142,7 +166,7 @@ static void query_a_sequence(uint64_t *one)
         TOUCHES(2, 23, 2, bitm_sequence_get(&view, index, one));
         TOUCHES(4, 46, 12, bitm_sequence_first_at_least(&view, value, one));
         TOUCHES(4, 46, 12, bitm_sequence_last_at_most(&view, value, one));
-        TOUCHES(6, 69, 14, bitm_sequence_contains(&view, value, one));
+        TOUCHES(4, 46, 14, bitm_sequence_contains(&view, value, one));
         TOUCHES(3, 23, 2, bitm_sequence_items(&view, index, out, LIST, one));
         for (size_t i = 0; i < LIST; i++) queries[i] = draw() % ITEMS;
         TOUCHES(2 * LIST, 23 * LIST, 2 * LIST, bitm_sequence_get_list(&view, queries, LIST, out, LIST, one));
@@ -155,9 +179,33 @@ static void query_a_sequence(uint64_t *one)
                 bitm_sequence_contains_list(&view, queries, LIST, out, LIST, counts_placed()));
     }
     query_sparse_bits(&view, last, one);
+    query_by_hints(view, last, one);
 }
 
-/* A number touches a word of each level, and one lower entry; a level is built in arrays of its own. */
+/* A level is built in arrays of its own, with seeds and without, and so are all levels. */
+static void build_a_hash(uint64_t *one)
+{
+    uint64_t *hashes = placed(OF_LOW, 8 * LIST), *words = placed(OF_OUT, 8 * LIST),
+             *again = placed(OF_STARTS, 8 * LIST);
+    for (size_t i = 0; i < LIST; i++) hashes[i] = draw();
+    TOUCHES_ANY(bitm_hash_level(hashes, LIST, 0, words, LIST, again, LIST, one));
+    MUST(*one < LIST);
+    uint64_t *sorted = placed(OF_QUERIES, 8 * LIST);
+    uint8_t *seeds = placed(OF_SAMPLES, LIST);
+    for (size_t i = 0; i < LIST; i++) hashes[i] = draw();
+    TOUCHES_ANY(
+        bitm_hash_level_seeded(hashes, LIST, 0, 4, words, LIST, seeds, LIST, again, LIST, sorted, LIST, one));
+    MUST(*one < LIST);
+    uint64_t *made_sizes = placed(OF_QUERIES, 8 * LEVELS), *counted = placed(OF_COUNTS, 8), *left = placed(OF_UPPER, 8);
+    const uint64_t kept = *left; /* of the upper table, whose block is used for the number */
+    uint64_t *all = placed(OF_OUT, 8 * LEVELS);
+    for (size_t i = 0; i < LIST; i++) hashes[i] = draw();
+    TOUCHES_ANY(bitm_hash_build(hashes, LIST, 100, all, LEVELS, again, 1, made_sizes, LEVELS, counted, one, left));
+    MUST(*left == 0 && *counted == *one && *one <= LEVELS && made_sizes[0] == 1);
+    *left = kept;
+}
+
+/* A number touches a word of each level, and one lower entry. */
 static void query_a_hash(const struct bitm_index *index, uint64_t *out, uint64_t *one)
 {
     uint64_t *sizes = placed(OF_QUERIES, 8 * LEVELS), *keys = placed(OF_STARTS, 8 * LIST);
@@ -170,18 +218,6 @@ static void query_a_hash(const struct bitm_index *index, uint64_t *out, uint64_t
         for (size_t i = 0; i < LIST; i++) keys[i] = draw();
         TOUCHES(LEVELS * LIST, LIST, 0, bitm_hash_get_list(&hash, keys, LIST, out, LIST, counts_placed()));
     }
-    uint64_t *hashes = placed(OF_LOW, 8 * LIST), *words = placed(OF_OUT, 8 * LIST),
-             *again = placed(OF_STARTS, 8 * LIST);
-    for (size_t i = 0; i < LIST; i++) hashes[i] = draw();
-    TOUCHES_ANY(bitm_hash_level(hashes, LIST, 0, words, LIST, again, LIST, one));
-    MUST(*one < LIST);
-    uint64_t *made_sizes = placed(OF_QUERIES, 8 * LEVELS), *counted = placed(OF_COUNTS, 8), *left = placed(OF_UPPER, 8);
-    const uint64_t kept = *left; /* of the upper table, whose block is used for the number */
-    uint64_t *all = placed(OF_OUT, 8 * LEVELS);
-    for (size_t i = 0; i < LIST; i++) hashes[i] = draw();
-    TOUCHES_ANY(bitm_hash_build(hashes, LIST, 100, all, LEVELS, again, 1, made_sizes, LEVELS, counted, one, left));
-    MUST(*left == 0 && *counted == *one && *one <= LEVELS && made_sizes[0] == 1);
-    *left = kept;
 }
 
 /* A header, of which the first 24 words are read; and those of no samples and of a sequence are written. */
@@ -209,12 +245,14 @@ static void query_everything(void)
     TOUCHES_ANY(bitm_index_check(&index));
     query_an_index(&index, queries, out, one);
     query_a_hash(&index, out, one);
+    build_a_hash(one);
     query_by_samples(&index, true, queries, out, one);
     query_by_samples(&index, false, queries, out, one);
     query_bits(words, out, one);
     query_the_bytes(one);
     query_a_sequence(one);
     open_sparse_bits(one);
+    query_a_tree(one);
     query_a_matrix(one);
     build_a_text(one);
     query_a_text(one);

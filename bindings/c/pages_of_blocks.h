@@ -1,5 +1,5 @@
-/* Structures in blocks of many pages, of which those are counted that a query touches: sparse bits, a matrix, a text
- * a dictionary and strings. */
+/* Structures in blocks of many pages, of which those are counted that a query touches: sparse bits, a tree, a matrix, a
+ * text, a dictionary and strings. */
 #ifndef PAGES_OF_BLOCKS_H
 #define PAGES_OF_BLOCKS_H
 
@@ -15,7 +15,7 @@ static void query_sparse_bits(const struct bitm_sequence *positions, uint64_t la
     for (unsigned turn = 0; turn < 20; turn++) {
         const uint64_t position = draw() % last, rank = draw() % ITEMS;
         const bool kind = turn % 2;
-        TOUCHES(6, 69, 14, bitm_sparse_get(&sparse, position, one));
+        TOUCHES(4, 46, 14, bitm_sparse_get(&sparse, position, one));
         TOUCHES(4, 46, 12, bitm_sparse_rank(&sparse, kind, position, one));
         TOUCHES(2, 23, 2, bitm_sparse_select(&sparse, true, rank, one));
         TOUCHES(2 * DIGITS, 23 * DIGITS, 2 * DIGITS, bitm_sparse_select(&sparse, false, position / 2, one));
@@ -50,6 +50,31 @@ static void open_sparse_bits(uint64_t *one)
     struct bitm_section *section = placed(OF_STARTS, sizeof *section);
     *section = (struct bitm_section){0};
     TOUCHES(2, 0, 0, bitm_block_section(block, words, 3, section));
+}
+
+/* A tree in a block, of nodes with two children and of leaves: its words take 32 pages, its hints 8. A query touches a
+ * hint and nine words, which may be of two pages here, and two words more; no table, which would be another page. */
+static void query_a_tree(uint64_t *one)
+{
+    uint64_t *degrees = placed(OF_LOW, 8 * (ITEMS - 1));
+    for (size_t node = 0; node < ITEMS - 1; node++) degrees[node] = node < ITEMS / 2 - 1 ? 2 : 0;
+    TOUCHES_ANY(bitm_tree_size(ITEMS - 1, one));
+    const uint64_t words = *one;
+    uint64_t *block = placed(OF_WORDS, 8 * words);
+    TOUCHES_ANY(bitm_tree_build(degrees, ITEMS - 1, block, words));
+    TOUCHES_ANY(bitm_tree_check(block, words));
+    struct bitm_tree *tree = placed(OF_STARTS, sizeof *tree);
+    *tree = (struct bitm_tree){0};
+    TOUCHES(2, 0, 0, bitm_tree_open(block, words, tree));
+    for (unsigned turn = 0; turn < 20; turn++) {
+        const size_t node = 1 + draw() % (ITEMS - 2), inner = draw() % (ITEMS / 2 - 1);
+        TOUCHES(3, 0, 0, bitm_tree_parent(tree, node, one));
+        MUST(*one == (node - 1) / 2);
+        TOUCHES(3, 0, 0, bitm_tree_degree(tree, node, one));
+        TOUCHES(3, 0, 0, bitm_tree_child(tree, inner, turn % 2, one));
+        MUST(*one == 2 * inner + 1 + turn % 2);
+        TOUCHES(3, 0, 0, bitm_tree_is_leaf(tree, node, one));
+    }
 }
 
 /* A matrix in a block, whose words take 32 pages. For each bit of the width a number takes eight words, which may be of

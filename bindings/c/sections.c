@@ -4,7 +4,7 @@
 #include "places.h"
 
 enum { MOST = 400, WIDTH = 9 };
-enum { OF_WORDS = OF_MORE, OF_UPPER, OF_LOWER, OF_LABELS, OF_ENDS, OF_ROOM, OF_MATCHED };
+enum { OF_WORDS = OF_MORE, OF_UPPER, OF_LOWER, OF_HINTS, OF_LABELS, OF_ENDS, OF_ROOM, OF_MATCHED };
 
 static uint64_t block[4096], degrees[MOST], labels[MOST], ends[MOST / 64 + 1];
 
@@ -33,6 +33,7 @@ static struct bitm_trie apart(struct bitm_trie trie)
     trie.tree.words = copied(OF_WORDS, trie.tree.words, trie.tree.words_len);
     trie.tree.upper = copied(OF_UPPER, trie.tree.upper, trie.tree.upper_len);
     trie.tree.lower = copied(OF_LOWER, trie.tree.lower, trie.tree.lower_len);
+    trie.tree.hints = copied(OF_HINTS, trie.tree.hints, trie.tree.hints_len);
     trie.labels = copied(OF_LABELS, trie.labels, trie.labels_len);
     trie.ends = copied(OF_ENDS, trie.ends, trie.ends_len);
     return trie;
@@ -78,6 +79,7 @@ static void without_bits(struct bitm_trie trie)
     memset(placed(OF_WORDS, 8 * trie.tree.words_len), 0, 8 * trie.tree.words_len);
     memset(placed(OF_UPPER, 8 * trie.tree.upper_len), 0, 8 * trie.tree.upper_len);
     memset(placed(OF_LOWER, 8 * trie.tree.lower_len), 0, 8 * trie.tree.lower_len);
+    memset(placed(OF_HINTS, 8 * trie.tree.hints_len), 0, 8 * trie.tree.hints_len);
     ANSWER(bitm_tree_parent(&trie.tree, 1, out));
     MUST(status == BITM_WRONG);
     ANSWER(bitm_trie_child(&trie, 1, 2, out));

@@ -1,7 +1,7 @@
-/* Builds monotone integer sequences, queries them, by samples too, and compares every answer with the numbers. Then
- * queries with wrong lengths and with each part spoilt. Each block has the exact size, so that the sanitizers see a read or write of
- * one number too far. */
-#include "sampled.h"
+/* Builds monotone integer sequences, queries them, by hints too, and compares every answer with the numbers. Then
+ * queries with wrong lengths and with each part spoilt. Each block has the exact size, so that the sanitizers see a read
+ * or write of one number too far. */
+#include "hinted.h"
 
 /* A block of the exact size. */
 static uint64_t *block_of(uint64_t count)
@@ -153,15 +153,19 @@ static int compare(const void *a, const void *b)
     return x < y ? -1 : x > y;
 }
 
-/* Each number of each part in turn set to 0, to all ones and to anything; then all at once. */
-static unsigned spoilt_parts(const struct bitm_sequence *view, uint64_t *const parts[4], const uint64_t lens[4])
+/* Low bits, words, their tables and their hints; and how many numbers each has. */
+enum { PARTS = 5 };
+
+/* Each number of the first parts in turn set to 0, to all ones and to anything. */
+static unsigned spoilt_parts(const struct bitm_sequence *view, uint64_t *const parts[PARTS], const uint64_t lens[PARTS],
+                             int count)
 {
     unsigned wrong = 0;
-    for (int part = 0; part < 4; part++)
+    for (int part = 0; part < count; part++)
         for (uint64_t turn = 0; turn < 3 * lens[part]; turn++) {
             uint64_t *entry = parts[part] + turn / 3, kept = *entry;
             *entry = turn % 3 == 0 ? 0 : turn % 3 == 1 ? UINT64_MAX : draw();
-            /* Other low bits or words may be those of other numbers; their tables have no other value. */
+            /* Other low bits or words may be those of other numbers; their tables and hints have no other value. */
             uint32_t status = bitm_sequence_check(view);
             MUST(*entry == kept ? status == BITM_OK : part < 2 ? status != BITM_BAD_SIZE : status == BITM_WRONG);
             MUST(any_parts(view, 100) == 0 || status == BITM_WRONG);
@@ -169,19 +173,24 @@ static unsigned spoilt_parts(const struct bitm_sequence *view, uint64_t *const p
             *entry = kept;
         }
     MUST(any_parts(view, 100) == 0);
-    for (int part = 0; part < 4; part++)
-        for (uint64_t i = 0; i < lens[part]; i++)
-            parts[part][i] = draw();
-    return wrong + any_parts(view, 1000);
+    return wrong;
+}
+
+/* All numbers of a part are drawn. */
+static void spoil(uint64_t *part, uint64_t len)
+{
+    for (uint64_t i = 0; i < len; i++) part[i] = draw() >> draw() % 64;
 }
 
 /* Lengths that do not fit: the status, and nothing is written. */
 static void wrong_lengths(const struct bitm_sequence *view, const uint64_t *items)
 {
-    struct bitm_sequence bad[4] = {*view, *view, *view, *view};
+    struct bitm_sequence bad[6] = {*view, *view, *view, *view, *view, *view};
     bad[0].width = 64, bad[1].low_len++, bad[2].upper_len++, bad[3].len = (size_t)1 << 56;
-    for (int i = 0; i < 4; i++) {
+    bad[4].hints_len = bitm_hints_len(view->len, view->words_len) + 1, bad[5].hints_len = SIZE_MAX;
+    for (int i = 0; i < 6; i++) {
         uint64_t got = UNTOUCHED;
+        MUST(bitm_sequence_fault(&bad[i]) != NULL);
         MUST(bitm_sequence_get(&bad[i], 0, &got) == BITM_BAD_SIZE && bitm_sequence_check(&bad[i]) == BITM_BAD_SIZE);
         MUST(bitm_sequence_first_at_least(&bad[i], 0, &got) == BITM_BAD_SIZE && got == UNTOUCHED);
         MUST(bitm_sequence_get_list(&bad[i], items, 0, NULL, 0, &got) == BITM_BAD_SIZE && got == UNTOUCHED);
@@ -189,41 +198,29 @@ static void wrong_lengths(const struct bitm_sequence *view, const uint64_t *item
     }
 }
 
-/* A list of samples holds any numbers. */
-static void spoil(const struct bitm_samples *of)
+/* The same answers by hints; and whatever these hold, each answer is in its range. */
+static unsigned by_hints(const struct bitm_sequence *view, const uint64_t *items, uint64_t *hints)
 {
-    uint32_t *samples = (uint32_t *)(uintptr_t)of->samples;
-    for (size_t i = 0; i < of->samples_len; i++) samples[i] = (uint32_t)draw();
-    for (size_t i = 0; i < of->starts_len; i++) writable(of->starts)[i] = draw() >> draw() % 64;
-}
-
-/* The same answers with samples: of 1 bits, of both kinds, and with an item that is not looked at; right ones, with any
- * numbers in them, and too short. */
-static void by_samples(struct bitm_sequence view, const uint64_t *items)
-{
-    const struct bitm_index high =
-        index_over(view.words, view.words_len, view.upper, view.upper_len, view.lower, view.lower_len);
-    const uint32_t log2 = (uint32_t)(7 + draw() % 3);
-    struct bitm_samples list[3] = {built_samples(&high, true, log2), built_samples(&high, false, log2), {0}};
-    view.samples = list;
-    for (int turn = 0; turn < 3; turn++) {
-        for (view.samples_len = 1; view.samples_len <= 3; view.samples_len++) {
-            query_sequence(&view, items);
-            MUST(any_parts(&view, 100) == 0 && bitm_sequence_check(&view) == BITM_OK);
-        }
-        if (turn == 0) spoil(&list[0]), spoil(&list[1]);
-        else list[0].samples_len /= 2, list[0].starts_len = 0, list[1].samples_len /= 2, list[1].log2 = 40;
+    unsigned wrong = 0;
+    query_sequence(view, items);
+    MUST(bitm_sequence_fault(view) == NULL && bitm_sequence_check(view) == BITM_OK && any_parts(view, 100) == 0);
+    for (int turn = 0; turn < 10; turn++) {
+        spoil(hints, view->hints_len);
+        const bool are_right = has_hints(hints, view->hints_len, view->words, view->words_len, view->len);
+        MUST(bitm_sequence_check(view) == (are_right ? BITM_OK : BITM_WRONG));
+        wrong += any_parts(view, 100);
     }
-    for (int i = 0; i < 2; i++) free((void *)(uintptr_t)list[i].samples), free(writable(list[i].starts));
+    plain_hints(view->words, view->words_len, view->len, hints);
+    return wrong;
 }
 
-/* A sequence of len numbers of that many bits: built, queried, with wrong lengths, and spoilt part by part. Answers how
+/* A sequence of len numbers of that many bits, of any for 0: built, queried, with wrong lengths, and spoilt part by part. Answers how
  * often parts were called wrong. */
 static unsigned sequence_of(size_t len, int bits)
 {
     uint64_t *items = block_of(len), width = UNTOUCHED;
     for (size_t i = 0; i < len; i++)
-        items[i] = draw() >> (64 - bits);
+        items[i] = draw() >> (bits ? 64 - (unsigned)bits : draw() % 64);
     qsort(items, len, 8, compare);
     struct bitm_sequence_lens of;
     MUST(bitm_sequence_sizes(len, len ? items[len - 1] : 0, &of) == BITM_OK);
@@ -241,13 +238,20 @@ static unsigned sequence_of(size_t len, int bits)
                                  upper, of.upper_len, lower, of.lower_len, NULL, 0};
     query_sequence(&view, items);
     MUST(bitm_sequence_check(&view) == BITM_OK && any_parts(&view, 100) == 0);
-    by_samples(view, items);
     wrong_lengths(&view, items);
-    uint64_t *const parts[] = {low, words, upper, lower};
-    const uint64_t lens[] = {of.low_len, of.words_len, of.upper_len, of.lower_len};
-    unsigned wrong = spoilt_parts(&view, parts, lens);
+    const size_t hints_len = bitm_hints_len(len, of.words_len);
+    uint64_t *const parts[PARTS] = {low, words, upper, lower, block_of(hints_len)};
+    const uint64_t lens[PARTS] = {of.low_len, of.words_len, of.upper_len, of.lower_len, hints_len};
+    unsigned wrong = spoilt_parts(&view, parts, lens, 4);
+    plain_hints(words, of.words_len, len, parts[4]);
+    view.hints = parts[4], view.hints_len = hints_len;
+    wrong += by_hints(&view, items, parts[4]) + spoilt_parts(&view, parts, lens, PARTS);
+    for (int part = 0; part < PARTS; part++) spoil(parts[part], lens[part]);
+    wrong += any_parts(&view, 1000);
+    view.hints_len = 0;
+    wrong += any_parts(&view, 1000);
     free(items);
-    for (int part = 0; part < 4; part++)
+    for (int part = 0; part < PARTS; part++)
         free(parts[part]);
     return wrong;
 }
@@ -255,8 +259,8 @@ static unsigned sequence_of(size_t len, int bits)
 static void sequences(void)
 {
     const size_t lens[] = {0, 1, 2, 3, 7, 64, 65, 300};
-    const int bits[] = {1, 6, 9, 30, 64};
-    unsigned wrong = 0;
+    const int bits[] = {0, 1, 6, 9, 30, 64};
+    unsigned wrong = sequence_of(2000, 1); /* of two high parts, which end far from each other */
     for (size_t i = 0; i < sizeof lens / sizeof *lens; i++)
         for (size_t k = 0; k < sizeof bits / sizeof *bits; k++)
             wrong += sequence_of(lens[i], bits[k]);

@@ -3,6 +3,7 @@
  * may not be touched (places.h). */
 #define _DEFAULT_SOURCE
 #include "changed.h"
+#include "hinted.h"
 #include "plain_sparse.h"
 
 enum { SMALL = 9, LIST = 64 };
@@ -191,11 +192,23 @@ static void answers_within(const void *opened)
 static void is_over(const uint64_t *block, const struct bitm_sparse *sparse)
 {
     const struct bitm_sequence *const it = &sparse->positions;
-    const uint64_t *const starts[4] = {it->words, it->upper, it->lower, it->low};
-    const size_t lens[4] = {it->words_len, it->upper_len, it->lower_len, it->low_len};
+    const uint64_t *const starts[5] = {it->words, it->upper, it->lower, it->low, it->hints};
+    const size_t lens[5] = {it->words_len, it->upper_len, it->lower_len, it->low_len, it->hints_len};
     MUST(it->len == block[3] && it->width == block[4] && sparse->bits_len == block[9]);
-    for (size_t i = 0; i < 4; i++) MUST(starts[i] == block + block[17 + 4 * i] / 8 && lens[i] == block[18 + 4 * i]);
-    MUST(it->samples_len == 0 && sparse->reserved[0] == 0 && sparse->reserved[1] == 0);
+    for (size_t i = 0; i < 5; i++) MUST(starts[i] == block + block[17 + 4 * i] / 8 && lens[i] == block[18 + 4 * i]);
+    MUST(has_hints(it->hints, it->hints_len, it->words, it->words_len, it->len));
+    MUST(sparse->reserved[0] == 0 && sparse->reserved[1] == 0);
+}
+
+/* A block that was written before there were hints is that of the same bits. */
+static void no_hints(const struct plain *plain, const uint64_t *block)
+{
+    static uint64_t older[2 * ONES + 200];
+    const size_t words = without_hints(block, older);
+    struct bitm_sparse sparse = {.positions = {.hints_len = UNTOUCHED}};
+    MUST(bitm_sparse_check(older, words) == BITM_OK && bitm_sparse_open(older, words, &sparse) == BITM_OK);
+    MUST(sparse.positions.hints_len == 0);
+    answers_as(plain, &sparse);
 }
 
 static void drawn_bits(void)
@@ -211,6 +224,7 @@ static void drawn_bits(void)
         is_over(block, sparse);
         answers_as(&plain, sparse);
         lists_as_single_calls(sparse);
+        no_hints(&plain, block);
     }
 }
 
@@ -245,10 +259,10 @@ static void no_bits(void)
     static const uint64_t positions[SMALL] = {0, 1, 4, 9, 16, 25, 36, 49, 64};
     static const uint64_t falls[3] = {7, 9, 8}, twice[3] = {7, 8, 8};
     uint64_t words, room[100];
-    MUST(bitm_sparse_size(SMALL, 64, &words) == BITM_OK && words == 64);
+    MUST(bitm_sparse_size(SMALL, 64, &words) == BITM_OK && words == 80);
     memset(room, UNTOUCHED, sizeof room);
     for (size_t len = 0; len < 100; len++) {
-        const bool fits = len == 64; /* a header of 32 words, and four sections of at most eight */
+        const bool fits = len == 80; /* a header of 40 words, and five sections of at most eight */
         if (!fits) MUST(bitm_sparse_build(positions, SMALL, 65, room, len) == BITM_BAD_SIZE);
         MUST(bitm_sparse_build(positions, SMALL, 64, room, len) == (fits ? BITM_WRONG : BITM_BAD_SIZE));
         MUST(bitm_sparse_build(positions, SMALL, 0, room, len) == (fits ? BITM_WRONG : BITM_BAD_SIZE));
@@ -269,7 +283,7 @@ static uint32_t open_block(const uint64_t *block, size_t words, void *opened)
     return bitm_sparse_open(block, words, opened);
 }
 
-static const struct kind of_sparse = {32, sizeof(struct bitm_sparse), bitm_sparse_check, open_block, answers_within};
+static const struct kind of_sparse = {40, sizeof(struct bitm_sparse), bitm_sparse_check, open_block, answers_within};
 
 /* And the block of a sequence. */
 static void changed_blocks(void)
@@ -314,7 +328,7 @@ static void other_structs(void)
     uint64_t *const block = built(&plain, &words);
     struct bitm_sparse sparse = {0};
     MUST(bitm_sparse_open(block, words, &sparse) == BITM_OK);
-    for (size_t i = 0; i < 11; i++) {
+    for (size_t i = 0; i < 13; i++) {
         struct bitm_sparse bad = sparse;
         if (i == 0) bad.positions.len = SIZE_MAX;
         if (i == 1) bad.positions.len += 64;
@@ -327,6 +341,8 @@ static void other_structs(void)
         if (i == 8) bad.positions.low_len++;
         if (i == 9) bad.positions.width = 64;
         if (i == 10) bad.positions.width += 256;
+        if (i == 11) bad.positions.hints_len--;
+        if (i == 12) bad.positions.hints_len++;
         struct bitm_list_counts *const counts = counts_at_the_guard();
         ANSWER(bitm_sparse_get(&bad, 1, out));
         MUST(status == BITM_BAD_SIZE);

@@ -352,20 +352,26 @@ static void sequences(void)
     for (size_t i = 0; i < sizeof lists / sizeof *lists; i++)
         LEAVES(BITM_BAD_SIZE, lists[i](&view, far, LIST, written.list, LIST - 1, &written.counts));
     MUST(bitm_sequence_get_list(&view, far, LIST, written.list, LIST, &width) == BITM_NONE && width == 0);
-    view.width = 64;
-    LEAVES(BITM_BAD_SIZE, bitm_sequence_check(&view));
-    LEAVES(BITM_BAD_SIZE, bitm_sequence_get(&view, 0, &written.one));
-    LEAVES(BITM_BAD_SIZE, bitm_sequence_first_at_least(&view, 0, &written.one));
-    LEAVES(BITM_BAD_SIZE, bitm_sequence_last_at_most(&view, UINT64_MAX, &written.one));
-    LEAVES(BITM_BAD_SIZE, bitm_sequence_contains(&view, 2, &written.one));
-    LEAVES(BITM_BAD_SIZE, bitm_sequence_items(&view, 0, written.list, LIST, &written.one));
-    LEAVES(BITM_BAD_SIZE, bitm_sequence_get_list(&view, far, LIST, written.list, LIST, &written.one));
-    for (size_t i = 0; i < sizeof lists / sizeof *lists; i++)
-        LEAVES(BITM_BAD_SIZE, lists[i](&view, far, LIST, written.list, LIST, &written.counts));
-    view.width = 1, upper_vector = 0;
+    for (int turn = 0; turn < 3; turn++) {
+        view.width = turn ? 1 : 64, view.hints_len = turn == 1 ? 1 : turn == 2 ? 3 : 0; /* its hints take two words */
+        LEAVES(BITM_BAD_SIZE, bitm_sequence_check(&view));
+        LEAVES(BITM_BAD_SIZE, bitm_sequence_get(&view, 0, &written.one));
+        LEAVES(BITM_BAD_SIZE, bitm_sequence_first_at_least(&view, 0, &written.one));
+        LEAVES(BITM_BAD_SIZE, bitm_sequence_last_at_most(&view, UINT64_MAX, &written.one));
+        LEAVES(BITM_BAD_SIZE, bitm_sequence_contains(&view, 2, &written.one));
+        LEAVES(BITM_BAD_SIZE, bitm_sequence_items(&view, 0, written.list, LIST, &written.one));
+        LEAVES(BITM_BAD_SIZE, bitm_sequence_get_list(&view, far, LIST, written.list, LIST, &written.one));
+        for (size_t i = 0; i < sizeof lists / sizeof *lists; i++)
+            LEAVES(BITM_BAD_SIZE, lists[i](&view, far, LIST, written.list, LIST, &written.counts));
+    }
+    const uint64_t no_hints[2] = {0, 0};
+    view.hints = no_hints, view.hints_len = 2;
+    LEAVES(BITM_WRONG, bitm_sequence_check(&view));
+    view.hints_len = 0, upper_vector = 0;
     LEAVES(BITM_WRONG, bitm_sequence_check(&view));
     LEAVES(BITM_WRONG, bitm_sequence_get(&view, 3, &written.one));
-    LEAVES(BITM_WRONG, bitm_sequence_contains(&view, 0, &written.one));
+    uint64_t is_there = UNTOUCHED; /* no number has the high bits of 0 */
+    MUST(bitm_sequence_contains(&view, 0, &is_there) == BITM_WRONG ? is_there == UNTOUCHED : is_there == 0);
     const uint64_t one_inside = 3;
     MUST(bitm_sequence_get_list(&view, &one_inside, 1, written.list, 1, &width) == BITM_WRONG && width == 0);
     MUST(bitm_sequence_items(&view, 6, written.list, 1, &width) == BITM_WRONG && width == 0);

@@ -3,8 +3,9 @@
  * be touched (places.h). */
 #define _DEFAULT_SOURCE
 #include "changed.h"
+#include "hinted.h"
 
-enum { NODES = 3000, SMALL = 9, LIST = 64, OF_DEGREES = OF_MORE };
+enum { NODES = 3000, SMALL = 9, LIST = 64, ROOM = 1 << 16, OF_DEGREES = OF_MORE };
 #include "plain_tree.h"
 
 /* The block of the tree, at the guard, of degrees that are so too. */
@@ -160,6 +161,32 @@ static void answers_within(const void *opened)
     lists_within(tree);
 }
 
+/* A block that was written before there were hints is that of the same tree. */
+static void no_hints(const struct plain_tree *plain, const uint64_t *block)
+{
+    static uint64_t older[ROOM / 8];
+    const size_t words = without_hints(block, older);
+    struct bitm_tree tree = {.hints_len = UNTOUCHED};
+    MUST(bitm_tree_check(older, words) == BITM_OK && bitm_tree_open(older, words, &tree) == BITM_OK);
+    MUST(tree.hints_len == 0);
+    answers_as(plain, &tree);
+}
+
+/* Without its hints a tree answers as with them; whatever these hold, each answer is in its range. */
+static void other_hints(const struct plain_tree *plain, struct bitm_tree tree)
+{
+    uint64_t *const hints = malloc(8 * tree.hints_len);
+    MUST(hints && has_hints(tree.hints, tree.hints_len, tree.words, tree.words_len, tree.len));
+    draw_words(hints, tree.hints_len);
+    tree.hints = hints;
+    answers_within(&tree);
+    for (size_t i = 0; i < tree.hints_len; i++) hints[i] = draw() % tree.len | draw() % tree.len << 32;
+    answers_within(&tree);
+    tree.hints = NULL, tree.hints_len = 0;
+    answers_as(plain, &tree);
+    free(hints);
+}
+
 static void drawn_trees(void)
 {
     static const uint64_t most[] = {1, 2, 3, 10, 100, NODES};
@@ -174,6 +201,8 @@ static void drawn_trees(void)
         MUST(bitm_tree_check(block, words) == BITM_OK);
         answers_as(&plain, &tree);
         lists_as_single_calls(&tree);
+        other_hints(&plain, tree);
+        no_hints(&plain, block);
     }
 }
 
@@ -251,7 +280,7 @@ static void wrong_lengths(void)
     uint64_t *const block = built(&plain, &words);
     struct bitm_tree tree = {0};
     MUST(bitm_tree_open(block, words, &tree) == BITM_OK);
-    for (size_t i = 0; i < 9; i++) {
+    for (size_t i = 0; i < 11; i++) {
         struct bitm_tree bad = tree;
         if (i == 0) bad.len = 0;
         if (i == 1) bad.len = SIZE_MAX;
@@ -262,6 +291,8 @@ static void wrong_lengths(void)
         if (i == 6) bad.upper_len++;
         if (i == 7) bad.lower_len = 0;
         if (i == 8) bad.len += 64;
+        if (i == 9) bad.hints_len--;
+        if (i == 10) bad.hints_len++;
         ANSWER(bitm_tree_parent(&bad, 1, out));
         MUST(status == BITM_BAD_SIZE);
         ANSWER(bitm_tree_child(&bad, 0, 0, out));
@@ -298,7 +329,7 @@ static void tests(void)
 int main(int argc, char **argv)
 {
     take_seed(argc, argv);
-    on_either_side((size_t)1 << 16, tests);
+    on_either_side(ROOM, tests);
     printf("trees: blocks answer as a plain tree, each changed byte and each prefix is refused, and queries of any "
            "words stay within their range\n");
     return 0;

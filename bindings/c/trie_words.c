@@ -116,7 +116,7 @@ static void refused(const char *bytes, size_t bytes_len, const uint64_t *starts,
     uint64_t nodes, *block;
     const uint8_t *const at = (const uint8_t *)bytes;
     MUST(nodes_of(at, bytes_len, starts, starts_len, &nodes) == BITM_BAD_SIZE && nodes == UNTOUCHED);
-    MUST(build(at, bytes_len, starts, starts_len, 14, 80, &block) == BITM_BAD_SIZE);
+    MUST(build(at, bytes_len, starts, starts_len, 14, 88, &block) == BITM_BAD_SIZE);
 }
 
 /* Two words that do not rise, of which so many letters are not shared with the word before: the lengths are those of a
@@ -124,7 +124,7 @@ static void refused(const char *bytes, size_t bytes_len, const uint64_t *starts,
 static void unsorted(const char *bytes, size_t bytes_len, const uint64_t *starts, size_t letters)
 {
     const uint8_t *const at = (const uint8_t *)bytes;
-    const size_t scratch_len = 3 * letters + 2, block_len = letters ? 80 : 72; /* without labels a section less */
+    const size_t scratch_len = 3 * letters + 2, block_len = letters ? 88 : 80; /* without labels a section less */
     uint64_t nodes, *block;
     MUST(nodes_of(at, bytes_len, starts, 3, &nodes) == BITM_UNSORTED && nodes == UNTOUCHED);
     MUST(build(at, bytes_len, starts, 3, scratch_len, block_len, &block) == BITM_UNSORTED);

@@ -3,6 +3,7 @@
  * pages that may not be touched (places.h). */
 #define _DEFAULT_SOURCE
 #include "changed.h"
+#include "hinted.h"
 
 enum { NODES = 900, SMALL = 9, DEEP = NODES + 3 };
 #include "plain_tree.h"
@@ -223,6 +224,17 @@ static void answers_within(const void *opened)
     }
 }
 
+/* A block that was written before there were hints is that of the same trie. */
+static void no_hints(const struct plain *plain, const uint64_t *block)
+{
+    static uint64_t older[1 << 13];
+    const size_t words = without_hints(block, older);
+    struct bitm_trie trie = {.tree = {.hints_len = UNTOUCHED}};
+    MUST(bitm_trie_check(older, words) == BITM_OK && bitm_trie_open(older, words, &trie) == BITM_OK);
+    MUST(trie.tree.hints_len == 0);
+    answers_as(plain, &trie);
+}
+
 static void drawn_tries(void)
 {
     static const uint64_t most[] = {1, 2, 3, 10, 100, NODES};
@@ -235,7 +247,11 @@ static void drawn_tries(void)
         struct bitm_trie *const trie = placed(OF_TRIE, sizeof *trie);
         *trie = (struct bitm_trie){0};
         MUST(bitm_trie_open(block, words, trie) == BITM_OK && bitm_trie_check(block, words) == BITM_OK);
+        MUST(has_hints(trie->tree.hints, trie->tree.hints_len, trie->tree.words, trie->tree.words_len, trie->tree.len));
         answers_as(&plain, trie);
+        trie->tree.hints_len = 0;
+        answers_as(&plain, trie);
+        no_hints(&plain, block);
     }
 }
 
@@ -256,10 +272,10 @@ static void refused_in(struct plain trie, uint32_t wanted, size_t labels_len, ui
 /* Whatever the labels and the degrees are, a wrong length comes first. */
 static void refused(struct plain trie, uint32_t wanted, size_t labels_len, uint32_t width, size_t ends)
 {
-    refused_in(trie, wanted, labels_len, width, ends, 80);
-    refused_in(trie, BITM_BAD_SIZE, labels_len, width, ends, 79);
-    refused_in(trie, BITM_BAD_SIZE, labels_len, width, 2, 80);
-    refused_in(trie, BITM_BAD_SIZE, labels_len + 1, width, ends, 80);
+    refused_in(trie, wanted, labels_len, width, ends, 88);
+    refused_in(trie, BITM_BAD_SIZE, labels_len, width, ends, 87);
+    refused_in(trie, BITM_BAD_SIZE, labels_len, width, 2, 88);
+    refused_in(trie, BITM_BAD_SIZE, labels_len + 1, width, ends, 88);
 }
 
 static void no_tries(void)
@@ -271,7 +287,7 @@ static void no_tries(void)
         refused(trie, BITM_BAD_SIZE, 3, not_widths[i], 1);
         MUST(bitm_trie_size(4, not_widths[i], true, &words) == BITM_BAD_SIZE && words == UNTOUCHED);
     }
-    refused_in(trie, BITM_BAD_SIZE, 2, 8, 1, 80);
+    refused_in(trie, BITM_BAD_SIZE, 2, 8, 1, 88);
     refused(trie, BITM_BAD_SIZE, 4, 8, 1);
     refused(trie, BITM_WRONG, 3, 6, 1); /* 'a' has seven bits */
     refused(trie, BITM_BAD_SIZE, 3, 8, 2);
@@ -282,20 +298,20 @@ static void no_tries(void)
     trie = four(), trie.tree.degrees[0] = 1;
     refused(trie, BITM_WRONG, 3, 8, 1);
     trie = four(), trie.tree.len = 0;
-    refused_in(trie, BITM_WRONG, 0, 8, 0, 64); /* a header of 40 words, and a word with its tables */
+    refused_in(trie, BITM_WRONG, 0, 8, 0, 72); /* a header of 40 words, and a word with its tables and a hint */
     refused(trie, BITM_BAD_SIZE, 0, 8, 0);
     trie = four();
-    for (size_t len = 0; len <= 88; len++) {
-        uint64_t *const room = untouched_at(OF_BLOCK, 704);
-        MUST(build(&trie, 3, 8, 1, room, len) == (len == 80 ? BITM_OK : BITM_BAD_SIZE));
-        MUST(len == 80 || is_untouched(room, 704));
+    for (size_t len = 0; len <= 96; len++) {
+        uint64_t *const room = untouched_at(OF_BLOCK, 768);
+        MUST(build(&trie, 3, 8, 1, room, len) == (len == 88 ? BITM_OK : BITM_BAD_SIZE));
+        MUST(len == 88 || is_untouched(room, 768));
     }
     uint64_t words = UNTOUCHED;
     MUST(bitm_trie_size((size_t)1 << 57, 1, false, &words) == BITM_BAD_SIZE && words == UNTOUCHED);
     MUST(bitm_trie_size(SIZE_MAX, 63, true, &words) == BITM_BAD_SIZE && words == UNTOUCHED);
     MUST(bitm_trie_size(((size_t)1 << 57) - 1, 63, true, &words) == BITM_OK && words < (uint64_t)1 << 59);
-    MUST(bitm_trie_size(4, 8, true, &words) == BITM_OK && words == 80); /* docs/FORMAT.md */
-    MUST(bitm_trie_size(4, 8, false, &words) == BITM_OK && words == 72);
+    MUST(bitm_trie_size(4, 8, true, &words) == BITM_OK && words == 88); /* docs/FORMAT.md */
+    MUST(bitm_trie_size(4, 8, false, &words) == BITM_OK && words == 80);
 }
 
 /* ---- other blocks, and other structs */
@@ -345,19 +361,19 @@ static void wrong_lengths(void)
     uint64_t *const block = built(&plain, &words);
     struct bitm_trie trie = {0};
     MUST(bitm_trie_open(block, words, &trie) == BITM_OK);
-    for (size_t i = 0; i < 15; i++) {
+    for (size_t i = 0; i < 17; i++) {
         struct bitm_trie bad = trie;
-        size_t *const lens[] = {&bad.tree.words_len, &bad.tree.upper_len, &bad.tree.lower_len, &bad.labels_len,
-                                &bad.ends_len};
-        if (i < 5)
+        size_t *const lens[] = {&bad.tree.words_len, &bad.tree.upper_len, &bad.tree.lower_len,
+                                &bad.tree.hints_len, &bad.labels_len,     &bad.ends_len};
+        if (i < 6)
             --*lens[i];
-        else if (i < 10)
-            ++*lens[i - 5];
-        if (i == 10) bad.tree.len = 0;
-        if (i == 11) bad.tree.len = SIZE_MAX;
-        if (i == 12) bad.width = 0;
-        if (i == 13) bad.width = 64;
-        if (i == 14) bad.width = 256 + 8;
+        else if (i < 12)
+            ++*lens[i - 6];
+        if (i == 12) bad.tree.len = 0;
+        if (i == 13) bad.tree.len = SIZE_MAX;
+        if (i == 14) bad.width = 0;
+        if (i == 15) bad.width = 64;
+        if (i == 16) bad.width = 256 + 8;
         ANSWER(bitm_trie_label(&bad, 1, out));
         MUST(status == BITM_BAD_SIZE);
         ANSWER(bitm_trie_is_end(&bad, 1, out));

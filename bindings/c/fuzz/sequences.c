@@ -1,6 +1,8 @@
-/* Queries of a sequence whose parts are built of numbers of the input and then spoilt, or are anything; with samples
- * or without. */
+/* Queries of a sequence whose parts are built of numbers of the input and then spoilt, or are anything; with hints or
+ * without. */
 #include "queries.h"
+
+#include "../hinted.h"
 
 enum { WORDS = 100 };
 
@@ -50,20 +52,24 @@ static void anything(struct input *from, struct bitm_sequence *to)
                                  lower, lowers + (wrong == 16), NULL, 0};
 }
 
+/* Hints of a right sequence, which are then spoilt; of other parts those of the input; now and then one too many. */
+static void hint(struct input *from, struct bitm_sequence *to)
+{
+    const size_t len = bitm_hints_len(to->len, to->words_len), more = take(from, 1) % 32 == 31;
+    uint64_t *const hints = numbers_of(4, len + more);
+    if (bitm_sequence_check(to) == BITM_OK) plain_hints(to->words, to->words_len, to->len, hints);
+    else take_bytes(from, hints, 8 * (len + more));
+    spoil(from, hints, len);
+    to->hints = hints, to->hints_len = len + more;
+}
+
 int LLVMFuzzerTestOneInput(const uint8_t *data, size_t size)
 {
     struct input from = {data, size};
     struct bitm_sequence sequence;
-    struct bitm_samples both[2];
     if (take(&from, 1) % 4 == 0) anything(&from, &sequence);
     else build(&from, &sequence);
-    if (take(&from, 1) % 2 && !bitm_sequence_fault(&sequence)) {
-        const struct bitm_index high = {.words = sequence.words, .words_len = sequence.words_len, .upper = sequence.upper,
-                                        .upper_len = sequence.upper_len, .lower = sequence.lower,
-                                        .lower_len = sequence.lower_len, .bits_len = 64 * sequence.words_len};
-        both[0] = samples_of(&from, &high, true, 4), both[1] = samples_of(&from, &high, false, 6);
-        sequence.samples = both, sequence.samples_len = take(&from, 1) % 3;
-    }
+    if (take(&from, 1) % 2 && !bitm_sequence_fault(&sequence)) hint(&from, &sequence);
     query_sequence(&sequence, &from);
     return 0;
 }
