@@ -14,9 +14,11 @@ The answers are those of the C library, where they are proved to be plain counti
 arguments, Python's conventions) is tested.
 """
 from collections import abc as _abc
+from typing import List as _List
 
-from . import _more, _shard_docs
-from ._core import BitVector, Cursor, Dictionary, EliasFano, Index, PerfectHash, SparseBits, Strings, TextIndex, Tree, Trie, WaveletMatrix, WrongTables
+from . import _blocks, _more, _shard_docs
+from ._core import BitVector, Cursor, Dictionary, EliasFano, Index, OtherKind, PerfectHash, SparseBits, Strings, TextIndex, Tree, Trie, \
+    WaveletMatrix, WrongTables
 from ._files import load, loads
 from ._more import tables_of
 from ._sections import extend, is_written, section, sections
@@ -25,14 +27,20 @@ from .shards import ShardError, Shards
 
 __version__ = "0.3.0"
 __all__ = [
-    "BitVector", "Cursor", "Dictionary", "EliasFano", "Index", "PerfectHash", "ShardError", "Shards", "SparseBits", "Strings",
+    "BitVector", "Cursor", "Dictionary", "EliasFano", "Index", "OtherKind", "PerfectHash", "ShardError", "Shards", "SparseBits", "Strings",
     "TextIndex", "Tree", "Trie", "WaveletMatrix", "WrongTables", "extend", "intersect", "is_written", "load", "loads", "section", "sections",
     "tables_of", "union",
 ]
 
 _more.complete()
 _shard_docs.complete(Shards)
+_blocks.publish({name: globals()[name] for name in __all__})
 _abc.Sequence.register(Index)
 _abc.Sequence.register(EliasFano)
 _abc.Sequence.register(WaveletMatrix)
 _abc.MutableSequence.register(BitVector)
+
+
+def __dir__() -> _List[str]:
+    """What a user imports, and not what the package imports itself."""
+    return [name for name in globals() if name in __all__ or name.startswith("__")]

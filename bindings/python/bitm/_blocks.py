@@ -2,7 +2,7 @@
 import array
 import itertools
 import types
-from typing import Any, List, Optional
+from typing import Any, Dict, List, Optional
 
 from . import _core
 from ._files import load
@@ -17,6 +17,10 @@ BLOCKS = (
     (_core.PerfectHash, "A perfect hash", 'PerfectHash(["zero"])', 1, 'get("zero")', 0),
     (_core.WaveletMatrix, "A list of numbers", "WaveletMatrix([3, 1, 4, 1, 5, 1])", 6, "rank(1, 4)", 2),
     (_core.TextIndex, "The index of a text", 'TextIndex(b"banana")', 6, 'count(b"ana")', 2),
+)
+PARTS = (
+    (_core.Index, "An index", 'Index(BitVector.from_bits("0101101"))', 7, "rank(4)", 2),
+    (_core.EliasFano, "A sequence", "EliasFano([2, 3, 5])", 3, "first_at_least(4)", 2),
 )
 
 
@@ -33,6 +37,25 @@ def give(kind: Any, name: str, function: Any, doc: Optional[str] = None) -> None
     setattr(kind, name, method(kind, name, function, doc))
 
 
+def publish(names: Dict[str, Any]) -> None:
+    """Shows the functions and classes that were written in Python under the names by which a user imports them, and without the types,
+    which checkers read in the source. A class has the methods of its bases as its own."""
+    for item in names.values():
+        if isinstance(item, types.FunctionType):
+            item.__module__, item.__annotations__ = "bitm", {}
+        elif item.__module__ != "bitm":
+            _publish_methods(item)
+            item.__module__ = "bitm"
+
+
+def _publish_methods(kind: Any) -> None:
+    for name, it in [pair for base in reversed(kind.__mro__) if base.__module__.startswith("bitm.") for pair in vars(base).items()]:
+        if isinstance(it, types.FunctionType):
+            give(kind, name, it)
+        elif isinstance(it, classmethod):
+            setattr(kind, name, classmethod(method(kind, name, it.__func__)))
+
+
 def _over(cls: Any, block: Any) -> Any:
     return _core.over(cls, (), (block,))
 
@@ -41,25 +64,20 @@ def _block(self: Any) -> memoryview:
     return memoryview(_core.block(self))
 
 
-def text_open(cls: Any, path: Any) -> Any:
-    """The index of a text in a file that `bitm text build` or `save` wrote, mapped and read where it lies. ValueError as
-    `load`, and where the file is of another kind.
-
-    >>> TextIndex(b"banana").save("book.block")
-    >>> with TextIndex.open("book.block") as index:
-    ...     index.count(b"ana")
-    2
-    """
+def _open(cls: Any, path: Any) -> Any:
     found = load(path, mmap=True)
-    if not isinstance(found, _core.TextIndex):
-        raise ValueError(f"{path!r} is a stored {type(found).__name__}, not the index of a text")
-    return found if cls is _core.TextIndex else _core.over(cls, (), (_core.block(found),))
+    if type(found) is cls:
+        return found
+    try:
+        return _over(cls, _core.block(found))
+    except _core.OtherKind as error:
+        raise _core.OtherKind(f"{path!r}: {error}") from None
 
 
 def text_find_all(self: Any, pattern: Any) -> List[int]:
-    """The positions at which a pattern stands, the first one first; they may overlap. Pattern as in `count`.
+    """The positions at which a pattern stands, the first one first; they may overlap. Pattern and positions as in `locate`.
 
-    >>> TextIndex(b"banana").find_all(b"ana")
+    >>> TextIndex("banana").find_all("ana")
     [1, 3]
     """
     return sorted(self.locate(pattern))
@@ -93,8 +111,8 @@ def complete() -> None:
     for kind, what, made, count, query, answer in BLOCKS:
         name = kind.__name__
         setattr(kind, "over", classmethod(method(kind, "over", _over, f"""{what} in a block that exists already, in a buffer that it holds
-    and does not copy. ValueError where header or directory of the block are not right; the rest is not looked at: call
-    `check`.
+    and does not copy. OtherKind where it holds another structure, ValueError where its header or directory is damaged; the
+    rest is not looked at: call `check`.
 
     >>> block = {made}.block
     >>> {name}.over(block).{query}
@@ -119,5 +137,14 @@ def complete() -> None:
     3
     """))
     setattr(_core.Trie, "of_words", classmethod(method(_core.Trie, "of_words", trie_of_words)))
-    setattr(_core.TextIndex, "open", classmethod(method(_core.TextIndex, "open", text_open)))
+    for kind, what, made, _, query, answer in BLOCKS + PARTS:
+        name = kind.__name__
+        setattr(kind, "open", classmethod(method(kind, "open", _open, f"""{what} in a file, which is mapped and read where it lies, as
+    `load` does. OtherKind where the file holds another structure; ValueError and OSError as of `load`.
+
+    >>> {made}.save("file")
+    >>> with {name}.open("file") as it:
+    ...     it.{query}
+    {answer}
+    """)))
     give(_core.TextIndex, "find_all", text_find_all)

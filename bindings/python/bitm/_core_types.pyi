@@ -1,9 +1,9 @@
 # What the stubs of bitm._core share: the kinds of arguments and answers, and what all values have that can be closed.
-from collections.abc import Iterable, Iterator, Mapping, Sequence, Set as AbstractSet
+from collections.abc import Callable, Iterable, Iterator, Mapping, Sequence, Set as AbstractSet
 from types import TracebackType
 from typing import Any, SupportsIndex, TypeVar, Union
 
-from _typeshed import ReadableBuffer as Buffer
+from _typeshed import ReadableBuffer as Buffer, StrOrBytesPath
 import numpy
 from numpy.typing import NDArray
 from typing_extensions import Self
@@ -21,9 +21,12 @@ _Key = Union[str, bytes, SupportsIndex]
 _PlainKeys = Union[Sequence[_Key], AbstractSet[_Key], Iterator[_Key], Mapping[_Key, object]]
 _String = Union[str, bytes, bytearray, memoryview]
 _PlainStrings = Union[Sequence[_String], AbstractSet[_String], Iterator[_String], Mapping[_String, object]]
+_Progress = Callable[[int, int], object]
 _T = TypeVar("_T")
 
 class _Value:
+    @classmethod
+    def open(cls, path: StrOrBytesPath | int) -> Self: ...
     @property
     def closed(self) -> bool: ...
     def close(self) -> None: ...

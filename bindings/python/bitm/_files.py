@@ -119,8 +119,8 @@ def loads(data: Any, /) -> Stored:
     return _core.stored_load(flat[: flat.nbytes // 8 * 8])
 
 
-# By the mark, whose last byte is the version, where the header has the size of the file: version 3 are blocks.
-_SIZE_AT = {b"bitmtab\x02": 32, b"bitmtab\x03": 16}
+# By the mark, whose last byte is the version, where the header has the size of the file: versions 3 and 4 are blocks.
+_SIZE_AT = {b"bitmtab\x02": 32, b"bitmtab\x03": 16, b"bitmtab\x04": 16}
 
 
 def _look(head: bytes, size: Optional[int], shown: str) -> None:

@@ -2,6 +2,8 @@
 arrays: those of that name, and those that are passed an array."""
 import array
 import hashlib
+import itertools
+import operator
 import pickle
 from typing import Any, Callable, Optional, Tuple
 
@@ -189,16 +191,38 @@ def int_bytes(key: int, _seed: int) -> bytes:
     return int.to_bytes(key, int.bit_length(key) // 8 + 1, "little", signed=True)
 
 
+def _kind_and_bytes(key: Any) -> Tuple[bytes, bytes]:
+    """What is hashed of a key: keys are equal where both are."""
+    if isinstance(key, str):
+        return b"str", str.encode(key, "utf-8", "surrogatepass")
+    return (b"bytes", key) if isinstance(key, bytes) else (b"int", int_bytes(operator.index(key), 0))
+
+
 def blake(key: Any, seed: int) -> Tuple[int, int]:
     """The two hashes of a key in files of version 0.2.0."""
-    if isinstance(key, str):
-        kind, data = b"str", str.encode(key, "utf-8", "surrogatepass")
-    elif isinstance(key, bytes):
-        kind, data = b"bytes", key
-    else:
-        kind, data = b"int", int_bytes(key.__index__(), 0)
+    kind, data = _kind_and_bytes(key)
     both = hashlib.blake2b(data, digest_size=16, key=seed.to_bytes(8, "little"), person=kind).digest()
     return int.from_bytes(both[:8], "little"), int.from_bytes(both[8:], "little")
+
+
+def short(key: Any) -> str:
+    """A key as a message shows it: its repr, of 60 characters at most."""
+    if not isinstance(key, (str, bytes)):
+        bits = int.bit_length(operator.index(key))
+        return int.__repr__(operator.index(key)) if bits < 196 else f"a number of {bits} bits"
+    kind: Any = str if isinstance(key, str) else bytes  # whatever a subclass makes of slices
+    shown = repr(kind.__getitem__(key, slice(60)))
+    return shown if len(shown) <= 60 else shown[:57] + "..."
+
+
+def equal_keys(keys: Any, first: int, second: int) -> Optional[str]:
+    """Says which keys are equal, of two that have one hash; None where they are not. Of an iterator no key is left to look at."""
+    named, given = f"keys {first} and {second} are equal", iter(keys)
+    both = [] if given is keys else [key for at, key in enumerate(itertools.islice(given, second + 1)) if at in (first, second)]
+    if len(both) < 2:
+        return f"{named}, or have one hash: take another seed"
+    one, other = map(_kind_and_bytes, both)
+    return f"{named}: {short(both[0])}" if one == other else None
 
 
 # ---- pickles: the block of a value, out of band where the pickler wants that. Older ones have numbers and parts.

@@ -76,7 +76,7 @@ def sections(block: "Buffer", /) -> List[Tuple[int, memoryview]]:
     directory of the block are not right; whether the sections are as they were written is for `is_written` to say.
 
     >>> [role for role, _ in sections(extend(Tree([2, 0, 0]).block, {65536: b"3 nodes"}))]
-    [1, 2, 3, 65536]
+    [1, 2, 3, 22, 65536]
     """
     return [(role, _items(role, count, window)) for role, count, window in _core.sections_of(_words(block))]
 

@@ -5,7 +5,7 @@ from typing import Any
 
 MADE = "shards = Shards.build([BitVector.from_bits('0110'), BitVector.from_bits('101')], 'bits')"
 EXAMPLES = {  # a method, then lines and what each prints
-    "build": [("shards", "<Shards of 7 bits, 4 ones, in 2 shards>")],
+    "build": [("shards", "Shards(bits=7, ones=4, shards=2)")],
     "append": [("shards.append(BitVector.from_bits('11'))", ""), ("len(shards), shards.count()", "(9, 6)")],
     "replace": [("shards.replace(0, BitVector.from_bits('00'))", ""), ("len(shards), shards.count()", "(5, 2)")],
     "check": [("shards.check()", "")],
@@ -36,5 +36,5 @@ def complete(shards: Any) -> None:
         method = getattr(shards, name)
         method = getattr(method, "__func__", method)
         if method.__doc__:
-            shown = "\n".join(f">>> {line}" + (f"\n{printed}" if printed else "") for line, printed in [(MADE, ""), *lines])
-            method.__doc__ = f"{method.__doc__.rstrip()}\n\n{shown}\n"
+            shown = [it for line, printed in [(MADE, ""), *lines] for it in (f">>> {line}", printed) if it]
+            method.__doc__ = "\n        ".join([method.__doc__.rstrip() + "\n", *shown, ""])

@@ -13,6 +13,7 @@ ZEROS, ONES, POSITIONS = range(3)  # what is numbered, as bitm.h has it
 class Lists:
     """The lists of queries of `Shards`."""
 
+    __slots__ = ()  # so that help() shows nothing of this class
     _set: ShardSet
 
     def shard(self, number: int) -> Index:

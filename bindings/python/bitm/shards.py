@@ -25,7 +25,18 @@ Answer = TypeVar("Answer")
 
 
 class ShardError(Exception):
-    """A shard is missing, cut short, or not the one that the manifest names: the message says which."""
+    """A shard is missing, cut short, or not the one that the manifest names: the message says which.
+
+    >>> import glob, os
+    >>> shards = Shards.build([BitVector.from_bits("0110")], "few")
+    >>> for file in glob.glob("few/*.bitm"):
+    ...     os.remove(file)
+    >>> try:
+    ...     shards.rank(3)
+    ... except ShardError as error:
+    ...     print("there is no shard 0" if "No such file" in str(error) else error)
+    there is no shard 0
+    """
 
 
 class Part(NamedTuple):
@@ -78,15 +89,8 @@ def build_shard(task: Tuple[str, str, Any, Optional[int], str]) -> Part:
     index = bits if isinstance(bits, Index) and length is None else Index(bits, length, sample_log2=sample_log2)
     path = os.path.join(folder, file)
     index.save(path)
-    with _mapped(path) as stored:
+    with Index.open(path) as stored:
         return Part(file, len(stored), stored.rank(len(stored)), sum_of(stored), words_sum_of(stored))
-
-
-def _mapped(path: str) -> Index:
-    found = _files.load(path, mmap=True)
-    if not isinstance(found, Index):
-        raise ValueError(f"{path} has no index")
-    return found
 
 
 def _asked(shard: Tuple[str, int, Part]) -> Optional[str]:
@@ -107,7 +111,7 @@ def _says(folder: str, number: int, part: Part, what: object) -> str:
 
 def _opened(folder: str, number: int, part: Part) -> Index:
     try:
-        index = _mapped(os.path.join(folder, part.file))
+        index = Index.open(os.path.join(folder, part.file))
     except (OSError, ValueError) as error:
         raise ShardError(_says(folder, number, part, error)) from error
     if (len(index), index.rank(len(index)), sum_of(index)) != part[1:4]:
@@ -159,7 +163,7 @@ class Shards(_shard_lists.Lists):
     >>> folder = tempfile.mkdtemp()
     >>> shards = bitm.Shards.build([bitm.BitVector.from_bits("0110"), bitm.BitVector.from_bits("101")], folder)
     >>> shards, shards.rank(5), shards.select(3), shards.select_list([0, 2, 9])
-    (<Shards of 7 bits, 4 ones, in 2 shards>, 3, 6, [1, 4, None])
+    (Shards(bits=7, ones=4, shards=2), 3, 6, [1, 4, None])
     """
 
     def __init__(self, folder: PathLike) -> None:
@@ -228,7 +232,7 @@ class Shards(_shard_lists.Lists):
         return type(self), (self.folder,)
 
     def __repr__(self) -> str:
-        return f"<Shards of {len(self)} bits, {self.count()} ones, in {len(self.parts)} shards>"
+        return f"{type(self).__name__}(bits={len(self)}, ones={self.count()}, shards={len(self.parts)})"
 
     def shard(self, number: int) -> Index:
         """The index of a shard, which is mapped when it is first needed."""

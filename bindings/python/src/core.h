@@ -35,7 +35,7 @@
 #define PRINTS(text) "\n" text
 #define KEYWORDS(name, function, arguments, text) METHOD(name, function, METH_FASTCALL | METH_KEYWORDS, arguments, text)
 
-extern PyObject *WrongTables;
+extern PyObject *WrongTables, *OtherKind;
 extern PyTypeObject *Memory_Type, *Window_Type, *Positions_Type, *Numbers_Type, *SparseWalk_Type, *Cursor_Type,
     *Vector_Type, *Index_Type, *Sequence_Type, *Sparse_Type, *Dictionary_Type, *Strings_Type, *Hash_Type, *Tree_Type,
     *Trie_Type, *Matrix_Type, *Text_Type, *ShardSet_Type;
@@ -247,6 +247,7 @@ PyObject *value_exit(PyObject *self, PyObject *args);
 PyObject *value_closed(PyObject *self, void *none);
 PyObject *value_copy(PyObject *self, PyObject *none);
 PyObject *value_sizeof(PyObject *self, PyObject *none);
+PyObject *shown_as(PyObject *self, const char *fields, ...); /* `Index(bits=7, ones=4)`, by the name of its class */
 extern PyMemberDef value_members[];
 
 /* What each value has, with an example of its type. */
@@ -352,7 +353,7 @@ Py_ssize_t bits_len(PyObject *self);
 PyObject *bits_ones(PyObject *self, PyObject *const *args, Py_ssize_t count, PyObject *keywords);
 PyObject *bits_zeros(PyObject *self, PyObject *const *args, Py_ssize_t count, PyObject *keywords);
 
-/* ---- sequence.c, numbers.c, cursor.c, sets.c, merged.c, keys.c, stored.c */
+/* ---- sequence.c, numbers.c, cursor.c, sets.c, merged.c, stored.c */
 /* What equals a whole number of 64 bits: 1 and the number, 0 where it cannot be one, -1 and an error. */
 int equal_number(PyObject *value, uint64_t *out);
 
@@ -380,18 +381,6 @@ void several_drop(Several *it);
 
 /* Whether it is an EliasFano; TypeError else. */
 int is_sequence(PyObject *it);
-
-/* Whether it can be a key; the hash and the fingerprint of a key, and those of each key of a list. */
-#define MARK_BLAKE 0x687361686d746962u /* "bitmhash": files of version 0.2.0, whose keys are hashed by BLAKE2b */
-#define MARK_SIP 0x327361686d746962u   /* "bitmhas2": by SipHash-1-3 */
-int is_key(PyObject *key);
-int key_hash(PyObject *key, uint64_t mark, uint64_t seed, uint64_t out[2]);
-typedef struct {
-    uint64_t *hashes, *prints;
-    size_t count;
-} Keys;
-int keys_hash(Keys *it, PyObject *keys, uint64_t mark, uint64_t seed);
-void keys_drop(Keys *it);
 
 PyObject *stored_load(PyObject *module, PyObject *file);
 

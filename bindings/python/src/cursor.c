@@ -79,12 +79,11 @@ static PyObject *cursor_repr(PyObject *self)
     struct bitm_cursor *it = standing(self);
     if (it == NULL) {
         PyErr_Clear();
-        return PyUnicode_FromString("<Cursor over no sequence>");
+        return shown_as(self, "closed");
     }
     if (is_at_end(it))
-        return PyUnicode_FromFormat("<Cursor at the end of %zu numbers>", it->sequence.len);
-    return PyUnicode_FromFormat("<Cursor at number %llu, index %zu of %zu>", (unsigned long long)it->number, it->index,
-                                it->sequence.len);
+        return shown_as(self, "index=%zu, number=None", it->index);
+    return shown_as(self, "index=%zu, number=%llu", it->index, (unsigned long long)it->number);
 }
 
 static PyMethodDef methods[] = {METHOD("next_geq", cursor_next_geq, METH_O, "($self, value, /)", CURSOR_NEXT_GEQ),

@@ -3,26 +3,41 @@
 
 int dictionary_opened(Memory *it)
 {
-    return block_opened("a dictionary", bitm_dictionary_open(it->block, it->block_len, &it->dictionary) == BITM_OK);
+    return block_opened(it, dictionary_opened,
+                        bitm_dictionary_open(it->block, it->block_len, &it->dictionary) == BITM_OK);
 }
 
 /* ---- made */
 
-/* The parts of the dictionary of keys by a seed, in the rooms of the levels and one for the keys at their numbers:
- * BITM_OK; BITM_NONE where two hashes are equal. Needs no GIL. */
-static uint32_t parts_built(const uint64_t *keys, Levels *in, uint64_t *placed, struct bitm_dictionary *out)
+/* The parts of the dictionary of keys by a seed, in the rooms of the levels and one for the keys at their numbers: 0; 1
+ * where hashes are left; -1 and an error. */
+static int parts_built(const uint64_t *keys, Levels *in, uint64_t *placed, struct bitm_dictionary *out)
 {
     uint64_t number_there = 0;
+    uint32_t status = BITM_OK;
     for (size_t i = 0; i < in->count; i++)
         in->hashes[i] = keys[i] + out->seed; /* modulo 2^64 */
-    uint32_t status = levels_built(in, &out->hash);
+    const int is_left = levels_built(in, &out->hash);
+    if (is_left)
+        return is_left;
     out->keys = placed, out->keys_len = in->count;
+    Py_BEGIN_ALLOW_THREADS
     for (size_t i = 0; i < in->count && status == BITM_OK; i++) {
         status = bitm_hash_get(&out->hash, keys[i] + out->seed, &number_there);
         if (status == BITM_OK)
             placed[number_there] = keys[i];
     }
-    return status;
+    Py_END_ALLOW_THREADS
+    return status == BITM_OK ? 0 : (wrong(), -1);
+}
+
+/* Says which keys are equal, as their hashes are: -1, or 1 where none are. */
+static int say_twins(const uint64_t *keys, Levels *in, uint64_t seed)
+{
+    size_t pair[2];
+    for (size_t i = 0; i < in->left; i++)
+        in->hashes[i] -= seed;
+    return levels_twins(in, keys, pair) ? say_equal("keys", pair, boxed(keys[pair[0]])) : 1;
 }
 
 /* Writes the block of the parts into memory of its own. -1 and an error. */
@@ -44,37 +59,38 @@ static int block_built(Memory *it, const struct bitm_dictionary *parts)
 /* The dictionary of keys by the first seed that leaves no hash. -1 and an error. */
 static int built(Memory *it, const uint64_t *keys, Levels *in, uint64_t *placed, const Wanted *how)
 {
-    uint32_t status = BITM_NONE;
-    for (int i = 0; i < how->seeds && status == BITM_NONE; i++) {
+    int status = 1;
+    for (int i = 0; i < how->seeds && status > 0; i++) {
         struct bitm_dictionary parts = {.seed = how->seed + (uint64_t)i};
-        Py_BEGIN_ALLOW_THREADS
         status = parts_built(keys, in, placed, &parts);
-        Py_END_ALLOW_THREADS
-        if (status == BITM_OK)
+        if (status == 0)
             return block_built(it, &parts);
+        if (status > 0)
+            status = say_twins(keys, in, parts.seed);
     }
-    PyErr_SetString(PyExc_ValueError,
-                    status == BITM_NONE ? "keys are equal, or take another seed" : "there are too many keys");
-    return -1;
+    return refuse("keys have no number: take another seed");
 }
 
 static int dictionary_init(PyObject *self, PyObject *args, PyObject *keywords)
 {
-    static char *names[] = {"keys", "percent", "seed", NULL};
-    PyObject *from, *percent = NULL, *seed = NULL;
-    uint64_t *keys, *placed = NULL;
+    static char *names[] = {"keys", "percent", "seed", "progress", NULL};
+    PyObject *from, *percent = NULL, *seed = NULL, *progress = NULL;
+    uint64_t *keys = NULL, *placed = NULL;
     size_t count;
     Levels levels = {0};
     Wanted how;
-    if (!PyArg_ParseTupleAndKeywords(args, keywords, "O|$OO:Dictionary", names, &from, &percent, &seed) ||
-        wanted_take(&how, percent, seed) || (keys = integers_all(from, "a key", &count)) == NULL)
+    if (!PyArg_ParseTupleAndKeywords(args, keywords, "O|$OOO:Dictionary", names, &from, &percent, &seed, &progress))
         return -1;
-    const int taken = levels_room(&levels, count, how.percent, 0) == 0 && (placed = room_for(count)) != NULL;
+    Py_XINCREF(progress);
+    const int taken =
+        wanted_take(&how, percent, seed, progress) == 0 && (keys = integers_all(from, "a key", &count)) != NULL &&
+        levels_room(&levels, count, how.percent, 0, how.progress) == 0 && (placed = room_for(count)) != NULL;
     Memory *it = taken ? memory_new() : NULL;
     int is_made = it != NULL && built(it, keys, &levels, placed, &how) == 0;
     levels_drop(&levels);
     free(placed);
     free(keys);
+    Py_XDECREF(progress);
     return value_made(self, it, is_made);
 }
 
@@ -164,12 +180,7 @@ ATTRIBUTE(dictionary, seed, dictionary.seed)
 
 BLOCK_CHECK(dictionary)
 
-static PyObject *dictionary_repr(PyObject *self)
-{
-    Memory *it = ((Value *)self)->memory;
-    return it == NULL ? PyUnicode_FromString("<Dictionary, closed>")
-                      : PyUnicode_FromFormat("<Dictionary of %zu keys>", it->dictionary.keys_len);
-}
+REPR(dictionary, "keys=%zu", it->dictionary.keys_len)
 
 #define OF(rest) EXAMPLE("squares = Dictionary([4, 9, 49])") THEN(rest)
 static PyMethodDef methods[] = {
@@ -191,13 +202,14 @@ static PyGetSetDef attributes[] = {
     {NULL, NULL, NULL, NULL, NULL}};
 
 #define DICTIONARY_DOC                                                                                                 \
-    "Dictionary(keys, *, percent=100, seed=None)\n--\n\n"                                                              \
+    "Dictionary(keys, *, percent=100, seed=None, progress=None)\n--\n\n"                                               \
     "Numbers, each with a number of its own below how many there are, in one block of memory: a minimal\n"             \
     "perfect hash and the keys, so that a number that is no key has none.\n\n"                                         \
-    "A key takes about 67 bits. percent is how many bits the levels have for each 100 keys."                           \
-    EXAMPLE("squares = Dictionary([4, 9, 49])")                                                                        \
-    THEN("49 in squares, 50 in squares, sorted(squares[key] for key in squares)")                                      \
-    PRINTS("(True, False, [0, 1, 2])")
+    "A key takes about 67 bits. percent is how many bits the levels have for each 100 keys. progress is\n"             \
+    "called as that of a PerfectHash. ValueError where keys are equal: it says which." EXAMPLE(                        \
+        "squares = Dictionary([4, 9, 49])")                                                                            \
+        THEN("49 in squares, 50 in squares, sorted(squares[key] for key in squares)")                                  \
+            PRINTS("(True, False, [0, 1, 2])")
 
 static PyType_Slot slots[] = {VALUE_SLOTS(DICTIONARY_DOC, dictionary_init, methods, attributes, dictionary_repr),
                               {Py_tp_iter, dictionary_iter},

@@ -1,6 +1,5 @@
 /* bitm.PerfectHash: what it is asked. */
-#include "siphash.h"
-#include "values.h"
+#include "keys.h"
 
 /* ---- queries */
 
@@ -14,10 +13,8 @@ static Memory *hashed(PyObject *self, PyObject *key, uint64_t both[2])
         return NULL;
     if (LIKELY(Py_IS_TYPE(key, &PyUnicode_Type)) && LIKELY(it->mark == MARK_SIP)) {
         const char *at = PyUnicode_AsUTF8AndSize(key, &len);
-        if (LIKELY(at != NULL)) {
-            siphash(at, (size_t)len, it->seed, TEXT, both);
-            return it;
-        }
+        if (LIKELY(at != NULL))
+            return bytes_hash(at, (size_t)len, it->seed, TEXT, both) ? NULL : it;
         PyErr_Clear(); /* lone surrogates */
     }
     return key_hash(key, it->mark, it->seed, both) ? NULL : memory_of(self);
@@ -112,14 +109,7 @@ static PyObject *hash_check(PyObject *self, PyObject *none)
     return value_checked(self, is_right);
 }
 
-static PyObject *hash_repr(PyObject *self)
-{
-    Memory *it = ((Value *)self)->memory;
-    if (it == NULL)
-        return PyUnicode_FromString("<PerfectHash, closed>");
-    return PyUnicode_FromFormat("<PerfectHash of %zu keys, fingerprints of %llu bits>", it->seeded.hash.keys,
-                                (unsigned long long)it->print_width);
-}
+REPR(hash, "keys=%zu, width=%llu", it->seeded.hash.keys, (unsigned long long)it->print_width)
 
 ATTRIBUTE(hash, seed, seed)
 ATTRIBUTE(hash, bits, print_width)

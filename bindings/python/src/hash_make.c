@@ -1,5 +1,5 @@
 /* bitm.PerfectHash: how one is made, in one block, with seeds or without. */
-#include "values.h"
+#include "keys.h"
 
 /* ---- opened */
 
@@ -37,7 +37,8 @@ int hash_opened(Memory *it)
             bitm_hash_get_seeded(&it->seeded, 0, &out) != BITM_BAD_SIZE)
             return 0;
     }
-    PyErr_SetString(PyExc_ValueError, "it is not a perfect hash that was saved here, or not all of it");
+    if (it->block == NULL || !is_of_other_kind(it, hash_opened))
+        PyErr_SetString(PyExc_ValueError, "it is not a perfect hash that was saved here, or not all of it");
     return -1;
 }
 
@@ -46,6 +47,7 @@ int hash_opened(Memory *it)
 typedef struct {
     uint64_t width, percent, seed, mark, tries;
     int is_any_seed;
+    PyObject *keys, *progress; /* borrowed of hash_init, which holds them */
 } Settings;
 
 /* The words of the section of fingerprints, in a piece of malloc's. NULL and an error. */
@@ -132,18 +134,17 @@ Memory *hash_in_block(Memory *from)
     return it;
 }
 
-/* The hash of keys in rooms for its levels. -1 and an error; 1 where two hashes are equal. */
+/* The hash of keys in rooms for its levels. -1 and an error; 1 where hashes are left. */
 static int built_in(Memory *it, const Keys *keys, const Settings *how, Levels *in)
 {
     struct bitm_seeded_hash hash = {.seeds = in->seeds};
     size_t prints_len = 0, plain_len = 0;
-    uint32_t status;
     Py_BEGIN_ALLOW_THREADS
     memcpy(in->hashes, keys->hashes, 8 * keys->count);
-    status = levels_built(in, &hash.hash);
     Py_END_ALLOW_THREADS
-    if (status != BITM_OK)
-        return 1;
+    const int is_left = levels_built(in, &hash.hash);
+    if (is_left)
+        return is_left;
     hash.seeds_len = in->seeds == NULL ? 0 : hash.hash.index.words_len;
     uint64_t *prints = prints_built(&hash, keys, how->width, &prints_len);
     uint64_t *plain = prints == NULL ? NULL : plain_built(&hash, it->seed, &plain_len);
@@ -158,29 +159,47 @@ static uint32_t percent_of(const Settings *how)
     return how->percent > UINT32_MAX ? UINT32_MAX : (uint32_t)how->percent;
 }
 
-static int build(Memory *it, const Keys *keys, const Settings *how)
+/* Says which keys are equal, or, where no other seed is tried, have one hash: -1 and an error; 1 else. */
+static int say_twins(Levels *in, const Keys *keys, const Settings *how, int is_last)
+{
+    size_t pair[2];
+    if (!levels_twins(in, keys->hashes, pair))
+        return is_last ? refuse("keys have no number: take another seed") : 1;
+    PyObject *said = more("equal_keys", Py_BuildValue("(Onn)", how->keys, (Py_ssize_t)pair[0], (Py_ssize_t)pair[1]));
+    const int are_equal = said != NULL && said != Py_None;
+    if (are_equal)
+        PyErr_SetObject(PyExc_ValueError, said);
+    Py_XDECREF(said);
+    if (said == NULL || are_equal)
+        return -1;
+    return is_last ? say_one_hash("keys", pair) : 1;
+}
+
+static int build(Memory *it, const Keys *keys, const Settings *how, int is_last)
 {
     Levels levels;
-    int made = levels_room(&levels, keys->count, percent_of(how), (uint16_t)how->tries);
+    int made = levels_room(&levels, keys->count, percent_of(how), (uint16_t)how->tries, how->progress);
     if (made == 0)
         made = built_in(it, keys, how, &levels);
+    if (made > 0)
+        made = say_twins(&levels, keys, how, is_last);
     levels_drop(&levels);
     return made;
 }
 
 /* ---- __init__ */
 
-/* The hash of keys by a seed: NULL and an error; NULL alone where two hashes are equal. */
-static Memory *built(PyObject *given, const Settings *how, uint64_t seed)
+/* The hash of keys by a seed: NULL and an error; NULL alone where hashes are left, unless the seed is the last. */
+static Memory *built(const Settings *how, uint64_t seed, int is_last)
 {
     Keys keys;
-    if (keys_hash(&keys, given, how->mark, seed))
+    if (keys_hash(&keys, how->keys, how->mark, seed))
         return NULL;
     Memory *it = memory_new();
     int status = -1;
     if (it != NULL) {
         it->seed = seed;
-        status = build(it, &keys, how);
+        status = build(it, &keys, how, is_last);
     }
     keys_drop(&keys);
     if (status == 0)
@@ -201,13 +220,14 @@ static int mark_of(PyObject *hash, uint64_t *mark)
     return -1;
 }
 
-static int settings_take(Settings *it, PyObject *keys, PyObject *const given[5])
+static int settings_take(Settings *it, PyObject *keys, PyObject *const given[6])
 {
     const int is_seeded = given[4] != NULL && given[4] != Py_None;
     if (number_or(given[0], 16, "bits", &it->width) || number_or(given[1], 100, "percent", &it->percent) ||
         number_or(given[2], 0, "the seed", &it->seed) || mark_of(given[3], &it->mark) ||
-        number_or(given[4], 0, "tries", &it->tries))
+        number_or(given[4], 0, "tries", &it->tries) || progress_take(given[5], &it->progress))
         return -1;
+    it->keys = keys;
     /* Of an iterator the keys come but once. */
     it->is_any_seed = (given[2] == NULL || given[2] == Py_None) && !PyIter_Check(keys);
     if (it->width > 64)
@@ -219,23 +239,18 @@ static int settings_take(Settings *it, PyObject *keys, PyObject *const given[5])
 
 int hash_init(PyObject *self, PyObject *args, PyObject *keywords)
 {
-    static char *names[] = {"keys", "bits", "percent", "seed", "hash", "tries", NULL};
-    PyObject *keys, *given[5] = {NULL, NULL, NULL, NULL, NULL};
+    static char *names[] = {"keys", "bits", "percent", "seed", "hash", "tries", "progress", NULL};
+    PyObject *keys, *given[6] = {NULL, NULL, NULL, NULL, NULL, NULL};
     Settings how;
-    if (!PyArg_ParseTupleAndKeywords(args, keywords, "O|$OOOOO:PerfectHash", names, &keys, &given[0], &given[1],
-                                     &given[2], &given[3], &given[4]) ||
-        settings_take(&how, keys, given))
+    if (!PyArg_ParseTupleAndKeywords(args, keywords, "O|$OOOOOO:PerfectHash", names, &keys, &given[0], &given[1],
+                                     &given[2], &given[3], &given[4], &given[5]))
         return -1;
-    Memory *it = built(keys, &how, how.seed);
-    if (it == NULL && !PyErr_Occurred() && how.is_any_seed)
-        it = built(keys, &how, 1);
-    if (it == NULL) {
-        if (!PyErr_Occurred())
-            PyErr_SetString(PyExc_ValueError, how.is_any_seed
-                                                  ? "keys are equal"
-                                                  : "keys are equal, or their hashes are: try another seed");
-        return -1;
-    }
-    value_set(self, it);
-    return 0;
+    Py_INCREF(keys);
+    Py_XINCREF(given[5]);
+    Memory *it = settings_take(&how, keys, given) ? NULL : built(&how, how.seed, !how.is_any_seed);
+    if (it == NULL && !PyErr_Occurred())
+        it = built(&how, 1, 1);
+    Py_DECREF(keys);
+    Py_XDECREF(given[5]);
+    return value_made(self, it, it != NULL);
 }

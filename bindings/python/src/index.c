@@ -130,14 +130,14 @@ static PyObject *index_check(PyObject *self, PyObject *none)
 
 static PyObject *index_repr(PyObject *self)
 {
-    Memory *it = ((Value *)self)->memory;
+    const Memory *it = ((Value *)self)->memory;
     uint64_t ones = 0;
     if (it == NULL)
-        return PyUnicode_FromString("<Index, closed>");
+        return shown_as(self, "closed");
     unsigned long long len = it->index.bits_len;
     if (bitm_index_rank(&it->index, true, it->index.bits_len, &ones) != BITM_OK)
-        return PyUnicode_FromFormat("<Index of %llu bits, wrong tables>", len);
-    return PyUnicode_FromFormat("<Index of %llu bits, %llu ones>", len, (unsigned long long)ones);
+        return shown_as(self, "bits=%llu, wrong tables", len);
+    return shown_as(self, "bits=%llu, ones=%llu", len, (unsigned long long)ones);
 }
 
 static PyObject *index_words(PyObject *self, void *none)
@@ -173,10 +173,9 @@ static PyMethodDef methods[] = {
     VALUE_METHODS("Index(BitVector.from_bits('0101'))"),
     {NULL, NULL, 0, NULL}};
 
-static PyGetSetDef attributes[] = {
-    VALUE_CLOSED("Index(BitVector.from_bits('0101'))"),
-    {"words", index_words, NULL, DOC(INDEX_WORDS), NULL},
-    {NULL, NULL, NULL, NULL, NULL}};
+static PyGetSetDef attributes[] = {VALUE_CLOSED("Index(BitVector.from_bits('0101'))"),
+                                   {"words", index_words, NULL, DOC(INDEX_WORDS), NULL},
+                                   {NULL, NULL, NULL, NULL, NULL}};
 
 static PyType_Slot slots[] = {VALUE_SLOTS(INDEX_DOC, index_init, methods, attributes, index_repr),
                               {Py_tp_richcompare, bits_compare},

@@ -35,7 +35,7 @@ static void samples_taken(Memory *it, int one)
 
 int index_block_opened(Memory *it)
 {
-    if (block_opened("an index", bitm_index_block_open(it->block, it->block_len, &it->index) == BITM_OK))
+    if (block_opened(it, index_opened, bitm_index_block_open(it->block, it->block_len, &it->index) == BITM_OK))
         return -1;
     samples_taken(it, 1);
     samples_taken(it, 0);

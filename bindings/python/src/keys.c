@@ -1,13 +1,13 @@
 /* Hashes of keys: two numbers of 64 bits for each, its hash and what its fingerprint is of. */
-#include "siphash.h"
+#include "keys.h"
 
-/* A number of 64 bits, with a sign or without. */
-static void number_hash(uint64_t number_there, int is_signed, uint64_t seed, uint64_t out[2])
+/* A number of 64 bits, with a sign or without: BITM_OK. Needs no GIL. */
+static uint32_t number_hash(uint64_t number_there, int is_signed, uint64_t seed, uint64_t out[2])
 {
-    char bytes[9] = {0};
+    uint8_t bytes[9] = {0};
     memcpy(bytes, &number_there, 8);
     int is_large = !is_signed && number_there >> 63; /* then as int.to_bytes(.., signed=True) writes it */
-    siphash(bytes, is_large ? 9 : 8, seed, is_large ? LARGE_NUMBER : NUMBER, out);
+    return bitm_key_hash(bytes, is_large ? 9 : 8, seed, is_large ? LARGE_NUMBER : NUMBER, &out[0], &out[1]);
 }
 
 /* The answer of a function of bitm/_more.py for a key and the seed. */
@@ -29,27 +29,24 @@ static int blake_hash(PyObject *key, uint64_t seed, uint64_t out[2])
     return status;
 }
 
-static int bytes_hash(PyObject *bytes, uint64_t seed, uint64_t kind, uint64_t out[2])
+static int object_hash(PyObject *bytes, uint64_t seed, uint64_t kind, uint64_t out[2])
 {
     char *at;
     Py_ssize_t len;
     if (bytes == NULL || PyBytes_AsStringAndSize(bytes, &at, &len))
         return -1;
-    siphash(at, (size_t)len, seed, kind, out);
-    return 0;
+    return bytes_hash(at, (size_t)len, seed, kind, out);
 }
 
 static int text_hash(PyObject *key, uint64_t seed, uint64_t out[2])
 {
     Py_ssize_t len;
     const char *at = PyUnicode_AsUTF8AndSize(key, &len);
-    if (at != NULL) {
-        siphash(at, (size_t)len, seed, TEXT, out);
-        return 0;
-    }
+    if (at != NULL)
+        return bytes_hash(at, (size_t)len, seed, TEXT, out);
     PyErr_Clear(); /* lone surrogates */
     PyObject *kept = PyUnicode_AsEncodedString(key, "utf-8", "surrogatepass");
-    int status = bytes_hash(kept, seed, TEXT, out);
+    int status = object_hash(kept, seed, TEXT, out);
     Py_XDECREF(kept);
     return status;
 }
@@ -60,12 +57,10 @@ static int int_hash(PyObject *key, uint64_t seed, uint64_t out[2])
     long long found = PyLong_AsLongLongAndOverflow(key, &is_more);
     if (found == -1 && PyErr_Occurred())
         return -1;
-    if (!is_more) {
-        number_hash((uint64_t)found, 1, seed, out);
-        return 0;
-    }
+    if (!is_more)
+        return bytes_hash((const char *)&found, 8, seed, NUMBER, out);
     PyObject *kept = by_python("int_bytes", key, seed);
-    int status = bytes_hash(kept, seed, LARGE_NUMBER, out);
+    int status = object_hash(kept, seed, LARGE_NUMBER, out);
     Py_XDECREF(kept);
     return status;
 }
@@ -76,7 +71,7 @@ static int other_hash(PyObject *key, uint64_t seed, uint64_t out[2])
     if (PyUnicode_Check(key))
         return text_hash(key, seed, out);
     if (PyBytes_Check(key))
-        return bytes_hash(key, seed, BYTES, out);
+        return object_hash(key, seed, BYTES, out);
     PyObject *whole = PyNumber_Index(key);
     int status = whole == NULL ? -1 : int_hash(whole, seed, out);
     Py_XDECREF(whole);
@@ -91,7 +86,7 @@ int key_hash(PyObject *key, uint64_t mark, uint64_t seed, uint64_t out[2])
         if (Py_IS_TYPE(key, &PyLong_Type))
             return int_hash(key, seed, out);
         if (Py_IS_TYPE(key, &PyBytes_Type))
-            return bytes_hash(key, seed, BYTES, out);
+            return object_hash(key, seed, BYTES, out);
     }
     if (is_key(key))
         return mark == MARK_SIP ? other_hash(key, seed, out) : blake_hash(key, seed, out);
@@ -132,20 +127,22 @@ static int array_hash(Keys *it, PyObject *keys, uint64_t seed)
     Integers from;
     if (integers_take(&from, keys, "a key"))
         return -1;
-    int status = keys_room(it, from.len);
-    if (status == 0) {
+    int failed = keys_room(it, from.len);
+    if (!failed) {
+        uint32_t status = BITM_OK;
         it->count = from.len;
         Py_BEGIN_ALLOW_THREADS(void)
         integers_load(&from, 0, from.len, it->prints); /* also those below 0 */
-        for (size_t i = 0; i < from.len; i++) {
-            uint64_t both[2];
-            number_hash(it->prints[i], from.is_signed, seed, both);
+        for (size_t i = 0; i < from.len && status == BITM_OK; i++) {
+            uint64_t both[2] = {0, 0};
+            status = number_hash(it->prints[i], from.is_signed, seed, both);
             keys_put(it, i, both);
         }
         Py_END_ALLOW_THREADS
+        failed = status == BITM_OK ? 0 : (wrong(), -1);
     }
     integers_drop(&from);
-    return status;
+    return failed;
 }
 
 static int each_hash(Keys *it, PyObject *keys, uint64_t mark, uint64_t seed)

@@ -3,7 +3,7 @@
 
 int matrix_opened(Memory *it)
 {
-    return block_opened("a matrix", bitm_matrix_open(it->block, it->block_len, &it->matrix) == BITM_OK);
+    return block_opened(it, matrix_opened, bitm_matrix_open(it->block, it->block_len, &it->matrix) == BITM_OK);
 }
 
 /* ---- made */
@@ -20,42 +20,85 @@ static uint32_t width_of(const uint64_t *numbers, size_t count)
     return width;
 }
 
-/* Writes the block of the numbers into memory of its own. -1 and an error. */
-static int built(Memory *it, const uint64_t *numbers, size_t count, uint32_t width, bool quarters)
+/* What a matrix is made of. */
+typedef struct {
+    uint64_t *numbers; /* its own */
+    size_t count;
+    uint32_t width;
+    bool quarters;
+    PyObject *progress; /* or NULL */
+} Given;
+
+/* Writes the block level by level, which sorts the numbers, with a call of progress after each. -1 and an error. */
+static int written_by_levels(const Given *from, uint64_t *scratch, uint64_t *block, size_t len)
 {
-    uint64_t len, *block, *scratch;
-    uint32_t status;
-    if (bitm_matrix_size(count, width, quarters, &len) != BITM_OK) {
-        PyErr_SetString(PyExc_ValueError, "the width is 1 to 64 bits, and all numbers have less than 2**63 bits");
-        return -1;
+    for (uint32_t depth = 0; depth < from->width; depth++) {
+        uint32_t status;
+        Py_BEGIN_ALLOW_THREADS
+        status = bitm_matrix_write_level(from->numbers, from->count, from->width, from->quarters, depth, scratch,
+                                         from->count, block, len);
+        if (status == BITM_OK && depth + 1 == from->width)
+            status = bitm_matrix_seal(from->count, from->width, from->quarters, block, len);
+        Py_END_ALLOW_THREADS
+        if (status != BITM_OK)
+            return refuse("the numbers are too many");
+        if (progressed(from->progress, depth + 1, from->width))
+            return -1;
     }
-    if ((block = block_room(it, len)) == NULL || (scratch = room_for(2 * (uint64_t)count)) == NULL)
-        return -1;
+    return 0;
+}
+
+/* Writes the block in one call. -1 and an error. */
+static int written_at_once(const Given *from, uint64_t *scratch, uint64_t *block, size_t len)
+{
+    uint32_t status;
     Py_BEGIN_ALLOW_THREADS
-    status = bitm_matrix_build(numbers, count, width, quarters, scratch, 2 * count, block, (size_t)len);
+    status = bitm_matrix_build(from->numbers, from->count, from->width, from->quarters, scratch, 2 * from->count, block,
+                               len);
     Py_END_ALLOW_THREADS
-    free(scratch);
     if (status == BITM_OK)
-        return matrix_opened(it);
-    PyErr_Format(PyExc_ValueError, "a number has more than %u bits", (unsigned)width);
-    return -1;
+        return 0;
+    (void)say_wide("number", from->numbers, from->count, from->width);
+    return refuse("a number has too many bits");
+}
+
+/* Writes the block of the numbers into memory of its own. -1 and an error. */
+static int built(Memory *it, const Given *from)
+{
+    const int is_by_levels = from->progress != NULL;
+    uint64_t len, *block, *scratch;
+    if (bitm_matrix_size(from->count, from->width, from->quarters, &len) != BITM_OK)
+        return refuse("the width is 1 to 64 bits, and all numbers have less than 2**63 bits");
+    if ((is_by_levels && say_wide("number", from->numbers, from->count, from->width)) ||
+        (block = block_room(it, len)) == NULL ||
+        (scratch = room_for((is_by_levels ? 1 : 2) * (uint64_t)from->count)) == NULL)
+        return -1;
+    int failed = (is_by_levels ? written_by_levels : written_at_once)(from, scratch, block, (size_t)len);
+    free(scratch);
+    return failed ? -1 : matrix_opened(it);
 }
 
 static int matrix_init(PyObject *self, PyObject *args, PyObject *keywords)
 {
-    static char *names[] = {"numbers", "width", "quarters", NULL};
-    PyObject *from, *wanted = NULL;
-    uint64_t width, *numbers;
-    size_t count;
+    static char *names[] = {"numbers", "width", "quarters", "progress", NULL};
+    PyObject *numbers, *wanted = NULL, *progress = NULL;
+    Given from = {0};
+    uint64_t width;
     int quarters = 0;
-    if (!PyArg_ParseTupleAndKeywords(args, keywords, "O|$Op:WaveletMatrix", names, &from, &wanted, &quarters) ||
-        number_or(wanted, 0, "the width", &width) || (numbers = integers_all(from, "a number", &count)) == NULL)
+    if (!PyArg_ParseTupleAndKeywords(args, keywords, "O|$OpO:WaveletMatrix", names, &numbers, &wanted, &quarters,
+                                     &progress))
         return -1;
+    Py_XINCREF(progress);
     const int is_given = wanted != NULL && wanted != Py_None;
-    const uint32_t bits = is_given ? (uint32_t)(width > 65 ? 65 : width) : width_of(numbers, count);
-    Memory *it = memory_new();
-    int is_made = it != NULL && built(it, numbers, count, bits, quarters != 0) == 0;
-    free(numbers);
+    const int taken = number_or(wanted, 0, "the width", &width) == 0 && progress_take(progress, &from.progress) == 0 &&
+                      (from.numbers = integers_all(numbers, "a number", &from.count)) != NULL;
+    if (taken)
+        from.width = is_given ? (uint32_t)(width > 65 ? 65 : width) : width_of(from.numbers, from.count);
+    from.quarters = quarters != 0;
+    Memory *it = taken ? memory_new() : NULL;
+    int is_made = it != NULL && built(it, &from) == 0;
+    free(from.numbers);
+    Py_XDECREF(progress);
     return value_made(self, it, is_made);
 }
 
@@ -248,13 +291,7 @@ BLOCK_CHECK(matrix)
 
 ATTRIBUTE(matrix, width, matrix.width)
 
-static PyObject *matrix_repr(PyObject *self)
-{
-    Memory *it = ((Value *)self)->memory;
-    return it == NULL ? PyUnicode_FromString("<WaveletMatrix, closed>")
-                      : PyUnicode_FromFormat("<WaveletMatrix of %zu numbers of %llu bits>", it->matrix.len,
-                                             (unsigned long long)it->matrix.width);
-}
+REPR(matrix, "numbers=%zu, width=%llu", it->matrix.len, (unsigned long long)it->matrix.width)
 
 #define OF(rest) EXAMPLE("WaveletMatrix([3, 1, 4, 1, 5, 1])" rest)
 #define PLAIN(name, text) METHOD(#name, matrix_##name, METH_O, "($self, number, /)", text)
@@ -284,10 +321,11 @@ static PyMethodDef methods[] = {
     NAMED(distinct, "($self, start=0, stop=None)",
           "The distinct numbers of a range, rising, each with how often it is there. IndexError where there is no such "
           "range." OF(".distinct(1, 5)") PRINTS("[(1, 2), (4, 1), (5, 1)]")),
-    NAMED(top, "($self, k, start=0, stop=None)",
-          "The k most frequent numbers of a range, or all, each with how often it is there: the most frequent first, and "
-          "of equally frequent ones the least. IndexError where there is no such range." OF(".top(2)")
-              PRINTS("[(1, 3), (3, 1)]")),
+    NAMED(
+        top, "($self, k, start=0, stop=None)",
+        "The k most frequent numbers of a range, or all, each with how often it is there: the most frequent first, and "
+        "of equally frequent ones the least. IndexError where there is no such range." OF(".top(2)")
+            PRINTS("[(1, 3), (3, 1)]")),
     NAMED(intersect, "($self, start, stop, other_start, other_stop)",
           "The numbers that are in both ranges, each once, rising. IndexError where there is no such range." OF(
               ".intersect(0, 3, 3, 6)") PRINTS("[1]")),
@@ -301,7 +339,8 @@ static PyMethodDef methods[] = {
               ".select_list([1, 5, 2], [2, 0, 0])") PRINTS("[5, 4, None]")),
     PLAIN(count, "How often a number is in the list." OF(".count(1)") PRINTS("3")),
     NAMED(index, "($self, number, start=0, stop=None)",
-          "The first index of a number, in a range of indexes; ValueError where there is none." OF(".index(1)") PRINTS("1")),
+          "The first index of a number, in a range of indexes; ValueError where there is none." OF(".index(1)")
+              PRINTS("1")),
     METHOD("check", matrix_check, METH_NOARGS, "($self, /)",
            "Whether the block is as it was written and holds a matrix: looks at all of it." OF(".check()")
                PRINTS("True")),
@@ -314,13 +353,16 @@ static PyGetSetDef attributes[] = {
     {NULL, NULL, NULL, NULL, NULL}};
 
 #define MATRIX_DOC                                                                                                     \
-    "WaveletMatrix(numbers, *, width=None, quarters=False)\n--\n\n"                                                    \
+    "WaveletMatrix(numbers, *, width=None, quarters=False, progress=None)\n--\n\n"                                     \
     "A list of numbers in any order, in one block of memory of about 1.03 * width bits a number: where\n"              \
     "and how often a number is there, and which numbers of a range are the least.\n\n"                                 \
     "width is how many bits each has at most: those of the largest one, where it is not given. With\n"                 \
-    "quarters the block takes an eighth more, and most queries read fewer words."                                      \
-    EXAMPLE("numbers = WaveletMatrix([3, 1, 4, 1, 5, 1])")                                                             \
-    THEN("numbers[4], numbers.rank(1, 4), numbers.select(1, 2), numbers.quantile(3)") PRINTS("(5, 2, 5, 3)")
+    "quarters the block takes an eighth more, and most queries read fewer words. ValueError where a number\n"          \
+    "has more bits than width: it says which.\n\n"                                                                     \
+    "progress(done, total) is called after each bit of the width, of `total` bits in all." EXAMPLE(                    \
+        "numbers = WaveletMatrix([3, 1, 4, 1, 5, 1])")                                                                 \
+        THEN("numbers[4], numbers.rank(1, 4), numbers.select(1, 2), numbers.quantile(3)") PRINTS("(5, 2, 5, 3)")       \
+            THEN("numbers = WaveletMatrix([3, 1], progress=lambda *steps: print(*steps))") PRINTS("1 2\n2 2")
 
 static PyType_Slot slots[] = {VALUE_SLOTS(MATRIX_DOC, matrix_init, methods, attributes, matrix_repr),
                               {Py_tp_iter, matrix_iter},

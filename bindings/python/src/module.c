@@ -1,4 +1,5 @@
 /* bitm._core: the types, and what the Python part of the package asks. */
+#include "module_docs.h"
 #include "values.h"
 
 PyObject *WrongTables;
@@ -28,7 +29,9 @@ static const char *missing_feature(void)
         return name;
     HAS("popcnt")
     HAS("sse3")
-    HAS("ssse3") HAS("sse4.1") HAS("sse4.2")
+    HAS("ssse3")
+    HAS("sse4.1")
+    HAS("sse4.2")
 #endif
         return NULL;
 }
@@ -50,6 +53,51 @@ static int usable(void)
     else
         owner = here;
     return PyErr_Occurred() ? -1 : 0;
+}
+
+/* Gives the module an exception, which is made once: -1 and an error. */
+static int error(PyObject *module, const char *name, PyObject *base, PyObject **at, const char *doc)
+{
+    if (*at == NULL)
+        *at = PyErr_NewExceptionWithDoc(name, doc, base, NULL);
+    return *at == NULL ? -1 : PyModule_AddObjectRef(module, name + strlen("bitm."), *at);
+}
+
+/* A copy of a text for help() whose lines have at most 100 columns, but for examples: it stays as long as the types do.
+ * The text itself where memory is refused. */
+static const char *wrapped(const char *text)
+{
+    enum { COLUMNS = 100 };
+    const size_t size = text == NULL ? 0 : strlen(text) + 1;
+    char *made = size == 0 ? NULL : malloc(size);
+    if (made == NULL)
+        return text;
+    memcpy(made, text, size);
+    for (char *line = made, *end; *line != '\0'; line = end + (*end != '\0')) {
+        const int is_example = strncmp(line, ">>> ", 4) == 0 || strncmp(line, "... ", 4) == 0;
+        end = line + strcspn(line, "\n");
+        if (end - line <= COLUMNS || is_example)
+            continue;
+        char *at = line + COLUMNS;
+        while (at > line && *at != ' ')
+            at--;
+        if (at > line)
+            *(end = at) = '\n';
+    }
+    return made;
+}
+
+/* Wraps the texts of the methods and the attributes of a type that is not made yet. */
+static void wrap_texts(PyType_Spec *spec)
+{
+    for (PyType_Slot *slot = spec->slots; slot->slot != 0; slot++) {
+        if (slot->slot == Py_tp_methods)
+            for (PyMethodDef *it = slot->pfunc; it->ml_name != NULL; it++)
+                it->ml_doc = wrapped(it->ml_doc);
+        if (slot->slot == Py_tp_getset)
+            for (PyGetSetDef *it = slot->pfunc; it->name != NULL; it++)
+                it->doc = wrapped(it->doc);
+    }
 }
 
 static int filled(PyObject *module)
@@ -79,15 +127,14 @@ static int filled(PyObject *module)
     if (usable())
         return -1;
     /* Where it is imported again, the types stay the same. */
-    if (WrongTables == NULL)
-        WrongTables = PyErr_NewExceptionWithDoc(
-            "bitm.WrongTables", "The tables are not those of the words, or the parts are not those of a sequence.",
-            NULL, NULL);
-    if (WrongTables == NULL || PyModule_AddObjectRef(module, "WrongTables", WrongTables))
+    if (error(module, "bitm.WrongTables", NULL, &WrongTables, WRONG_TABLES) ||
+        error(module, "bitm.OtherKind", PyExc_ValueError, &OtherKind, OTHER_KIND))
         return -1;
     for (size_t i = 0; i < sizeof types / sizeof *types; i++) {
-        if (*types[i].type == NULL)
+        if (*types[i].type == NULL) {
+            wrap_texts(types[i].spec);
             *types[i].type = (PyTypeObject *)PyType_FromSpec(types[i].spec);
+        }
         if (*types[i].type == NULL ||
             (types[i].name != NULL && PyModule_AddObjectRef(module, types[i].name, BORROWED(*types[i].type))))
             return -1;

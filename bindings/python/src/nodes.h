@@ -60,7 +60,7 @@ static inline PyObject *ask_node_and(PyObject *self, node_call call, const char 
     }
 
 /* What both classes have: parents, degrees, children, and how many nodes there are. */
-#define NODES(class, title, nodes)                                                                                     \
+#define NODES(class, nodes)                                                                                            \
     NODE(class, parent, bitm_tree_parent, nodes)                                                                       \
     NODE(class, degree, bitm_tree_degree, nodes)                                                                       \
     static PyObject *class##_children(PyObject *self, PyObject *value)                                                 \
@@ -72,12 +72,6 @@ static inline PyObject *ask_node_and(PyObject *self, node_call call, const char 
         return it == NULL ? NULL : children_of(&it->nodes, node);                                                      \
     }                                                                                                                  \
     static uint64_t length(const Memory *it) { return it->nodes.len; } /* below 2^60 */                                \
-    static Py_ssize_t class##_len(PyObject *self) { return value_len(self, length); }                                  \
-    static PyObject *class##_repr(PyObject *self)                                                                      \
-    {                                                                                                                  \
-        Memory *it = ((Value *)self)->memory;                                                                          \
-        return it == NULL ? PyUnicode_FromString("<" title ", closed>")                                                \
-                          : PyUnicode_FromFormat("<" title " of %zu nodes>", it->nodes.len);                           \
-    }
+    static Py_ssize_t class##_len(PyObject *self) { return value_len(self, length); }
 
 #endif

@@ -23,11 +23,7 @@ typedef struct {
 
 int is_value(PyObject *type)
 {
-    PyTypeObject *it = (PyTypeObject *)type;
-    if (PyType_IsSubtype(it, Index_Type) || PyType_IsSubtype(it, Sequence_Type) || PyType_IsSubtype(it, Hash_Type) ||
-        PyType_IsSubtype(it, Tree_Type) || PyType_IsSubtype(it, Matrix_Type) || PyType_IsSubtype(it, Sparse_Type) ||
-        PyType_IsSubtype(it, Dictionary_Type) || PyType_IsSubtype(it, Strings_Type) ||
-        PyType_IsSubtype(it, Text_Type) || PyType_IsSubtype(it, Trie_Type))
+    if (opener_of(type) != NULL)
         return 1;
     PyErr_Format(PyExc_TypeError,
                  "an Index, an EliasFano, SparseBits, a PerfectHash, a Dictionary, Strings, a Tree, a Trie, a "
@@ -120,14 +116,6 @@ static int fill(Memory *it, const Layout *layout, PyObject *numbers, PyObject *b
     return 0;
 }
 
-/* How the memory of a class is opened: that of others is of a hash. */
-static const struct {
-    PyTypeObject **type;
-    opener opened;
-} KINDS[] = {{&Index_Type, index_opened},           {&Sequence_Type, sequence_opened}, {&Tree_Type, tree_opened},
-             {&Matrix_Type, matrix_opened},         {&Sparse_Type, sparse_opened},     {&Text_Type, text_opened},
-             {&Dictionary_Type, dictionary_opened}, {&Trie_Type, trie_opened},         {&Strings_Type, strings_opened}};
-
 /* over(class, numbers, buffers): a value of the class over memory that others keep. Lengths alone are checked. */
 PyObject *parts_over(PyObject *module, PyObject *args)
 {
@@ -146,8 +134,5 @@ PyObject *parts_over(PyObject *module, PyObject *args)
     }
     it->index.ones.log2 = it->log2s[0] > 31 ? 31 : (uint32_t)it->log2s[0];
     it->index.zeros.log2 = it->log2s[1] > 31 ? 31 : (uint32_t)it->log2s[1];
-    for (size_t i = 0; i < sizeof KINDS / sizeof *KINDS; i++)
-        if (PyType_IsSubtype((PyTypeObject *)type, *KINDS[i].type))
-            return value_over(type, it, KINDS[i].opened);
-    return value_over(type, it, hash_opened);
+    return value_over(type, it, opener_of(type));
 }

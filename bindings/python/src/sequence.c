@@ -9,7 +9,7 @@ int sequence_opened(Memory *it)
     const struct bitm_sequence *sequence = &it->sequence;
     uint64_t first;
     if (it->block != NULL &&
-        block_opened("a sequence", bitm_sequence_block_open(it->block, it->block_len, &it->sequence) == BITM_OK))
+        block_opened(it, sequence_opened, bitm_sequence_block_open(it->block, it->block_len, &it->sequence) == BITM_OK))
         return -1;
     /* Each number is a 1 bit of the words: a small file that claims 2^33 numbers is refused before len() says so. */
     if (bitm_sequence_get(sequence, 0, &first) != BITM_BAD_SIZE && sequence->len / 64 <= sequence->words_len)
@@ -34,8 +34,8 @@ static int build(Memory *it, const uint64_t *items, size_t count)
     Py_END_ALLOW_THREADS
     if (status == BITM_OK)
         return sequence_opened(it);
-    PyErr_SetString(PyExc_ValueError, "a number is less than the one before it");
-    return -1;
+    (void)say_unsorted("number", items, count, false);
+    return refuse("a number is less than the one before it");
 }
 
 Memory *sequence_in_block(Memory *from)
@@ -214,19 +214,19 @@ static PyObject *sequence_items(PyObject *self, PyObject *const *args, Py_ssize_
 
 static PyObject *sequence_repr(PyObject *self)
 {
-    Memory *it = ((Value *)self)->memory;
+    const Memory *it = ((Value *)self)->memory;
     if (it == NULL)
-        return PyUnicode_FromString("<EliasFano, closed>");
+        return shown_as(self, "closed");
     uint64_t few[6] = {0}, written = 0;
-    size_t len = it->sequence.len, most = len < 6 ? len : 6;
-    char shown[6 * 22 + 1] = {0}, *end = shown;
-    if (bitm_sequence_items(&it->sequence, 0, few, most, &written) != BITM_OK)
-        return PyUnicode_FromFormat("<EliasFano of %zu numbers, wrong parts>", len);
+    size_t len = it->sequence.len;
+    char numbers[6 * 22 + 1] = {0}, *end = numbers;
+    if (len > 6)
+        return shown_as(self, "numbers=%zu", len);
+    if (bitm_sequence_items(&it->sequence, 0, few, len, &written) != BITM_OK)
+        return shown_as(self, "numbers=%zu, wrong parts", len);
     for (size_t i = 0; i < written; i++)
         end += snprintf(end, 23, i ? ", %llu" : "%llu", (unsigned long long)few[i]);
-    if (len <= 6)
-        return PyUnicode_FromFormat("EliasFano([%s])", shown);
-    return PyUnicode_FromFormat("<EliasFano of %zu numbers: %s, ..>", len, shown);
+    return shown_as(self, "[%s]", numbers);
 }
 
 #define PLAIN(name, function, arguments, text) METHOD(name, function, METH_O, arguments, text)

@@ -5,17 +5,17 @@
 #define SEQUENCE_DOC                                                                                                   \
     "EliasFano(numbers)\n--\n\n"                                                                                       \
     "Numbers from 0 to 2**64 - 1 that do not fall (equal ones may follow each other), in about log2(m /\n"             \
-    "n) + 2 bits each where n of them are below m. It has the calls of a tuple, and successors and\n"                  \
+    "n) + 2.6 bits each where n of them are below m. It has the calls of a tuple, and successors and\n"                \
     "predecessors.\n\n"                                                                                                \
     "The numbers may be a buffer of whole numbers of any width, or an iterable. ValueError where one is\n"             \
-    "less than the one before it. A query of a closed sequence raises ValueError, and over parts that are\n"           \
-    "not those of a sequence (of a damaged file) WrongTables."                                                         \
+    "less than the one before it: it says which. A query of a closed sequence raises ValueError, and over\n"           \
+    "parts that are not those of a sequence (of a damaged file) WrongTables."                                          \
     EXAMPLE("primes = EliasFano([2, 3, 5, 7, 11, 13])") THEN("primes[4], primes[1:3], 7 in primes")                    \
     PRINTS("(11, [3, 5], True)")
 
 #define SEQUENCE_FIRST_AT_LEAST                                                                                        \
-    "Successor: the least index whose number is at least value, or None. Costs two selections, and a read for each "   \
-    "binary digit of how many numbers share the high bits of value." EXAMPLE(                                          \
+    "Successor: the least index whose number is at least value, or None. Costs a selection or two, and a read for "    \
+    "each binary digit of how many numbers share the high bits of value." EXAMPLE(                                     \
         "EliasFano([2, 3, 5, 7, 11]).first_at_least(6)") PRINTS("3")
 #define SEQUENCE_LAST_AT_MOST                                                                                          \
     "Predecessor: the greatest index whose number is at most value, or None. Costs as first_at_least." EXAMPLE(        \

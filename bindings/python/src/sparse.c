@@ -5,23 +5,12 @@ int sparse_opened(Memory *it)
 {
     int is_open = bitm_sparse_open(it->block, it->block_len, &it->sparse) == BITM_OK;
     if (!is_open || it->sparse.bits_len <= PY_SSIZE_T_MAX)
-        return block_opened("sparse bits", is_open);
+        return block_opened(it, sparse_opened, is_open);
     PyErr_SetString(PyExc_ValueError, "there are 2**63 bits or more");
     return -1;
 }
 
 /* ---- made */
-
-static int refused(uint32_t status, uint64_t bits_len)
-{
-    if (status == BITM_UNSORTED)
-        PyErr_SetString(PyExc_ValueError, "a position is not greater than the one before it");
-    else if (status == BITM_WRONG)
-        PyErr_Format(PyExc_ValueError, "a position is past the end: there are %llu bits", (unsigned long long)bits_len);
-    else
-        PyErr_SetString(PyExc_ValueError, "there are 2**56 positions or more");
-    return -1;
-}
 
 /* Writes the block of the positions into memory of its own. -1 and an error. */
 static int built(Memory *it, const uint64_t *positions, size_t count, uint64_t bits_len)
@@ -29,13 +18,19 @@ static int built(Memory *it, const uint64_t *positions, size_t count, uint64_t b
     uint64_t len, *block;
     uint32_t status;
     if (bitm_sparse_size(count, count > 0 ? positions[count - 1] : 0, &len) != BITM_OK)
-        return refused(BITM_BAD_SIZE, bits_len);
+        return refuse("there are 2**56 positions or more");
     if ((block = block_room(it, len)) == NULL)
         return -1;
     Py_BEGIN_ALLOW_THREADS
     status = bitm_sparse_build(positions, count, bits_len, block, (size_t)len);
     Py_END_ALLOW_THREADS
-    return status == BITM_OK ? sparse_opened(it) : refused(status, bits_len);
+    if (status == BITM_OK)
+        return sparse_opened(it);
+    if (status == BITM_UNSORTED)
+        (void)say_unsorted("position", positions, count, true);
+    else
+        (void)say_not_below("position", positions, count, bits_len);
+    return refuse("a position is not above the one before it, or past the end");
 }
 
 static int sparse_init(PyObject *self, PyObject *args, PyObject *keywords)
@@ -181,13 +176,7 @@ static PyObject *sparse_positions(PyObject *self, void *none)
     return value_new(BORROWED(Sequence_Type), it);
 }
 
-static PyObject *sparse_repr(PyObject *self)
-{
-    Memory *it = ((Value *)self)->memory;
-    return it == NULL ? PyUnicode_FromString("<SparseBits, closed>")
-                      : PyUnicode_FromFormat("<SparseBits of %llu bits, %zu ones>",
-                                             (unsigned long long)it->sparse.bits_len, it->sparse.positions.len);
-}
+REPR(sparse, "bits=%llu, ones=%zu", (unsigned long long)it->sparse.bits_len, it->sparse.positions.len)
 
 #define OF(rest) EXAMPLE("SparseBits([3, 100, 101, 4000], 5000)" rest)
 #define PLAIN(name, argument, text) METHOD(#name, sparse_##name, METH_O, "($self, " argument ", /)", text)
@@ -242,10 +231,10 @@ static PyGetSetDef attributes[] = {
     "SparseBits(positions, length=None)\n--\n\n"                                                                       \
     "Bits of which few are 1 bits, in one block of memory: the positions of the 1 bits, each greater than\n"           \
     "the one before it, and how many bits there are: up to the last 1 bit, where it is not given.\n\n"                 \
-    "A 1 bit takes about 2 + log2(n / m) bits where there are m among n.\n\n"                                          \
-    "The queries are those of an Index."                                                                               \
-    EXAMPLE("bits = SparseBits([3, 100, 101, 4000], 5000)")                                                            \
-    THEN("bits[100], bits.rank(101), bits.select0(3), len(bits)") PRINTS("(True, 2, 4, 5000)")
+    "A 1 bit takes about 2.6 + log2(n / m) bits where there are m among n. ValueError where a position is\n"           \
+    "not above the one before it, or not below the length: it says which.\n\n"                                         \
+    "The queries are those of an Index." EXAMPLE("bits = SparseBits([3, 100, 101, 4000], 5000)")                       \
+        THEN("bits[100], bits.rank(101), bits.select0(3), len(bits)") PRINTS("(True, 2, 4, 5000)")
 
 static PyType_Slot slots[] = {VALUE_SLOTS(SPARSE_DOC, sparse_init, methods, attributes, sparse_repr),
                               {Py_sq_length, sparse_len},

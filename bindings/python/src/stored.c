@@ -1,25 +1,18 @@
 /* Files: the value that one holds, which is read where it lies: a block, or parts in a file of version 2, which nothing
  * writes. */
-#include "values.h"
+#include "keys.h"
 
-/* The first word of a block (docs/FORMAT.md). */
-static const uint64_t BLOCK_MARK = 0x036261746d746962;
-
-/* The second word of a block: of others it is a tree. */
-static const struct {
-    uint64_t number;
-    PyTypeObject **type;
-    opener opened;
-} KINDS[] = {{2, &Index_Type, index_opened},      {3, &Sequence_Type, sequence_opened}, {4, &Sparse_Type, sparse_opened},
-             {5, &Hash_Type, hash_opened},        {6, &Matrix_Type, matrix_opened},     {8, &Text_Type, text_opened},
-             {9, &Trie_Type, trie_opened},        {10, &Strings_Type, strings_opened},
-             {12, &Strings_Type, strings_opened}};
+/* Whether a file is a block, by its first word (docs/FORMAT.md): of version 4, or of version 3, which is read alone. */
+static int is_block(const uint64_t *file, size_t words)
+{
+    return words > 0 && (file[0] == 0x046261746d746962 || file[0] == 0x036261746d746962);
+}
 
 /* In version 2 a perfect hash is an index with these numbers after it: mark, keys, bits of a fingerprint, seed, number
  * of sizes, words of fingerprints; then the sizes and the fingerprints. */
 enum { TAIL = 6 };
 
-static PyObject *not_whole(Memory *it)
+PyObject *not_whole(Memory *it)
 {
     DROP(it);
     PyErr_SetString(PyExc_ValueError, "it is not a stored index, sequence, hash, dictionary, strings, tree, trie, "
@@ -43,18 +36,6 @@ static PyObject *load_hash(Memory *it, const uint64_t *tail, size_t left)
     return value_over(BORROWED(Hash_Type), it, hash_opened);
 }
 
-/* A dictionary has the kind of a perfect hash, and is one whose keys are in its fifth section. */
-static PyObject *load_block(Memory *it)
-{
-    struct bitm_dictionary dictionary = {.keys = NULL};
-    if (bitm_dictionary_open(it->block, it->block_len, &dictionary) == BITM_OK)
-        return value_over(BORROWED(Dictionary_Type), it, dictionary_opened);
-    for (size_t i = 0; i < sizeof KINDS / sizeof *KINDS; i++)
-        if (it->block_len > 1 && it->block[1] == KINDS[i].number)
-            return value_over(BORROWED(*KINDS[i].type), it, KINDS[i].opened);
-    return value_over(BORROWED(Tree_Type), it, tree_opened);
-}
-
 PyObject *stored_load(PyObject *module, PyObject *file)
 {
     struct bitm_stored header;
@@ -66,10 +47,10 @@ PyObject *stored_load(PyObject *module, PyObject *file)
         DROP(it);
         return NULL;
     }
-    if (words > 0 && *(const uint64_t *)at == BLOCK_MARK) {
+    if (is_block(at, words)) {
         it->block = at;
         it->block_len = words;
-        return load_block(it);
+        return value_in(it);
     }
     if (bitm_stored_read(at, words, &header) != BITM_OK)
         return not_whole(it);

@@ -3,7 +3,7 @@
 
 int strings_opened(Memory *it)
 {
-    return block_opened("strings", bitm_strings_open(it->block, it->block_len, &it->strings) == BITM_OK);
+    return block_opened(it, strings_opened, bitm_strings_open(it->block, it->block_len, &it->strings) == BITM_OK);
 }
 
 /* ---- strings of Python's */
@@ -135,42 +135,71 @@ static int block_built(Memory *it, const Spelled *from, const struct bitm_hash *
     return -1;
 }
 
+/* The hash of each string by a seed. -1 and an error. */
+static int hashes_built(const Spelled *from, uint64_t seed, uint64_t *hashes)
+{
+    uint32_t status;
+    Py_BEGIN_ALLOW_THREADS
+    status = bitm_strings_hashes(from->bytes, from->len, from->ends, from->count, seed, hashes, from->count);
+    Py_END_ALLOW_THREADS
+    return status == BITM_OK ? 0 : refuse("there are too many strings");
+}
+
+static String string_of(const Spelled *from, size_t at)
+{
+    const uint64_t begin = at == 0 ? 0 : from->ends[at - 1];
+    return (String){.at = from->bytes + begin, .len = (size_t)(from->ends[at] - begin)};
+}
+
+/* Says which strings are equal, or, by the last seed, have one hash: -1 and an error; 1 where another seed may do. */
+static int say_twins(const Spelled *from, Levels *in, uint64_t seed, int is_last)
+{
+    size_t pair[2];
+    uint64_t *hashes = room_for(from->count);
+    const int failed = hashes == NULL || hashes_built(from, seed, hashes);
+    const int are_found = !failed && levels_twins(in, hashes, pair);
+    free(hashes);
+    if (!are_found)
+        return failed ? -1 : 1;
+    const String one = string_of(from, pair[0]), other = string_of(from, pair[1]);
+    if (one.len == other.len && memcmp(one.at, other.at, one.len) == 0)
+        return say_equal("strings", pair, shortened(one.at, one.len));
+    return is_last ? say_one_hash("strings", pair) : 1;
+}
+
 /* By the first seed that gives no two strings one hash. -1 and an error. */
 static int built(Memory *it, const Spelled *from, Levels *in, const Wanted *how)
 {
-    uint32_t status = BITM_NONE;
-    for (int i = 0; i < how->seeds && status == BITM_NONE; i++) {
+    int status = 1;
+    for (int i = 0; i < how->seeds && status > 0; i++) {
         const uint64_t seed = how->seed + (uint64_t)i;
         struct bitm_hash hash;
-        Py_BEGIN_ALLOW_THREADS
-        status = bitm_strings_hashes(from->bytes, from->len, from->ends, from->count, seed, in->hashes, from->count);
-        if (status == BITM_OK)
-            status = levels_built(in, &hash);
-        Py_END_ALLOW_THREADS
-        if (status == BITM_OK)
+        status = hashes_built(from, seed, in->hashes) ? -1 : levels_built(in, &hash);
+        if (status == 0)
             return block_built(it, from, &hash, seed);
+        if (status > 0)
+            status = say_twins(from, in, seed, i + 1 == how->seeds);
     }
-    PyErr_SetString(PyExc_ValueError, status == BITM_NONE
-                                          ? "two strings are equal, or their hashes are: then take another seed"
-                                          : "there are too many strings");
-    return -1;
+    return refuse("strings have no number: take another seed");
 }
 
 static int strings_init(PyObject *self, PyObject *args, PyObject *keywords)
 {
-    static char *names[] = {"strings", "percent", "seed", NULL};
-    PyObject *from, *percent = NULL, *seed = NULL;
-    Spelled spelled;
+    static char *names[] = {"strings", "percent", "seed", "progress", NULL};
+    PyObject *from, *percent = NULL, *seed = NULL, *progress = NULL;
+    Spelled spelled = {0};
     Levels levels = {0};
     Wanted how;
-    if (!PyArg_ParseTupleAndKeywords(args, keywords, "O|$OO:Strings", names, &from, &percent, &seed) ||
-        wanted_take(&how, percent, seed))
+    if (!PyArg_ParseTupleAndKeywords(args, keywords, "O|$OOO:Strings", names, &from, &percent, &seed, &progress))
         return -1;
-    const int taken = spelled_take(&spelled, from) == 0 && levels_room(&levels, spelled.count, how.percent, 0) == 0;
+    Py_XINCREF(progress);
+    const int taken = wanted_take(&how, percent, seed, progress) == 0 && spelled_take(&spelled, from) == 0 &&
+                      levels_room(&levels, spelled.count, how.percent, 0, how.progress) == 0;
     Memory *it = taken ? memory_new() : NULL;
     int is_made = it != NULL && built(it, &spelled, &levels, &how) == 0;
     levels_drop(&levels);
     spelled_drop(&spelled);
+    Py_XDECREF(progress);
     return value_made(self, it, is_made);
 }
 
@@ -300,12 +329,7 @@ ATTRIBUTE(strings, seed, strings.seed)
 
 BLOCK_CHECK(strings)
 
-static PyObject *strings_repr(PyObject *self)
-{
-    Memory *it = ((Value *)self)->memory;
-    return it == NULL ? PyUnicode_FromString("<Strings, closed>")
-                      : PyUnicode_FromFormat("<Strings of %zu strings>", it->strings.hash.keys);
-}
+REPR(strings, "strings=%zu", it->strings.hash.keys)
 
 #define OF(rest) EXAMPLE("names = Strings(['ada', 'bob', 'eve'])") THEN(rest)
 static PyMethodDef methods[] = {
@@ -327,15 +351,15 @@ static PyGetSetDef attributes[] = {
     {NULL, NULL, NULL, NULL, NULL}};
 
 #define STRINGS_DOC                                                                                                    \
-    "Strings(strings, *, percent=100, seed=None)\n--\n\n"                                                              \
+    "Strings(strings, *, percent=100, seed=None, progress=None)\n--\n\n"                                               \
     "Strings, each with a number of its own below how many there are, in one block of memory: a minimal\n"             \
     "perfect hash and the strings, so that what is none of them has no number.\n\n"                                    \
     "A string is bytes, or a str as its UTF-8, and comes back as bytes; it takes these and about 67 bits.\n\n"         \
     "percent is how many bits the levels have for each 100 strings; seed is the key of their hashes,\n"                \
-    "SipHash-1-3: where it is not given 0, or 1 if that gives two strings one hash."                                   \
-    EXAMPLE("names = Strings(['ada', 'bob', 'eve'])")                                                                  \
-    THEN("'bob' in names, 'bo' in names, names[names.find('eve')], len(names)")                                        \
-    PRINTS("(True, False, b'eve', 3)")
+    "SipHash-1-3: where it is not given 0, or 1 if that gives two strings one hash. progress is called as\n"           \
+    "that of a PerfectHash. ValueError where strings are equal: it says which." EXAMPLE(                               \
+        "names = Strings(['ada', 'bob', 'eve'])")                                                                      \
+        THEN("'bob' in names, 'bo' in names, names[names.find('eve')], len(names)") PRINTS("(True, False, b'eve', 3)")
 
 static PyType_Slot slots[] = {VALUE_SLOTS(STRINGS_DOC, strings_init, methods, attributes, strings_repr),
                               {Py_tp_iter, strings_iter},

@@ -3,23 +3,20 @@
 
 int text_opened(Memory *it)
 {
-    return block_opened("the index of a text", bitm_text_open(it->block, it->block_len, &it->text) == BITM_OK);
+    return block_opened(it, text_opened, bitm_text_open(it->block, it->block_len, &it->text) == BITM_OK);
 }
 
 /* ---- patterns */
 
-static int pattern_of(Pattern *it, PyObject *from)
+/* Whether the text can be asked for the pattern: TypeError for numbers where letters stand for bytes, and for a str
+ * where they are numbers. */
+static int may_ask(const Memory *it, const Pattern *pattern, PyObject *from)
 {
-    return pattern_take(it, from, "a letter",
-                        "a pattern is bytes or a list of letters, no str: encode it as the text was");
-}
-
-/* Whether the text can be asked for the pattern: TypeError for numbers where letters stand for bytes. */
-static int may_ask(const Memory *it, const Pattern *pattern)
-{
-    if (pattern->bytes != NULL || it->text.used_len == 0)
+    const int is_str = PyUnicode_Check(from), is_of_bytes = it->text.used_len != 0;
+    if (is_of_bytes ? pattern->bytes != NULL : !is_str)
         return 1;
-    PyErr_SetString(PyExc_TypeError, "this is the index of bytes, and a pattern is bytes too");
+    PyErr_SetString(PyExc_TypeError, is_of_bytes ? "this is the index of bytes, and a pattern is a str or bytes"
+                                                 : "this is the index of numbers, and a pattern is a list of them");
     return 0;
 }
 
@@ -42,10 +39,10 @@ static int counted(PyObject *self, PyObject *query, uint64_t *out)
 {
     Pattern pattern;
     uint32_t status = BITM_OK;
-    if (pattern_of(&pattern, query))
+    if (pattern_take(&pattern, query, "a letter"))
         return -1;
     Memory *it = memory_kept(self);
-    int is_asked = it != NULL && may_ask(it, &pattern);
+    int is_asked = it != NULL && may_ask(it, &pattern, query);
     if (is_asked) {
         Py_BEGIN_ALLOW_THREADS
         status = count_of(it, &pattern, out);
@@ -94,10 +91,10 @@ static PyObject *text_locate(PyObject *self, PyObject *const *args, Py_ssize_t c
     uint64_t from, most;
     Pattern pattern;
     if (pick("locate", names, 1, 3, args, count, keywords, given) || number_or(given[1], 0, "the start", &from) ||
-        number_or(given[2], UINT64_MAX, "the limit", &most) || pattern_of(&pattern, given[0]))
+        number_or(given[2], UINT64_MAX, "the limit", &most) || pattern_take(&pattern, given[0], "a letter"))
         return NULL;
     Memory *it = memory_kept(self);
-    PyObject *found = it == NULL || !may_ask(it, &pattern) ? NULL : located(it, &pattern, from, most);
+    PyObject *found = it == NULL || !may_ask(it, &pattern, given[0]) ? NULL : located(it, &pattern, from, most);
     pattern_drop(&pattern);
     DROP(it);
     return found;
@@ -187,33 +184,29 @@ BLOCK_CHECK(text)
 
 ATTRIBUTE(text, width, text.letters.width)
 
-static PyObject *text_repr(PyObject *self)
-{
-    Memory *it = ((Value *)self)->memory;
-    return it == NULL ? PyUnicode_FromString("<TextIndex, closed>")
-                      : PyUnicode_FromFormat("<TextIndex of %zu letters>", it->text.letters.len);
-}
+REPR(text, "letters=%zu, width=%llu", it->text.letters.len, (unsigned long long)it->text.letters.width)
 
 #define OF(rest) EXAMPLE("TextIndex(b'banana')" rest)
 static PyMethodDef methods[] = {
     METHOD("count", text_count, METH_O, "($self, pattern, /)",
-           "At how many positions of the text a pattern stands: bytes, or of a text of numbers a list of letters. "
-           "Occurrences "
-           "may overlap; an empty pattern stands at each position, the end too." OF(".count(b'ana')") PRINTS("2")),
-    KEYWORDS("locate", text_locate, "($self, pattern, start=0, limit=None)",
-             "The positions at which a pattern stands, in the order of the rest of the text from there on: without the "
-             "first `start` of them, and at most `limit`. find_all() has them in the order of the text." OF(
-                 ".locate(b'ana')") PRINTS("[3, 1]")),
+           "At how many positions of the text a pattern stands: a str, as its UTF-8, or bytes; of a text of numbers a "
+           "list of letters. Occurrences may overlap; an empty pattern stands at each position, the end too." OF(
+               ".count('ana')") PRINTS("2")),
+    KEYWORDS(
+        "locate", text_locate, "($self, pattern, start=0, limit=None)",
+        "The positions at which a pattern stands, in the order of the rest of the text from there on: without the "
+        "first `start` of them, and at most `limit`. Of a text of bytes they are positions of bytes, also where it "
+        "was a str. find_all() has them in the order of the text." OF(".locate('ana')") PRINTS("[3, 1]")),
     METHOD(
         "check", text_check, METH_NOARGS, "($self, /)",
         "Whether the block is as it was written and holds the index of a text: looks at all of it, and walks through "
         "the text." OF(".check()") PRINTS("True")),
     METHOD("of_letters", text_of_letters, METH_FASTCALL | METH_KEYWORDS | METH_CLASS,
-           "($type, numbers, letters, step=32)",
+           "($type, numbers, letters, step=32, *, progress=None)",
            "The index of a list of numbers that are below `letters`, or of an array. A pattern is then such a list "
-           "too, and a "
-           "part of the text a list. A word is kept for each letter of the alphabet; ValueError where a number is not "
-           "below `letters`." EXAMPLE("index = TextIndex.of_letters([1, 0, 2000, 0, 2000, 0], letters=2001)")
+           "too, and a part of the text a list. A word is kept for each letter of the alphabet; ValueError where a "
+           "number is not below `letters`: it says which. progress is called as that of TextIndex." EXAMPLE(
+               "index = TextIndex.of_letters([1, 0, 2000, 0, 2000, 0], letters=2001)")
                THEN("index.find_all([0, 2000]), index[4:6]") PRINTS("([1, 3], [2000, 0])")),
     VALUE_METHODS("TextIndex(b'banana')"),
     {NULL, NULL, 0, NULL}};
@@ -227,17 +220,21 @@ static PyGetSetDef attributes[] = {
     {NULL, NULL, NULL, NULL, NULL}};
 
 #define TEXT_DOC                                                                                                       \
-    "TextIndex(text, step=32)\n--\n\n"                                                                                 \
-    "The index of a text of bytes, by which a pattern is counted in a time that does not depend on the\n"              \
-    "text's length. The text is not needed any more: `index[from:to]` is a part of it.\n\n"                            \
+    "TextIndex(text, step=32, *, progress=None)\n--\n\n"                                                               \
+    "The index of a text, a str or bytes, by which a pattern is counted in a time that does not depend\n"              \
+    "on the text's length. The text is not needed any more: `index[from:to]` is a part of it.\n\n"                     \
+    "A str is taken as its UTF-8: positions, lengths and parts are those of bytes, and a part is bytes.\n"             \
+    "A str with a lone surrogate has no UTF-8: UnicodeEncodeError.\n\n"                                                \
     "Each `step` bytes a position is kept: the fewer, the less memory, and the longer it takes to find a\n"            \
     "position or a part.\n\n"                                                                                          \
-    "Building takes linear time, and eight bytes for each of the text while it works.\n\n"                             \
+    "Building takes linear time, and eight bytes for each of the text while it works. progress(done,\n"                \
+    "total) is called after each of its two steps, which are long: (1, 2) and (2, 2).\n\n"                             \
     "TextIndex.of_letters() takes a list of numbers, TextIndex.open() maps the file that save() or the\n"              \
-    "program `bitm text build` wrote, and TextIndex.over() takes its bytes."                                           \
-    EXAMPLE("index = TextIndex(b'banana')")                                                                            \
-    THEN("len(index), index.count(b'ana'), index.find_all(b'ana'), index[1:4], b'nab' in index")                       \
-    PRINTS("(6, 2, [1, 3], b'ana', False)")
+    "program `bitm text build` wrote, and TextIndex.over() takes its bytes." EXAMPLE("index = TextIndex('banana')")    \
+        THEN("len(index), index.count('ana'), index.find_all('ana'), index[1:4], 'nab' in index")                      \
+            PRINTS("(6, 2, [1, 3], b'ana', False)") THEN("index = TextIndex('3 \\u20ac, 5 \\u20ac')")                  \
+                THEN("len(index), index.find_all('\\u20ac'), index[7:].decode() == '5 \\u20ac'")                       \
+                    PRINTS("(12, [2, 9], True)")
 
 static PyType_Slot slots[] = {VALUE_SLOTS(TEXT_DOC, text_init, methods, attributes, text_repr),
                               {Py_sq_contains, text_contains},

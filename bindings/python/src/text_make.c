@@ -5,6 +5,10 @@ int bytes_kept(PyObject *from, PyObject **bytes)
 {
     Py_buffer held;
     *bytes = NULL;
+    if (PyUnicode_Check(from)) {
+        *bytes = PyUnicode_AsUTF8String(from);
+        return *bytes == NULL ? -1 : 1;
+    }
     if (PyBytes_Check(from)) {
         *bytes = Py_NewRef(from);
         return 1;
@@ -22,13 +26,9 @@ int bytes_kept(PyObject *from, PyObject **bytes)
     return *bytes == NULL ? -1 : 1;
 }
 
-int pattern_take(Pattern *it, PyObject *from, const char *what, const char *no_text)
+int pattern_take(Pattern *it, PyObject *from, const char *what)
 {
     it->letters = NULL;
-    if (PyUnicode_Check(from)) {
-        PyErr_SetString(PyExc_TypeError, no_text);
-        return -1;
-    }
     int found = bytes_kept(from, &it->bytes);
     if (found == 0)
         it->letters = integers_all(from, what, &it->len);
@@ -45,14 +45,12 @@ void pattern_drop(Pattern *it)
     free(it->letters);
 }
 
-/* The bytes of a text. NULL and an error. */
+/* The bytes of a text, of a str those of its UTF-8. NULL and an error. */
 static PyObject *text_of(PyObject *from)
 {
     PyObject *bytes;
-    if (bytes_kept(from, &bytes) == 0) {
-        const char *why = PyUnicode_Check(from) ? "no str: encode it" : "and TextIndex.of_letters takes numbers";
-        PyErr_Format(PyExc_TypeError, "a text is bytes, %s", why);
-    }
+    if (bytes_kept(from, &bytes) == 0)
+        PyErr_SetString(PyExc_TypeError, "a text is a str or bytes, and TextIndex.of_letters takes numbers");
     return bytes;
 }
 
@@ -70,98 +68,136 @@ static int step_of(PyObject *given, uint32_t *out)
     return 0;
 }
 
-/* Room for a block, which belongs to the memory, and for what building needs, which is given back by aligned_free: NULL
- * and MemoryError. */
-static uint32_t *rooms(Memory *it, uint64_t block_len, uint64_t scratch_len, uint64_t **block)
+/* What an index is made of, and where. */
+typedef struct {
+    const uint8_t *bytes; /* or NULL: then there are letters */
+    uint64_t *letters;
+    size_t len;
+    uint32_t below, step, *scratch;
+    uint64_t *block, block_len, scratch_len;
+    PyObject *progress; /* or NULL */
+} Given;
+
+/* The calls of the library, for bytes and for letters below a number. Need no GIL. */
+static uint32_t sized(Given *it)
 {
-    uint32_t *scratch = NULL;
-    if ((*block = block_room(it, block_len)) == NULL)
-        return NULL;
-    if (scratch_len <= (uint64_t)PY_SSIZE_T_MAX / 4)
-        scratch = aligned_new(4 * (size_t)scratch_len);
-    if (scratch == NULL)
-        PyErr_NoMemory();
-    return scratch;
+    return it->bytes != NULL ? bitm_text_size_bytes(it->bytes, it->len, it->step, &it->block_len, &it->scratch_len)
+                             : bitm_text_size_letters(it->len, it->below, it->step, &it->block_len, &it->scratch_len);
 }
 
-static int too_long(void)
+static uint32_t built_at_once(const Given *it)
 {
-    PyErr_SetString(PyExc_ValueError, "a text has fewer than 2**32 - 1 letters");
+    return it->bytes != NULL ? bitm_text_build_bytes(it->bytes, it->len, it->step, it->scratch, (size_t)it->scratch_len,
+                                                     it->block, (size_t)it->block_len)
+                             : bitm_text_build(it->letters, it->len, it->below, it->step, it->scratch,
+                                               (size_t)it->scratch_len, it->block, (size_t)it->block_len);
+}
+
+static uint32_t ordered(const Given *it)
+{
+    return it->bytes != NULL ? bitm_text_order_bytes(it->bytes, it->len, it->scratch, (size_t)it->scratch_len)
+                             : bitm_text_order(it->letters, it->len, it->below, it->scratch, (size_t)it->scratch_len);
+}
+
+static uint32_t built_ordered(const Given *it)
+{
+    return it->bytes != NULL ? bitm_text_build_ordered_bytes(it->bytes, it->len, it->step, it->scratch,
+                                                             (size_t)it->scratch_len, it->block, (size_t)it->block_len)
+                             : bitm_text_build_ordered(it->letters, it->len, it->below, it->step, it->scratch,
+                                                       (size_t)it->scratch_len, it->block, (size_t)it->block_len);
+}
+
+/* Room for the block, which belongs to the memory, and for what building needs, which is given back by aligned_free: -1
+ * and MemoryError. */
+static int rooms(Memory *it, Given *from)
+{
+    if ((from->block = block_room(it, from->block_len)) == NULL)
+        return -1;
+    if (from->scratch_len <= (uint64_t)PY_SSIZE_T_MAX / 4)
+        from->scratch = aligned_new(4 * (size_t)from->scratch_len);
+    if (from->scratch != NULL)
+        return 0;
+    PyErr_NoMemory();
     return -1;
 }
 
-/* Builds the index of bytes. -1 and an error. */
-static int built_of_bytes(Memory *it, const uint8_t *text, size_t len, uint32_t step)
+/* Builds the index in the rooms, in two steps where there is progress: the status; other than BITM_OK, with an error,
+ * where progress raised one. */
+static uint32_t built_in(const Given *from)
 {
-    uint64_t block_len, scratch_len, *block;
-    uint32_t status, *scratch;
+    uint32_t (*const steps[])(const Given *) = {from->progress == NULL ? built_at_once : ordered, built_ordered};
+    const int count = from->progress == NULL ? 1 : 2;
+    uint32_t status = BITM_OK;
+    for (int i = 0; i < count && status == BITM_OK; i++) {
+        Py_BEGIN_ALLOW_THREADS
+        status = steps[i](from);
+        Py_END_ALLOW_THREADS
+        if (status == BITM_OK && from->progress != NULL && progressed(from->progress, (uint64_t)i + 1, 2))
+            status = BITM_WRONG;
+    }
+    return status;
+}
+
+/* Builds the index. -1 and an error. */
+static int built(Memory *it, Given *from)
+{
+    uint32_t status;
     Py_BEGIN_ALLOW_THREADS
-    status = bitm_text_size_bytes(text, len, step, &block_len, &scratch_len);
+    status = sized(from);
     Py_END_ALLOW_THREADS
     if (status != BITM_OK)
-        return too_long();
-    if ((scratch = rooms(it, block_len, scratch_len, &block)) == NULL)
+        return refuse("a text has fewer than 2**32 - 1 letters");
+    if (rooms(it, from))
         return -1;
-    Py_BEGIN_ALLOW_THREADS
-    status = bitm_text_build_bytes(text, len, step, scratch, (size_t)scratch_len, block, (size_t)block_len);
-    Py_END_ALLOW_THREADS
-    aligned_free(scratch);
-    return status == BITM_OK ? text_opened(it) : too_long();
-}
-
-/* Builds the index of letters below a number. -1 and an error. */
-static int built_of_letters(Memory *it, const uint64_t *text, size_t len, uint32_t letters, uint32_t step)
-{
-    uint64_t block_len, scratch_len, *block;
-    uint32_t status, *scratch;
-    if (bitm_text_size_letters(len, letters, step, &block_len, &scratch_len) != BITM_OK)
-        return too_long();
-    if ((scratch = rooms(it, block_len, scratch_len, &block)) == NULL)
-        return -1;
-    Py_BEGIN_ALLOW_THREADS
-    status = bitm_text_build(text, len, letters, step, scratch, (size_t)scratch_len, block, (size_t)block_len);
-    Py_END_ALLOW_THREADS
-    aligned_free(scratch);
+    status = built_in(from);
+    aligned_free(from->scratch);
     if (status == BITM_OK)
         return text_opened(it);
-    PyErr_Format(PyExc_ValueError, "a letter is not below %lu", (unsigned long)letters);
-    return -1;
+    if (!PyErr_Occurred() && from->bytes == NULL)
+        (void)say_not_below("letter", from->letters, from->len, from->below);
+    return refuse("it is no text that can be indexed");
 }
 
 int text_init(PyObject *self, PyObject *args, PyObject *keywords)
 {
-    static char *names[] = {"text", "step", NULL};
-    PyObject *from, *each = NULL, *text;
-    uint32_t step;
-    if (!PyArg_ParseTupleAndKeywords(args, keywords, "O|O:TextIndex", names, &from, &each) || step_of(each, &step) ||
-        (text = text_of(from)) == NULL)
+    static char *names[] = {"text", "step", "progress", NULL};
+    PyObject *text, *each = NULL, *progress = NULL, *bytes = NULL;
+    Given from = {0};
+    if (!PyArg_ParseTupleAndKeywords(args, keywords, "O|O$O:TextIndex", names, &text, &each, &progress))
         return -1;
-    Memory *it = memory_new();
-    const uint8_t *at = (const uint8_t *)PyBytes_AsString(text);
-    int is_made = it != NULL && built_of_bytes(it, at, (size_t)PyBytes_Size(text), step) == 0;
-    Py_DECREF(text);
+    Py_XINCREF(progress);
+    const int taken = step_of(each, &from.step) == 0 && progress_take(progress, &from.progress) == 0 &&
+                      (bytes = text_of(text)) != NULL;
+    Memory *it = taken ? memory_new() : NULL;
+    if (it != NULL) {
+        from.bytes = (const uint8_t *)PyBytes_AsString(bytes);
+        from.len = (size_t)PyBytes_Size(bytes);
+    }
+    int is_made = it != NULL && built(it, &from) == 0;
+    Py_XDECREF(bytes);
+    Py_XDECREF(progress);
     return value_made(self, it, is_made);
 }
 
 PyObject *text_of_letters(PyObject *type, PyObject *const *args, Py_ssize_t count, PyObject *keywords)
 {
-    static const char *const names[] = {"numbers", "letters", "step"};
-    PyObject *given[3];
-    uint64_t below, *text;
-    uint32_t step;
-    size_t len;
-    if (pick("of_letters", names, 2, 3, args, count, keywords, given) || number(given[1], "letters", &below) ||
-        step_of(given[2], &step))
+    static const char *const names[] = {"numbers", "letters", "step", "*progress"};
+    PyObject *given[4];
+    Given from = {0};
+    uint64_t below;
+    if (pick("of_letters", names, 2, 4, args, count, keywords, given) || number(given[1], "letters", &below) ||
+        step_of(given[2], &from.step) || progress_take(given[3], &from.progress))
         return NULL;
     if (below > UINT32_MAX) {
         PyErr_SetString(PyExc_ValueError, "an alphabet has at most 2**32 - 1 letters");
         return NULL;
     }
-    if ((text = integers_all(given[0], "a letter", &len)) == NULL)
+    from.below = (uint32_t)below;
+    if ((from.letters = integers_all(given[0], "a letter", &from.len)) == NULL)
         return NULL;
     Memory *it = memory_new();
-    int failed = it == NULL || built_of_letters(it, text, len, (uint32_t)below, step);
-    free(text);
+    int failed = it == NULL || built(it, &from);
+    free(from.letters);
     if (!failed)
         return value_new(type, it);
     DROP(it);

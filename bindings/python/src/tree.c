@@ -3,7 +3,7 @@
 
 int tree_opened(Memory *it)
 {
-    return block_opened("a tree", bitm_tree_open(it->block, it->block_len, &it->tree) == BITM_OK);
+    return block_opened(it, tree_opened, bitm_tree_open(it->block, it->block_len, &it->tree) == BITM_OK);
 }
 
 /* Writes the block of the tree of these degrees into memory of its own. -1 and an error. */
@@ -20,8 +20,8 @@ static int built(Memory *it, const uint64_t *degrees, size_t count)
         return -1;
     if (status == BITM_OK)
         return tree_opened(it);
-    PyErr_SetString(PyExc_ValueError, "the degrees are those of no tree");
-    return -1;
+    (void)say_misfit(degrees, count);
+    return refuse("the degrees are those of no tree");
 }
 
 static int tree_init(PyObject *self, PyObject *args, PyObject *keywords)
@@ -35,7 +35,8 @@ static int tree_init(PyObject *self, PyObject *args, PyObject *keywords)
 
 /* ---- queries of one node */
 
-NODES(tree, "Tree", tree)
+NODES(tree, tree)
+REPR(tree, "nodes=%zu", it->tree.len)
 NODE(tree, next_sibling, bitm_tree_next_sibling, tree)
 NODE(tree, previous_sibling, bitm_tree_previous_sibling, tree)
 NODE(tree, child_rank, bitm_tree_child_rank, tree)
@@ -120,10 +121,10 @@ static PyGetSetDef attributes[] = {VALUE_CLOSED("Tree([2, 0, 1, 0])"), {NULL, NU
 #define TREE_DOC                                                                                                       \
     "Tree(degrees)\n--\n\n"                                                                                            \
     "A tree in one block of memory, from the degree of each node, which is how many children it has.\n\n"              \
-    "Nodes are numbered level by level: the root is 0, and the children of a node follow one another."                 \
-    EXAMPLE("tree = Tree([2, 0, 1, 0])") THEN("tree.parent(3), list(tree.children(0))") PRINTS("(2, [1, 2])")
+    "Nodes are numbered level by level: the root is 0, and the children of a node follow one another.\n"               \
+    "ValueError where the degrees form no tree: it says at which node." EXAMPLE("tree = Tree([2, 0, 1, 0])")           \
+        THEN("tree.parent(3), list(tree.children(0))") PRINTS("(2, [1, 2])")
 
-static PyType_Slot slots[] = {VALUE_SLOTS(TREE_DOC, tree_init, methods, attributes, tree_repr),
-                              {Py_sq_length, tree_len},
-                              {0, NULL}};
+static PyType_Slot slots[] = {
+    VALUE_SLOTS(TREE_DOC, tree_init, methods, attributes, tree_repr), {Py_sq_length, tree_len}, {0, NULL}};
 PyType_Spec tree_spec = {"bitm.Tree", sizeof(Value), 0, VALUE_FLAGS, slots};

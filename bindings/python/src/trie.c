@@ -3,7 +3,7 @@
 
 int trie_opened(Memory *it)
 {
-    return block_opened("a trie", bitm_trie_open(it->block, it->block_len, &it->trie) == BITM_OK);
+    return block_opened(it, trie_opened, bitm_trie_open(it->block, it->block_len, &it->trie) == BITM_OK);
 }
 
 /* ---- made */
@@ -39,6 +39,22 @@ static int ends_take(Parts *it, PyObject *from)
     return it->ends == NULL ? -1 : 0;
 }
 
+/* Says which label is not above the one before it, of the same node: 1, or 0 where there is none. */
+static int say_siblings(const Parts *from)
+{
+    uint64_t at = 0, first = 0;
+    for (size_t node = 0; node < from->count; first += from->degrees[node++]) {
+        const uint64_t *labels = from->labels + first;
+        if (bitm_numbers_unsorted(labels, (size_t)from->degrees[node], true, &at) != BITM_OK)
+            continue;
+        PyErr_Format(PyExc_ValueError, "label %llu (%llu) is not above label %llu (%llu), of the same node",
+                     (unsigned long long)(first + at), (unsigned long long)labels[at],
+                     (unsigned long long)(first + at - 1), (unsigned long long)labels[at - 1]);
+        return 1;
+    }
+    return 0;
+}
+
 /* Writes the block of the trie into memory of its own. -1 and an error. */
 static int built(Memory *it, const Parts *from)
 {
@@ -54,11 +70,12 @@ static int built(Memory *it, const Parts *from)
         return -1;
     if (status == BITM_OK)
         return trie_opened(it);
-    PyErr_SetString(PyExc_ValueError, status == BITM_WRONG
-                                          ? "the degrees are those of no tree, or the labels none for it"
-                                          : "the width is not 1 to 63, or the ends are not a bit for each node, or the "
-                                            "labels not one for each node but the root");
-    return -1;
+    if (status != BITM_WRONG)
+        return refuse("the width is not 1 to 63, or the ends are not a bit for each node, or the labels not one for "
+                      "each node but the root");
+    (void)(say_misfit(from->degrees, from->count) || say_wide("label", from->labels, from->labels_len, from->width) ||
+           say_siblings(from));
+    return refuse("the degrees are those of no tree, or the labels none for it");
 }
 
 static int trie_init(PyObject *self, PyObject *args, PyObject *keywords)
@@ -80,6 +97,26 @@ static int trie_init(PyObject *self, PyObject *args, PyObject *keywords)
     free(parts.labels);
     free(parts.ends);
     return value_made(self, it, is_made);
+}
+
+/* Says which word does not stand after the one before it. */
+static void say_unsorted_word(const uint8_t *bytes, size_t bytes_len, const uint64_t *starts, size_t starts_len)
+{
+    uint64_t at = 0;
+    uint32_t status;
+    Py_BEGIN_ALLOW_THREADS
+    status = bitm_trie_unsorted_word(bytes, bytes_len, starts, starts_len, &at);
+    Py_END_ALLOW_THREADS
+    if (status != BITM_OK || at == 0)
+        return;
+    const uint64_t *start = starts + at;
+    PyObject *word = shortened(bytes + start[0], (size_t)(start[1] - start[0]));
+    PyObject *before = word == NULL ? NULL : shortened(bytes + start[-1], (size_t)(start[0] - start[-1]));
+    if (before != NULL)
+        PyErr_Format(PyExc_ValueError, "word %llu (%S) does not stand after word %llu (%S)", (unsigned long long)at,
+                     word, (unsigned long long)at - 1, before);
+    Py_XDECREF(word);
+    Py_XDECREF(before);
 }
 
 /* Writes the block of the trie of words into memory of its own. -1 and an error. */
@@ -105,10 +142,9 @@ static int grown(Memory *it, const uint8_t *bytes, size_t bytes_len, const uint6
     }
     if (!PyErr_Occurred() && status == BITM_OK)
         return trie_opened(it);
-    if (!PyErr_Occurred())
-        PyErr_SetString(PyExc_ValueError,
-                        status == BITM_UNSORTED ? "the words do not rise" : "the starts are those of no words");
-    return -1;
+    if (!PyErr_Occurred() && status == BITM_UNSORTED)
+        say_unsorted_word(bytes, bytes_len, starts, starts_len);
+    return refuse(status == BITM_UNSORTED ? "the words do not rise" : "the starts are those of no words");
 }
 
 /* trie_of_sorted(class, bytes, starts): a trie of words that rise, one after another in bytes, and where each begins
@@ -138,13 +174,7 @@ PyObject *trie_of_sorted(PyObject *module, PyObject *args)
 /* ---- queries by words */
 
 /* A word: bytes, a str as its bytes in UTF-8, or a list of labels. */
-static int word_take(Pattern *it, PyObject *from)
-{
-    PyObject *encoded = PyUnicode_Check(from) ? PyUnicode_AsUTF8String(from) : Py_NewRef(from);
-    const int status = encoded == NULL ? -1 : pattern_take(it, encoded, "a label", "");
-    Py_XDECREF(encoded);
-    return status;
-}
+static int word_take(Pattern *it, PyObject *from) { return pattern_take(it, from, "a label"); }
 
 /* The node to which a word leads; or whether it leads to one at which a word ends. -1 and an error. */
 static int word_asked(PyObject *self, PyObject *query, int is_end, uint64_t *out, uint32_t *status)
@@ -233,7 +263,8 @@ static PyObject *trie_word(PyObject *self, PyObject *value)
 
 /* ---- queries of one node */
 
-NODES(trie, "Trie", trie.tree)
+NODES(trie, trie.tree)
+REPR(trie, "nodes=%zu, width=%llu", it->trie.tree.len, (unsigned long long)it->trie.width)
 NODE(trie, label, bitm_trie_label, trie)
 NODE_BIT(trie, is_end, bitm_trie_is_end, trie)
 NODE_AND(trie, child_by_label, "label", "a label", bitm_trie_child, trie)
@@ -300,9 +331,9 @@ static PyGetSetDef attributes[] = {
     "BitVector or words, has a bit for each node that says whether a word ends there, or is None.\n\n"                 \
     "Words are bytes, a str as UTF-8, or lists of labels. `word in trie` says whether it leads to a node\n"            \
     "at which a word ends: never where there are no ends.\n\n"                                                         \
-    "`of_words` makes a trie of words."                                                                                \
-    EXAMPLE("trie = Trie([2, 0, 1, 0], b'abe', ends=BitVector.from_bits('0111'))  # a, b and be")                      \
-    THEN("trie.find(b'be'), trie.find(b'e'), trie.word(2), 'be' in trie") PRINTS("(3, None, b'b', True)")
+    "`of_words` makes a trie of words." EXAMPLE(                                                                       \
+        "trie = Trie([2, 0, 1, 0], b'abe', ends=BitVector.from_bits('0111'))  # a, b and be")                          \
+        THEN("trie.find(b'be'), trie.find(b'e'), trie.word(2), 'be' in trie") PRINTS("(3, None, b'b', True)")
 
 static PyType_Slot slots[] = {VALUE_SLOTS(TRIE_DOC, trie_init, methods, attributes, trie_repr),
                               {Py_sq_length, trie_len},

@@ -90,6 +90,18 @@ PyObject *value_sizeof(PyObject *self, PyObject *none)
     return PyLong_FromSize_t(sizeof(Value) + (it == NULL ? 0 : sizeof(Memory) + it->own_bytes));
 }
 
+PyObject *shown_as(PyObject *self, const char *fields, ...)
+{
+    va_list given;
+    va_start(given, fields);
+    PyObject *said = PyUnicode_FromFormatV(fields, given), *name = said == NULL ? NULL : PyType_GetName(Py_TYPE(self));
+    va_end(given);
+    PyObject *text = name == NULL ? NULL : PyUnicode_FromFormat("%U(%U)", name, said);
+    Py_XDECREF(name);
+    Py_XDECREF(said);
+    return text;
+}
+
 PyObject *more(const char *name, PyObject *args)
 {
     PyObject *module = args == NULL ? NULL : PyImport_ImportModule("bitm._more");

@@ -8,15 +8,19 @@
     PRINTS("True") EXAMPLE("with " made " as value: value.closed") PRINTS("False") THEN("value.closed") PRINTS("True")
 
 #define HASH_DOC                                                                                                       \
-    "PerfectHash(keys, *, bits=16, percent=100, seed=None, hash='siphash', tries=None)\n--\n\n"                        \
+    "PerfectHash(keys, *, bits=16, percent=100, seed=None, hash='siphash', tries=None,\n"                              \
+    "            progress=None)\n--\n\n"                                                                               \
     "A number of its own, below their count, for each key of a set (str, bytes, ints, or an array of\n"                \
     "ints). No key is kept, but a fingerprint of `bits` bits (0 to 64) for each: of others, one in\n"                  \
     "2**bits is taken for a key.\n\n"                                                                                  \
     "percent bits are tried for each 100 keys at each level: 100 takes least memory, 200 less time. The\n"             \
     "same keys and seed give the same numbers; without a seed it is 0, or 1 where the hashes of two keys\n"            \
-    "are equal by 0. ValueError where keys are equal. hash='blake2b' is that of files of version 0.2.0.\n\n"           \
+    "are equal by 0. ValueError where keys are equal: it says which. hash='blake2b' is that of files of\n"             \
+    "version 0.2.0.\n\n"                                                                                               \
     "With tries, 1 to 256, each word has the best of that many seeds: with 64 a key takes 2.3 bits beside\n"           \
-    "its fingerprint, for 2.8 without. All is in one block of memory then, which is also its file."                    \
+    "its fingerprint, for 2.8 without. All is in one block of memory then, which is also its file.\n\n"                \
+    "progress(done, total) is called after each level: so many of all keys have a number then. An error\n"             \
+    "that it raises ends the build."                                                                                   \
     EXAMPLE("numbers = PerfectHash(['zero', 'one', 'two'])")                                                           \
     THEN("sorted(numbers[key] for key in ('zero', 'one', 'two'))") PRINTS("[0, 1, 2]")                                 \
     THEN("sorted(PerfectHash(range(3), tries=64).get_list(range(3)))") PRINTS("[0, 1, 2]")

@@ -28,13 +28,6 @@ int value_of_numbers(PyObject *self, PyObject *from, const char *what,
     return value_made(self, it, is_made);
 }
 
-int block_opened(const char *what, int is_open)
-{
-    if (!is_open)
-        PyErr_Format(PyExc_ValueError, "it is not the block of %s, or not all of it", what);
-    return is_open ? 0 : -1;
-}
-
 uint64_t *block_room(Memory *it, uint64_t len)
 {
     uint64_t *block = memory_own(it, len, 8);

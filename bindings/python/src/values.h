@@ -8,7 +8,7 @@
 /* ---- index.c, sequence.c, hash.c, and those of the blocks */
 
 /* Looks at memory whose parts or whose block are filled in, and fills in what is queried: -1 and ValueError where the
- * lengths do not fit together, or the block is another's. */
+ * lengths do not fit together, OtherKind where the block is another's. */
 typedef int (*opener)(Memory *it);
 int index_opened(Memory *it);
 int sequence_opened(Memory *it);
@@ -41,6 +41,24 @@ PyObject *section_added(PyObject *module, PyObject *args);
 PyObject *sections_of(PyObject *module, PyObject *block);
 PyObject *block_is_written(PyObject *module, PyObject *block);
 
+/* ---- kinds.c */
+
+/* A value over the block of memory, of the class that its kind says; takes the reference. ValueError where header or
+ * directory are not right. */
+PyObject *value_in(Memory *it);
+
+/* What opens the memory of a class of values, or of a class that inherits from it. */
+opener opener_of(PyObject *type);
+
+/* Whether the block in memory is a right one that holds another structure than what is opened so; OtherKind then. */
+int is_of_other_kind(const Memory *it, opener by);
+
+/* The end of what opens a block: 0, or -1 and OtherKind, or ValueError where the block is damaged. */
+int block_opened(const Memory *it, opener by, int is_open);
+
+/* ValueError: it is no file of ours, or not all of it. Drops the memory. */
+PyObject *not_whole(Memory *it);
+
 /* ---- values.c */
 
 /* A new value of a type over memory, whose reference it takes even where it does not open. */
@@ -52,9 +70,6 @@ int value_made(PyObject *self, Memory *it, int made);
 /* The end of __init__ of a value that is made of whole numbers alone: 0, or -1 and an error. */
 int value_of_numbers(PyObject *self, PyObject *from, const char *what,
                      int (*built)(Memory *it, const uint64_t *numbers, size_t count));
-
-/* 0, or -1 and ValueError: it is not the block of what is named. */
-int block_opened(const char *what, int is_open);
 
 /* Room for a block of that many words, which belongs to the memory and is its block: NULL and an error. */
 uint64_t *block_room(Memory *it, uint64_t len);
@@ -169,42 +184,78 @@ static inline PyObject *ask_rank(PyObject *self, PyObject *query, query_call cal
     BIT_QUERY(class, previous_one, previous, true, "a position")                                                       \
     BIT_QUERY(class, previous_zero, previous, false, "a position")
 
+/* ---- progress.c: what a build calls after each step */
+
+/* What can be called, borrowed; NULL of None and of what is not given. -1 and TypeError for others. The caller holds
+ * it, for the dictionary of the arguments may be cleared meanwhile. */
+int progress_take(PyObject *given, PyObject **progress);
+
+/* Calls progress(done, total), which may run any Python code: -1 and an error. */
+int progressed(PyObject *progress, uint64_t done, uint64_t total);
+
+/* ---- refused.c: ValueError that says which item the library refused */
+
+/* What is said where no item was found, for an error that is not set yet. Returns -1. */
+int refuse(const char *what);
+
+/* Each seeks the first item, of which `item` is the name, and says what is wrong with it: 1, or 0 where there is none.
+ * A number less than the one before it, or with `strictly` not above; a number not below a bound; a number with more
+ * bits than the width; a node at which degrees form no tree. */
+int say_unsorted(const char *item, const uint64_t *numbers, size_t count, bool strictly);
+int say_not_below(const char *item, const uint64_t *numbers, size_t count, uint64_t bound);
+int say_wide(const char *item, const uint64_t *numbers, size_t count, uint32_t width);
+int say_misfit(const uint64_t *degrees, size_t count);
+
+/* Says that two items are equal, which are shown as a text whose reference it takes, or have one hash. Return -1. */
+int say_equal(const char *items, const size_t pair[2], PyObject *item);
+int say_one_hash(const char *items, const size_t pair[2]);
+
+/* Bytes as a message shows them, of 60 characters at most. NULL and an error. */
+PyObject *shortened(const uint8_t *at, size_t len);
+
 /* ---- levels.c: the hash of a dictionary, of strings, and of keys with a seed for each word */
 
-/* How it is wanted: bits of a level for 100 keys, and how many seeds are tried from the first on. -1 and an error. */
+/* How it is wanted: bits of a level for 100 keys, how many seeds are tried from the first on, and what is called after
+ * each level. -1 and an error. */
 typedef struct {
     uint64_t seed;
     uint32_t percent;
     int seeds;
+    PyObject *progress;
 } Wanted;
-int wanted_take(Wanted *it, PyObject *percent, PyObject *seed);
+int wanted_take(Wanted *it, PyObject *percent, PyObject *seed, PyObject *progress);
 
 /* What the levels of `count` hashes are built in: rooms of words, of which `most` are for those of all levels. Where
  * tries is above 0, each word has the best of that many seeds: then there are rooms for these and for the hashes in
- * order. */
+ * order. What is built: how many levels there are, how many words they use, and how many hashes are left. */
 enum { LEVELS = 256 };
 typedef struct {
     size_t count, most, first;
     uint32_t percent;
     uint16_t tries;
-    uint64_t *hashes, *words, *again, *upper, *lower, *sorted, sizes[LEVELS];
+    PyObject *progress; /* or NULL */
+    uint64_t *hashes, *words, *again, *upper, *lower, *sorted, sizes[LEVELS], levels, used, left;
     uint8_t *seeds;
 } Levels;
 
 /* Takes the rooms: -1 and an error. Given back by levels_drop, also then. */
-int levels_room(Levels *it, size_t count, uint32_t percent, uint16_t tries);
+int levels_room(Levels *it, size_t count, uint32_t percent, uint16_t tries, PyObject *progress);
 void levels_drop(Levels *it);
 
-/* The hash of the hashes, which are moved, in the rooms: BITM_OK; BITM_NONE where two are equal. Needs no GIL. */
-uint32_t levels_built(Levels *it, struct bitm_hash *out);
+/* The hash of the hashes, which are moved, in the rooms: 0; 1 where hashes are left, which stand first then; -1 and an
+ * error. Gives the GIL back meanwhile, and runs Python code where there is progress. */
+int levels_built(Levels *it, struct bitm_hash *out);
+
+/* The first of all hashes that is left twice, and where it stands again: whether there is one. Sorts those left. */
+int levels_twins(Levels *it, const uint64_t *hashes, size_t pair[2]);
 
 /* ---- text_make.c: what texts are made of, and patterns of a text, words of a trie, strings */
 
 int text_init(PyObject *self, PyObject *args, PyObject *keywords);
 PyObject *text_of_letters(PyObject *type, PyObject *const *args, Py_ssize_t count, PyObject *keywords);
 
-/* Bytes that nobody changes: 1 and the object itself where it is bytes, or a copy of a buffer of bytes; 0 where it is
- * none; -1 and an error. */
+/* Bytes that nobody changes: 1 and the object itself where it is bytes, a copy of a buffer of bytes, or the UTF-8 of a
+ * str; 0 where it is none; -1 and an error. */
 int bytes_kept(PyObject *from, PyObject **bytes);
 
 /* Its letters: bytes, or numbers of its own. */
@@ -215,8 +266,8 @@ typedef struct {
     size_t len;
 } Pattern;
 
-/* Bytes, or a list of numbers, of which `what` is one: -1 and an error, `no_text` where it is a str. */
-int pattern_take(Pattern *it, PyObject *from, const char *what, const char *no_text);
+/* Bytes, a str as its UTF-8, or a list of numbers, of which `what` is one: -1 and an error. */
+int pattern_take(Pattern *it, PyObject *from, const char *what);
 void pattern_drop(Pattern *it);
 
 /* Item, start and stop of the method index: -1 and an error. Runs Python code. */
@@ -316,6 +367,14 @@ static inline PyObject *number_or_error(PyObject *self, finder found, PyObject *
     {                                                                                                                  \
         (void)none;                                                                                                    \
         return value_checked(self, is_right);                                                                          \
+    }
+
+/* The text of a value: what is shown of its memory, unless it is closed. */
+#define REPR(class, fields, ...)                                                                                       \
+    static PyObject *class##_repr(PyObject *self)                                                                      \
+    {                                                                                                                  \
+        const Memory *it = ((Value *)self)->memory;                                                                    \
+        return it == NULL ? shown_as(self, "closed") : shown_as(self, fields, __VA_ARGS__);                            \
     }
 
 /* An attribute of a class: a number in memory. */

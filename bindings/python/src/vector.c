@@ -114,12 +114,17 @@ Vector *vector_of_range(const Bits *from, uint64_t begin, uint64_t count)
 static PyObject *vector_repr(PyObject *self)
 {
     const Bits *bits = &((Vector *)self)->bits;
-    char shown[65] = {0};
-    for (uint64_t i = 0; i < bits->len && i < 64; i++)
-        shown[i] = bitm_bit_at(bits->words, i) ? '1' : '0';
-    if (bits->len <= 64)
-        return PyUnicode_FromFormat("BitVector('%s')", shown);
-    return PyUnicode_FromFormat("BitVector('%s..', %llu bits)", shown, (unsigned long long)bits->len);
+    uint64_t ones = 0;
+    char digits[65] = {0};
+    if (bits->len > 64) {
+        uint32_t status = bitm_bits_count(BITS(*bits), true, &ones);
+        return status == BITM_OK
+                   ? shown_as(self, "bits=%llu, ones=%llu", (unsigned long long)bits->len, (unsigned long long)ones)
+                   : wrong();
+    }
+    for (uint64_t i = 0; i < bits->len; i++)
+        digits[i] = bitm_bit_at(bits->words, i) ? '1' : '0';
+    return shown_as(self, "'%s'", digits);
 }
 
 /* ---- memory */

@@ -58,7 +58,7 @@ def stored_and_copied(value, path):
 def refuses_once_closed(value, *calls):
     """Closes a value: it says so, and a call raises ValueError then."""
     value.close()
-    assert repr(value) == f"<{type(value).__name__}, closed>"
+    assert repr(value) == f"{type(value).__name__}(closed)"
     for call in (len, *calls):
         with pytest.raises(ValueError, match="closed"):
             call(value)

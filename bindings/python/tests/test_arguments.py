@@ -140,7 +140,7 @@ def test_closed():
         assert not it.closed
         it.close()
         it.close()
-        assert it.closed and repr(it) == f"<{type(it).__name__}, closed>"
+        assert it.closed and repr(it) == f"{type(it).__name__}(closed)"
     assert views[0][0] == int.from_bytes(b"\x35" * 8, "little") and len(views[1]) > 0  # they hold the memory
     calls = [lambda it=it, f=f: f(it) for it in (index, sequence, numbers)
              for f in (len, lambda it: it.check(), lambda it: it.save(io.BytesIO()), lambda it: it.__enter__(), lambda it: it.__reduce_ex__(5),
@@ -199,7 +199,7 @@ def test_wrong_tables():
     for call in (lambda: index.rank(64), lambda: index.rank0(64), index.count, lambda: index.rank_list([64]), lambda: index.next_zero(3)):
         with pytest.raises(WrongTables):
             call()
-    assert repr(index) == "<Index of 64 bits, wrong tables>"
+    assert repr(index) == "Index(bits=64, wrong tables)"
     for tables in ((upper, lower[:0]), (upper[:0], lower), (lower + lower, lower)):
         with pytest.raises(ValueError):
             Index.over(words, *tables)

@@ -105,7 +105,7 @@ for call, want in ((copy.copy, None), (lambda h: h.get_list([1, 2]) != [], True)
     turn(lambda: bitm.PerfectHash(range(100)), call, want)
     turn(lambda: bitm.PerfectHash(range(100), tries=9), call, want)
 note = {65536: b"note"}
-for call, want in ((lambda t: len(bitm.Tree.over(bitm.extend(t.block, note))), 3), (lambda t: len(bitm.sections(t.block)), 3), (lambda t: bitm.section(t.block, 65536), None),
+for call, want in ((lambda t: len(bitm.Tree.over(bitm.extend(t.block, note))), 3), (lambda t: len(bitm.sections(t.block)), 4), (lambda t: bitm.section(t.block, 65536), None),
                    (lambda t: bitm.is_written(t.block), True), (lambda t: bitm.PerfectHash(map(str, t.children(0)), tries=3).has_seeds, True)):
     turn(lambda: bitm.Tree([2, 0, 0]), call, want)
 words = list(map(str, range(100)))
@@ -352,7 +352,7 @@ class Closer:
 closed = 0
 for it in (index, sequence, numbers, seeded):
     for name in dir(it):
-        if name.startswith("_") or name in ("close", "closed", "save", "check", "parts", "words", "to_numpy", "over"): continue
+        if name.startswith("_") or name in ("close", "closed", "save", "check", "parts", "words", "to_numpy", "over", "open"): continue
         for how in (closing, lambda it: [Closer(it)], Closer):
             made = copy.copy(it)
             try: getattr(made, name)(how(made))

@@ -119,14 +119,14 @@ def test_wrong_arguments():
     for name in ("index", "number"):
         with pytest.raises(AttributeError):
             setattr(cursor, name, 1)
-    assert repr(cursor) == "<Cursor at number 2, index 0 of 3>" and repr(EliasFano([]).cursor()) == "<Cursor at the end of 0 numbers>"
+    assert repr(cursor) == "Cursor(index=0, number=2)" and repr(EliasFano([]).cursor()) == "Cursor(index=0, number=None)"
 
 
 def refused(cursor):
     for call in (lambda: cursor.next_geq(0), lambda: next(cursor), lambda: cursor.index, lambda: cursor.number, lambda: list(cursor)):
         with pytest.raises(ValueError):
             call()
-    assert repr(cursor) == "<Cursor over no sequence>"
+    assert repr(cursor) == "Cursor(closed)"
 
 
 def test_a_sequence_that_is_closed_or_made_anew():

@@ -72,7 +72,7 @@ def test_wrong_arguments():
                         (lambda: Dictionary(), TypeError), (lambda: found.get(), TypeError), (lambda: found.get_list(4), TypeError)):
         with pytest.raises(error):
             call()
-    assert repr(found) == "<Dictionary of 3 keys>" and found.seed == 0 and Dictionary([]).get(0) is None
+    assert repr(found) == "Dictionary(keys=3)" and found.seed == 0 and Dictionary([]).get(0) is None
     with pytest.raises(TypeError):
         found.keys[0] = 1
 

@@ -4,6 +4,9 @@ import random
 import subprocess
 import sys
 
+import pytest
+from blocks import as_bytes, block, hash_sections, packed
+
 import bitm
 
 MASK = 2**64 - 1
@@ -88,3 +91,36 @@ def test_keys_of_other_types_are_hashed_as_those_that_they_equal():
         assert fingerprint(one, 5) == fingerprint(other, 5)
     assert fingerprint("\ud800", 5) == mixed(siphash("\ud800".encode("utf-8", "surrogatepass"), 5, TEXT))
     assert len({fingerprint(it, 5) for it in ("a", b"a", 97, "97")}) == 4
+
+
+# The hash and the fingerprint of a key by a seed, as numbers: files depend on them, those of other languages too.
+PINNED = (
+    ("foobar", TEXT, b"foobar", 0, 0x355C0EF1F4CC71BB, 0xF881BAAC463E28C4),
+    ("", TEXT, b"", 1, 0xFFB385B99BA0D439, 0xE7E73B7DC4F4BAB8),
+    ("\ud800", TEXT, b"\xed\xa0\x80", 5, 0x48903223F600DAC0, 0x7D3849D404D01E60),
+    (b"foobar", BYTES, b"foobar", 2**64 - 1, 0xDDACE939BF079FDA, 0x4F48A43C80E1B998),
+    (-2, NUMBER, b"\xfe" + b"\xff" * 7, 0, 0x25B31ED122F89661, 0x1190A2AF381885A1),
+    (2**63, LARGE, bytes(7) + b"\x80\0", 3, 0x16D0E47E44E60F44, 0x6313C9D0098304B0),
+)
+
+
+@pytest.mark.parametrize("key, kind, data, seed, hashed, print_of", PINNED)
+def test_hashes_stay_as_they_are(key, kind, data, seed, hashed, print_of):
+    assert (siphash(data, seed, kind), mixed(hashed)) == (hashed, print_of)
+    assert fingerprint(key, seed) == print_of
+
+
+@pytest.mark.parametrize("bits", [0, 1, 16, 32])
+def test_a_block_that_another_language_wrote_is_read(bits):
+    """Built by docs/FORMAT.md alone, of keys of each kind: the hash, and a section of fingerprints whose role is `bitmhas2`."""
+    kinds = [(key, kind, data) for key, kind, data, *_ in PINNED] + [(f"key {at}", TEXT, f"key {at}".encode()) for at in range(200)]
+    hashes = [siphash(data, 7, kind) for _, kind, data in kinds]
+    sections, order = hash_sections(hashes, 100)
+    prints = packed([mixed(it) >> k & 1 for it in order for k in range(bits)])
+    role = int.from_bytes(b"bitmhas2", "little")
+    data = as_bytes(block(5, len(order), 0, [*sections, (role, [bits, *prints], 8 + 8 * len(prints))], a=7))
+    keys = [key for key, _, _ in kinds]
+    for found in (bitm.loads(data), bitm.PerfectHash.over(data)):
+        assert (found.bits, found.seed, found.hash, found.check()) == (bits, 7, "siphash", True)
+        assert [found[key] for key in keys] == found.get_list(keys) == [order.index(it) for it in hashes]
+    assert bytes(bitm.PerfectHash(keys, bits=bits, seed=7).block) == data

@@ -97,7 +97,7 @@ def test_it_is_read_like_a_list():
     for value in (2, 2**64, "x", None):
         with pytest.raises(ValueError, match="not in the list"):
             matrix.index(value)
-    assert isinstance(matrix, __import__("collections").abc.Sequence) and repr(matrix) == "<WaveletMatrix of 6 numbers of 3 bits>"
+    assert isinstance(matrix, __import__("collections").abc.Sequence) and repr(matrix) == "WaveletMatrix(numbers=6, width=3)"
 
 
 def test_wrong_arguments():

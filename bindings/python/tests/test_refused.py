@@ -32,6 +32,11 @@ class Sub(BitVector):
     pass
 
 
+def noted(done, total):
+    """A progress that requests memory."""
+    return [done] * 99 + [total]
+
+
 def changed(change):
     made = VECTOR.copy()
     change(made)
@@ -77,6 +82,8 @@ def of_others():
     yield from (lambda: Trie.of_words(["a", "bc"]), lambda: Trie([1, 0], b"a", ends=BitVector.from_bits("01")), lambda: TRIE.find("be"), lambda: TRIE.word(3), lambda: TRIE.longest([98, 101]))
     yield from (lambda: TextIndex(b"banana"), lambda: TEXT.find_all(b"ana"), lambda: TEXT[1:30:2], lambda: TEXT.locate(b"ana", 1, 2), lambda: TextIndex.of_letters([1, 2, 300], 301))
     yield from (lambda: PerfectHash(["a", "b", 5]), lambda: PerfectHash(["a", "b"], tries=2), lambda: PerfectHash(["a"], hash="blake2b"), lambda: KEYS.get_list([1, 2, "x"]), lambda: KEYS.get(2**100))
+    yield from (lambda: PerfectHash(["a", "b", 5], progress=noted), lambda: PerfectHash(["a", "b"], tries=2, progress=noted), lambda: Strings(["a", "b"], progress=noted))
+    yield from (lambda: WaveletMatrix([3, 1, 4], progress=noted), lambda: TextIndex(b"banana", progress=noted), lambda: TextIndex.of_letters([1, 2], 3, progress=noted))
     yield from (lambda: Dictionary([4, 9]), lambda: list(SQUARES.keys), lambda: SQUARES.get_list([1, 49]), lambda: Strings(["a", "b"]), lambda: NAMES[0:2], lambda: NAMES.find_list(["ada", b"x"]))
     yield from (lambda: bitm.extend(BLOCK, {65536: b"abc"}), lambda: [bytes(it) for _, it in bitm.sections(NOTED)], lambda: bitm.is_written(NOTED))
     for value, data in zip(VALUES, FILES):
@@ -84,7 +91,9 @@ def of_others():
     wrong = Index.over(WORDS, *map(array.array, "QQ", map(bytes, bitm._core.parts(Index(WORDS))[1][1:3])))
     yield lambda: bytes(wrong.block)
     for refused in (lambda: INDEX.rank(10**9), lambda: INDEX.rank_list([1, -1]), lambda: EliasFano([3, 1]), lambda: BitVector(5).next_one(LONG),
-                    lambda: PerfectHash([1, 1]), lambda: bitm.loads(b"x" * 900)):
+                    lambda: PerfectHash([1, 1]), lambda: PerfectHash(iter("aa")), lambda: Dictionary([1, 1]), lambda: Strings(["a", "a"]), lambda: SparseBits([3, 3]),
+                    lambda: WaveletMatrix([9], width=3), lambda: WaveletMatrix([9], width=3, progress=noted), lambda: Trie([1, 0], [300]), lambda: Tree([0, 0]),
+                    lambda: TextIndex.of_letters([5], 3), lambda: bitm._core.trie_of_sorted(Trie, b"ba", [0, 1, 2]), lambda: bitm.loads(b"x" * 900)):
         yield lambda refused=refused: refusal(refused)
 
 

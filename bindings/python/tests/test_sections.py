@@ -6,7 +6,7 @@ import mmap
 import threading
 
 import pytest
-from blocks import as_bytes, block as plain_block, tree_sections
+from blocks import as_bytes, block as plain_block, hinted, tree_sections, unhinted
 from hypothesis import given, settings, strategies as st
 
 import bitm
@@ -46,14 +46,22 @@ def test_each_kind_answers_as_before(value, ask, tmp_path):
     assert extend(value.block, {}) == bytes(value.block) and is_written(value.block)
 
 
+@pytest.mark.parametrize("value, ask", [*VALUES[:3], (bitm.EliasFano([2, 3, 5, 1000]), list)], ids=["tree", "trie", "sparse", "sequence"])
+def test_a_block_that_was_written_before_there_were_hints(value, ask):
+    words = list(memoryview(value.block).cast("B").cast("Q"))
+    other = bitm.loads(as_bytes(unhinted(words)))
+    assert type(other) is type(value) and ask(other) == ask(value) and other.check()
+    assert [role for role, _ in sections(value.block)] == [*(role for role, _ in sections(other.block)), 22]
+
+
 @settings(max_examples=80, deadline=None)
-@given(st.lists(st.integers(0, 3), max_size=30), st.lists(st.tuples(st.integers(OWN, 2**64 - 1) | st.just(15), st.binary(max_size=40)), max_size=13))
+@given(st.lists(st.integers(0, 3), max_size=30), st.lists(st.tuples(st.integers(OWN, 2**64 - 1) | st.just(15), st.binary(max_size=40)), max_size=12))
 def test_a_block_is_that_of_the_documents(drawn, added):
     degrees = [len(drawn), *([0] * len(drawn))]
     written = [(role, [int.from_bytes(data[at : at + 8], "little") for at in range(0, len(data), 8)], len(data)) for role, data in added]
-    wanted = as_bytes(plain_block(7, len(degrees), 0, [*tree_sections(degrees), *written]))
+    wanted = as_bytes(plain_block(7, len(degrees), 0, [*hinted(tree_sections(degrees), len(degrees)), *written]))
     assert extend(bitm.Tree(degrees).block, added) == wanted
-    assert spelled(wanted)[3:] == added
+    assert spelled(wanted)[4:] == added
 
 
 def test_items_of_four_bytes_and_of_eight():
@@ -65,17 +73,17 @@ def test_items_of_four_bytes_and_of_eight():
         with pytest.raises(ValueError, match=f"an item of role {role} has"):
             extend(TREE, {role: bytes(count)})
     role, items = sections(noted)[0]
-    assert (role, items.format, items.readonly) == (1, "Q", True) and extend(TREE, sections(noted)[3:]) == noted
+    assert (role, items.format, items.readonly) == (1, "Q", True) and extend(TREE, sections(noted)[4:]) == noted
     twice = extend(TREE, [(OWN, b"one"), (OWN, b"two")])
-    assert bytes(section(twice, OWN)) == b"one" and spelled(twice)[4] == (OWN, b"two")
+    assert bytes(section(twice, OWN)) == b"one" and spelled(twice)[5] == (OWN, b"two")
 
 
 def test_sixteen_sections_and_no_more():
     data = TREE
-    for role in range(OWN, OWN + 13):
+    for role in range(OWN, OWN + 12):
         data = extend(data, {role: bytes([role % 256])})
-    assert len(sections(data)) == 16 and [section(data, role)[0] for role in range(OWN, OWN + 13)] == list(range(13)) and len(bitm.Tree.over(data)) == 3
-    for call in (lambda: extend(data, {OWN: b""}), lambda: extend(TREE, [(OWN, b"")] * 14)):
+    assert len(sections(data)) == 16 and [section(data, role)[0] for role in range(OWN, OWN + 12)] == list(range(12)) and len(bitm.Tree.over(data)) == 3
+    for call in (lambda: extend(data, {OWN: b""}), lambda: extend(TREE, [(OWN, b"")] * 13)):
         with pytest.raises(ValueError, match="16 sections"):
             call()
 
@@ -96,7 +104,7 @@ def test_buffers_of_every_sort(tmp_path):
     for data in buffers(TREE, tmp_path / "it"):
         for items in (note, bytearray(note), memoryview(note), array.array("B", note), memoryview(bytes(range(0, 21)) * 2)[:21], memoryview(b"".join(bytes([it, 9]) for it in note))[::2]):
             assert extend(data, {OWN: items}) == wanted
-        assert is_written(data) and len(sections(data)) == 3 and section(data, OWN) is None
+        assert is_written(data) and len(sections(data)) == 4 and section(data, OWN) is None
     for data in buffers(wanted, tmp_path / "it"):
         assert bytes(section(data, OWN)) == note and extend(data, {OWN + 1: data}) == extend(wanted, {OWN + 1: wanted})
     numpy = pytest.importorskip("numpy")
@@ -117,9 +125,9 @@ def test_each_changed_byte_is_seen_and_each_prefix():
             with pytest.raises(ValueError, match="no block, or not as it was written"):
                 call()
         try:
-            assert len(sections(changed)) == 4
+            assert len(sections(changed)) == 5
         except ValueError:
-            assert at < 256
+            assert at < 320
     for end in range(len(data)):
         assert not is_written(data[:end])
         for call in (sections, lambda it: section(it, 1), lambda it: extend(it, {OWN: b""}), lambda it: extend(it, {})):
@@ -140,7 +148,7 @@ def test_drawn_bytes_are_no_block(data, at, is_block):
             call(drawn)
         except ValueError:
             continue
-        assert drawn[:192] == TREE[:192]  # a header and a directory that are right
+        assert drawn[:256] == TREE[:256]  # a header and a directory that are right
 
 
 def test_wrong_arguments():

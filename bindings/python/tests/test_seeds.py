@@ -118,7 +118,7 @@ def test_wrong_arguments():
                         (lambda: PerfectHash.over(b""), ValueError), (lambda: PerfectHash.over(bytes(800)), ValueError), (lambda: PerfectHash.over(b"1234567"), TypeError)):
         with pytest.raises(error):
             call()
-    assert PerfectHash("ab", tries=True).has_seeds and repr(PerfectHash("ab", tries=4)) == "<PerfectHash of 2 keys, fingerprints of 16 bits>"
+    assert PerfectHash("ab", tries=True).has_seeds and repr(PerfectHash("ab", tries=4)) == "PerfectHash(keys=2, width=16)"
 
 
 def test_files_and_copies(tmp_path):

@@ -4,6 +4,7 @@ import bisect
 import gc
 import itertools
 import random
+import re
 
 import pytest
 from block_values import answer_of, over_each_change, refuses_another, refuses_once_closed, stored_and_copied, wrong_while_closed
@@ -126,18 +127,20 @@ def test_arguments_that_are_too_large():
     assert bits.select_list([3, 4], missing=9) == [4000, 9] and bits.count(True) == 4 and bits.count(bit=0) == 4996
     with pytest.raises(ValueError):
         bits.count(2)
-    assert repr(bits) == "<SparseBits of 5000 bits, 4 ones>" and [bits[i] for i in (3, -1000, -1)] == [True, True, False]
+    assert repr(bits) == "SparseBits(bits=5000, ones=4)" and [bits[i] for i in (3, -1000, -1)] == [True, True, False]
 
 
 def test_positions_and_lengths_that_are_refused():
     for positions, error in (([1, -1], OverflowError), (["1"], TypeError), (3, TypeError), ([0.5], TypeError), ([2**64], OverflowError)):
         with pytest.raises(error):
             SparseBits(positions)
-    for positions in ([3, 3], [4, 3], [0, 5, 5, 6]):
-        with pytest.raises(ValueError, match="not greater than the one before it"):
+    for positions, said in (([3, 3], "1 (3) is not above position 0 (3)"), ([4, 3], "1 (3) is not above position 0 (4)"),
+                            ([0, 5, 5, 6], "2 (5) is not above position 1 (5)"), ([0, 500, 5], "2 (5) is not above position 1 (500)")):
+        with pytest.raises(ValueError, match=f"^position {re.escape(said)}$"):
             SparseBits(positions, 100)
-    for positions, length in (([3], 3), ([0], 0), ([3, 4], 4), ([2**64 - 1], None)):
-        with pytest.raises(ValueError, match="past the end"):
+    for positions, length, said in (([3], 3, "0 (3) is not below 3"), ([0], 0, "0 (0) is not below 0"), ([3, 4, 7], 4, "1 (4) is not below 4"),
+                                    ([2**64 - 1], None, f"0 ({2**64 - 1}) is not below {2**64 - 1}")):
+        with pytest.raises(ValueError, match=f"^position {re.escape(said)}$"):
             SparseBits(positions, length)
     for length, error in ((-1, OverflowError), ("3", TypeError), (2**64, OverflowError)):
         with pytest.raises(error):

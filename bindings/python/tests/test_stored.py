@@ -1,10 +1,11 @@
 """What files hold: blocks as docs/FORMAT.md has them, of which no changed bit is accepted; and files of format version 2."""
 import io
 import pickle
+import struct
 
 import pytest
 from block_values import VERSION_2, bytes_of, refused
-from blocks import as_bytes, block, of_bits, of_sequence
+from blocks import as_bytes, as_version_3, block, of_bits, of_sequence
 
 import bitm
 from bitm import BitVector, EliasFano, Index, PerfectHash
@@ -47,6 +48,37 @@ def test_no_file_of_which_one_bit_was_flipped_is_accepted(value, note):
             assert not found.check(), at
             found.close()
         data[at // 8] ^= 1 << at % 8
+
+
+ASKED = {
+    Index: lambda it: [it.rank(at) for at in range(701)],
+    EliasFano: list,
+    PerfectHash: lambda it: it.get_list(range(41)),
+    bitm.SparseBits: lambda it: it.select_list(range(5)),
+    bitm.Dictionary: lambda it: it.get_list([4, 9, 49, 50]),
+    bitm.Strings: lambda it: it.find_list(["ada", "bob", "eve", "joe"]),
+    bitm.Tree: lambda it: it.parent_list(range(4)),
+    bitm.Trie: lambda it: [it.find(word) for word in ("a", "b", "be", "c")],
+    bitm.WaveletMatrix: list,
+    bitm.TextIndex: lambda it: it[:],
+}
+
+
+@pytest.mark.parametrize("value", small_values(), ids=lambda it: type(it).__name__)
+def test_a_block_of_version_3_answers_and_has_version_4_once_it_is_extended(value, tmp_path):
+    plain = bytes(value.block)
+    old = as_bytes(as_version_3(list(struct.unpack(f"<{len(plain) // 8}Q", plain))))
+    path = tmp_path / "old"
+    path.write_bytes(old)
+    noted = bitm.extend(old, {65536: b"a note"})
+    assert (plain[7], old[7], noted[7]) == (4, 3, 4)
+    # `over` of an index or a sequence takes its parts, not a block
+    over = [] if isinstance(value, (Index, EliasFano)) else [type(value).over(old)]
+    for found in (*over, bitm.loads(old), bitm.load(path), bitm.load(path, mmap=True), bitm.loads(noted)):
+        assert type(found) is type(value) and found.check() and ASKED[type(value)](found) == ASKED[type(value)](value)
+    assert bytes_of(bitm.loads(old)) == old
+    for data in (old[:8] + plain[8:], plain[:8] + old[8:]):  # the checksums are those of the other version
+        refused(data, path, True)
 
 
 def of_version_2():

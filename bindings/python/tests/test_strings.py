@@ -96,8 +96,8 @@ def test_strings_that_fnv_gives_one_hash_have_numbers_by_each_seed():
     assert (Strings(ONE_HASH).seed, Strings(ONE_HASH, seed=5).seed, Strings(NAMES).seed) == (0, 5, 0)
     for seed in (0, 1, 256, 2**64 - 1):
         as_plain(Strings(ONE_HASH, seed=seed), ONE_HASH)
-    for twice in (["a", "a"], ["a", b"a"], ["", ""], [*NAMES, "ada"]):
-        with pytest.raises(ValueError, match="two strings are equal"):
+    for twice, said in ((["a", "a"], "0 and 1 are equal: b'a'"), (["a", b"a"], "0 and 1 are equal: b'a'"), (["", ""], "0 and 1 are equal: b''"), ([*NAMES, "ada"], "0 and 3 are equal: b'ada'")):
+        with pytest.raises(ValueError, match=f"^strings {said}$"):
             Strings(twice)
 
 
@@ -105,7 +105,7 @@ def test_strings_of_one_hash_have_another_seed():
     found = Strings(ONE_SIPHASH)
     assert found.seed == 1
     as_plain(found, ONE_SIPHASH)
-    with pytest.raises(ValueError, match="take another seed"):
+    with pytest.raises(ValueError, match="^strings 0 and 1 have one hash: take another seed$"):
         Strings(ONE_SIPHASH, seed=0)
 
 
@@ -130,7 +130,7 @@ def test_wrong_arguments():
                         (lambda: found.find_list(), TypeError), (lambda: found.find_list(NAMES, 9), TypeError), (lambda: found.find_list(NAMES, missing=-1), OverflowError)):
         with pytest.raises(error):
             call()
-    assert repr(found) == "<Strings of 3 strings>" and list(Strings([])) == [] and Strings([]).find("") is None
+    assert repr(found) == "Strings(strings=3)" and list(Strings([])) == [] and Strings([]).find("") is None
 
 
 def test_arrays_of_numpy():

@@ -119,9 +119,41 @@ def test_texts_of_any_kind():
     assert index.check() and index.find_all(many[40:43]) == [40] and index[5:8] == [15, 18, 21] and len(index) == 20000
 
 
+EURO, TEXTS = "\u20ac", ("", "banana", "3 \u20ac, 5 \u20ac, \U0001f41a\0\u20ac", "\u03b1\u03b2\u03b1\u03b2")
+
+
+@pytest.mark.parametrize("text", TEXTS)
+def test_a_str_is_taken_as_its_utf_8(text):
+    index, encoded = TextIndex(text, step=3), text.encode()
+    assert index.block == TextIndex(encoded, step=3).block == TextIndex(type("Mine", (str,), {})(text), 3).block and index[:] == encoded
+    assert len(index) == len(encoded) and index.check()
+    for pattern in ("", "a", "ana", EURO, "\u03b1\u03b2", "\U0001f41a\0", text, "no such pattern", type("Mine", (str,), {})(EURO)):
+        wanted = [at for at in range(len(encoded) + 1) if encoded.startswith(pattern.encode(), at)]
+        assert index.find_all(pattern) == sorted(index.locate(pattern, 0)) == wanted and index.count(pattern) == len(wanted)
+        assert (pattern in index) == bool(wanted) and index.locate(pattern, 1, 2) == index.locate(pattern.encode(), 1, 2)
+
+
+def test_a_str_that_has_no_utf_8_or_no_letters():
+    index, numbers = TextIndex("text"), TextIndex.of_letters([1, 2], 3)
+    for lone in ("\ud800", "te\udcffxt"):
+        for call in (TextIndex, index.count, index.locate, index.find_all, lambda it: it in index, lambda it: index.__init__(it)):
+            with pytest.raises(UnicodeEncodeError):
+                call(lone)
+    for call in (numbers.count, numbers.locate, numbers.find_all, lambda it: it in numbers):
+        with pytest.raises(TypeError, match="list of them"):
+            call("\1")
+    with pytest.raises(TypeError):
+        TextIndex.of_letters("text", 256)
+    assert index.count("t") == 2
+    index.close()
+    for call in (index.count, index.locate, lambda it: it in index):
+        with pytest.raises(ValueError, match="closed"):
+            call("t")
+
+
 def test_texts_that_are_refused():
-    for text in ("text", 3, None, [1, 2], array.array("i", [1]), array.array("b", [1]), iter(b"a"), object()):
-        with pytest.raises(TypeError, match="a text is bytes"):
+    for text in (3, None, [1, 2], array.array("i", [1]), array.array("b", [1]), iter(b"a"), object()):
+        with pytest.raises(TypeError, match="a text is a str or bytes"):
             TextIndex(text)
     for step, error in ((0, ValueError), (2**32, ValueError), (2**63, ValueError), (-1, OverflowError), (2**64, OverflowError), (1.0, TypeError), ("1", TypeError)):
         with pytest.raises(error):
@@ -159,7 +191,7 @@ def test_a_value_that_closes_or_changes_what_is_read():
     index.__init__(b"anew", Closing())
     assert index[:] == b"anew"
     with pytest.raises(TypeError):
-        index.__init__("a")
+        index.__init__(["a"])
     assert index[:] == b"anew"
 
 
@@ -187,7 +219,7 @@ def test_wrong_arguments():
     for call in (lambda: index.locate(), lambda: index.locate(b"s", 0, 1, 2), lambda: index.locate(b"s", other=1), index.count):
         with pytest.raises(TypeError):
             call()
-    assert repr(index) == "<TextIndex of 37 letters>"
+    assert repr(index) == "TextIndex(letters=37, width=8)"
 
 
 def test_blocks_that_are_refused():
@@ -210,7 +242,7 @@ def test_files_and_copies(tmp_path):
             pass
         refuses_once_closed(other, lambda it: it[0], lambda it: it[:], lambda it: it.count(b"s"), lambda it: it.locate(b"s"), lambda it: it.check(), lambda it: it.width)
     bitm.WaveletMatrix([1, 2]).save(tmp_path / "matrix")
-    with pytest.raises(ValueError, match="WaveletMatrix"):
+    with pytest.raises(bitm.OtherKind, match="a wavelet matrix"):
         TextIndex.open(tmp_path / "matrix")
     with pytest.raises(FileNotFoundError):
         TextIndex.open(tmp_path / "none")

@@ -86,7 +86,15 @@ def test_pairs_of_a_list_are_as_many_and_numbers():
 
 @pytest.mark.parametrize("degrees", [[], [0, 0], [1, 1], [0, 1], [2, 0], [1, 0, 1], [2**64 - 1, 1], [2**64 - 1, 2]])
 def test_degrees_of_no_tree_are_refused(degrees):
-    with pytest.raises(ValueError, match="no tree"):
+    known, misfit = 1, None
+    for node, degree in enumerate(degrees):
+        if known <= node or known + degree > len(degrees):
+            misfit = node
+            break
+        known += degree
+    said = "the degrees are those of no tree" if misfit is None else f"node {misfit} is a child of no node before it, or has more children than there are nodes left"
+    assert (misfit is None) is (degrees == [])
+    with pytest.raises(ValueError, match=f"^{said}$"):
         Tree(degrees)
 
 

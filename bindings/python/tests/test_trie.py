@@ -1,6 +1,7 @@
 """Trie beside a dict of words; files and buffers of blocks, of which bytes were changed or cut off."""
 import array
 import random
+import re
 
 import pytest
 from block_values import answer_of, over_each_change, refuses_another, refuses_once_closed, stored_and_copied
@@ -59,8 +60,14 @@ def test_ends_may_be_missing():
 
 
 def test_parts_of_no_trie_are_refused():
-    for parts in (([2, 0, 1, 0], b"bae"), ([2, 0, 1, 0], b"aae"), ([0, 1], b"a"), ([], b""), ([1, 0], [256])):
-        with pytest.raises(ValueError, match="no tree, or the labels"):
+    for parts, said in ((([2, 0, 1, 0], b"bae"), "label 1 (97) is not above label 0 (98), of the same node"),
+                        (([1, 3, 0, 0, 0], b"xaba"), "label 3 (97) is not above label 2 (98), of the same node"),
+                        (([2, 0, 1, 0], b"aae"), "label 1 (97) is not above label 0 (97), of the same node"),
+                        (([0, 1], b"a"), "node 1 is a child of no node before it, or has more children than there are nodes left"),
+                        (([], b""), "the degrees are those of no tree, or the labels none for it"), (([1, 0], [256]), "label 0 (256) has more than 8 bits"),
+                        (([1, 1, 0], [255, 2**64 - 1]), f"label 1 ({2**64 - 1}) has more than 8 bits"), (([1, 0], [2], 1), "label 0 (2) has more than 1 bit"),
+                        (([1, 0], [2**63], 63), f"label 0 ({2**63}) has more than 63 bits")):
+        with pytest.raises(ValueError, match=f"^{re.escape(said)}$"):
             Trie(*parts)
     for parts in (([2, 0, 1, 0], b"ab"), ([2, 0, 1, 0], b"abea"), ([2, 0, 1, 0], b""), ([0, 1], b"ab"), ([], b"a")):
         with pytest.raises(ValueError, match="the labels not one for each node but the root"):

@@ -2,6 +2,7 @@
 import array
 import itertools
 import random
+import re
 
 import pytest
 from hypothesis import given, settings, strategies as st
@@ -95,9 +96,13 @@ def test_sorted_words_are_looked_at():
         return _core.trie_of_sorted(Trie, data, array.array("Q", starts))
 
     assert made(b"xaab", 1, 2, 4).block == Trie.of_words(["a", "ab"]).block
-    for words in ((b"a", b"a"), (b"ab", b"a"), (b"b", b"a"), (b"", b""), (b"\x80", b"\x7f")):
-        with pytest.raises(ValueError, match="do not rise"):
-            made(b"".join(words), *itertools.accumulate(map(len, words), initial=0))
+    long = b"x" * 99
+    for words in ((b"a", b"a"), (b"ab", b"a"), (b"b", b"a"), (b"", b""), (b"\x80", b"\x7f"), (long + b"b", long + b"a")):
+        one, other = (repr(it) if len(it) < 50 else f"b'{'x' * 55}..." for it in words)
+        for before in ((), (b"",), (b"", b"\0")) if words[0] else ((),):
+            said = f"word {len(before) + 1} ({other}) does not stand after word {len(before)} ({one})"
+            with pytest.raises(ValueError, match=f"^{re.escape(said)}$"):
+                made(b"".join((*before, *words)), *itertools.accumulate(map(len, (*before, *words)), initial=0))
     for starts in ((), (2,), (1, 0), (0, 2), (0, 2**64 - 1)):
         with pytest.raises(ValueError, match="no words"):
             made(b"a", *starts)

@@ -36,7 +36,7 @@ sequence.contains_list(array); sequence.contains_list([1]); sequence.to_numpy();
 numbers["a"]; numbers.get("b"); numbers.get("b", "x"); numbers.get_list(["a"]); numbers.get_list(array); numbers.get_list(iter(["a"]), missing=5)
 shards[1]; shards[1:]; shards.rank(3); shards.select(3); shards.next_one(3); shards.find(3); list(shards.ones()); shards.parts; shards.shard(1)
 shards.rank_list([1]); shards.rank_list(array); shards.select_list([1]); shards.select_list(array); shards.select0_list(array, missing="error")
-bitm.TextIndex(b"a", 3).count(b"a"); bitm.TextIndex.of_letters([1], 2).locate([1]); bitm.TextIndex.of_letters(array, 9, step=1)[0]
+bitm.TextIndex(b"a", 3).count(b"a"); bitm.TextIndex("a").find_all("a"); "a" in bitm.TextIndex("a"); bitm.TextIndex.of_letters([1], 2).locate([1]); bitm.TextIndex.of_letters(array, 9, step=1)[0]
 names.find("a"); names.find(b"a"); names.find_list(["a", b"b"]); names.find_list(array); names.find_list({"a": 1}, missing=5); names[0]; names[1:]; list(names)
 bitm.Shards.build([bits, (b"", 0)], "x"); shards.count(); shards.folder
 bitm.intersect([sequence]); bitm.union(iter([sequence]), 3, limit=4); bitm.union([sequence], to_numpy=True); bitm.intersect([], 1, None, to_numpy=True)
