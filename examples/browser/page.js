@@ -112,7 +112,8 @@ function sampleText() {
 
 at("file").addEventListener("change", () => at("file").files[0] && takeFile(at("file").files[0]));
 at("numbers").addEventListener("click", () => take("A million numbers", () => ofNumbers(Float64Array.from({ length: 1e6 }, () => Math.floor(Math.random() * 1e9)))));
-at("text").addEventListener("click", () => take("A long text", () => indexed(sampleText())));
+const takeSample = () => take("A long text", () => indexed(sampleText()));
+at("text").addEventListener("click", takeSample);
 at("paste").addEventListener("change", () => take("What you typed", () => indexed(at("paste").value)));
 at("query").addEventListener("input", answer);
 at("ask").addEventListener("submit", it => it.preventDefault());
@@ -130,5 +131,4 @@ addEventListener("drop", it => {
 });
 
 at("engine").textContent = `Version ${VERSION}, with ${has64() ? "64" : "32"}-bit memory.`;
-say("Ready.");
-document.body.dataset.state = "ready";
+takeSample();

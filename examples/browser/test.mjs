@@ -47,7 +47,7 @@ async function opened(width) {
         for (let k = 0; k < 300 && (await page.value("document.body?.dataset.state")) !== state; k++) await new Promise(done => setTimeout(done, 100));
         assert.equal(await page.value("document.body.dataset.state"), state, `${what}: ${await page.value("document.getElementById('status')?.textContent")}`);
     };
-    await until("ready", "the page");
+    await until("done", "the text that the page begins with");
     return { ...page, until };
 }
 
@@ -165,7 +165,8 @@ async function firstAnswer() {
 try {
     for (const width of [360, 1000]) {
         const it = await opened(width);
-        await fits(it, "the empty page");
+        await fits(it, "the page at first");
+        assert.match(await query(it, "lazy dog"), /there\s+\d+\D\d+ times/);
         await numbers(it);
         await texts(it);
         await others(it);

@@ -9,7 +9,7 @@ import { must, orNone, orThrow, place } from "./numbers.js";
 import { attachSamples, withSamples } from "./samples.js";
 import { shows } from "./shown.js";
 
-export const KIND = { name: "Index", what: "an index", open: opened, check: "bitm_index_block_check", layout: BITM_INDEX };
+export const KIND = { name: "Index", open: opened, check: "bitm_index_block_check", layout: BITM_INDEX };
 
 /** Opens a block of bits, with the samples that it has. Writes the struct. */
 function opened(block, words, at) {

@@ -14,7 +14,7 @@ export { TextIndex } from "./text_index.js";
 export { open } from "./open.js";
 export { OWN_ROLE, extend, isWritten, section, sections } from "./sections.js";
 export { NO_ANSWER } from "./lists.js";
-export { WrongTables } from "./numbers.js";
+export { OtherKind, WrongTables } from "./numbers.js";
 export { memoryUse } from "./memory.js";
 export { bitsToStore, optimalSampleLog2, selectInWord } from "./words.js";
 export { VERSION, has64, start, startSync } from "./core.js";

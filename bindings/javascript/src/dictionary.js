@@ -1,6 +1,7 @@
+import { bySeeds } from "./collisions.js";
 import { BESIDE, bytesAt, calls, doublesAt, numberAt, put, smallest, wordsAt } from "./core.js";
 import { Copied, InBlock, openedAs } from "./in_block.js";
-import { optionsOf } from "./given.js";
+import { callback, optionsOf } from "./given.js";
 import { BITM_DICTIONARY, BITM_HASH, BITM_LIST_COUNTS } from "./layout.js";
 import { withHash } from "./levels.js";
 import { answers, copyIn, numbersOf } from "./lists.js";
@@ -8,7 +9,7 @@ import { dispose, withRoom } from "./memory.js";
 import { WrongTables, answerOf, big, must, orNone, orThrow } from "./numbers.js";
 import { shows } from "./shown.js";
 
-const KIND = { name: "Dictionary", what: "a dictionary", open: "bitm_dictionary_open", check: "bitm_dictionary_check", layout: BITM_DICTIONARY };
+const KIND = { name: "Dictionary", open: "bitm_dictionary_open", check: "bitm_dictionary_check", layout: BITM_DICTIONARY };
 /** How many keys are copied at a time. */
 const PIECE = 512;
 
@@ -23,28 +24,31 @@ export class Dictionary {
     #held;
     #length;
 
-    /** The keys, no two equal, each 0 to 2^64 - 1. percent: 100 takes least memory, 200 less time; seed is added to a key to hash it. */
+    /**
+     * The keys, no two equal, each 0 to 2^64 - 1. percent: 100 takes least memory, 200 less time; seed is added to a key to hash
+     * it. progress(done, total) is called after each level of the hash, with how many keys have a number so far.
+     */
     constructor(keys, options) {
         if (keys instanceof Copied) this.#held = new InBlock(KIND, this, keys);
         else this.#build(numbersOf(keys, "keys").items, optionsOf(options));
         this.#length = this.#held.member("keys_len");
     }
 
-    /** Rooms for the keys, their hashes, and the keys at their numbers. */
-    #build(items, { percent = 100, seed = 0 }) {
-        const n = items.length, salt = big(seed, "seed");
+    /** Rooms for the keys, their hashes, and the keys at their numbers, where the build moves the hashes before. */
+    #build(items, { percent = 100, seed = 0, progress }) {
+        const n = items.length, salt = big(seed, "seed"), how = { percent, tries: undefined, progress: callback(progress) };
         withRoom(24 * n, keys => {
-            const hashes = keys + 8 * n, placed = hashes + 8 * n;
+            const hashes = keys + 8 * n, moved = hashes + 8 * n;
             copyIn(items, keys, "keys");
             putHashes(keys, n, salt, hashes);
-            const isBuilt = withHash(hashes, n, { percent, tries: undefined }, hash => this.#of({ n, salt, keys, hashes, placed }, hash));
-            if (!isBuilt) throw new RangeError("bitm: two keys are equal");
+            bytesAt(moved, 8 * n).set(bytesAt(hashes, 8 * n));
+            const build = () => withHash(moved, n, how, hash => this.#of({ n, salt, keys, hashes, placed: moved }, hash));
+            bySeeds([salt], "keys", { hashes, moved, n }, build, () => true);
         });
     }
 
     /** Puts each key at its number, and writes the block of the hash and of these. */
     #of(it, hash) {
-        putHashes(it.keys, it.n, it.salt, it.hashes); // the build has moved them
         withRoom(8 * it.n, numbers => this.#place(hash.at, it, numbers));
         const size = orThrow(calls.bitm_dictionary_size(hash.words_len, hash.sizes_len, it.n), "keys", it.n);
         withRoom(BITM_DICTIONARY.sizeof, at => {

@@ -1,14 +1,15 @@
 import { BESIDE, calls, smallest, wordsAt } from "./core.js";
 import { Cursor, countMerged, withMerged } from "./cursor.js";
+import { unsorted } from "./faults.js";
 import { Copied, InBlock } from "./in_block.js";
-import { BITM_SEQUENCE } from "./layout.js";
+import { BITM_SEQUENCE, STATUS } from "./layout.js";
 import { answers, copyIn, copyOut, itemsAt, numbersOf } from "./lists.js";
 import { dispose, withRoom } from "./memory.js";
 import { WrongTables, answerOf, byBigInts, must, notWhole, orNone, orThrow, place, wrongType } from "./numbers.js";
 import { shows } from "./shown.js";
 
 const CALLS = { open: "bitm_sequence_block_open", check: "bitm_sequence_block_check" };
-export const KIND = { name: "EliasFano", what: "a sequence", ...CALLS, layout: BITM_SEQUENCE };
+export const KIND = { name: "EliasFano", ...CALLS, layout: BITM_SEQUENCE };
 
 /** A list of numbers in our memory, from which a sequence is built without a copy by JavaScript. */
 export class Listed {
@@ -50,7 +51,11 @@ export class EliasFano {
     #build(list, n) {
         const largest = n ? smallest(wordsAt(list, n)[n - 1]) : 0;
         const words = orThrow(answerOf("bitm_sequence_block_size", n, largest), "the numbers", n);
-        this.#held = new InBlock(KIND, this, words, at => must(calls.bitm_sequence_block_build(list, n, at, words), "the numbers"));
+        this.#held = new InBlock(KIND, this, words, at => {
+            const got = calls.bitm_sequence_block_build(list, n, at, words);
+            if (got === -STATUS.UNSORTED) throw unsorted(list, n, "number", false);
+            must(got, "the numbers");
+        });
     }
 
     get length() { return this.#length; }

@@ -46,3 +46,10 @@ export function optionsOf(given) {
         throw new TypeError(`bitm: options must be an object, and are of type ${typeOf(given)}`);
     return Object.assign(Object.create(null), given);
 }
+
+/** A function that was given to be called as a build goes on, or none. */
+export function callback(given) {
+    if (given !== undefined && typeof given !== "function")
+        throw new TypeError(`bitm: progress must be a function, and is of type ${typeOf(given)}`);
+    return given;
+}

@@ -1,8 +1,9 @@
-// What a block of memory holds, as the C library writes and opens it. kind says which: `{ name, what, open, check, layout }`,
-// the class, "a tree", two calls, and where the members of its struct stand. In place of the name of a call a function of the
-// same arguments says whether all is well.
+// What a block of memory holds, as the C library writes and opens it. kind says which: `{ name, open, check, layout }`, the
+// class, two calls, and where the members of its struct stand. In place of the name of a call a function of the same arguments
+// says whether all is well.
 import { bytesAt, calls, numberAt } from "./core.js";
 import { bytesOf, optionsOf } from "./given.js";
+import { damaged, notOf } from "./kinds.js";
 import { Block, freed } from "./memory.js";
 import { WrongTables } from "./numbers.js";
 
@@ -13,7 +14,7 @@ const BEFORE = 320;
 export class Copied {
     constructor(kind, bytes) {
         const from = bytesOf(bytes, "a block");
-        if (from.length % 8 !== 0) throw notOne(kind);
+        if (from.length % 8 !== 0) throw damaged([kind.name]);
         this.block = new Block(BEFORE + from.length);
         bytesAt(this.block.at + BEFORE, from.length).set(from);
     }
@@ -42,7 +43,8 @@ export class InBlock {
         this.#block = block.heldBy(owner, at => {
             fill(at + BEFORE);
             bytesAt(at, BEFORE).fill(0);
-            if (!isFine(kind.open, at + BEFORE, (block.bytes - BEFORE) / 8, at)) throw notOne(kind);
+            const words = (block.bytes - BEFORE) / 8;
+            if (!isFine(kind.open, at + BEFORE, words, at)) throw notOf([kind.name], at + BEFORE, words);
         });
     }
 
@@ -71,8 +73,4 @@ export function openedAs(Class, kind, bytes, options) {
     if (check === false || it.check()) return it;
     it.free();
     throw new WrongTables("bitm: the block is not as it was written: it was damaged");
-}
-
-function notOne(kind) {
-    return new WrongTables(`bitm: it is not the block of ${kind.what}, or not all of it`);
 }

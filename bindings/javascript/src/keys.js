@@ -1,68 +1,137 @@
-// Hashes of keys: three numbers of 32 bits, two for the hash of 64 bits and one for the fingerprint. The rounds are those
-// of MurmurHash3, one lane each. Equal keys are those that a Map holds for equal, and byte arrays of equal bytes.
+// Hashes of keys, by bitm_key_hash as the packages for the other languages have them: so each opens the blocks of the others.
+// Equal keys are equal strings, byte arrays of equal bytes, whole numbers of one value (5 and 5n, 0 and -0), and other numbers
+// that a Map holds for equal.
+import { ANSWER, PIECES, bytesAt, calls, wasm } from "./core.js";
 import { arrayKind, bytesOf, typeOf } from "./given.js";
+import { withRoom } from "./memory.js";
+import { byBigInts } from "./numbers.js";
+import { inOrder } from "./patterns.js";
 
-const TAG = { string: 1, bytes: 2, number: 3, bigint: 4 };
-const double = new Float64Array(1), doubleHalves = new Uint32Array(double.buffer);
-/** The halves of the NaN that stands for all of them. */
-const NAN = [0, 0x7ff80000];
+const TEXT = 1, BYTES = 2, WHOLE = 3, LARGE = 4, DOUBLE = 5;
+/** How many bytes of a key fit the room of lists; longer keys have a room of their own. */
+const ROOM = 49152;
+/** Up to how many units a string of ASCII is written unit by unit, which takes less time than a call of the encoder. */
+const SHORT = 24;
+const encoder = new TextEncoder();
 
-/** Writes the hash of a key to out[0], its low half, and out[1], and what its fingerprint is of to out[2]. */
-export function hashKey(key, seed, out) {
-    if (typeof key === "string") return hashText(key, seed, TAG.string, out);
-    if (typeof key === "number") {
-        double[0] = key === 0 ? 0 : key;
-        if (Number.isNaN(key)) doubleHalves.set(NAN);
-        begin(seed, TAG.number, out);
-        round(doubleHalves[0], out);
-        round(doubleHalves[1], out);
-        return end(8, out);
+let room = new Uint8Array(0), memory, bitm_key_hash;
+
+/** Makes the views of memory again where it has grown, which detaches them. */
+function look() {
+    if (room.length > 0) return;
+    room = bytesAt(PIECES, ROOM);
+    memory = new DataView(wasm.memory.buffer);
+    bitm_key_hash = calls.bitm_key_hash; // to look it up for each key takes longer
+}
+
+/** 32 bits of memory: of a number of 64 bits the low half stands at its address, the high half 4 bytes after. */
+export function halfAt(at) {
+    look();
+    return memory.getUint32(at, true);
+}
+
+/** Writes the hash of a key by a seed to `hash`, and what its fingerprint is of to ANSWER and `print`, as 64 bits each. */
+export function hashKey(key, seed, hash, print) {
+    if (typeof key === "string") hashText(key, seed, hash);
+    else if (typeof key === "number") hashNumber(key, seed, hash);
+    else if (typeof key === "bigint") hashWhole(key, seed, hash);
+    else if (arrayKind(key) === "Uint8Array") hashBytes(bytesOf(key, "a key"), BYTES, seed, hash);
+    else throw noKey(key);
+    if (print === ANSWER) return;
+    memory.setUint32(print, halfAt(ANSWER), true);
+    memory.setUint32(print + 4, halfAt(ANSWER + 4), true);
+}
+
+export function noKey(it) {
+    return new TypeError(`bitm: a key is a string, a number, a BigInt or a Uint8Array, and not ${typeOf(it)}`);
+}
+
+const whole = it => (Number.isInteger(it) ? BigInt(it) : it);
+
+/** Whether two keys are equal. */
+export function areEqual(a, b) {
+    if (arrayKind(a) && arrayKind(b)) return inOrder(bytesOf(a, "a key"), bytesOf(b, "a key")) === 0;
+    return Object.is(whole(a), whole(b));
+}
+
+/** Hashes `length` bytes of memory; what the fingerprint is of stands at ANSWER. */
+function hashAt(at, length, kind, seed, hash) {
+    if (typeof seed === "number") bitm_key_hash(at, length, seed, kind, hash);
+    else byBigInts("bitm_key_hash", at, length, seed, kind, hash);
+}
+
+/** Runs body(at, view) over room for a key of so many bytes. */
+function withKeyRoom(length, body) {
+    look();
+    if (length <= ROOM) body(PIECES, room);
+    else withRoom(length, at => {
+        look();
+        body(at, bytesAt(at, length));
+    });
+}
+
+function hashText(text, seed, hash) {
+    look();
+    if (text.length <= SHORT && writeAscii(text)) hashAt(PIECES, text.length, TEXT, seed, hash);
+    else withKeyRoom(3 * text.length, (at, into) => hashAt(at, writeText(text, into), TEXT, seed, hash));
+}
+
+/** Whether a string is of ASCII, and was written to the room. */
+function writeAscii(text) {
+    for (let k = 0; k < text.length; k++) {
+        const unit = text.charCodeAt(k);
+        if (unit > 127) return false;
+        room[k] = unit;
     }
-    if (typeof key === "bigint") return hashText(key.toString(16), seed, TAG.bigint, out);
-    if (arrayKind(key) === "Uint8Array") return hashBytes(bytesOf(key, "a key"), seed, out);
-    throw new TypeError(`bitm: a key is a string, a number, a BigInt or a Uint8Array, and not ${typeOf(key)}`);
+    return true;
 }
 
-function hashText(text, seed, tag, out) {
-    begin(seed, tag, out);
-    const pairs = text.length & ~1;
-    for (let k = 0; k < pairs; k += 2) round(text.charCodeAt(k) | (text.charCodeAt(k + 1) << 16), out);
-    if (pairs < text.length) round(text.charCodeAt(pairs), out);
-    end(text.length, out);
+/** Writes a string as UTF-8, and a lone surrogate as three bytes: how many bytes it is. */
+function writeText(text, into) {
+    const { written } = encoder.encodeInto(text, into);
+    return written === text.length || text.isWellFormed() ? written : writeUnits(text, into);
 }
 
-function hashBytes(bytes, seed, out) {
-    begin(seed, TAG.bytes, out);
-    const fours = bytes.length & ~3;
-    for (let k = 0; k < fours; k += 4) round(bytes[k] | (bytes[k + 1] << 8) | (bytes[k + 2] << 16) | (bytes[k + 3] << 24), out);
-    let rest = 0;
-    for (let k = bytes.length - 1; k >= fours; k--) rest = (rest << 8) | bytes[k];
-    if (fours < bytes.length) round(rest, out);
-    end(bytes.length, out);
-}
-
-function begin(seed, tag, out) {
-    out[0] = seed ^ Math.imul(tag, 0x9e3779b1);
-    out[1] = Math.imul(seed, 0x85ebca6b) ^ tag;
-    out[2] = Math.imul(seed, 0xc2b2ae35) ^ Math.imul(tag, 0x27d4eb2f);
-}
-
-const turned = (x, by) => (x << by) | (x >>> (32 - by));
-
-function round(k, out) {
-    const a = Math.imul(turned(Math.imul(k, 0xcc9e2d51), 15), 0x1b873593);
-    const b = Math.imul(turned(Math.imul(k, 0x239b961b), 16), 0xab0e9789);
-    const c = Math.imul(turned(Math.imul(k, 0x38b34ae5), 17), 0xa1e38b93);
-    out[0] = Math.imul(turned(out[0] ^ a, 13), 5) + 0xe6546b64;
-    out[1] = Math.imul(turned(out[1] ^ b, 17), 5) + 0x561ccd1b;
-    out[2] = Math.imul(turned(out[2] ^ c, 15), 5) + 0x96cd1c35;
-}
-
-function end(length, out) {
-    for (let k = 0; k < 3; k++) {
-        let x = out[k] ^ length;
-        x = Math.imul(x ^ (x >>> 16), 0x85ebca6b);
-        x = Math.imul(x ^ (x >>> 13), 0xc2b2ae35);
-        out[k] = x ^ (x >>> 16);
+function writeUnits(text, into) {
+    let n = 0;
+    for (const it of text) {
+        const point = it.codePointAt(0), isLone = point >= 0xd800 && point < 0xe000;
+        if (isLone) into.set([0xed, 0x80 | ((point >> 6) & 63), 0x80 | (point & 63)], n);
+        n += isLone ? 3 : encoder.encodeInto(it, into.subarray(n)).written;
     }
+    return n;
+}
+
+function hashNumber(key, seed, hash) {
+    if (Number.isInteger(key) && !Number.isSafeInteger(key)) return hashWhole(BigInt(key), seed, hash);
+    look();
+    const kind = Number.isInteger(key) ? WHOLE : DOUBLE;
+    if (kind === DOUBLE) memory.setFloat64(PIECES, key, true);
+    else {
+        memory.setUint32(PIECES, key, true);
+        memory.setUint32(PIECES + 4, Math.floor(key / 2 ** 32), true);
+    }
+    if (Number.isNaN(key)) memory.setBigUint64(PIECES, 0x7ff8000000000000n, true); // one NaN for all
+    hashAt(PIECES, 8, kind, seed, hash);
+}
+
+function hashWhole(key, seed, hash) {
+    if (BigInt.asIntN(64, key) !== key) return hashBytes(bytesOfLarge(key), LARGE, seed, hash);
+    look();
+    memory.setBigInt64(PIECES, key, true);
+    hashAt(PIECES, 8, WHOLE, seed, hash);
+}
+
+/** A whole number of more than 64 bits with its sign, the lowest byte first: as many bytes as its bits divided by 8, and one. */
+function bytesOfLarge(key) {
+    const digits = (key < 0n ? -key : key).toString(16), bits = 4 * digits.length - (Math.clz32(parseInt(digits[0], 16)) - 28);
+    const length = Math.floor(bits / 8) + 1, text = BigInt.asUintN(8 * length, key).toString(16).padStart(2 * length, "0");
+    return Uint8Array.from({ length }, (_, k) => parseInt(text.slice(2 * (length - k - 1), 2 * (length - k)), 16));
+}
+
+function hashBytes(bytes, kind, seed, hash) {
+    withKeyRoom(bytes.length, (at, into) => {
+        into.set(bytes);
+        hashAt(at, bytes.length, kind, seed, hash);
+    });
 }

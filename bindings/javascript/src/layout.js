@@ -46,8 +46,8 @@ export const BITM_SEQUENCE = {
     upper_len: 56,
     lower: 64,
     lower_len: 72,
-    samples: 80,
-    samples_len: 88,
+    hints: 80,
+    hints_len: 88,
 };
 export const BITM_SEQUENCE_LENS = {
     sizeof: 40,
@@ -69,8 +69,8 @@ export const BITM_SEQUENCE_WALK = {
     sequence_upper_len: 56,
     sequence_lower: 64,
     sequence_lower_len: 72,
-    sequence_samples: 80,
-    sequence_samples_len: 88,
+    sequence_hints: 80,
+    sequence_hints_len: 88,
     first: 96,
     at: 104,
     len: 112,
@@ -88,8 +88,8 @@ export const BITM_CURSOR = {
     sequence_upper_len: 56,
     sequence_lower: 64,
     sequence_lower_len: 72,
-    sequence_samples: 80,
-    sequence_samples_len: 88,
+    sequence_hints: 80,
+    sequence_hints_len: 88,
     index: 96,
     position: 104,
     number: 112,
@@ -204,6 +204,8 @@ export const BITM_TREE = {
     upper_len: 32,
     lower: 40,
     lower_len: 48,
+    hints: 56,
+    hints_len: 64,
 };
 export const BITM_TRIE = {
     sizeof: 128,
@@ -214,6 +216,8 @@ export const BITM_TRIE = {
     tree_upper_len: 32,
     tree_lower: 40,
     tree_lower_len: 48,
+    tree_hints: 56,
+    tree_hints_len: 64,
     width: 72,
     labels: 80,
     labels_len: 88,
@@ -256,8 +260,8 @@ export const BITM_SPARSE = {
     positions_upper_len: 56,
     positions_lower: 64,
     positions_lower_len: 72,
-    positions_samples: 80,
-    positions_samples_len: 88,
+    positions_hints: 80,
+    positions_hints_len: 88,
     bits_len: 96,
 };
 export const BITM_DICTIONARY = {

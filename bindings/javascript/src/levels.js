@@ -1,5 +1,5 @@
 // A minimal perfect hash of hashes that stand in memory, as the blocks of keys, of a dictionary and of strings have one.
-import { BESIDE, calls, numberAt, put } from "./core.js";
+import { BESIDE, calls, numberAt, put, wordsAt } from "./core.js";
 import { BITM_SEEDED_HASH } from "./layout.js";
 import { withRoom } from "./memory.js";
 import { orThrow, within } from "./numbers.js";
@@ -9,25 +9,52 @@ const LEVELS = 256;
 
 /**
  * Runs body(hash) over the hash of n hashes, which are moved: `at` is where its struct stands, words, sizes and seeds are where
- * these parts stand, and words_len, sizes_len and seeds_len are how long they are. With tries each word has one of that many seeds,
- * which isSeeded says, else none. Answers whether it did: it does not where two hashes are equal.
+ * these parts stand, and words_len, sizes_len and seeds_len are how long they are. With tries each word has one of that many
+ * seeds, which isSeeded says, else none. progress(done, total), if there is one, is called after each level. Answers how many
+ * hashes are left without a number: if any, then some are equal, they stand first, and body did not run.
  */
-export function withHash(hashes, n, { percent, tries }, body) {
+export function withHash(hashes, n, { percent, tries, progress }, body) {
     const first = calls.bitm_hash_level_len(n, within(percent, 50, 10000, "percent"));
     // All levels together have some e^(100 / percent) times the words of the first, and each has one at least.
     const most = 8 * first + 2 * LEVELS, isSeeded = tries !== undefined;
     const seedsTried = isSeeded ? within(tries, 1, 256, "tries") : 0;
     return withRoom(8 * (first + most + LEVELS) + (isSeeded ? 8 * n + most : 0), again => {
         const words = again + 8 * first, sizes = words + 8 * most, sorted = sizes + 8 * LEVELS, seeds = sorted + 8 * n;
-        const rooms = { before: [words, most], after: [sizes, LEVELS, BESIDE, BESIDE + 8] };
-        const left = isSeeded
-            ? calls.bitm_hash_build_seeded(hashes, n, percent, seedsTried, ...rooms.before, seeds, most, again, first, sorted, n, ...rooms.after)
-            : calls.bitm_hash_build(hashes, n, percent, ...rooms.before, again, first, ...rooms.after);
-        if (orThrow(left, "keys", n) !== 0) return false;
-        const words_len = numberAt(BESIDE + 8), parts = { words, words_len, sizes, sizes_len: numberAt(BESIDE), seeds, seeds_len: isSeeded ? words_len : 0 };
+        const rooms = { hashes, n, percent, isSeeded, seedsTried, again, first, words, most, sizes, sorted, seeds };
+        const { left, words_len, sizes_len } = progress ? byLevels(rooms, progress) : atOnce(rooms);
+        if (left !== 0) return left;
+        const parts = { words, words_len, sizes, sizes_len, seeds, seeds_len: isSeeded ? words_len : 0 };
         withTables(parts, n, at => body({ at, isSeeded, ...parts }));
-        return true;
+        return 0;
     });
+}
+
+/** Builds all levels: how many hashes are left, and how many words and levels there are. */
+function atOnce({ hashes, n, percent, isSeeded, seedsTried, again, first, words, most, sizes, sorted, seeds }) {
+    const before = [hashes, n, percent], after = [sizes, LEVELS, BESIDE, BESIDE + 8];
+    const left = isSeeded
+        ? calls.bitm_hash_build_seeded(...before, seedsTried, words, most, seeds, most, again, first, sorted, n, ...after)
+        : calls.bitm_hash_build(...before, words, most, again, first, ...after);
+    return { left: orThrow(left, "keys", n), sizes_len: numberAt(BESIDE), words_len: numberAt(BESIDE + 8) };
+}
+
+/** The same, level by level. progress() may run code of the user's. */
+function byLevels(it, progress) {
+    let left = it.n, words_len = 0, sizes_len = 0;
+    if (left === 0) progress(0, 0);
+    while (left > 0 && sizes_len < LEVELS) {
+        const size = calls.bitm_hash_level_len(left, it.percent), to = [it.words + 8 * words_len, size], again = [it.again, size];
+        if (size > it.most - words_len) break;
+        const seeded = [it.seeds + words_len, size, ...again, it.sorted, it.n];
+        const got = it.isSeeded
+            ? calls.bitm_hash_level_seeded(it.hashes, left, sizes_len, it.seedsTried, ...to, ...seeded)
+            : calls.bitm_hash_level(it.hashes, left, sizes_len, ...to, ...again);
+        left = orThrow(got, "keys", it.n);
+        wordsAt(it.sizes, LEVELS)[sizes_len++] = BigInt(size);
+        words_len += size;
+        progress(it.n - left, it.n);
+    }
+    return { left, words_len, sizes_len };
 }
 
 /** Builds the tables of the levels, and writes the struct, which begins with that of a hash without seeds: runs body(at). */

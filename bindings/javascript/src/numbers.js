@@ -13,6 +13,14 @@ export class WrongTables extends Error {
     }
 }
 
+/** A right file of another kind than its class takes, which the message names. */
+export class OtherKind extends WrongTables {
+    constructor(message) {
+        super(message);
+        this.name = "OtherKind";
+    }
+}
+
 export function wrongType(name, it) {
     const found = it === null ? "null" : typeof it;
     return new TypeError(`bitm: ${name} must be a whole number, and is of type ${found}`);

@@ -9,13 +9,14 @@ const VERSION = 7, KIND = 8;
 
 /**
  * An Index or an EliasFano of the bytes of a block, as toBytes() gives them and the C library writes them, which are copied once.
- * Unless `check` is false, all of them are looked at, and WrongTables is thrown where they are not as they were written; without
- * that, answers may be wrong, but no position is past the end or holds another bit. A file of version 2 of the format is read too
+ * OtherKind is thrown where they hold another structure. Unless `check` is false, all of them are looked at, and WrongTables is
+ * thrown where they are not as they were written; without that, answers may be wrong, but no position is past the end or holds
+ * another bit. A file of version 2 of the format is read too
  * and made a block; it has no checksum of its parts, so the check finds only what does not fit.
  */
 export function open(bytes, options) {
-    const own = optionsOf(options), from = bytesOf(bytes, "a file");
-    if (from[VERSION] === 3 && from[KIND] === 2) return openedAs(Index, OF_BITS, bytes, own);
-    if (from[VERSION] === 3 && from[KIND] === 3) return openedAs(EliasFano, OF_NUMBERS, bytes, own);
+    const own = optionsOf(options), from = bytesOf(bytes, "a file"), isBlock = from[VERSION] === 3 || from[VERSION] === 4;
+    if (isBlock && from[KIND] === 2) return openedAs(Index, OF_BITS, bytes, own);
+    if (isBlock && from[KIND] === 3) return openedAs(EliasFano, OF_NUMBERS, bytes, own);
     return openVersion2(from, own.check !== false);
 }

@@ -51,7 +51,7 @@ export function rising(words) {
 }
 
 /** Below 0, 0 or above it, as bytes stand before others, are these, or stand after them. */
-function inOrder(a, b) {
+export function inOrder(a, b) {
     const n = Math.min(a.length, b.length);
     let k = 0;
     while (k < n && a[k] === b[k]) k++;

@@ -3,11 +3,11 @@ const INSPECT = Symbol.for("nodejs.util.inspect.custom");
 
 /** What is shown of a value: the name of its class, and what says(it) says of it. */
 function textOf(name, it, says, options, inspect) {
-    if (it.byteLength === 0 && it.length > 0) return `${name} (freed)`;
+    if (it.byteLength === 0 && (it.length > 0 || name !== "BitVector")) return `${name} (freed)`;
     try {
         return `${name} ${inspect(says(it), options)}`;
     } catch (fault) {
-        return `${name} (${fault.message})`;
+        return `${name} (${fault instanceof TypeError ? "freed" : fault.message})`;
     }
 }
 

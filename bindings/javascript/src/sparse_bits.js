@@ -1,4 +1,5 @@
 import { BESIDE, calls, numberAt } from "./core.js";
+import { notBelow, unsorted } from "./faults.js";
 import { Copied, InBlock, openedAs } from "./in_block.js";
 import { BITM_LIST_COUNTS, BITM_SPARSE, STATUS } from "./layout.js";
 import { answers, copyIn, numbersOf } from "./lists.js";
@@ -6,7 +7,7 @@ import { dispose, withRoom } from "./memory.js";
 import { WrongTables, must, orNone, orThrow, place } from "./numbers.js";
 import { shows } from "./shown.js";
 
-const KIND = { name: "SparseBits", what: "sparse bits", open: "bitm_sparse_open", check: "bitm_sparse_check", layout: BITM_SPARSE };
+const KIND = { name: "SparseBits", open: "bitm_sparse_open", check: "bitm_sparse_check", layout: BITM_SPARSE };
 
 /** Bits of which few are 1 bits, and that do not change: the positions of these alone take memory. */
 export class SparseBits {
@@ -34,8 +35,8 @@ export class SparseBits {
             const words = orThrow(calls.bitm_sparse_size(n, last), "positions", n);
             this.#held = new InBlock(KIND, this, words, at => {
                 const got = calls.bitm_sparse_build(list, n, length, at, words);
-                if (got === -STATUS.WRONG) throw new RangeError(`bitm: a position is past the end: there are ${length} bits`);
-                if (got === -STATUS.UNSORTED) throw new RangeError("bitm: a position is not greater than the one before it");
+                if (got === -STATUS.WRONG) throw notBelow(list, n, "position", length);
+                if (got === -STATUS.UNSORTED) throw unsorted(list, n, "position", true);
                 must(got, "the positions");
             });
         });

@@ -1,15 +1,16 @@
+import { bySeeds } from "./collisions.js";
 import { BESIDE, bytesAt, calls, numberAt } from "./core.js";
 import { Copied, InBlock, openedAs } from "./in_block.js";
-import { isIterable, optionsOf, typeOf } from "./given.js";
+import { callback, isIterable, optionsOf, typeOf } from "./given.js";
 import { BITM_LIST_COUNTS, BITM_STRINGS } from "./layout.js";
 import { withHash } from "./levels.js";
 import { copyIn, copyOut } from "./lists.js";
 import { dispose, withRoom } from "./memory.js";
 import { WrongTables, big, called, must, orNone, orThrow, place } from "./numbers.js";
-import { encoded, withBytes } from "./patterns.js";
+import { encoded, inOrder, withBytes } from "./patterns.js";
 import { shows } from "./shown.js";
 
-const KIND = { name: "Strings", what: "strings", open: "bitm_strings_open", check: "bitm_strings_check", layout: BITM_STRINGS };
+const KIND = { name: "Strings", open: "bitm_strings_open", check: "bitm_strings_check", layout: BITM_STRINGS };
 const decoder = new TextDecoder("utf-8", { ignoreBOM: true });
 /** The seeds that are tried where none is given. */
 const SEEDS = [0n, 1n];
@@ -20,7 +21,10 @@ function bytesIn(string) {
     return bytes;
 }
 
-/** Copies strings into memory, one after another with where each ends, and runs body([bytes, how many, ends, how many]). */
+/**
+ * Copies strings into memory, one after another with where each ends, and runs body([bytes, how many, ends, how many], areEqual),
+ * where areEqual(i, j) says whether two of them are equal.
+ */
 function withStrings(given, body) {
     if (!isIterable(given)) throw new TypeError("bitm: strings must be an array or another iterable of strings");
     const all = Array.from(given).map(bytesIn), n = all.length, ends = new Float64Array(n);
@@ -30,7 +34,8 @@ function withStrings(given, body) {
         const text = at + 8 * n, room = bytesAt(text, length);
         all.forEach((it, k) => room.set(it, ends[k] - it.length));
         copyIn(ends, at, "strings");
-        return body([text, length, at, n]);
+        const copyOf = k => bytesAt(text, length).subarray(k === 0 ? 0 : ends[k - 1], ends[k]);
+        return body([text, length, at, n], (i, j) => inOrder(copyOf(i), copyOf(j)) === 0);
     });
 }
 
@@ -41,7 +46,8 @@ export class Strings {
 
     /**
      * Strings (as UTF-8) or Uint8Arrays, no two equal. percent: 100 takes least memory, 200 less time; seed is the key of
-     * their hashes, SipHash-1-3: unless it is given 0, and 1 where that gives two strings one hash.
+     * their hashes, SipHash-1-3: unless it is given 0, and 1 where that gives two strings one hash. progress(done, total) is
+     * called after each level of the hash, with how many strings have a number so far.
      */
     constructor(strings, options) {
         if (strings instanceof Copied) this.#held = new InBlock(KIND, this, strings);
@@ -49,25 +55,26 @@ export class Strings {
         this.#length = this.#held.member("hash_keys");
     }
 
-    #build(strings, { percent = 100, seed }) {
+    #build(strings, { percent = 100, seed, progress }) {
         const seeds = seed === undefined ? SEEDS : [big(seed, "seed")];
-        withStrings(strings, spelled => {
-            if (!seeds.some(it => this.#bySeed(spelled, percent, it)))
-                throw new RangeError("bitm: two strings are equal, or have one hash, which they may not have by another seed");
-        });
+        const how = { percent, tries: undefined, progress: callback(progress) };
+        withStrings(strings, (spelled, areEqual) => withRoom(16 * spelled[3], hashes => {
+            const n = spelled[3], moved = hashes + 8 * n;
+            const build = it => {
+                must(called("bitm_strings_hashes", ...spelled, it, hashes, n), "strings");
+                bytesAt(moved, 8 * n).set(bytesAt(hashes, 8 * n));
+                return withHash(moved, n, how, hash => this.#of(spelled, it, hash));
+            };
+            bySeeds(seeds, "strings", { hashes, moved, n }, build, areEqual);
+        }));
     }
 
-    /** Writes the block by a seed, unless two strings have one hash by it. */
-    #bySeed(spelled, percent, seed) {
+    /** Writes the block of the hash by a seed, and of the strings. */
+    #of(spelled, seed, hash) {
         const [, length, , n] = spelled;
-        return withRoom(8 * n, hashes => {
-            must(called("bitm_strings_hashes", ...spelled, seed, hashes, n), "strings");
-            return withHash(hashes, n, { percent, tries: undefined }, hash => {
-                const words = orThrow(calls.bitm_strings_size(hash.words_len, hash.sizes_len, n, length), "strings", n);
-                this.#held = new InBlock(KIND, this, words, to => {
-                    must(called("bitm_strings_build", hash.at, seed, ...spelled, to, words), "strings");
-                });
-            });
+        const words = orThrow(calls.bitm_strings_size(hash.words_len, hash.sizes_len, n, length), "strings", n);
+        this.#held = new InBlock(KIND, this, words, to => {
+            must(called("bitm_strings_build", hash.at, seed, ...spelled, to, words), "strings");
         });
     }
 

@@ -1,6 +1,7 @@
 import { BESIDE, bytesAt, calls, numberAt } from "./core.js";
+import { notBelow } from "./faults.js";
 import { Copied, InBlock, Made, openedAs } from "./in_block.js";
-import { optionsOf } from "./given.js";
+import { callback, optionsOf } from "./given.js";
 import { BITM_TEXT, STATUS } from "./layout.js";
 import { copyIn, copyOut, numbersOf } from "./lists.js";
 import { dispose, withRoom } from "./memory.js";
@@ -8,18 +9,33 @@ import { must, orThrow, place, upTo } from "./numbers.js";
 import { encoded, withBytes, withPattern } from "./patterns.js";
 import { shows } from "./shown.js";
 
-const KIND = { name: "TextIndex", what: "the index of a text", open: "bitm_text_open", check: "bitm_text_check", layout: BITM_TEXT };
+const KIND = { name: "TextIndex", open: "bitm_text_open", check: "bitm_text_check", layout: BITM_TEXT };
 
 const COUNT = { numbers: "bitm_text_count", bytes: "bitm_text_count_bytes" };
 const LOCATE = { numbers: "bitm_text_locate", bytes: "bitm_text_locate_bytes" };
 
 const decoder = new TextDecoder("utf-8", { ignoreBOM: true });
 
-/** Each how many letters a position is kept. */
-function stepOf(options) {
-    const step = place(optionsOf(options).step ?? 32, "step");
+/** Each how many letters a position is kept, and what is called as the build goes on. */
+function settingsOf(options) {
+    const given = optionsOf(options), step = place(given.step ?? 32, "step");
     if (step < 1 || step >= 2 ** 32) throw new RangeError(`bitm: the step must be 1 to 2^32 - 1, and is ${step}`);
-    return step;
+    return { step, progress: callback(given.progress) };
+}
+
+/** The calls that write a block: at once, and in two steps. */
+const OF_BYTES = { build: "bitm_text_build_bytes", order: "bitm_text_order_bytes", ordered: "bitm_text_build_ordered_bytes" };
+const OF_LETTERS = { build: "bitm_text_build", order: "bitm_text_order", ordered: "bitm_text_build_ordered" };
+
+/** Writes the block of a text: the status. progress() may run code of the user's. */
+function written(names, text, scratch, block, { step, progress }) {
+    if (!progress) return calls[names.build](...text, step, ...scratch, ...block);
+    const got = calls[names.order](...text, ...scratch);
+    if (got !== 0) return got;
+    progress(1, 2);
+    must(calls[names.ordered](...text, step, ...scratch, ...block), "the text");
+    progress(2, 2);
+    return 0;
 }
 
 /** Where a pattern stands in a text, by the index of the text in one block, which is all that is needed. */
@@ -40,29 +56,32 @@ export class TextIndex {
 
     /**
      * The index of a text: a string, as its bytes in UTF-8, or bytes in a Uint8Array. Each `step` bytes (32) a position is kept:
-     * the fewer, the less memory, and the longer it takes to find a position or a part.
+     * the fewer, the less memory, and the longer it takes to find a position or a part. progress(done, total) is called after
+     * each of two steps.
      */
     static of(text, options) {
-        const step = stepOf(options), bytes = encoded(text, "the text");
+        const settings = settingsOf(options), bytes = encoded(text, "the text");
         if (!bytes) throw new TypeError("bitm: the text must be a string or a Uint8Array; TextIndex.ofLetters takes numbers");
         return withBytes(bytes, (at, n) => {
-            const room = orThrow(calls.bitm_text_size_bytes(at, n, step, BESIDE), "the text", n), words = numberAt(BESIDE);
+            const room = orThrow(calls.bitm_text_size_bytes(at, n, settings.step, BESIDE), "the text", n);
+            const words = numberAt(BESIDE);
             return withRoom(4 * room, scratch => new TextIndex(new Made(words, block => {
-                must(calls.bitm_text_build_bytes(at, n, step, scratch, room, block, words), "the text");
+                must(written(OF_BYTES, [at, n], [scratch, room], [block, words], settings), "the text");
             })));
         });
     }
 
     /** The index of numbers below `letters`, for each of which 8 bytes are kept. A pattern is then a list of numbers too. */
     static ofLetters(numbers, letters, options) {
-        const step = stepOf(options), most = 2 ** 32 - 1, below = upTo(letters, most, "letters");
+        const settings = settingsOf(options), most = 2 ** 32 - 1, below = upTo(letters, most, "letters");
         const { items } = numbersOf(numbers, "numbers"), n = items.length;
-        const room = orThrow(calls.bitm_text_size_letters(n, below, step, BESIDE), "the numbers", n), words = numberAt(BESIDE);
+        const room = orThrow(calls.bitm_text_size_letters(n, below, settings.step, BESIDE), "the numbers", n);
+        const words = numberAt(BESIDE);
         return withRoom(8 * n, at => {
             copyIn(items, at, "numbers");
             return withRoom(4 * room, scratch => new TextIndex(new Made(words, block => {
-                const got = calls.bitm_text_build(at, n, below, step, scratch, room, block, words);
-                if (got === -STATUS.WRONG) throw new RangeError(`bitm: a number is not below ${below}`);
+                const got = written(OF_LETTERS, [at, n, below], [scratch, room], [block, words], settings);
+                if (got === -STATUS.WRONG) throw notBelow(at, n, "number", below);
                 must(got, "the numbers");
             })));
         });

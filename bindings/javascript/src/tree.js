@@ -1,13 +1,14 @@
 import { BESIDE, calls } from "./core.js";
+import { noTree } from "./faults.js";
 import { Copied, InBlock, openedAs } from "./in_block.js";
-import { BITM_TREE } from "./layout.js";
+import { BITM_TREE, STATUS } from "./layout.js";
 import { answers, copyIn, numbersOf } from "./lists.js";
 import { dispose, withRoom } from "./memory.js";
 import { childrenOf, isNode, ofNode } from "./nodes.js";
-import { orNone, orThrow, place } from "./numbers.js";
+import { must, orNone, orThrow, place } from "./numbers.js";
 import { shows } from "./shown.js";
 
-const KIND = { name: "Tree", what: "a tree", open: "bitm_tree_open", check: "bitm_tree_check", layout: BITM_TREE };
+const KIND = { name: "Tree", open: "bitm_tree_open", check: "bitm_tree_check", layout: BITM_TREE };
 
 /** A tree whose nodes are numbered level by level: the root is 0, and the children of a node follow one another. */
 export class Tree {
@@ -27,7 +28,9 @@ export class Tree {
             copyIn(items, list, "degrees");
             const words = orThrow(calls.bitm_tree_size(n), "the number of nodes", n);
             this.#held = new InBlock(KIND, this, words, at => {
-                if (calls.bitm_tree_build(list, n, at, words) !== 0) throw new RangeError("bitm: the degrees are those of no tree");
+                const got = calls.bitm_tree_build(list, n, at, words);
+                if (got === -STATUS.WRONG) throw noTree(list, n);
+                must(got, "the degrees");
             });
         });
     }

@@ -1,5 +1,6 @@
 import { BESIDE, bytesAt, calls, numberAt } from "./core.js";
 import { BitVector, wordsOf } from "./bit_vector.js";
+import { fallingLabel, noTree, tooWide } from "./faults.js";
 import { Copied, InBlock, Made, openedAs } from "./in_block.js";
 import { optionsOf } from "./given.js";
 import { BITM_TRIE, STATUS } from "./layout.js";
@@ -10,7 +11,7 @@ import { answerOf, must, orNone, orThrow, place, whole, within } from "./numbers
 import { encoded, rising, withPattern } from "./patterns.js";
 import { shows } from "./shown.js";
 
-const KIND = { name: "Trie", what: "a trie", open: "bitm_trie_open", check: "bitm_trie_check", layout: BITM_TRIE };
+const KIND = { name: "Trie", open: "bitm_trie_open", check: "bitm_trie_check", layout: BITM_TRIE };
 const FIND = { numbers: "bitm_trie_find", bytes: "bitm_trie_find_bytes" };
 const LONGEST = { numbers: "bitm_trie_longest", bytes: "bitm_trie_longest_bytes" };
 
@@ -39,6 +40,8 @@ export class Trie {
         if (ends !== undefined && !(ends instanceof BitVector)) throw new TypeError("bitm: ends is a BitVector");
         const [at, words_len, length] = ends === undefined ? [0, 0, n] : wordsOf(ends);
         if (length !== n) throw new RangeError(`bitm: there are ${n} nodes, and ${length} ends`);
+        if (labels.length !== Math.max(n - 1, 0))
+            throw new RangeError(`bitm: there are ${n} nodes, and ${labels.length} labels: each node but the root has one`);
         withRoom(8 * (n + labels.length), list => {
             const marks = list + 8 * n, parts = [list, n, marks, labels.length, bits, at, words_len];
             copyIn(degrees, list, "degrees");
@@ -46,9 +49,8 @@ export class Trie {
             const words = orThrow(calls.bitm_trie_size(n, bits, ends === undefined ? 0 : 1), "the number of nodes", n);
             this.#held = new InBlock(KIND, this, words, at => {
                 const got = calls.bitm_trie_build(...parts, at, words);
-                // a length that is wrong is that of the labels: the others were asked for, or compared
-                if (got === -STATUS.WRONG || got === -STATUS.BAD_SIZE)
-                    throw new RangeError("bitm: the degrees are those of no tree, or the labels none for it");
+                if (got === -STATUS.WRONG)
+                    throw noTree(list, n) ?? tooWide(marks, labels.length, "label", bits) ?? fallingLabel(list, n, marks);
                 must(got, "the nodes");
             });
         });

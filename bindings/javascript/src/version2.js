@@ -3,11 +3,11 @@
 import { BESIDE, bytesAt, calls, numberAt, put, wasm } from "./core.js";
 import { Index, Words } from "./bit_index.js";
 import { EliasFano, Listed } from "./elias_fano.js";
+import { unsorted } from "./faults.js";
+import { OF_INDEX, notOf } from "./kinds.js";
 import { BITM_INDEX, BITM_SEQUENCE, BITM_STORED } from "./layout.js";
 import { withRoom } from "./memory.js";
 import { WrongTables, orThrow } from "./numbers.js";
-
-const KIND = { index: 1, sequence: 2 };
 
 /** The Index or EliasFano of a file, as a block; all parts are looked at if isChecked. */
 export function openVersion2(bytes, isChecked) {
@@ -15,9 +15,9 @@ export function openVersion2(bytes, isChecked) {
     return withRoom(8 * words, file => {
         bytesAt(file, 8 * words).set(bytes.subarray(0, 8 * words));
         if (calls.bitm_stored_read(file, words, BESIDE) !== 0)
-            throw new WrongTables("bitm: it is not a file of an index or a sequence, or not all of it");
+            throw notOf(["Index", "EliasFano"], file, words);
         const header = headerAt(BESIDE);
-        return header.kind === KIND.index ? indexIn(file, header, isChecked) : sequenceIn(file, header, isChecked);
+        return header.kind === OF_INDEX ? indexIn(file, header, isChecked) : sequenceIn(file, header, isChecked);
     });
 }
 
@@ -62,10 +62,7 @@ function sequenceIn(file, it, isChecked) {
         put(at, BITM_SEQUENCE, { ...tables(file, it), len: n, width: it.width, low: file + it.low_at, low_len: it.low_len });
         if (isChecked) mustFit(at, [["bitm_sequence_check"]]);
         if (orThrow(calls.bitm_sequence_items(at, 0, items, n), "index", 0) < n) throw new WrongTables();
-        try {
-            return new EliasFano(new Listed(items, n));
-        } catch (fault) {
-            throw /less than the one before/.test(fault.message) ? new WrongTables() : fault;
-        }
+        if (unsorted(items, n, "number", false)) throw new WrongTables();
+        return new EliasFano(new Listed(items, n));
     });
 }

@@ -1,6 +1,7 @@
 import { BESIDE, calls, wordsAt } from "./core.js";
+import { tooWide } from "./faults.js";
 import { Copied, InBlock, openedAs } from "./in_block.js";
-import { optionsOf } from "./given.js";
+import { callback, optionsOf } from "./given.js";
 import { BITM_MATRIX, STATUS } from "./layout.js";
 import { answers, copyIn, copyOut, itemsAt, numbersOf } from "./lists.js";
 import { dispose, withRoom } from "./memory.js";
@@ -8,7 +9,7 @@ import { answerOf, must, orNone, orThrow, place, upTo, whole } from "./numbers.j
 import { shows } from "./shown.js";
 import { bitsToStore } from "./words.js";
 
-const KIND = { name: "WaveletMatrix", what: "a wavelet matrix", open: "bitm_matrix_open", check: "bitm_matrix_check", layout: BITM_MATRIX };
+const KIND = { name: "WaveletMatrix", open: "bitm_matrix_open", check: "bitm_matrix_check", layout: BITM_MATRIX };
 /** How many numbers of a range a call writes. */
 const PAGE = 512, MOST = 2n ** 64n - 1n;
 
@@ -20,7 +21,8 @@ export class WaveletMatrix {
 
     /**
      * The numbers. Each is kept in `width` bits (1 to 64), which is as many as the largest has unless it is given. With `quarters`
-     * the block takes an eighth more, and most queries read fewer words.
+     * the block takes an eighth more, and most queries read fewer words. progress(done, total) is called after each of `width`
+     * levels.
      */
     constructor(numbers, options) {
         if (numbers instanceof Copied) this.#held = new InBlock(KIND, this, numbers);
@@ -31,14 +33,12 @@ export class WaveletMatrix {
 
     #build(items, options) {
         const n = items.length, given = checkedWidth(options.width), quarters = options.quarters === true;
+        const progress = callback(options.progress);
         withRoom(24 * n, list => {
             copyIn(items, list, "numbers");
             const width = given ?? widthOf(items), words = orThrow(calls.bitm_matrix_size(n, width, quarters), "the numbers", n);
-            this.#held = new InBlock(KIND, this, words, at => {
-                const got = calls.bitm_matrix_build(list, n, width, quarters, list + 8 * n, 2 * n, at, words);
-                if (got === -STATUS.WRONG) throw new RangeError(`bitm: a number has more than ${width} bits`);
-                must(got, "the numbers");
-            });
+            const how = { list, n, width, quarters, scratch: list + 8 * n, words };
+            this.#held = new InBlock(KIND, this, words, at => (progress ? byLevels(how, at, progress) : atOnce(how, at)));
         });
     }
 
@@ -167,6 +167,23 @@ export class WaveletMatrix {
 }
 
 shows(WaveletMatrix, "WaveletMatrix", it => ({ numbers: it.length, width: it.width }));
+
+function atOnce({ list, n, width, quarters, scratch, words }, at) {
+    const got = calls.bitm_matrix_build(list, n, width, quarters, scratch, 2 * n, at, words);
+    if (got === -STATUS.WRONG) throw tooWide(list, n, "number", width);
+    must(got, "the numbers");
+}
+
+/** Builds the same block level by level. progress() may run code of the user's. */
+function byLevels({ list, n, width, quarters, scratch, words }, at, progress) {
+    const fault = tooWide(list, n, "number", width);
+    if (fault) throw fault;
+    for (let depth = 0; depth < width; depth++) {
+        must(calls.bitm_matrix_write_level(list, n, width, quarters, depth, scratch, n, at, words), "the numbers");
+        if (depth === width - 1) must(calls.bitm_matrix_seal(n, width, quarters, at, words), "the numbers");
+        progress(depth + 1, width);
+    }
+}
 
 /** n numbers in memory, each with its count. */
 function paired(numbers, counts, n) {

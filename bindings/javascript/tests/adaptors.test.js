@@ -33,13 +33,13 @@ function both(call, parts) {
 }
 
 test("each adaptor does what its export does", () => {
-    assert.equal(exported.length, 202);
+    assert.equal(exported.length, 214);
     for (const call of exported) {
         let answered = 0;
         for (let round = 0; round < 60; round++) answered += both(call, prepare(round % 4 === 3));
         assert.ok(answered >= 5, `${call.name} answered ${answered} times of 60`);
     }
-    tally.atLeast(202 * 60);
+    tally.atLeast(214 * 60);
 });
 
 test("each adaptor refuses what is no whole number of its range", () => {
@@ -78,7 +78,6 @@ const LEFT_OUT = {
     bitm_bytes_init25: "as bitm_bytes_get57",
     bitm_bytes_set25: "as bitm_bytes_get57",
     bitm_index_count: "a rank at the length gives the same number with fewer reads",
-    bitm_hash_level: "bitm_hash_build builds all levels",
     bitm_stored_index: "toBytes() writes blocks; files of version 2 are read alone",
     bitm_stored_index_room: "as bitm_stored_index",
     bitm_stored_build: "as bitm_stored_index",
@@ -100,6 +99,7 @@ const LEFT_OUT = {
     bitm_hash_set_prints: "bitm_hash_set_prints_seeded takes hashes without seeds too",
     bitm_hash_find: "as bitm_hash_set_prints",
     bitm_hash_find_list: "as bitm_hash_set_prints",
+    bitm_trie_unsorted_word: "Trie.ofWords sorts the words",
     bitm_strings_hash: "bitm_strings_hashes hashes one string too",
     bitm_text_len: "the struct of an open block has the length",
     bitm_text_size: "a block of other widths than those of letters below a bound is not made here",

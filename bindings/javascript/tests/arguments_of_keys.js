@@ -48,7 +48,8 @@ function ofHashBlock() {
 /** Keys of the hash in slot 76, their fingerprints, and the words in which these stand. */
 function ofPrints() {
     dictionary(false);
-    for (let i = 0; i < N; i++) words(slot(81), N)[i] = words(slot(68), N)[r() % 9 ? i : 0] + (r() % 9 ? 7n : 8n);
+    const areKeys = r() % 2 === 1;
+    for (let i = 0; i < N; i++) words(slot(81), N)[i] = words(slot(68), N)[r() % 9 ? i : 0] + (areKeys || r() % 9 ? 7n : 8n);
     const key_hash = Number(words(slot(81), N)[r() % N]), prints_len = r() % 7 ? N : r() % N;
     return { hash: slot(76), key_hash, key_hashes: slot(81), key_prints: slot(10), key_print: r() % 9, prints: slot(85), prints_len, width: r() % 5 ? r() % 4 : r() % 70 };
 }

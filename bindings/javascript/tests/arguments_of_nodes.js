@@ -15,7 +15,7 @@ function tree(spoilt) {
     const size = words(ANSWER, 1)[0];
     assert.equal(library.bitm_tree_build(BigInt(slot(23)), BigInt(N), BigInt(block), size), 0);
     assert.equal(library.bitm_tree_open(BigInt(block), size, BigInt(slot(25))), 0);
-    if (spoilt) words(block, Number(size))[32 + (r() % 24)] ^= BigInt(r());
+    if (spoilt) words(block, Number(size))[32 + (r() % (Number(size) - 32))] ^= BigInt(r());
     return Number(size);
 }
 
@@ -90,6 +90,7 @@ export const NODES = {
     bitm_trie_size: () => ({ nodes: r() % 3000, width: r() % 66 }),
     bitm_trie_build: ofTrieBuilt,
     bitm_trie_nodes_of_words: ofWords,
+    bitm_trie_unsorted_word: ofWords,
     bitm_trie_build_words: ofWords,
     bitm_trie_open: ofTrieBlock,
     bitm_trie_check: ofTrieBlock,

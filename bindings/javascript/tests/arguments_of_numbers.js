@@ -42,7 +42,8 @@ function blockOf(kind, spoilt) {
     assert.equal(library[`bitm_${kind}_block_size`](...sized, BigInt(ANSWER)), 0);
     const size = words(ANSWER, 1)[0], from = kind === "index" ? [slot(0), N, BITS] : [slot(14), 60];
     assert.equal(library[`bitm_${kind}_block_build`](...from.map(BigInt), block, size), 0);
-    if (spoilt) words(slot(51), Number(size))[32 + (r() % (Number(size) - 32))] ^= BigInt(r());
+    const head = kind === "index" ? 32 : 40;
+    if (spoilt) words(slot(51), Number(size))[head + (r() % (Number(size) - head))] ^= BigInt(r());
     return Number(size);
 }
 const ofBlockOf = kind => () => ({ block: slot(51), block_len: blockOf(kind, r() % 3 === 0) - (r() % 7 ? 0 : 1), index: slot(52), sequence: slot(52) });
@@ -53,7 +54,7 @@ function ofSections() {
     const fits = library.bitm_block_extended_size(...[slot(51), size, role, count, ANSWER].map(BigInt)) === 0;
     const to_len = fits ? Number(words(ANSWER, 1)[0]) - (r() % 7 ? 0 : 1) : 0;
     const words_len = Math.ceil(count / (role === 7 ? 2 : 8)) + (r() % 7 ? 0 : 1);
-    return { block: slot(51), block_len: size - (r() % 7 ? 0 : 1), role, count, words: slot(14), words_len, to: slot(53), to_len, i: r() % 6, section: slot(52) };
+    return { block: slot(51), block_len: size - (r() % 7 ? 0 : 1), role, count, words: slot(14), words_len, to: slot(53), to_len, i: r() % 7, section: slot(52) };
 }
 
 /** Sparse bits of 60 positions in slot 54, of which a word after the directory may be wrong, and their struct: its words. */
@@ -66,7 +67,7 @@ function sparse(spoilt) {
     const size = words(ANSWER, 1)[0];
     assert.equal(library.bitm_sparse_build(BigInt(slot(55)), 60n, bits, BigInt(block), size), 0);
     assert.equal(library.bitm_sparse_open(BigInt(block), size, BigInt(slot(56))), 0);
-    if (spoilt) words(block, Number(size))[32 + (r() % (Number(size) - 32))] ^= BigInt(r());
+    if (spoilt) words(block, Number(size))[40 + (r() % (Number(size) - 40))] ^= BigInt(r());
     return Number(size);
 }
 
@@ -98,6 +99,11 @@ export const NUMBERS = {
     bitm_matrix_build: () => ({
         numbers: slot(40), numbers_len: N, width: r() % 7 ? 7 : 6 + (r() % 60), quarters: 0, scratch: slot(41), scratch_len: 2 * N, block: slot(50), block_len: matrix(false) - (r() % 7 ? 0 : 1),
     }),
+    bitm_matrix_write_level: () => ({
+        numbers: slot(40), numbers_len: N, width: 7, quarters: 0, depth: r() % 8, scratch: slot(41), scratch_len: N - (r() % 9 ? 0 : 1), block: slot(50),
+        block_len: matrix(false) - (r() % 7 ? 0 : 1),
+    }),
+    bitm_matrix_seal: () => ({ len: N, width: r() % 7 ? 7 : 6, quarters: 0, block: slot(42), block_len: matrix(true) - (r() % 7 ? 0 : 1) }),
     bitm_matrix_open: ofMatrixBlock,
     bitm_matrix_check: ofMatrixBlock,
     bitm_matrix_get: ofMatrix,

@@ -35,12 +35,25 @@ function ofTextBuilt(ofBytes) {
     return { text: slot(86), text_len: n, letters: r() % 7 ? 4 : 3, step, scratch: slot(87), scratch_len, block: slot(88), block_len };
 }
 
+/** The same with the order of its suffixes in the scratch, of which two may have changed places. */
+function ofTextOrdered(ofBytes) {
+    const given = ofTextBuilt(ofBytes), [at, n, scratch, room] = [given.text, given.text_len, given.scratch, given.scratch_len].map(BigInt);
+    if (ofBytes) library.bitm_text_order_bytes(at, n, scratch, room);
+    else library.bitm_text_order(at, n, 4, scratch, room);
+    if (r() % 4 === 0) new Uint32Array(memory.buffer, given.scratch, 2).reverse();
+    return given;
+}
+
 const ofTextBlock = () => ({ block: slot(62), block_len: text(r() % 3 === 0) - (r() % 7 ? 0 : 1), text: slot(67) });
 
 /** Arguments that have to fit together, by export and name. */
 export const TEXTS = {
     bitm_text_build: () => ofTextBuilt(false),
     bitm_text_build_bytes: () => ofTextBuilt(true),
+    bitm_text_order: () => ofTextBuilt(false),
+    bitm_text_order_bytes: () => ofTextBuilt(true),
+    bitm_text_build_ordered: () => ofTextOrdered(false),
+    bitm_text_build_ordered_bytes: () => ofTextOrdered(true),
     bitm_text_open: ofTextBlock,
     bitm_text_check: ofTextBlock,
     bitm_text_len: ofText,

@@ -66,7 +66,8 @@ test("arguments that are wrong", () => {
         if (it !== undefined) assert.throws(() => new Dictionary([1], { seed: it }), TypeError);
     }
     for (const percent of [49, 10001, 0.5, NaN]) assert.throws(() => new Dictionary([1], { percent }), RangeError);
-    for (const keys of [[4, 4], [4n, 4], [...drawn(300, 40, 3), ...drawn(1, 40, 3)]]) assert.throws(() => new Dictionary(keys), /two keys are equal/);
+    for (const [keys, first, second] of [[[4, 4], 0, 1], [[9, 4n, 4], 1, 2], [[...drawn(300, 40, 3), ...drawn(1, 40, 3)], 0, 300]])
+        assert.throws(() => new Dictionary(keys), new RangeError(`bitm: keys ${first} and ${second} are equal`));
     for (const it of [5, "12", null, undefined, {}]) assert.throws(() => new Dictionary(it), TypeError);
     assert.deepEqual([found.keyOf(3), found.keyOf(2n ** 64n - 1n), new Dictionary([]).get(0)], [undefined, undefined, undefined]);
 });

@@ -92,7 +92,8 @@ test("iteration from a value, and intersection", () => {
 });
 
 test("numbers that decrease are refused", () => {
-    assert.throws(() => new EliasFano([3, 2]), RangeError);
-    assert.throws(() => new EliasFano([1, 2, 5, 4, 9]), RangeError);
+    assert.throws(() => new EliasFano([3, 2]), new RangeError("bitm: number 1 (2) is less than number 0 (3)"));
+    assert.throws(() => new EliasFano([1, 2, 5, 4, 9]), new RangeError("bitm: number 3 (4) is less than number 2 (5)"));
+    assert.throws(() => new EliasFano([1, 2n ** 60n, 5, 4]), new RangeError(`bitm: number 2 (5) is less than number 1 (${2n ** 60n})`));
     assert.throws(() => new EliasFano([2n ** 64n]), RangeError);
 });

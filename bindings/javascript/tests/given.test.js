@@ -85,7 +85,7 @@ test("keys of a PerfectHash may be any strings, and each NaN is one key", () => 
         bits[0] = nan;
         assert.equal(hash.get(doubles[0]), hash.get(NaN));
         assert.deepEqual(hash.getList(doubles), [hash.get(NaN)]);
-        assert.throws(() => new PerfectHash([NaN, doubles[0]]), /two keys are equal/);
+        assert.throws(() => new PerfectHash([NaN, doubles[0]]), /keys 0 and 1 are equal/);
     }
 });
 
@@ -109,14 +109,15 @@ test("letters that are no bytes are no text", () => {
 test("options are an object's own properties, each read once", () => {
     const changed = index.toBytes(), block = new Tree([1, 0]).toBytes();
     changed[300] ^= 1;
-    const inherited = { check: false, sampleLog2: 7, width: 40, quarters: true, percent: 10000, seed: 5, step: 1, limit: 0, from: 1, tries: 4, fingerprintBits: 0, ends: 1 };
+    const progress = () => assert.fail("it is inherited");
+    const inherited = { progress, check: false, sampleLog2: 7, width: 40, quarters: true, percent: 10000, seed: 5, step: 1, limit: 0, from: 1, tries: 4, fingerprintBits: 0, ends: 1 };
     Object.assign(Object.prototype, inherited);
     try {
         assert.throws(() => open(changed), bitm.WrongTables);
         assert.throws(() => open(changed, {}), bitm.WrongTables);
         assert.equal(new Index(index.toBitVector()).byteLength, index.byteLength);
         assert.deepEqual([new WaveletMatrix([3]).width, new WaveletMatrix([3], {}).width, new Dictionary([1], {}).seed, new Strings(["a"]).seed], [2, 2, 0, 0]);
-        assert.deepEqual([TextIndex.of("aa").locate("a").length, TextIndex.of("aa").locate("a", {}).length, new PerfectHash(["a"]).hasSeeds], [2, 2, false]);
+        assert.deepEqual([TextIndex.of("aa").locate("a").length, TextIndex.of("aa").locate("a", {}).length, new PerfectHash(["a"]).hasSeeds, new PerfectHash(["a"]).seed], [2, 2, false, 0]);
         assert.equal(new Trie([1, 0], "a").hasEnds, false);
     } finally {
         for (const name of Object.keys(inherited)) delete Object.prototype[name];

@@ -117,12 +117,15 @@ test("where memory ends, the error says what to do, and a hole of nearly the siz
 const texts = Array.from({ length: 1600 }, (_, k) => `text ${k}`), numbers = sorted(2000, 1e6, 3), block = Index.fromPositions([5], 9000, { sampleLog2: 7 }).toBytes();
 const version2 = new Uint8Array(readFileSync(new URL("version2/sampled_index", import.meta.url)));
 const v = new BitVector(9000).fill(true, 3, 700), w = new BitVector(9000).fill(), s = new EliasFano(numbers), names = new Strings(texts), long = "x".repeat(20000), x = new Index(v);
+const progress = () => {}, hash = new PerfectHash(["ada"]);
 /** Calls of each kind, of which each takes memory, and so has to be refused where there is none. */
 const CALLS = [() => new BitVector(9000), () => BitVector.fromPositions(numbers), () => v.intersection(w), () => v.complement().free(), () => new Index(v), () => new Index(v, { sampleLog2: 8 }),
     () => new EliasFano(numbers), () => s.union(s), () => s.countIntersection(s), () => new SparseBits([1, 5000]), () => new PerfectHash(texts), () => new PerfectHash(texts, { tries: 5 }),
     () => new Dictionary([...numbers.keys()]), () => new Strings(texts), () => names.findList(texts), () => names.find(long), () => new Tree([1, 1, 0]), () => Trie.ofWords(texts), () => new WaveletMatrix(numbers),
     () => TextIndex.of(long.slice(0, 3000)), () => TextIndex.ofLetters([1, 2], 3), () => s.cursor(), () => v.clone().setRange(1, v, 0, 90), () => x.toBitVector(), () => open(block), () => open(version2), () => w.toPositions(),
-    () => extend(block, [[OWN_ROLE, new Uint8Array(30000)]])];
+    () => extend(block, [[OWN_ROLE, new Uint8Array(30000)]]), () => new PerfectHash(texts, { progress }), () => new PerfectHash(texts, { progress, tries: 5 }), () => hash.get(long),
+    () => new Dictionary([...numbers.keys()], { progress }), () => new Strings(texts, { progress }), () => new WaveletMatrix(numbers, { progress }), () => TextIndex.of(long.slice(0, 3000), { progress }),
+    () => TextIndex.ofLetters([1, 2], 3, { progress })];
 
 test("each allocation is refused in turn: a call has its answer, or RangeError, and loses no memory", () => {
     withoutMemory((most, give) => {

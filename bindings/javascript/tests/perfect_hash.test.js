@@ -6,6 +6,7 @@ import { withRoom } from "../src/memory.js";
 import { Tally, bitm, spoil, unlessWrong } from "./plain.js";
 
 const { OWN_ROLE, PerfectHash, WrongTables, extend } = bitm;
+const OLD_ROLE = 0x31736a686d746962n;
 const tally = new Tally();
 
 function compare(keys, strangers, options = {}) {
@@ -56,18 +57,21 @@ test("seeds: of every number of keys up to 300, and many", () => {
 });
 
 test("numbers, BigInts, bytes, and all of them together", () => {
-    const numbers = Array.from({ length: 20000 }, (_, k) => k * 7 - 50000.5), whole = numbers.map((_, k) => k), bigs = whole.map(k => BigInt(k) << 60n);
+    const numbers = Array.from({ length: 20000 }, (_, k) => k * 7 - 50000.5), whole = numbers.map((_, k) => k), bigs = whole.map(k => BigInt(k + 1) << 60n);
     const bytes = whole.slice(0, 3000).map(k => Uint8Array.of(k, k >> 8, k % 7));
     compare([...numbers, ...whole, ...bigs, ...bytes, "", "0", NaN, Infinity], ["x", -3, -3n, Uint8Array.of(1)]);
 });
 
-test("equal keys are those of a Map", () => {
-    const h = new PerfectHash([0, "0", 0n, NaN, "ä", "\ud800"]);
-    assert.equal(h.get(-0), h.get(0));
-    assert.equal(new Set(h.getList([0, "0", 0n, NaN, "ä", "\ud800"])).size, 6);
-    assert.throws(() => new PerfectHash([0, -0]), RangeError);
-    assert.throws(() => new PerfectHash([Uint8Array.of(1), Uint8Array.of(1)]), RangeError);
-    assert.throws(() => new PerfectHash(["a", "a"], { tries: 9 }), RangeError);
+test("equal keys are those of a Map, and a whole number and its BigInt", () => {
+    const keys = [0, "0", 0.5, NaN, "ä", "\ud800", 2 ** 60, Uint8Array.of(48)], h = new PerfectHash(keys);
+    assert.deepEqual([h.get(-0), h.get(0n), h.get(2n ** 60n)], [h.get(0), h.get(0), h.get(2 ** 60)]);
+    assert.equal(new Set(h.getList(keys)).size, 8);
+    const equal = [
+        [[0, -0], 1], [[5, "5", 5n], 2], [[2 ** 70, 2n ** 70n], 1], [[NaN, 1, Number("x")], 2], [["a", "b", "a", "b"], 2],
+        [[Uint8Array.of(1), Uint8Array.of(1, 2), Uint8Array.of(1)], 2],
+    ];
+    for (const [them, second] of equal) for (const tries of [undefined, 9]) for (const seed of [undefined, 2n ** 64n - 1n])
+        assert.throws(() => new PerfectHash(them, { tries, seed }), new RangeError(`bitm: keys 0 and ${second} are equal`));
     tally.atLeast(450000);
 });
 
@@ -104,10 +108,16 @@ function ofNoKeys(seed) {
 test("blocks whose keys were hashed in another way, or whose fingerprints are none", () => {
     const role = bitm.sections(new PerfectHash([]).toBytes())[4][0], items = (...numbers) => BigUint64Array.from(numbers, BigInt);
     const open = (seed, ...added) => PerfectHash.open(extend(ofNoKeys(seed), added));
-    assert.deepEqual([open(3, [role, items(16)]).get("a"), open(2 ** 32 - 1, [role, items(0)]).length], [undefined, 0]);
-    for (const seed of [0, 2 ** 32, 2 ** 53 - 1]) assert.throws(() => open(seed, [role, items(16)]), WrongTables);
-    for (const other of [[], [[OWN_ROLE, items(16)]], [[0x327361686d746962n, items(16)]], [[OWN_ROLE, items(16)], [role, items(16)]]]) assert.throws(() => open(3, ...other), WrongTables);
-    for (const wrong of [items(), items(33), items(2n ** 64n - 1n), items(16, 0), Uint8Array.of(16), new Uint8Array(9)]) assert.throws(() => open(3, [role, wrong]), WrongTables);
+    for (const seed of [0, 3, 2 ** 32, 2 ** 53 - 1]) for (const width of [0, 16, 33, 64]) {
+        const it = open(seed, [role, items(width)]);
+        assert.deepEqual([it.get("a"), it.getList(["a", 5]), it.length, it.seed, it.width], [undefined, [undefined, undefined], 0, seed, width]);
+    }
+    assert.deepEqual([open(3, [OLD_ROLE, items(16)]).get("a"), open(2 ** 32 - 1, [OLD_ROLE, items(0)]).length], [undefined, 0]);
+    for (const seed of [0, 2 ** 32, 2 ** 53 - 1]) assert.throws(() => open(seed, [OLD_ROLE, items(16)]), WrongTables);
+    assert.throws(() => open(3, [OLD_ROLE, items(33)]), WrongTables);
+    const byBlake = 0x687361686d746962n;
+    for (const other of [[], [[OWN_ROLE, items(16)]], [[byBlake, items(16)]], [[OWN_ROLE, items(16)], [role, items(16)]]]) assert.throws(() => open(3, ...other), WrongTables);
+    for (const wrong of [items(), items(65), items(2n ** 64n - 1n), items(16, 0), Uint8Array.of(16), new Uint8Array(9)]) assert.throws(() => open(3, [role, wrong]), WrongTables);
 });
 
 test("tries that are wrong, and a hash that was freed", () => {

@@ -48,10 +48,10 @@ test("items of four bytes, of eight and of one", () => {
     const noted = extend(block, new Map([[7, halves], [8n, halves.subarray(1)], [15, Uint8Array.of(1, 2, 3)], [99, whole], [OWN_ROLE, whole]]));
     assert.deepEqual([7, 8, 15, 99, OWN_ROLE].map(it => section(noted, it)), [halves, halves.slice(1), Uint8Array.of(1, 2, 3), whole, new Uint8Array(whole.buffer)]);
     assert.deepEqual(section(noted, 1), sections(block)[0][1]);
-    assert.deepEqual(extend(block, sections(noted).slice(3)), noted);
+    assert.deepEqual(extend(block, sections(noted).slice(4)), noted);
     for (const [role, n] of [[7, 3], [8, 5], [99, 4], [0, 1]]) assert.throws(() => extend(block, [[role, new Uint8Array(n)]]), RangeError);
     const two = extend(block, [[OWN_ROLE, Uint8Array.of(1)], [OWN_ROLE, Uint8Array.of(2)]]);
-    assert.deepEqual([section(two, OWN_ROLE), sections(two).length], [Uint8Array.of(1), 5]);
+    assert.deepEqual([section(two, OWN_ROLE), sections(two).length], [Uint8Array.of(1), 6]);
 });
 
 test("every way to hand items and blocks over", () => {
@@ -62,7 +62,7 @@ test("every way to hand items and blocks over", () => {
     for (const it of [block.buffer, new DataView(block.buffer), shared, shared.buffer, wide.subarray(5, 5 + block.length), Buffer.from(block)]) {
         for (const items of [Uint8Array.of(1, 2).buffer, new DataView(Uint8Array.of(1, 2).buffer), Uint16Array.of(513), Buffer.from([1, 2])])
             assert.deepEqual(extend(it, [[OWN_ROLE, items]]), wanted);
-        assert.deepEqual([isWritten(it), sections(it).length, section(it, OWN_ROLE)], [true, 3, undefined]);
+        assert.deepEqual([isWritten(it), sections(it).length, section(it, OWN_ROLE)], [true, 4, undefined]);
     }
     assert.deepEqual(extend(block, [[OWN_ROLE, block]]).slice(-block.length), block);
     assert.deepEqual(section(extend(block, [[OWN_ROLE, block]]), OWN_ROLE), block);
@@ -70,13 +70,13 @@ test("every way to hand items and blocks over", () => {
 
 test("sixteen sections, and no more", () => {
     let block = new bitm.Tree([0]).toBytes();
-    for (let k = 3; k < 16; k++) {
+    for (let k = 4; k < 16; k++) {
         assert.equal(sections(block).length, k);
         block = extend(block, [[OWN_ROLE + k, Uint8Array.of(k)]]);
     }
     assert.throws(() => extend(block, [[OWN_ROLE, new Uint8Array(0)]]), RangeError);
-    assert.throws(() => extend(new bitm.Tree([0]).toBytes(), Array.from({ length: 14 }, () => [OWN_ROLE, new Uint8Array(0)])), RangeError);
-    assert.deepEqual(Array.from({ length: 13 }, (_, k) => section(block, OWN_ROLE + k + 3)[0]), Array.from({ length: 13 }, (_, k) => k + 3));
+    assert.throws(() => extend(new bitm.Tree([0]).toBytes(), Array.from({ length: 13 }, () => [OWN_ROLE, new Uint8Array(0)])), RangeError);
+    assert.deepEqual(Array.from({ length: 12 }, (_, k) => section(block, OWN_ROLE + k + 4)[0]), Array.from({ length: 12 }, (_, k) => k + 4));
     assert.equal(bitm.Tree.open(block).length, 1);
 });
 
@@ -90,7 +90,7 @@ test("each changed byte is seen, each prefix and each byte more", () => {
         try {
             assert.equal(sections(changed).length, all);
         } catch (it) {
-            assert.ok(it instanceof WrongTables && at < 320, it);
+            assert.ok(it instanceof WrongTables && at < 384, it);
         }
     }
     for (let n = 0; n < block.length; n++) {

@@ -12,7 +12,7 @@ const SHOWN = [
     [new SparseBits([3, 7], 2 ** 40), "SparseBits { bits: 1099511627776, ones: 2 }"],
     [sequence, "EliasFano { numbers: 3 }"],
     [sequence.cursor(), "Cursor { index: 0, number: 2 }"],
-    [new PerfectHash(["a", "b"]), "PerfectHash { keys: 2 }"],
+    [new PerfectHash(["a", "b"]), "PerfectHash { keys: 2, width: 16 }"],
     [new Dictionary([4]), "Dictionary { keys: 1 }"],
     [new Strings(["ada", "bob"]), "Strings { strings: 2 }"],
     [new Tree([2, 0, 0]), "Tree { nodes: 3 }"],
@@ -33,7 +33,15 @@ test("a value is shown by what it is, also in another, and after free()", () => 
     index.free();
     cursor.free();
     assert.equal(inspect(index), "Index (freed)");
-    assert.equal(inspect(cursor), "Cursor (bitm: the Cursor was freed)");
+    assert.equal(inspect(cursor), "Cursor (freed)");
+    for (const [it, text] of SHOWN.slice(2)) {
+        it.free();
+        assert.equal(inspect(it), `${text.split(" ")[0]} (freed)`);
+    }
+    const none = new EliasFano([]), empty = new BitVector(9);
+    none.free();
+    empty.free();
+    assert.deepEqual([inspect(none), inspect(empty)], ["EliasFano (freed)", "BitVector (freed)"]);
     assert.deepEqual([inspect(new BitVector(0)), inspect(new EliasFano([]))], ["BitVector { bits: 0, ones: 0 }", "EliasFano { numbers: 0 }"]);
 });
 

@@ -108,8 +108,10 @@ test("arguments that are wrong", () => {
     assert.equal(bits.previous(2n ** 64n - 1n), 4000);
     assert.throws(() => bits.getList([0, 5000]), /an item of positions is past the end/);
     assert.throws(() => bits.rankList([0, 5001]), /an item of positions is past the end/);
-    for (const [given, length] of [[[3], 3], [[3, 4], 4], [[0], 0], [[2n ** 60n]]]) assert.throws(() => new SparseBits(given, length), /past the end/);
-    for (const given of [[3, 3], [4, 3], [0, 5, 5, 6]]) assert.throws(() => new SparseBits(given, 100), /not greater than the one before it/);
+    for (const [given, length, said] of [[[3], 3, "0 (3)"], [[3, 4], 4, "1 (4)"], [[0], 0, "0 (0)"], [[7, 2n ** 60n], undefined, `1 (${2n ** 60n})`]])
+        assert.throws(() => new SparseBits(given, length), new RangeError(`bitm: position ${said} is not below ${length ?? 2 ** 53 - 1}`));
+    for (const [given, k] of [[[3, 3], 1], [[4, 3], 1], [[0, 5, 5, 6], 2], [[0, 5, 2 ** 60, 6], 3]])
+        assert.throws(() => new SparseBits(given.map(BigInt), 100), new RangeError(`bitm: position ${k} (${BigInt(given[k])}) is not above position ${k - 1} (${BigInt(given[k - 1])})`));
     assert.throws(() => new SparseBits("12"), TypeError);
 });
 

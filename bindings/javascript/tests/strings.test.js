@@ -55,7 +55,7 @@ test("strings are their bytes in UTF-8", () => {
     compare(new Strings(words.map(bytesOf)), words);
     const found = new Strings(["ü", Uint8Array.of(195)]);
     assert.deepEqual([found.has(Uint8Array.of(195, 188)), found.has("\u00c3"), found.text(found.find(Uint8Array.of(195)))], [true, false, "\ufffd"]);
-    assert.throws(() => new Strings(["ü", Uint8Array.of(195, 188)]), /two strings are equal/);
+    assert.throws(() => new Strings(["ü", Uint8Array.of(195, 188)]), new RangeError("bitm: strings 0 and 1 are equal"));
 });
 
 test("strings that FNV-1a gives one hash have numbers by each seed", () => {
@@ -73,7 +73,7 @@ test("strings that SipHash-1-3 gives one hash by the seed 0 have the seed 1", ()
     const found = new Strings(two);
     assert.equal(found.seed, 1);
     compare(found, two);
-    assert.throws(() => new Strings(two, { seed: 0 }), /two strings are equal, or have one hash/);
+    assert.throws(() => new Strings(two, { seed: 0 }), new RangeError("bitm: strings 0 and 1 have one hash: take another seed"));
 });
 
 test("arguments that are wrong", () => {
@@ -85,7 +85,8 @@ test("arguments that are wrong", () => {
         for (const call of [() => found.get(it), () => found.text(it), () => new Strings(["a"], { seed: it })]) assert.throws(call, RangeError);
     for (const it of ["1", null, {}, [1], true]) for (const call of [() => found.get(it), () => found.text(it), () => new Strings(["a"], { seed: it })]) assert.throws(call, TypeError);
     for (const percent of [49, 10001, 0.5, NaN]) assert.throws(() => new Strings(["a"], { percent }), RangeError);
-    for (const strings of [["a", "a"], ["", ""], ["a", Uint8Array.of(97)], ["ada", "bob", "ada"]]) assert.throws(() => new Strings(strings), /two strings are equal/);
+    for (const [strings, second] of [[["a", "a"], 1], [["", ""], 1], [["a", Uint8Array.of(97)], 1], [["ada", "bob", "ada", "bob"], 2]])
+        for (const seed of [undefined, 7]) assert.throws(() => new Strings(strings, { seed }), new RangeError(`bitm: strings 0 and ${second} are equal`));
     const gone = new Uint8Array(2);
     structuredClone(gone.buffer, { transfer: [gone.buffer] });
     for (const call of [() => found.find(gone), () => found.findList([gone]), () => new Strings([gone])]) assert.throws(call, TypeError);

@@ -86,6 +86,8 @@ test("what is not built", () => {
         assert.throws(() => TextIndex.ofLetters([0], 1, { step }), RangeError);
     }
     for (const step of ["1", {}, true, Symbol("1")]) assert.throws(() => TextIndex.of("a", { step }), TypeError);
+    for (const [letters, said] of [[3, "number 1 (3) is not below 3"], [0, "number 0 (0) is not below 0"]]) for (const progress of [undefined, () => assert.fail("it was ordered")])
+        assert.throws(() => TextIndex.ofLetters([0, 3], letters, { progress }), new RangeError(`bitm: ${said}`));
     for (const letters of [-1, 0.5, NaN, 2 ** 32, 2 ** 53, -1n, 2n ** 64n, 3, 0, 3n]) assert.throws(() => TextIndex.ofLetters([0, 3], letters), RangeError);
     for (const letters of ["4", null, undefined, {}, true]) assert.throws(() => TextIndex.ofLetters([0, 3], letters), TypeError);
     for (const it of [-1, 0.5, NaN, 2 ** 53, -1n, 2n ** 64n]) assert.throws(() => TextIndex.ofLetters([0, it], 9), RangeError);

@@ -68,8 +68,9 @@ test("trees of each shape", () => {
 });
 
 test("degrees that are those of no tree", () => {
-    for (const none of [[], [0, 0], [1, 1], [0, 1], [2, 0], [1, 0, 1], [2 ** 53 - 1, 1], [2n ** 64n - 1n, 2]])
-        assert.throws(() => new Tree(none), /those of no tree/);
+    for (const [none, node] of [[[0, 0], 1], [[1, 1], 1], [[0, 1], 1], [[2, 0], 0], [[1, 0, 1], 2], [[2 ** 53 - 1, 1], 0], [[2n ** 64n - 1n, 2], 0]])
+        assert.throws(() => new Tree(none), new RangeError(`bitm: node ${node} is a child of no node before it, or has more children than there are nodes left`));
+    assert.throws(() => new Tree([]), new RangeError("bitm: there are no degrees, and a tree has a root"));
     assert.throws(() => new Tree([1, -1]), RangeError);
     assert.throws(() => new Tree([0.5]), RangeError);
     assert.throws(() => new Tree("10"), TypeError);

@@ -151,8 +151,21 @@ test("ends may be missing, and are those of a BitVector", () => {
 });
 
 test("degrees and labels that are those of no trie", () => {
-    for (const [degrees, labels] of [[[2, 0, 1, 0], "bae"], [[2, 0, 1, 0], "aae"], [[2, 0, 1, 0], "ab"], [[2, 0, 1, 0], "abec"], [[0, 1], "a"], [[], ""], [[1, 0], [256]], [[1, 0], [2n ** 64n - 1n]]])
-        assert.throws(() => new Trie(degrees, labels), /no tree, or the labels/);
+    const misfit = node => `node ${node} is a child of no node before it, or has more children than there are nodes left`;
+    const refused = [
+        [[2, 0, 1, 0], "bae", "label 1 (97) is not above label 0 (98), of a child of the same node"],
+        [[0, 2, 0, 0], "bae", misfit(1)],
+        [[1, 2, 0, 0], "bee", "label 2 (101) is not above label 1 (101), of a child of the same node"],
+        [[2, 0, 1, 0], "aae", "label 1 (97) is not above label 0 (97), of a child of the same node"],
+        [[2, 0, 1, 0], "ab", "there are 4 nodes, and 2 labels: each node but the root has one"],
+        [[2, 0, 1, 0], "abec", "there are 4 nodes, and 4 labels: each node but the root has one"],
+        [[], "a", "there are 0 nodes, and 1 labels: each node but the root has one"],
+        [[0, 1], "a", misfit(1)],
+        [[], "", "there are no degrees, and a tree has a root"],
+        [[3, 0, 0, 0], [1, 2, 300], "label 2 (300) has more than 8 bits"],
+        [[1, 0], [2n ** 64n - 1n], `label 0 (${2n ** 64n - 1n}) has more than 8 bits`],
+    ];
+    for (const [degrees, labels, said] of refused) assert.throws(() => new Trie(degrees, labels), new RangeError(`bitm: ${said}`));
     for (const width of [0, 64, -1, 0.5, NaN, Infinity, 2 ** 53]) assert.throws(() => new Trie([1, 0], [0], { width }), RangeError);
     for (const width of [8n, "8", null, {}]) assert.throws(() => new Trie([1, 0], [0], { width }), TypeError);
     for (const it of [-1, 0.5, NaN, 2 ** 53, -1n, 2n ** 64n]) for (const call of [() => new Trie([1, it], "a"), () => new Trie([1, 0], [it])]) assert.throws(call, RangeError);

@@ -111,6 +111,16 @@ test("lists of ranges that are longer than a page, and end with one", () => {
     assert.deepEqual([new WaveletMatrix([]).distinct(), new WaveletMatrix([]).top(9), new WaveletMatrix([]).intersect(0, 0, 0, 0)], [[], [], []]);
 });
 
+test("the first number of more bits than the width is named", () => {
+    for (const progress of [undefined, () => assert.fail("no level is built")]) {
+        const refused = (numbers, width, said) => assert.throws(() => new WaveletMatrix(numbers, { width, progress }), new RangeError(`bitm: ${said}`));
+        refused([3, 4], 2, "number 1 (4) has more than 2 bits");
+        refused([1, 300, 1, 1, 300], 8, "number 1 (300) has more than 8 bits");
+        refused([2n ** 63n], 63, `number 0 (${2n ** 63n}) has more than 63 bits`);
+        refused([2n ** 53n - 1n, 2n ** 53n], 53, `number 1 (${2n ** 53n}) has more than 53 bits`);
+    }
+});
+
 test("arguments that are wrong", () => {
     const matrix = new WaveletMatrix([3, 1, 4, 1, 5]);
     for (const it of [-1, 0.5, NaN, 2 ** 53, -1n, 2n ** 64n]) {
@@ -146,8 +156,6 @@ test("arguments that are wrong", () => {
     assert.equal(matrix.select(1, 2n ** 64n - 1n), undefined);
     assert.equal(matrix.quantile(2n ** 64n - 1n), undefined);
     for (const width of [0, 65, 2.5, NaN, "3", null, -1, 3n]) assert.throws(() => new WaveletMatrix([1], { width }), RangeError);
-    assert.throws(() => new WaveletMatrix([4], { width: 2 }), /more than 2 bits/);
-    assert.throws(() => new WaveletMatrix([2n ** 63n], { width: 63 }), /more than 63 bits/);
     assert.throws(() => new WaveletMatrix("12"), TypeError);
     assert.throws(() => matrix.getList([0, 5]), /item 1 of indices is past the end: 5/);
     assert.throws(() => matrix.rankList([1, 1], [0, 6]), RangeError);

@@ -18,10 +18,12 @@ export const VERSION: string;
 
 /** The tables are not those of the bits, or the file is none: it was damaged. */
 export class WrongTables extends Error {}
+/** A file that is right but holds another structure than the class that opens it: the message names what it holds. */
+export class OtherKind extends WrongTables {}
 
 /**
- * An Index or an EliasFano of the bytes of a block, which are copied once: WrongTables where they are not as they were
- * written, unless `check` is false. A file of version 2 of the format is read too and made a block, for which a
+ * An Index or an EliasFano of the bytes of a block, which are copied once: OtherKind where the block holds another
+ * structure; WrongTables where they are not as they were written, unless `check` is false. A file of version 2 of the format is read too and made a block, for which a
  * sequence takes 8 bytes a number until the call ends; its parts have no checksum, so the check finds only what does
  * not fit.
  */

@@ -151,7 +151,8 @@ export class Index implements Iterable<boolean> {
 
 /** Bits of which few are 1 bits, and that do not change: the positions of these alone take memory. */
 export class SparseBits {
-    /** The positions of the 1 bits, each greater than the one before it; and how many bits there are: up to the last 1 bit, unless it is given. */
+    /** The positions of the 1 bits, each greater than the one before it; and how many bits there are: up to the last 1 bit, unless it is given.
+     *  RangeError that names the first position that is not above the one before it, or not below the length. */
     constructor(positions: Wholes, length?: Whole);
     /** The bits in the bytes of a block, which are copied once. */
     static open(bytes: Bytes, options?: OpenOptions): SparseBits;

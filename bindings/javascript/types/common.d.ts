@@ -17,6 +17,12 @@ export type Bit = boolean | number | bigint;
 /** Bytes: any view, or a buffer. */
 export type Bytes = ArrayBuffer | SharedArrayBuffer | ArrayBufferView;
 
+/**
+ * What a build calls after each of its steps: how much is done, of how much; the last time both are equal. An error that it throws
+ * ends the build, and all of its memory is freed. TypeError where it is no function.
+ */
+export type Progress = (done: number, total: number) => void;
+
 /** Options are an object's own properties: what it inherits is not looked at. TypeError where they are no object. */
 export interface OpenOptions {
     /** Whether to look at all bytes, and throw WrongTables where they are not as they were written: true if not given. */

@@ -1,9 +1,9 @@
 // Numbers for keys: of any kind, none of which is kept, and whole numbers and strings, which are.
 
-import type { Whole, Wholes, NumberArray, Bytes, OpenOptions } from "./common.js";
+import type { Whole, Wholes, NumberArray, Bytes, OpenOptions, Progress } from "./common.js";
 
-/** A key. Equal keys are those that a Map holds for equal, and bytes that are equal. A string is hashed as its units of
- *  UTF-16, so it may have lone surrogates. */
+/** A key. Equal keys are those that a Map holds for equal, a number and a BigInt of one value (5 and 5n), and bytes that are
+ *  equal. A string is hashed as its bytes in UTF-8, and a lone surrogate as three bytes. */
 export type Key = string | number | bigint | Uint8Array;
 
 export interface PerfectHashOptions {
@@ -13,17 +13,25 @@ export interface PerfectHashOptions {
     percent?: number;
     /** 1 to 256: each word of the hash has the best of that many seeds, so a key takes less memory. Else there are no seeds. */
     tries?: number;
+    /** What the hashes of the keys begin with: 0, or 1 where that gives two keys one hash. */
+    seed?: Whole;
+    /** Called after each level, with how many keys have a number so far. */
+    progress?: Progress;
 }
 
 /** Numbers for keys: each of n keys has one of its own below n. No key is kept. */
 export class PerfectHash {
-    /** RangeError if two keys are equal. */
+    /** RangeError if two keys are equal, or have one hash by `seed`: it names the first two, `keys 0 and 2 are equal`. */
     constructor(keys: Iterable<Key>, options?: PerfectHashOptions);
-    /** The hash in the bytes of a block, as toBytes() gives them here, which are copied once. */
+    /** The hash in the bytes of a block, as toBytes() gives them and Python writes them, which are copied once. */
     static open(bytes: Bytes, options?: OpenOptions): PerfectHash;
 
     readonly length: number;
     readonly byteLength: number;
+    /** The seed by which keys are hashed. */
+    readonly seed: number | bigint;
+    /** How many bits the fingerprint of a key has. */
+    readonly width: number;
     /** Whether its words have seeds. */
     readonly hasSeeds: boolean;
     get(key: Key): number | undefined;
@@ -46,11 +54,13 @@ export interface DictionaryOptions {
     percent?: number;
     /** What is added to a key to hash it: 0. */
     seed?: Whole;
+    /** Called after each level of the hash, with how many keys have a number so far. */
+    progress?: Progress;
 }
 
 /** Numbers for keys that are whole numbers, with the keys: each of n keys has a number of its own below n, and nothing else has. */
 export class Dictionary implements Iterable<number | bigint> {
-    /** RangeError if two keys are equal. */
+    /** RangeError if two keys are equal: it names the first two. */
     constructor(keys: Wholes, options?: DictionaryOptions);
     /** The dictionary in the bytes of a block, which are copied once. */
     static open(bytes: Bytes, options?: OpenOptions): Dictionary;
@@ -88,6 +98,8 @@ export interface StringsOptions {
     percent?: number;
     /** What the hashes begin with: 0, or 1 where that gives two strings one hash. */
     seed?: Whole;
+    /** Called after each level of the hash, with how many strings have a number so far. */
+    progress?: Progress;
 }
 
 /** A string, as its bytes in UTF-8, or bytes; and a list of such, which is no string. TypeError where a string is not
@@ -97,7 +109,7 @@ export type StringsOrBytes = Iterable<StringOrBytes> & object;
 
 /** Numbers for strings, with the strings: each of n strings has a number of its own below n, and nothing else has. */
 export class Strings implements Iterable<Uint8Array> {
-    /** RangeError if two strings are equal. */
+    /** RangeError if two strings are equal, or have one hash by `seed`: it names the first two. */
     constructor(strings: StringsOrBytes, options?: StringsOptions);
     /** The strings in the bytes of a block, which are copied once. */
     static open(bytes: Bytes, options?: OpenOptions): Strings;

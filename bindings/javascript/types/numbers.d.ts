@@ -1,10 +1,10 @@
 // Numbers: sorted ones, cursors over these, and numbers in any order.
 
-import type { Whole, Wholes, NumberArray, Bytes, OpenOptions } from "./common.js";
+import type { Whole, Wholes, NumberArray, Bytes, OpenOptions, Progress } from "./common.js";
 
 /** Numbers that do not decrease, each from 0 to 2^64 - 1, in little memory. Those from 2^53 on are BigInts. */
 export class EliasFano implements Iterable<number | bigint> {
-    /** RangeError if a number is less than the one before it. */
+    /** RangeError if a number is less than the one before it: it names both, counted from 0. */
     constructor(numbers: Wholes);
 
     readonly length: number;
@@ -94,11 +94,13 @@ export interface WaveletMatrixOptions {
     width?: number;
     /** Whether the block has quarters: it takes an eighth more, and most queries read fewer words. False unless it is given. */
     quarters?: boolean;
+    /** Called after each of `width` levels. */
+    progress?: Progress;
 }
 
 /** Numbers in any order: where and how often each of them is, and which of a range are the least. Those from 2^53 on are BigInts. */
 export class WaveletMatrix implements Iterable<number | bigint> {
-    /** RangeError if a number has more bits than the width. */
+    /** RangeError if a number has more bits than the width: it names the first. */
     constructor(numbers: Wholes, options?: WaveletMatrixOptions);
     /** The matrix in the bytes of a block, which are copied once. */
     static open(bytes: Bytes, options?: OpenOptions): WaveletMatrix;

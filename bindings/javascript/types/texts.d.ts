@@ -1,6 +1,6 @@
 // Texts, trees and tries.
 
-import type { Whole, Wholes, NumberArray, Bytes, OpenOptions } from "./common.js";
+import type { Whole, Wholes, NumberArray, Bytes, OpenOptions, Progress } from "./common.js";
 import type { BitVector } from "./bits.js";
 
 /** A string (as UTF-8), bytes, or letters. TypeError where a string is not well formed: a lone surrogate has no bytes in
@@ -14,8 +14,12 @@ export interface LocateOptions {
     limit?: Whole;
 }
 
-/** Each how many letters a position is kept, 32 if not given: the fewer, the less memory, and the longer locate() and slice() take. */
-export interface StepOptions { step?: Whole }
+export interface StepOptions {
+    /** Each how many letters a position is kept, 32 if not given: the fewer, the less memory, and the longer locate() and slice() take. */
+    step?: Whole;
+    /** Called after each of two steps: the text is ordered, and the index written. */
+    progress?: Progress;
+}
 
 /** Where a pattern stands in a text, by the index of the text in one block, which is all that is needed. */
 export class TextIndex {
@@ -23,7 +27,8 @@ export class TextIndex {
     constructor(block: never);
     /** The index of a string, as its bytes in UTF-8, or of bytes. TypeError where the string is not well formed. */
     static of(text: string | Uint8Array, options?: StepOptions): TextIndex;
-    /** The index of numbers below `letters`, for each of which 8 bytes are kept. RangeError where a number is not below it. */
+    /** The index of numbers below `letters`, for each of which 8 bytes are kept. RangeError where a number is not below it:
+     *  it names the first. */
     static ofLetters(numbers: Wholes, letters: Whole, options?: StepOptions): TextIndex;
     /** The index in the bytes of a block, which are copied once. */
     static open(bytes: Bytes, options?: OpenOptions): TextIndex;
@@ -60,7 +65,7 @@ export class TextIndex {
 
 /** A tree whose nodes are numbered level by level: the root is 0, and the children of a node follow one another. */
 export class Tree {
-    /** How many children each node has, in the order of the nodes. RangeError if that is no tree. */
+    /** How many children each node has, in the order of the nodes. RangeError if that is no tree: it names the first node that does not fit. */
     constructor(degrees: Wholes);
     /** The tree in the bytes of a block, which are copied once. */
     static open(bytes: Bytes, options?: OpenOptions): Tree;
@@ -112,7 +117,7 @@ export interface TrieOptions {
 /** A set of words: a tree in which each node but the root has a label, and the labels of a node's children rise. A word is a
  *  string (as UTF-8), bytes, or a list of labels. */
 export class Trie {
-    /** The degree of each node, level by level, and the labels of the nodes from 1 on. RangeError if these are those of no trie. */
+    /** The degree of each node, level by level, and the labels of the nodes from 1 on. RangeError if these form no trie: it names the node or label. */
     constructor(degrees: Wholes, labels: Pattern, options?: TrieOptions);
     /** The trie of words, each a string (as UTF-8) or bytes, with labels of 8 bits, and ends: in any order, more than once too. */
     static ofWords(words: Iterable<string | Uint8Array>): Trie;
