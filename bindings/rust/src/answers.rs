@@ -45,13 +45,13 @@ impl<S: SelectionStrategy, S0: SelectionStrategy, BV: Deref<Target = [u64]>> Que
 macro_rules! answers {
     ($view:ident, $kind:ident; $(
         $(#[$attribute:meta])*
-        pub fn $name:ident(&self $(, $argument:ident: $type:ty)*) -> $answer:ty = $checked:ident;
+        pub fn $name:ident$(<$life:lifetime>)?(&self $(, $argument:ident: $type:ty)*) -> $answer:ty = $checked:ident;
     )*) => {
         impl $view<'_> { $(
             $(#[$attribute])*
             #[inline]
             #[track_caller]
-            pub fn $name(&self $(, $argument: $type)*) -> $answer {
+            pub fn $name$(<$life>)?(&self $(, $argument: $type)*) -> $answer {
                 $crate::errors::sure(self.$checked($($argument),*))
             }
         )* }
@@ -60,7 +60,7 @@ macro_rules! answers {
             $(#[$attribute])*
             #[inline]
             #[track_caller]
-            pub fn $name(&self $(, $argument: $type)*) -> $answer {
+            pub fn $name$(<$life>)?(&self $(, $argument: $type)*) -> $answer {
                 $crate::errors::sure(self.view().$checked($($argument),*))
             }
         )* }

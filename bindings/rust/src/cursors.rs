@@ -103,10 +103,7 @@ impl FusedIterator for Cursor<'_> {}
 
 impl fmt::Debug for Cursor<'_> {
     fn fmt(&self, f: &mut fmt::Formatter<'_>) -> fmt::Result {
-        match self.number() {
-            Some(number) => write!(f, "cursor at number {number}, index {}", self.index()),
-            None => write!(f, "cursor at the end, index {}", self.index()),
-        }
+        f.debug_struct("Cursor").field("index", &self.index()).field("number", &self.number()).finish()
     }
 }
 

@@ -1,8 +1,11 @@
 //! Why something is not made, taken or answered.
 mod build;
+mod faults;
 
+use crate::sys::kinds::Kind;
 pub use build::BuildError;
 use core::{error::Error, fmt};
+pub use faults::{EqualPair, TrieFault};
 
 /// Memory was refused.
 ///
@@ -55,9 +58,11 @@ impl Error for WrongTables {}
 /// Why words or bytes are not taken as a file, or something is not stored.
 ///
 /// ```
-/// use bitm_proved::{EliasFano, IndexView, SequenceView, StoredError};
+/// use bitm_proved::{EliasFano, IndexView, Kind, SequenceView, StoredError};
 /// let file = EliasFano::build(&[2, 3, 5])?.to_stored()?;
-/// assert_eq!(IndexView::from_words(&file).err(), Some(StoredError::OtherKind));
+/// let refused = IndexView::from_words(&file).err().unwrap();
+/// assert_eq!(refused, StoredError::OtherKind { held: Kind::Sequence, wanted: Kind::Index });
+/// assert_eq!(refused.to_string(), "the file holds a sequence, not an index");
 /// assert_eq!(SequenceView::from_words(&file[..4]).err(), Some(StoredError::NotWhole));
 /// # Ok::<(), Box<dyn std::error::Error>>(())
 /// ```
@@ -80,15 +85,20 @@ pub enum StoredError {
     /// assert_eq!(Index::from_words([0u64; 40]).err(), Some(StoredError::NotWhole)); // no header
     /// ```
     NotWhole,
-    /// They are a sequence where an index is expected, or an index where a sequence is.
+    /// They are right but hold another structure than the one that is opened.
     ///
     /// ```
-    /// use bitm_proved::{EliasFano, Index, StoredError};
-    /// let sequence = EliasFano::build(&[2, 3, 5])?.to_stored()?;
-    /// assert_eq!(Index::from_words(sequence).err(), Some(StoredError::OtherKind));
-    /// # Ok::<(), Box<dyn std::error::Error>>(())
+    /// use bitm_proved::{Index, Kind, StoredError, Tree};
+    /// let refused = Index::from_words(Tree::build(&[1, 0])?.into_owner()).err();
+    /// assert_eq!(refused, Some(StoredError::OtherKind { held: Kind::Tree, wanted: Kind::Index }));
+    /// # Ok::<(), bitm_proved::BuildError>(())
     /// ```
-    OtherKind,
+    OtherKind {
+        /// What they hold.
+        held: Kind,
+        /// What was opened.
+        wanted: Kind,
+    },
     /// A part is not as long as that of the words.
     ///
     /// ```
@@ -131,7 +141,7 @@ impl fmt::Display for StoredError {
             StoredError::Misaligned => "the bytes do not begin at a multiple of 8",
             StoredError::NotWhole => "this is not a file of this format, or not a whole one",
             StoredError::WrongTables => return WrongTables.fmt(f),
-            StoredError::OtherKind => "this is a sequence where an index is expected, or an index where a sequence is",
+            StoredError::OtherKind { held, wanted } => return write!(f, "the file holds {held}, not {wanted}"),
             StoredError::WrongLength => "the length of a table, or of the bits, does not fit the words",
             StoredError::NoSection => "the block has 16 sections, or a length does not fit the items of a section",
             StoredError::NoMemory(why) => return why.fmt(f),
@@ -231,11 +241,11 @@ pub enum OpenError {
     /// assert!(matches!(none, Err(OpenError::System(_))));
     /// ```
     System(std::io::Error),
-    /// The file is none of this format, or of the other kind.
+    /// The file is none of this format, or of another kind.
     ///
     /// ```
     /// use bitm_proved::{OpenError, StoredError};
-    /// assert!(matches!(StoredError::OtherKind.into(), OpenError::Stored(StoredError::OtherKind)));
+    /// assert!(matches!(StoredError::NotWhole.into(), OpenError::Stored(StoredError::NotWhole)));
     /// ```
     Stored(StoredError),
 }

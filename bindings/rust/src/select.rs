@@ -222,8 +222,8 @@ pub unsafe fn select64(n: u64, rank: u8) -> u8 {
     }
 }
 
-/// Selection that begins at samples, one for each 2^d 1 bits, or 0 bits. They are a hint: no answer depends on
-/// them.
+/// Selection that begins at samples, one for each 2^d 1 bits, or 0 bits. They shorten a search, and no answer depends
+/// on them.
 ///
 /// ```
 /// use bitm_proved::{CombinedSampling, ConstCombinedSamplingDensity, RankSelect101111, Select, SelectionStrategy};

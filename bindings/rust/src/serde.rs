@@ -3,6 +3,7 @@ use crate::errors::NoMemory;
 use crate::queries::Queries;
 use crate::sys::dictionary::owned::Dictionary;
 use crate::sys::index::Index;
+use crate::sys::key_hash::owned::KeyHash;
 use crate::sys::matrix::owned::WaveletMatrix;
 use crate::sys::owned::{EliasFano, Sequence};
 use crate::sys::seeded::owned::SeededHash;
@@ -38,7 +39,7 @@ macro_rules! serializes_its_block {
         }
     )* };
 }
-serializes_its_block!(Tree, Trie, WaveletMatrix, SparseBits, SeededHash, Dictionary, Strings);
+serializes_its_block!(Tree, Trie, WaveletMatrix, SparseBits, SeededHash, KeyHash, Dictionary, Strings);
 
 /// Reads words, and says where memory for them is refused.
 struct Words;
@@ -74,4 +75,4 @@ macro_rules! deserializes_what_is_right {
     )* };
 }
 deserializes_what_is_right!(Index<Vec<u64>>, EliasFano, Tree, Trie, WaveletMatrix);
-deserializes_what_is_right!(SparseBits, SeededHash, Dictionary, Strings);
+deserializes_what_is_right!(SparseBits, SeededHash, KeyHash, Dictionary, Strings);

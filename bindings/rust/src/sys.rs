@@ -3,6 +3,7 @@ pub(crate) mod block;
 pub(crate) mod bytes;
 pub(crate) mod cursor;
 pub(crate) mod dictionary;
+pub(crate) mod faults;
 #[cfg(all(feature = "mmap", unix))]
 pub(crate) mod files;
 pub(crate) mod hash;
@@ -10,6 +11,9 @@ pub(crate) mod held;
 #[cfg(all(feature = "std", target_os = "linux"))]
 pub(crate) mod huge;
 pub(crate) mod index;
+pub(crate) mod key_hash;
+pub(crate) mod kinds;
+pub(crate) mod levels;
 pub(crate) mod lists;
 #[cfg(all(feature = "mmap", unix))]
 pub(crate) mod mapped;

@@ -1,8 +1,8 @@
 //! Each allocation of a call refused in turn: it returns the error that says so, and none ends the program.
 use bitm_proved::{
-    sections, words_from_bytes, BitVec, BuildError, CombinedSampling, Dictionary, EliasFano, Index, IndexView,
-    ListError, NoMemory, PerfectHash, PrefixCounts, Queries, RankSelect101111, RankSimple, Sampling, SeededHash,
-    SequenceView, ShardedIndex, SparseBits, StoredError, Strings, TextIndex, Tree, Trie, WaveletMatrix,
+    sections, words_from_bytes, BitVec, BuildError, CombinedSampling, Dictionary, EliasFano, Index, IndexView, KeyHash,
+    KeyOptions, ListError, NoMemory, PerfectHash, PrefixCounts, Queries, RankSelect101111, RankSimple, Sampling,
+    SeededHash, SequenceView, ShardedIndex, SparseBits, StoredError, Strings, TextIndex, Tree, Trie, WaveletMatrix,
 };
 use std::alloc::{GlobalAlloc, Layout, System};
 use std::cell::Cell;
@@ -150,8 +150,27 @@ fn blocks_of_other_kinds() {
     assert!(of(|| Strings::build(&words)) > 2);
     assert!(refused_in_turn(keys, PerfectHash::build) > 2);
     assert!(refused_in_turn(keys, SeededHash::build) > 2);
+    let seeded = KeyOptions { tries: Some(4), ..KeyOptions::default() };
+    assert!(of(|| KeyHash::build(0..100)) > 5 && of(|| KeyHash::build_with(0..100, seeded)) > 7);
     assert_eq!(of(|| sections::extended(tree.block(), 65536, 8, &[7])), 1);
     assert_eq!(of(|| sections::extended_by_bytes(tree.block(), 65536, b"a note")), 2);
+}
+
+/// No call allocates more often with a callback than without.
+#[test]
+fn builds_that_say_how_far_they_are() {
+    let (numbers, text, nothing) = ([3, 1, 4], b"banana", |_, _| ());
+    let plain = of(|| WaveletMatrix::build(&numbers));
+    assert_eq!(of(|| WaveletMatrix::build_with_progress(&numbers, 3, false, nothing)), plain);
+    assert_eq!(of(|| TextIndex::build_with_progress(text, 2, nothing)), of(|| TextIndex::build(text, 2)));
+    let letters = of(|| TextIndex::build_of_letters(&numbers, 5, 2));
+    assert_eq!(of(|| TextIndex::build_of_letters_with_progress(&numbers, 5, 2, nothing)), letters);
+    let hash = |keys| PerfectHash::build_with_progress(keys, 100, nothing);
+    assert_eq!(refused_in_turn(keys, hash), refused_in_turn(keys, PerfectHash::build));
+    let seeded = |keys| SeededHash::build_with_progress(keys, 100, 64, 0, nothing);
+    assert_eq!(refused_in_turn(keys, seeded), refused_in_turn(keys, SeededHash::build));
+    let of_keys = || KeyHash::build_with_progress(0..100, KeyOptions::default(), nothing);
+    assert_eq!(of(of_keys), of(|| KeyHash::build(0..100)));
 }
 
 #[test]

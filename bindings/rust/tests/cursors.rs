@@ -95,7 +95,7 @@ fn a_cursor_outlives_a_view_and_moves_to_a_thread() {
     };
     let sum = std::thread::scope(|scope| scope.spawn(move || cursor.sum::<u64>()).join().expect("ends"));
     assert_eq!(sum, 17);
-    assert_eq!(format!("{:?}", made.cursor()), "cursor at number 2, index 0");
+    assert_eq!(format!("{:?}", made.cursor()), "Cursor { index: 0, number: Some(2) }");
 }
 
 #[test]

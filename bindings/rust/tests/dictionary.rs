@@ -1,10 +1,10 @@
 //! Dictionaries beside plain lists of keys; keys that are refused, lists of queries, owners, blocks that are spoilt or cut.
 mod common;
 use bitm_proved::{
-    bytes_of, BuildError, Dictionary, DictionaryView, ListError, SparseBits, SparseBitsView, StoredError, Tree,
-    NO_ANSWER,
+    bytes_of, BuildError, Dictionary, DictionaryView, EqualPair, Kind, ListError, SparseBits, SparseBitsView,
+    StoredError, Tree, NO_ANSWER,
 };
-use common::{any_owner, with_any_words, with_one_bit_changed, Random};
+use common::{any_owner, other_kind, with_any_words, with_one_bit_changed, Random};
 use std::collections::BTreeSet;
 use std::panic::{RefUnwindSafe, UnwindSafe};
 use std::sync::Arc;
@@ -70,8 +70,13 @@ fn answers_are_those_of_plain_lists() {
 #[test]
 fn keys_that_are_refused() {
     let build = |keys: &[u64]| Dictionary::build(keys).err();
-    assert_eq!(build(&[5, 9, 5]), Some(BuildError::EqualHashes { left: 2 }));
-    assert_eq!(build(&[7, 7, 7]), Some(BuildError::EqualHashes { left: 3 }));
+    let equal = |left, (first, second)| BuildError::EqualHashes { left, pair: EqualPair::Keys { first, second } };
+    assert_eq!(build(&[5, 9, 5]), Some(equal(2, (0, 2))));
+    assert_eq!(build(&[7, 7, 7]), Some(equal(3, (0, 1))));
+    assert_eq!(build(&[1, 9, 5, 5, 9, 2]), Some(equal(4, (1, 4))));
+    assert_eq!(build(&[5, 9, 5]).unwrap().to_string(), "keys 0 and 2 are equal");
+    let seeded = Dictionary::build_with(&[3, u64::MAX, u64::MAX], 100, 9).err();
+    assert_eq!(seeded, Some(equal(2, (1, 2))));
     assert_eq!(build(&[9, 5]), None);
 }
 
@@ -80,7 +85,7 @@ fn any_owner_has_a_dictionary_in_its_words_or_bytes() {
     let keys = drawn(300, 60, &mut Random(62));
     let file = Dictionary::build(&keys).expect("any").into_owner();
     let look = |found: &DictionaryView<'_>| as_plain(found, &keys, &mut Random(63));
-    any_owner!(Dictionary, DictionaryView, file, "dictionary of 300 keys", look);
+    any_owner!(Dictionary, DictionaryView, file, "Dictionary { keys: 300 }", look);
 }
 
 #[test]
@@ -127,9 +132,9 @@ fn files_that_are_cut_or_of_another_kind_are_refused() {
         assert_eq!(DictionaryView::from_words(&good[..end]).err(), Some(StoredError::NotWhole));
     }
     assert_eq!(Dictionary::from_bytes(&bytes_of(&good)[1..]).err(), Some(StoredError::Misaligned));
-    assert_eq!(SparseBitsView::from_words(&good).err(), Some(StoredError::NotWhole));
+    assert_eq!(SparseBitsView::from_words(&good).err(), other_kind(Kind::Dictionary, Kind::SparseBits));
     let bits = SparseBits::build(&[1, 3], 9).expect("bits").into_owner();
-    assert_eq!(Dictionary::from_words(bits).err(), Some(StoredError::NotWhole));
+    assert_eq!(Dictionary::from_words(bits).err(), other_kind(Kind::SparseBits, Kind::Dictionary));
     let tree = Tree::build(&[1, 0]).expect("a tree").into_owner();
-    assert_eq!(Dictionary::from_words(tree).err(), Some(StoredError::NotWhole));
+    assert_eq!(Dictionary::from_words(tree).err(), other_kind(Kind::Tree, Kind::Dictionary));
 }

@@ -61,7 +61,7 @@ fn of_trees_matrices_and_texts() {
     assert_eq!((endless.find(b""), endless.is_end(0), endless.check()), (Some(0), None, true));
     let tree = Tree::build(&[0]).expect("a root");
     let noted = sections::extended(tree.block(), sections::OWN_ROLE, 0, &[]).expect("room");
-    let note = sections::section(&noted, 3).expect("a block").expect("the fourth");
+    let note = sections::section(&noted, 4).expect("a block").expect("the fifth");
     assert!(note.words.is_empty() && note.count == 0);
 }
 

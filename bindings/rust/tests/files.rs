@@ -71,8 +71,8 @@ fn a_file_that_changes_after_it_was_read_changes_no_answer() {
 fn what_is_no_file_of_the_kind_is_not_read() {
     let all = Folder::new("refused");
     let numbers = all.file("numbers", &EliasFano::build(&[2]).expect("sorted").to_stored().expect("right"));
-    assert!(matches!(Index::read(&numbers), Err(OpenError::Stored(StoredError::OtherKind))));
-    assert!(matches!(Tree::read(&numbers), Err(OpenError::Stored(StoredError::NotWhole))));
+    assert!(matches!(Index::read(&numbers), Err(OpenError::Stored(StoredError::OtherKind { .. }))));
+    assert!(matches!(Tree::read(&numbers), Err(OpenError::Stored(StoredError::OtherKind { .. }))));
     assert!(matches!(Index::read(all.0.join("none")), Err(OpenError::System(_))));
     assert!(matches!(Index::read(&all.0), Err(OpenError::System(_)))); // a folder
     assert!(matches!(Index::read(all.file("empty", &[])), Err(OpenError::Stored(StoredError::NotWhole))));
@@ -112,7 +112,7 @@ mod mapped {
         // SAFETY: nobody changes a file of this folder while it is mapped.
         let open = |path: &PathBuf| unsafe { IndexFile::open(path) };
         let other = all.file("sequence", &EliasFano::build(&[2]).expect("sorted").to_stored().expect("right"));
-        assert!(matches!(open(&other), Err(OpenError::Stored(StoredError::OtherKind))));
+        assert!(matches!(open(&other), Err(OpenError::Stored(StoredError::OtherKind { .. }))));
         assert!(matches!(open(&all.0.join("none")), Err(OpenError::System(_))));
         assert!(matches!(open(&all.0), Err(OpenError::System(_)))); // a folder
         assert!(matches!(open(&all.file("empty", &[])), Err(OpenError::Stored(StoredError::NotWhole))));

@@ -1,6 +1,6 @@
 //! Perfect hashes: numbers of their own for any keys, lists, equal hashes, and levels of several sizes.
 mod common;
-use bitm_proved::{BuildError, ListError, PerfectHash, NO_ANSWER};
+use bitm_proved::{BuildError, EqualPair, ListError, PerfectHash, NO_ANSWER};
 use common::Random;
 
 #[test]
@@ -34,8 +34,9 @@ fn equal_hashes_are_refused() {
     for keys in [2usize, 100, 10_000] {
         let mut hashes: Vec<u64> = (0..keys).map(|_| random.next()).collect();
         hashes[keys - 1] = hashes[0];
-        assert_eq!(PerfectHash::build(hashes).err(), Some(BuildError::EqualHashes { left: 2 }));
+        let pair = EqualPair::Hashes { hash: hashes[0] };
+        assert_eq!(PerfectHash::build(hashes).err(), Some(BuildError::EqualHashes { left: 2, pair }));
         let why = PerfectHash::build(vec![7; keys]).err();
-        assert_eq!(why, Some(BuildError::EqualHashes { left: keys }));
+        assert_eq!(why, Some(BuildError::EqualHashes { left: keys, pair: EqualPair::Hashes { hash: 7 } }));
     }
 }

@@ -2,10 +2,10 @@
 //! cut.
 mod common;
 use bitm_proved::{
-    bytes_of, BuildError, ListError, StoredError, Tree, TreeView, WaveletMatrix, WaveletMatrixView, WrongTables,
+    bytes_of, BuildError, Kind, ListError, StoredError, Tree, TreeView, WaveletMatrix, WaveletMatrixView, WrongTables,
     NO_ANSWER,
 };
-use common::{any_owner, with_any_words, with_one_bit_changed, Random};
+use common::{any_owner, other_kind, with_any_words, with_one_bit_changed, Random};
 use std::collections::BTreeMap;
 use std::panic::{RefUnwindSafe, UnwindSafe};
 use std::sync::Arc;
@@ -146,12 +146,13 @@ fn answers_are_those_of_plain_lists() {
 
 #[test]
 fn numbers_and_widths_that_are_refused() {
-    assert_eq!(WaveletMatrix::build_with(&[1, 7, 8, 9], 3).err(), Some(BuildError::TooWide { index: 2 }));
+    let why = WaveletMatrix::build_with(&[1, 7, 8, 9], 3).err();
+    assert_eq!(why, Some(BuildError::TooWide { index: 2, number: 8, width: 3 }));
     for width in [0, 65, u32::MAX] {
         assert_eq!(WaveletMatrix::build_with(&[], width).err(), Some(BuildError::WrongWidth { width }));
     }
-    let texts = [BuildError::TooWide { index: 2 }, BuildError::WrongWidth { width: 65 }].map(|it| it.to_string());
-    assert_eq!(texts, ["number 2 has more bits than the width", "a width is 1 to 64 bits, not 65"]);
+    let texts = [why.unwrap(), BuildError::WrongWidth { width: 65 }].map(|it| it.to_string());
+    assert_eq!(texts, ["number 2 (8) has more than 3 bits", "a width is 1 to 64 bits, not 65"]);
 }
 
 #[test]
@@ -159,7 +160,7 @@ fn any_owner_has_a_list_in_its_words_or_bytes() {
     let plain = drawn(300, 9, &mut Random(42));
     let file = WaveletMatrix::build(&plain).expect("any").into_owner();
     let look = |list: &WaveletMatrixView<'_>| as_a_plain_list(list, &plain, &mut Random(43));
-    any_owner!(WaveletMatrix, WaveletMatrixView, file, "300 numbers of 9 bits", look);
+    any_owner!(WaveletMatrix, WaveletMatrixView, file, "WaveletMatrix { numbers: 300, width: 9 }", look);
 }
 
 #[test]
@@ -226,7 +227,7 @@ fn files_that_are_cut_or_of_another_kind_are_refused() {
         assert_eq!(WaveletMatrixView::from_words(&good[..end]).err(), Some(StoredError::NotWhole));
     }
     assert_eq!(WaveletMatrix::from_bytes(&bytes_of(&good)[1..]).err(), Some(StoredError::Misaligned));
-    assert_eq!(TreeView::from_words(&good).err(), Some(StoredError::NotWhole));
+    assert_eq!(TreeView::from_words(&good).err(), other_kind(Kind::WaveletMatrix, Kind::Tree));
     let tree = Tree::build(&[1, 0]).expect("a tree").into_owner();
-    assert_eq!(WaveletMatrix::from_words(tree).err(), Some(StoredError::NotWhole));
+    assert_eq!(WaveletMatrix::from_words(tree).err(), other_kind(Kind::Tree, Kind::WaveletMatrix));
 }

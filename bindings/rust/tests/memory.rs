@@ -86,5 +86,6 @@ fn under_a_limit() {
     rest.clear();
     assert_eq!(PerfectHash::build(hashes()).map(|it| it.len()).ok(), Some(1_000_000));
     assert!(EliasFano::build(&words).is_ok_and(|it| it.len() == 1 << 24));
-    assert_eq!(Tree::build(&words).err(), Some(BuildError::NotATree)); // three children of each node
+    let node = Some((words.len() - 1) / 3); // there are no more than these three children of each node before
+    assert_eq!(Tree::build(&words).err(), Some(BuildError::NotATree { node }));
 }

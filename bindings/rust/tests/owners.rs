@@ -1,8 +1,8 @@
 //! Owners of words or bytes: moved, shared between threads, used after panics; errors and panics.
 mod common;
 use bitm_proved::{
-    bytes_of, ArrayWithRank101111, BitAccess, BitIterator, BitOnesIterator, BitVec, BuildError, EliasFano, Index,
-    IndexView, ListError, NoMemory, Numbers, PerfectHash, Queries, Rank, RankSelect101111, RankSimple, Sampling,
+    bytes_of, ArrayWithRank101111, BitAccess, BitIterator, BitOnesIterator, BitVec, BuildError, EliasFano, EqualPair,
+    Index, IndexView, ListError, NoMemory, Numbers, PerfectHash, Queries, Rank, RankSelect101111, RankSimple, Sampling,
     Select, Select0, Sequence, SequenceView, StoredError, WrongTables,
 };
 use common::{says, Fickle};
@@ -67,8 +67,8 @@ fn errors_are_errors_and_say_the_numbers() {
         Box::new(NoMemory { bytes: 80 }),
         Box::new(WrongTables),
         Box::new(BuildError::TooLong { len: 9 }),
-        Box::new(BuildError::NotSorted { index: 3 }),
-        Box::new(BuildError::EqualHashes { left: 2 }),
+        Box::new(BuildError::NotSorted { index: 3, number: 4, before: 9 }),
+        Box::new(BuildError::EqualHashes { left: 2, pair: EqualPair::Hashes { hash: 5 } }),
         Box::new(BuildError::NoMemory(NoMemory { bytes: 80 })),
         Box::new(StoredError::Misaligned),
         Box::new(ListError::Lengths { queries: 7, room: 6 }),
@@ -81,8 +81,8 @@ fn errors_are_errors_and_say_the_numbers() {
             "memory for 80 bytes was refused",
             "the tables are not those of the words",
             "a length is too great: 9",
-            "number 3 is less than the one before it",
-            "2 hashes are equal to others",
+            "number 3 (4) is less than number 2 (9)",
+            "the hash 5 is there more than once",
             "memory for 80 bytes was refused",
             "the bytes do not begin at a multiple of 8",
             "there is room for 6 answers to 7 queries",

@@ -61,18 +61,18 @@ fn structures_open_with_sections_after_their_own() {
     assert_eq!(WaveletMatrix::from_words(&noted[2][..]).map(|it| (it.check(), it.get(4))), Ok((true, Some(5))));
     assert_eq!(SparseBits::from_words(&noted[3][..]).map(|it| (it.check(), it.select(1))), Ok((true, Some(100))));
     assert!(noted.iter().all(|it| is_written(it)));
-    let bytes = section(&noted[0], 3).expect("a block").expect("the note");
+    let bytes = section(&noted[0], 4).expect("a block").expect("the note");
     assert_eq!((bytes_of(bytes.words), bytes.count), (&b"a note\0\0"[..], 6));
 }
 
 #[test]
 fn a_block_has_sixteen_sections_at_most() {
     let mut block = tree();
-    for turn in 3..16 {
+    for turn in 4..16 {
         block = extended(&block, OWN_ROLE + turn, 3, &[turn]).expect("fewer than 16");
     }
     assert_eq!(count(&block), 16);
-    assert!((3..16).all(|it| section(&block, it as usize).is_ok_and(|at| at.is_some_and(|at| at.words == [it]))));
+    assert!((4..16).all(|it| section(&block, it as usize).is_ok_and(|at| at.is_some_and(|at| at.words == [it]))));
     assert_eq!(Tree::from_words(&block[..]).map(|it| (it.check(), it.parent(3))), Ok((true, Some(2))));
     assert_eq!(extended_size(&block, OWN_ROLE, 3), Err(StoredError::NoSection));
     assert_eq!(extended(&block, OWN_ROLE, 3, &[7]), Err(StoredError::NoSection));

@@ -1,9 +1,10 @@
 //! Perfect hashes with seeds: numbers of their own for any keys, lists, equal hashes, owners, blocks that are spoilt or cut.
 mod common;
 use bitm_proved::{
-    bytes_of, BuildError, Dictionary, ListError, PerfectHash, SeededHash, SeededHashView, StoredError, NO_ANSWER,
+    bytes_of, BuildError, Dictionary, EqualPair, Kind, ListError, PerfectHash, SeededHash, SeededHashView, StoredError,
+    NO_ANSWER,
 };
-use common::{any_owner, with_any_words, with_one_bit_changed, Random};
+use common::{any_owner, other_kind, with_any_words, with_one_bit_changed, Random};
 use std::panic::{RefUnwindSafe, UnwindSafe};
 use std::sync::Arc;
 
@@ -60,9 +61,10 @@ fn equal_hashes_are_refused() {
     for keys in [2usize, 100, 10_000] {
         let mut hashes = drawn(keys, &mut random);
         hashes[keys - 1] = hashes[0];
-        assert_eq!(SeededHash::build(hashes).err(), Some(BuildError::EqualHashes { left: 2 }));
+        let pair = EqualPair::Hashes { hash: hashes[0] };
+        assert_eq!(SeededHash::build(hashes).err(), Some(BuildError::EqualHashes { left: 2, pair }));
         let why = SeededHash::build(vec![7; keys]).err();
-        assert_eq!(why, Some(BuildError::EqualHashes { left: keys }));
+        assert_eq!(why, Some(BuildError::EqualHashes { left: keys, pair: EqualPair::Hashes { hash: 7 } }));
     }
 }
 
@@ -71,7 +73,7 @@ fn any_owner_has_a_hash_in_its_words_or_bytes() {
     let hashes = drawn(300, &mut Random(84));
     let file = SeededHash::build(hashes.clone()).expect("any").into_owner();
     let look = |found: &SeededHashView<'_>| as_plain(found, &hashes);
-    any_owner!(SeededHash, SeededHashView, file, "hash with seeds of 300 keys", look);
+    any_owner!(SeededHash, SeededHashView, file, "SeededHash { keys: 300 }", look);
 }
 
 #[test]
@@ -119,8 +121,8 @@ fn files_that_are_cut_or_of_another_kind_are_refused() {
         assert_eq!(SeededHashView::from_words(&good[..end]).err(), Some(StoredError::NotWhole));
     }
     assert_eq!(SeededHash::from_bytes(&bytes_of(&good)[1..]).err(), Some(StoredError::Misaligned));
-    assert_eq!(Dictionary::from_words(good).err(), Some(StoredError::NotWhole));
+    assert_eq!(Dictionary::from_words(good).err(), other_kind(Kind::SeededHash, Kind::Dictionary));
     let other = Dictionary::build(&[4, 9]).expect("any").into_owner();
-    assert_eq!(SeededHash::from_words(other).err(), Some(StoredError::NotWhole));
+    assert_eq!(SeededHash::from_words(other).err(), other_kind(Kind::Dictionary, Kind::SeededHash));
     // it has no seeds
 }

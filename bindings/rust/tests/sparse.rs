@@ -2,9 +2,10 @@
 //! spoilt or cut.
 mod common;
 use bitm_proved::{
-    bytes_of, BuildError, ListError, SparseBits, SparseBitsView, StoredError, Tree, TreeView, WrongTables, NO_ANSWER,
+    bytes_of, BuildError, Kind, ListError, SparseBits, SparseBitsView, StoredError, Tree, TreeView, WrongTables,
+    NO_ANSWER,
 };
-use common::{any_owner, with_any_words, with_one_bit_changed, Random};
+use common::{any_owner, other_kind, with_any_words, with_one_bit_changed, Random};
 use std::panic::{RefUnwindSafe, UnwindSafe};
 use std::sync::Arc;
 
@@ -136,15 +137,14 @@ fn answers_are_those_of_plain_lists() {
 #[test]
 fn positions_that_are_refused() {
     let build = |positions: &[u64], len| SparseBits::build(positions, len).err();
-    assert_eq!(build(&[1, 5, 5, 9], 100), Some(BuildError::NotRising { index: 2 }));
-    assert_eq!(build(&[5, 1], 100), Some(BuildError::NotRising { index: 1 }));
-    assert_eq!(build(&[1, 5, 9], 5), Some(BuildError::PastEnd { index: 1 }));
-    assert_eq!(
-        (build(&[u64::MAX], usize::MAX), build(&[0], 0)),
-        (Some(BuildError::PastEnd { index: 0 }), build(&[0], 0))
-    );
-    let texts = [BuildError::NotRising { index: 2 }, BuildError::PastEnd { index: 1 }].map(|it| it.to_string());
-    assert_eq!(texts, ["position 2 is not greater than the one before it", "position 1 is past the end"]);
+    assert_eq!(build(&[1, 5, 5, 9], 100), Some(BuildError::NotRising { index: 2, position: 5, before: 5 }));
+    assert_eq!(build(&[5, 1], 100), Some(BuildError::NotRising { index: 1, position: 1, before: 5 }));
+    for (positions, len, index) in [(&[1, 5, 9][..], 5, 1), (&[u64::MAX], usize::MAX, 0), (&[0], 0, 0)] {
+        let position = positions[index];
+        assert_eq!(build(positions, len), Some(BuildError::PastEnd { index, position, len }));
+    }
+    let texts = [build(&[1, 2, 17, 17], 100), build(&[1, 2, 17, 200], 100)].map(|it| it.unwrap().to_string());
+    assert_eq!(texts, ["position 3 (17) is not above position 2 (17)", "position 3 (200) is not below 100"]);
 }
 
 #[test]
@@ -161,7 +161,7 @@ fn any_owner_has_bits_in_its_words_or_bytes() {
     let plain = Plain::drawn(300, 90, 7, &mut Random(52));
     let file = SparseBits::build(&plain.positions, plain.len).expect("any").into_owner();
     let look = |bits: &SparseBitsView<'_>| as_plain(bits, &plain, &mut Random(53));
-    any_owner!(SparseBits, SparseBitsView, file, &format!("{} bits, 300 ones", plain.len), look);
+    any_owner!(SparseBits, SparseBitsView, file, &format!("SparseBits {{ bits: {}, ones: 300 }}", plain.len), look);
 }
 
 #[test]
@@ -220,7 +220,7 @@ fn files_that_are_cut_or_of_another_kind_are_refused() {
         assert_eq!(SparseBitsView::from_words(&good[..end]).err(), Some(StoredError::NotWhole));
     }
     assert_eq!(SparseBits::from_bytes(&bytes_of(&good)[1..]).err(), Some(StoredError::Misaligned));
-    assert_eq!(TreeView::from_words(&good).err(), Some(StoredError::NotWhole));
+    assert_eq!(TreeView::from_words(&good).err(), other_kind(Kind::SparseBits, Kind::Tree));
     let tree = Tree::build(&[1, 0]).expect("a tree").into_owner();
-    assert_eq!(SparseBits::from_words(tree).err(), Some(StoredError::NotWhole));
+    assert_eq!(SparseBits::from_words(tree).err(), other_kind(Kind::Tree, Kind::SparseBits));
 }

@@ -3,10 +3,10 @@
 mod common;
 use bitm_proved::{
     bytes_of, sections, ArrayWithRank101111, BinaryRankSearch, CombinedSampling, ConstCombinedSamplingDensity,
-    EliasFano, Index, IndexView, Queries, Rank, RankSelect101111, Sampling, Select, Select0, Select0ForRank101111,
-    SelectForRank101111, SelectionStrategy, Sequence, SequenceView, StoredError, WrongTables,
+    EliasFano, Index, IndexView, Kind, Queries, Rank, RankSelect101111, Sampling, Select, Select0,
+    Select0ForRank101111, SelectForRank101111, SelectionStrategy, Sequence, SequenceView, StoredError, WrongTables,
 };
-use common::{bits_of, first_section, positions_of, Random};
+use common::{bits_of, first_section, other_kind, positions_of, Random};
 
 fn as_a_list<T: Queries + Rank + Select + Select0>(index: &T, plain: &[bool], random: &mut Random) {
     let (ones, zeros) = (positions_of(plain, true), positions_of(plain, false));
@@ -44,7 +44,7 @@ where
         as_a_list(&again, &plain, random);
         assert_eq!(again.to_stored(count), Ok(file.clone()));
         let other = SequenceView::from_words(&file).err();
-        assert_eq!(other, Some(StoredError::OtherKind));
+        assert_eq!(other, other_kind(Kind::Index, Kind::Sequence));
         as_a_list(&Index::from_words(file).expect("just written"), &plain, random);
     }
 }
@@ -153,9 +153,9 @@ fn headers_that_lie_and_bytes_that_are_cut_or_begin_elsewhere_are_refused() {
         room.copy_from_slice(bytes_of(&good));
         let wanted = (by > 0).then_some(StoredError::Misaligned);
         assert_eq!(IndexView::from_bytes(room).err(), wanted);
-        let wanted = wanted.unwrap_or(StoredError::OtherKind);
-        assert_eq!(Sequence::from_bytes(&*room).err(), Some(wanted));
-        assert_eq!(SequenceView::from_bytes(room).err(), Some(wanted));
+        let wanted = wanted.or(other_kind(Kind::Index, Kind::Sequence));
+        assert_eq!(Sequence::from_bytes(&*room).err(), wanted);
+        assert_eq!(SequenceView::from_bytes(room).err(), wanted);
     }
 }
 

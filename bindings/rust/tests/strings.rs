@@ -1,7 +1,7 @@
 //! Strings beside plain lists; strings that are refused, owners, blocks that are spoilt or cut.
 mod common;
-use bitm_proved::{bytes_of, BuildError, Dictionary, StoredError, Strings, StringsView};
-use common::{any_owner, with_any_words, with_one_bit_changed, Random};
+use bitm_proved::{bytes_of, BuildError, Dictionary, EqualPair, Kind, StoredError, Strings, StringsView};
+use common::{any_owner, other_kind, with_any_words, with_one_bit_changed, Random};
 use std::collections::BTreeSet;
 use std::panic::{RefUnwindSafe, UnwindSafe};
 use std::sync::Arc;
@@ -53,8 +53,16 @@ fn answers_are_those_of_plain_lists() {
 
 #[test]
 fn strings_that_are_refused() {
-    assert_eq!(Strings::build(&["ada", "bob", "ada"]).err(), Some(BuildError::EqualHashes { left: 2 }));
-    assert_eq!(Strings::build(&["", ""]).err(), Some(BuildError::EqualHashes { left: 2 }));
+    let equal = |first, second| EqualPair::Strings { first, second };
+    for (strings, left, pair) in [
+        (&["ada", "bob", "ada"][..], 2, equal(0, 2)),
+        (&["", ""], 2, equal(0, 1)),
+        (&["eve", "ada", "bob", "bob", "ada", "bob"], 5, equal(1, 4)),
+    ] {
+        let why = Strings::build_with(strings, 100, 7).err();
+        assert_eq!(why, Some(BuildError::EqualHashes { left, pair }));
+    }
+    assert_eq!(equal(0, 2).to_string(), "strings 0 and 2 are equal");
     assert_eq!(Strings::build(&["ada", "bob", ""]).err(), None);
 }
 
@@ -63,7 +71,7 @@ fn any_owner_has_strings_in_its_words_or_bytes() {
     let all = drawn(300, 9, &mut Random(72));
     let file = Strings::build(&all).expect("any").into_owner();
     let look = |found: &StringsView<'_>| as_plain(found, &all);
-    any_owner!(Strings, StringsView, file, "300 strings", look);
+    any_owner!(Strings, StringsView, file, "Strings { strings: 300 }", look);
 }
 
 #[test]
@@ -117,7 +125,7 @@ fn files_that_are_cut_or_of_another_kind_are_refused() {
         assert_eq!(StringsView::from_words(&good[..end]).err(), Some(StoredError::NotWhole));
     }
     assert_eq!(Strings::from_bytes(&bytes_of(&good)[1..]).err(), Some(StoredError::Misaligned));
-    assert_eq!(Dictionary::from_words(good).err(), Some(StoredError::NotWhole));
+    assert_eq!(Dictionary::from_words(good).err(), other_kind(Kind::Strings, Kind::Dictionary));
     let other = Dictionary::build(&[4, 9]).expect("any").into_owner();
-    assert_eq!(Strings::from_words(other).err(), Some(StoredError::NotWhole));
+    assert_eq!(Strings::from_words(other).err(), other_kind(Kind::Dictionary, Kind::Strings));
 }

@@ -1,8 +1,8 @@
 //! The index of a text beside a plain search: views, owners, files, what is built; blocks that are spoilt or cut.
 mod common;
 
-use bitm_proved::{bytes_of, words_from_bytes, BuildError, StoredError, TextIndex, TextIndexView};
-use common::Random;
+use bitm_proved::{bytes_of, words_from_bytes, BuildError, Kind, StoredError, TextIndex, TextIndexView};
+use common::{other_kind, Random};
 
 const VERSE: &[u8] = b"she sells sea shells on the sea shore";
 
@@ -61,7 +61,11 @@ fn answers_are_those_of_a_plain_search() {
         pattern_as_plain(view, VERSE, pattern);
     }
     assert_eq!(view.count_letters(&[u64::MAX]), Ok(0));
-    assert_eq!((format!("{view:?}"), format!("{text:?}")), ("37 letters".into(), "37 letters".into()));
+    let shown = "Index { letters: 37, width: 4 }"; // of ten bytes
+    assert_eq!(
+        (format!("{view:?}"), format!("{text:?}")),
+        (format!("Text{shown}").replace("Index", "IndexView"), format!("Text{shown}"))
+    );
 }
 
 #[test]
@@ -95,7 +99,8 @@ fn texts_that_are_built() {
     assert_eq!(TextIndex::build_of_letters(&[0], 1, 0).err(), Some(BuildError::WrongStep));
     for (letters, index) in [(800, numbers.iter().position(|&it| it == 800)), (0, Some(0))] {
         let refused = TextIndex::build_of_letters(&numbers, letters, 1).err();
-        assert_eq!(refused, index.map(|index| BuildError::LetterOutside { index }));
+        let letter = |index: usize| BuildError::LetterOutside { index, letter: numbers[index], letters };
+        assert_eq!(refused, index.map(letter));
     }
 }
 
@@ -108,9 +113,9 @@ fn owners_and_blocks_in_longer_files() {
     assert_eq!(TextIndex::from_bytes(bytes_of(&longer)).unwrap().view().count(b"sea"), Ok(2));
     assert_eq!(TextIndexView::from_bytes(&bytes_of(&words)[1..]).err(), Some(StoredError::Misaligned));
     assert_eq!(TextIndexView::from_bytes(&[]).err(), Some(StoredError::NotWhole));
-    assert_eq!(bitm_proved::TreeView::from_words(&words).err(), Some(StoredError::NotWhole));
+    assert_eq!(bitm_proved::TreeView::from_words(&words).err(), other_kind(Kind::TextIndex, Kind::Tree));
     let matrix = bitm_proved::WaveletMatrix::build(&[3, 1, 4]).unwrap();
-    assert_eq!(TextIndexView::from_words(matrix.block()).err(), Some(StoredError::NotWhole));
+    assert_eq!(TextIndexView::from_words(matrix.block()).err(), other_kind(Kind::WaveletMatrix, Kind::TextIndex));
     for len in 0..words.len() {
         assert!(TextIndexView::from_words(&words[..len]).is_err());
     }

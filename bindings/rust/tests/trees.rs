@@ -1,10 +1,10 @@
 //! Trees beside plain lists of parents and children; degrees of no tree, lists, owners, blocks that are spoilt or cut.
 mod common;
 use bitm_proved::{
-    bytes_of, BuildError, EliasFano, IndexView, ListError, SequenceView, StoredError, Tree, TreeView, WrongTables,
-    NO_ANSWER,
+    bytes_of, BuildError, EliasFano, IndexView, Kind, ListError, SequenceView, StoredError, Tree, TreeView,
+    WrongTables, NO_ANSWER,
 };
-use common::{any_owner, says, with_any_words, with_one_bit_changed, Fickle, Random};
+use common::{any_owner, other_kind, says, with_any_words, with_one_bit_changed, Fickle, Random};
 use std::panic::{RefUnwindSafe, UnwindSafe};
 use std::sync::Arc;
 
@@ -106,10 +106,28 @@ fn answers_are_those_of_plain_lists() {
 #[test]
 fn degrees_of_no_tree_are_refused() {
     let most = u64::MAX;
-    for degrees in [&[][..], &[0, 0], &[1, 1], &[0, 1], &[2, 0], &[1, 0, 1], &[most, 1], &[most, 2]] {
-        assert_eq!(Tree::build(degrees).err(), Some(BuildError::NotATree));
+    let refused = [
+        (&[][..], None),
+        (&[0, 0], Some(1)),
+        (&[1, 1], Some(1)),
+        (&[0, 1], Some(1)),
+        (&[2, 0], Some(0)),
+        (&[1, 0, 1], Some(2)),
+        (&[2, 0, 1], Some(2)),
+        (&[2, 0, 0, 0], Some(3)),
+        (&[most, 1], Some(0)),
+        (&[most, 2], Some(0)),
+    ];
+    for (degrees, node) in refused {
+        assert_eq!(Tree::build(degrees).err(), Some(BuildError::NotATree { node }));
     }
-    assert_eq!(BuildError::NotATree.to_string(), "the degrees are those of no tree");
+    assert_eq!(
+        [Some(3), None].map(|node| BuildError::NotATree { node }.to_string()),
+        [
+            "node 3 is a child of no node before it, or has more children than there are nodes left",
+            "there are no degrees: a tree has a root",
+        ]
+    );
     let pairs = ListError::Pairs { first: 3, second: 2 };
     assert_eq!(pairs.to_string(), "the lists of pairs have 3 and 2 numbers");
 }
@@ -118,7 +136,7 @@ fn degrees_of_no_tree_are_refused() {
 fn any_owner_has_a_tree_in_its_words_or_bytes() {
     let degrees = drawn(300, 4, &mut Random(32));
     let file = Tree::build(&degrees).expect("a tree").into_owner();
-    any_owner!(Tree, TreeView, file, "a tree of 300 nodes", |tree: &TreeView<'_>| as_plain_lists(tree, &degrees));
+    any_owner!(Tree, TreeView, file, "Tree { nodes: 300 }", |tree: &TreeView<'_>| as_plain_lists(tree, &degrees));
 }
 
 #[test]
@@ -192,10 +210,10 @@ fn files_that_are_cut_or_of_another_kind_are_refused() {
         assert_eq!(TreeView::from_words(&good[..end]).err(), Some(StoredError::NotWhole));
     }
     assert_eq!(Tree::from_bytes(&bytes_of(&good)[1..]).err(), Some(StoredError::Misaligned));
-    assert_eq!(IndexView::from_words(&good).err(), Some(StoredError::NotWhole));
-    assert_eq!(SequenceView::from_words(&good).err(), Some(StoredError::NotWhole));
+    assert_eq!(IndexView::from_words(&good).err(), other_kind(Kind::Tree, Kind::Index));
+    assert_eq!(SequenceView::from_words(&good).err(), other_kind(Kind::Tree, Kind::Sequence));
     let other = EliasFano::build(&[2, 3, 5]).expect("sorted").to_stored().expect("memory");
-    assert_eq!(Tree::from_words(other).err(), Some(StoredError::NotWhole));
+    assert_eq!(Tree::from_words(other).err(), other_kind(Kind::Sequence, Kind::Tree));
 }
 
 #[test]

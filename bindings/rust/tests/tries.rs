@@ -1,7 +1,7 @@
 //! Tries beside a map of words, made of words and of parts; words that do not rise, parts of no trie, owners, blocks that are spoilt or cut.
 mod common;
-use bitm_proved::{bytes_of, BuildError, StoredError, Tree, Trie, TrieView, WrongTables};
-use common::{any_owner, says, with_any_words, with_one_bit_changed, Fickle, Random};
+use bitm_proved::{bytes_of, BuildError, Kind, StoredError, Tree, Trie, TrieView, WrongTables};
+use common::{any_owner, other_kind, says, with_any_words, with_one_bit_changed, Fickle, Random};
 use std::collections::{BTreeMap, BTreeSet};
 use std::panic::{RefUnwindSafe, UnwindSafe};
 use std::sync::Arc;
@@ -160,7 +160,7 @@ fn words_that_do_not_rise_are_refused() {
     for (words, index) in refused {
         assert_eq!(Trie::of_words(words).err(), Some(BuildError::UnsortedWord { index }));
     }
-    assert_eq!(BuildError::UnsortedWord { index: 2 }.to_string(), "word 2 does not stand after the one before it");
+    assert_eq!(BuildError::UnsortedWord { index: 2 }.to_string(), "word 2 does not stand after word 1");
 }
 
 #[test]
@@ -168,23 +168,34 @@ fn parts_of_no_trie_are_refused() {
     let (degrees, labels, ends) = ([2, 0, 1, 0], [97, 98, 101], [14]);
     assert!(Trie::build(&degrees, &labels, 8, &ends).is_ok() && Trie::build(&degrees, &labels, 8, &[]).is_ok());
     let refused = [
-        Trie::build(&degrees, &labels, 0, &ends),
-        Trie::build(&degrees, &labels, 64, &ends),
-        Trie::build(&degrees, &labels, 6, &ends),
-        Trie::build(&degrees, &labels, 8, &[1, 2]),
-        Trie::build(&degrees, &labels[1..], 8, &ends),
-        Trie::build(&degrees, &[98, 98, 101], 8, &ends),
-        Trie::build(&[0, 1], &[1], 8, &[]),
-        Trie::build(&[], &[], 8, &[]),
+        (Trie::build(&degrees, &labels, 0, &ends), "a label has 1 to 63 bits, not 0"),
+        (Trie::build(&degrees, &labels, 64, &ends), "a label has 1 to 63 bits, not 64"),
+        (Trie::build(&degrees, &labels, 6, &ends), "label 0 (97) has more than 6 bits"),
+        (Trie::build(&degrees, &[97, 98, 300], 8, &ends), "label 2 (300) has more than 8 bits"),
+        (Trie::build(&degrees, &labels, 8, &[1, 2]), "the ends of 4 nodes have 2 words"),
+        (
+            Trie::build(&degrees, &labels[1..], 8, &ends),
+            "there are 2 labels and 4 nodes, each of which has one but the root",
+        ),
+        (Trie::build(&degrees, &[98, 98, 101], 8, &ends), "label 1 (98) is not above label 0 (98)"),
+        (Trie::build(&[1, 2, 0, 0], &[9, 8, 7], 8, &[]), "label 2 (7) is not above label 1 (8)"),
+        (
+            Trie::build(&[0, 1], &[1], 8, &[]),
+            "node 1 is a child of no node before it, or has more children than there are nodes left",
+        ),
+        (Trie::build(&[], &[], 8, &[]), "there are no degrees: a tree has a root"),
     ];
-    assert!(refused.into_iter().all(|it| it.err() == Some(BuildError::NotATrie)));
-    assert_eq!(BuildError::NotATrie.to_string(), "the degrees, labels, width and ends are those of no trie");
+    for (made, text) in refused {
+        let why = made.expect_err(text);
+        assert!(matches!(why, BuildError::NotATrie(_)));
+        assert_eq!(why.to_string(), text);
+    }
 }
 
 #[test]
 fn any_owner_has_a_trie_in_its_words_or_bytes() {
     let plain = drawn(90, 8, true, &mut Random(42));
-    let (file, shown) = (made(&plain).into_owner(), format!("a trie of {} nodes", plain.nodes.len()));
+    let (file, shown) = (made(&plain).into_owner(), format!("Trie {{ nodes: {}, width: 8 }}", plain.nodes.len()));
     any_owner!(Trie, TrieView, file, &shown, |trie: &TrieView<'_>| as_a_map(trie, &plain));
 }
 
@@ -254,8 +265,11 @@ fn files_that_are_cut_or_of_another_kind_are_refused() {
     for end in 0..good.len() {
         assert_eq!(TrieView::from_words(&good[..end]).err(), Some(StoredError::NotWhole));
     }
-    assert_eq!(Tree::from_words(&good[..]).err(), Some(StoredError::NotWhole));
-    assert_eq!(Trie::from_words(Tree::build(&[1, 0]).expect("a tree").into_owner()).err(), Some(StoredError::NotWhole));
+    assert_eq!(Tree::from_words(&good[..]).err(), other_kind(Kind::Trie, Kind::Tree));
+    assert_eq!(
+        Trie::from_words(Tree::build(&[1, 0]).expect("a tree").into_owner()).err(),
+        other_kind(Kind::Tree, Kind::Trie)
+    );
 }
 
 #[test]

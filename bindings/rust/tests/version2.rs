@@ -2,10 +2,10 @@
 //! outside.
 mod common;
 use bitm_proved::{
-    bytes_of, words_from_bytes, Index, IndexView, Queries, Rank, Sampling, Select, Select0, Sequence, SequenceView,
-    StoredError, WrongTables,
+    bytes_of, words_from_bytes, Index, IndexView, Kind, Queries, Rank, Sampling, Select, Select0, Sequence,
+    SequenceView, StoredError, WrongTables,
 };
-use common::Random;
+use common::{other_kind, Random};
 
 /// 300 bits, of which each third is a 1 bit; 3000 bits of this sort with samples of both kinds; the first hundred
 /// squares.
@@ -76,8 +76,8 @@ fn spoilt_headers_other_kinds_and_cut_files_are_refused() {
             assert_eq!(SequenceView::from_words(&words(file)[..end]).err(), Some(StoredError::NotWhole));
         }
     }
-    assert_eq!(Sequence::from_words(words(SAMPLED)).err(), Some(StoredError::OtherKind));
-    assert_eq!(Index::from_bytes(bytes_of(&words(SQUARES))).err(), Some(StoredError::OtherKind));
+    assert_eq!(Sequence::from_words(words(SAMPLED)).err(), other_kind(Kind::Index, Kind::Sequence));
+    assert_eq!(Index::from_bytes(bytes_of(&words(SQUARES))).err(), other_kind(Kind::Sequence, Kind::Index));
 }
 
 /// Whether an index that may be spoilt answers inside; how often it says that it is.

@@ -1,5 +1,5 @@
 //! Why something is not built.
-use super::{NoMemory, WrongTables};
+use super::{EqualPair, NoMemory, TrieFault, WrongTables};
 use core::{error::Error, fmt};
 
 /// Why an index, a sequence, sparse bits, a hash, a tree, a trie, a list of numbers, the index of a text, prefix counts
@@ -8,8 +8,8 @@ use core::{error::Error, fmt};
 /// ```
 /// use bitm_proved::{BuildError, EliasFano};
 /// let why = EliasFano::build(&[2, 5, 3]).unwrap_err();
-/// assert_eq!(why, BuildError::NotSorted { index: 2 });
-/// assert_eq!(why.to_string(), "number 2 is less than the one before it");
+/// assert_eq!(why, BuildError::NotSorted { index: 2, number: 3, before: 5 });
+/// assert_eq!(why.to_string(), "number 2 (3) is less than number 1 (5)");
 /// ```
 #[derive(Clone, Copy, PartialEq, Eq, Debug)]
 #[non_exhaustive]
@@ -29,56 +29,80 @@ pub enum BuildError {
     ///
     /// ```
     /// use bitm_proved::{BuildError, EliasFano};
-    /// assert_eq!(EliasFano::build(&[2, 5, 3]).err(), Some(BuildError::NotSorted { index: 2 }));
+    /// let why = EliasFano::build(&[2, 5, 3]).err();
+    /// assert_eq!(why, Some(BuildError::NotSorted { index: 2, number: 3, before: 5 }));
     /// ```
     NotSorted {
-        /// That index.
+        /// The least such index.
         index: usize,
+        /// The number there.
+        number: u64,
+        /// The number before it.
+        before: u64,
     },
     /// The position at an index is not greater than the one before it.
     ///
     /// ```
     /// use bitm_proved::{BuildError, SparseBits};
-    /// assert_eq!(SparseBits::build(&[2, 5, 5], 9).err(), Some(BuildError::NotRising { index: 2 }));
+    /// let why = SparseBits::build(&[2, 5, 5], 9).err();
+    /// assert_eq!(why, Some(BuildError::NotRising { index: 2, position: 5, before: 5 }));
     /// ```
     NotRising {
-        /// That index.
+        /// The least such index.
         index: usize,
+        /// The position there.
+        position: u64,
+        /// The position before it.
+        before: u64,
     },
     /// The position at an index is not less than the number of bits.
     ///
     /// ```
     /// use bitm_proved::{BuildError, SparseBits};
-    /// assert_eq!(SparseBits::build(&[2, 5], 5).err(), Some(BuildError::PastEnd { index: 1 }));
+    /// let why = SparseBits::build(&[2, 5], 5).err();
+    /// assert_eq!(why, Some(BuildError::PastEnd { index: 1, position: 5, len: 5 }));
     /// ```
     PastEnd {
         /// The least such index.
         index: usize,
+        /// The position there.
+        position: u64,
+        /// The number of bits.
+        len: usize,
     },
     /// Hashes of keys are equal.
     ///
     /// ```
-    /// use bitm_proved::{BuildError, PerfectHash};
-    /// assert_eq!(PerfectHash::build(vec![5, 7, 5]).err(), Some(BuildError::EqualHashes { left: 2 }));
+    /// use bitm_proved::{BuildError, Dictionary, EqualPair};
+    /// let pair = EqualPair::Keys { first: 0, second: 2 };
+    /// assert_eq!(Dictionary::build(&[5, 7, 5]).err(), Some(BuildError::EqualHashes { left: 2, pair }));
     /// ```
     EqualHashes {
         /// How many hashes got no number.
         left: usize,
+        /// Two of the keys.
+        pair: EqualPair,
     },
     /// The degrees are those of no tree.
     ///
     /// ```
     /// use bitm_proved::{BuildError, Tree};
-    /// assert_eq!(Tree::build(&[1, 1]).err(), Some(BuildError::NotATree)); // two children of two nodes
+    /// let why = Tree::build(&[1, 1]).err(); // two children of two nodes
+    /// assert_eq!(why, Some(BuildError::NotATree { node: Some(1) }));
     /// ```
-    NotATree,
+    NotATree {
+        /// The first node that is a child of no node before it, or has more children than there are nodes left; `None`
+        /// where there are no degrees.
+        node: Option<usize>,
+    },
     /// The degrees are those of no tree, or the labels, their width or the ends none for it.
     ///
     /// ```
-    /// use bitm_proved::{BuildError, Trie};
-    /// assert_eq!(Trie::build(&[1, 0], &[8], 3, &[]).err(), Some(BuildError::NotATrie)); // 8 has four bits
+    /// use bitm_proved::{BuildError, Trie, TrieFault};
+    /// let fault = TrieFault::WideLabel { index: 0, label: 8, width: 3 }; // 8 has four bits
+    /// assert_eq!(Trie::build(&[1, 0], &[8], 3, &[]).err(), Some(BuildError::NotATrie(fault)));
     /// ```
-    NotATrie,
+    NotATrie(TrieFault),
     /// The word at an index does not stand after the one before it, in the order of their bytes.
     ///
     /// ```
@@ -93,11 +117,16 @@ pub enum BuildError {
     ///
     /// ```
     /// use bitm_proved::{BuildError, WaveletMatrix};
-    /// assert_eq!(WaveletMatrix::build_with(&[3, 4], 2).err(), Some(BuildError::TooWide { index: 1 }));
+    /// let why = WaveletMatrix::build_with(&[3, 4], 2).err();
+    /// assert_eq!(why, Some(BuildError::TooWide { index: 1, number: 4, width: 2 }));
     /// ```
     TooWide {
-        /// That index.
+        /// The least such index.
         index: usize,
+        /// The number there.
+        number: u64,
+        /// The width.
+        width: u32,
     },
     /// The width is not 1 to 64.
     ///
@@ -109,15 +138,31 @@ pub enum BuildError {
         /// It.
         width: u32,
     },
+    /// A fingerprint has more than 32 bits.
+    ///
+    /// ```
+    /// use bitm_proved::{BuildError, KeyHash, KeyOptions};
+    /// let wider = KeyOptions { bits: 33, ..KeyOptions::default() };
+    /// assert_eq!(KeyHash::build_with(&["ada"], wider).err(), Some(BuildError::WrongBits { bits: 33 }));
+    /// ```
+    WrongBits {
+        /// How many.
+        bits: u32,
+    },
     /// The letter at an index is outside the alphabet.
     ///
     /// ```
     /// use bitm_proved::{BuildError, TextIndex};
-    /// assert_eq!(TextIndex::build_of_letters(&[1, 3], 3, 32).err(), Some(BuildError::LetterOutside { index: 1 }));
+    /// let why = TextIndex::build_of_letters(&[1, 3], 3, 32).err();
+    /// assert_eq!(why, Some(BuildError::LetterOutside { index: 1, letter: 3, letters: 3 }));
     /// ```
     LetterOutside {
         /// The least such index.
         index: usize,
+        /// The letter there.
+        letter: u64,
+        /// The size of the alphabet.
+        letters: u32,
     },
     /// The step between samples is 0.
     ///
@@ -174,26 +219,53 @@ pub enum BuildError {
     NoMemory(NoMemory),
 }
 
+/// A list that does not rise at an index: what its items are, the items there and before it, and how they stand.
+pub(super) fn falls(
+    f: &mut fmt::Formatter<'_>,
+    what: &str,
+    index: usize,
+    [item, before]: [u64; 2],
+    how: &str,
+) -> fmt::Result {
+    write!(f, "{what} {index} ({item}) is {how} {what} {} ({before})", index.saturating_sub(1))
+}
+
+/// Why degrees are those of no tree.
+pub(super) fn no_tree(f: &mut fmt::Formatter<'_>, node: Option<usize>) -> fmt::Result {
+    match node {
+        Some(node) => {
+            write!(f, "node {node} is a child of no node before it, or has more children than there are nodes left")
+        }
+        None => f.write_str("there are no degrees: a tree has a root"),
+    }
+}
+
 impl fmt::Display for BuildError {
     fn fmt(&self, f: &mut fmt::Formatter<'_>) -> fmt::Result {
+        use BuildError as E;
         match self {
-            BuildError::TooLong { len } => write!(f, "a length is too great: {len}"),
-            BuildError::NotSorted { index } => write!(f, "number {index} is less than the one before it"),
-            BuildError::NotRising { index } => write!(f, "position {index} is not greater than the one before it"),
-            BuildError::PastEnd { index } => write!(f, "position {index} is past the end"),
-            BuildError::EqualHashes { left } => write!(f, "{left} hashes are equal to others"),
-            BuildError::TooWide { index } => write!(f, "number {index} has more bits than the width"),
-            BuildError::WrongWidth { width } => write!(f, "a width is 1 to 64 bits, not {width}"),
-            BuildError::LetterOutside { index } => write!(f, "letter {index} is outside the alphabet"),
-            BuildError::WrongStep => f.write_str("the step between samples is 0"),
-            BuildError::NotATree => f.write_str("the degrees are those of no tree"),
-            BuildError::UnsortedWord { index } => write!(f, "word {index} does not stand after the one before it"),
-            BuildError::NotATrie => f.write_str("the degrees, labels, width and ends are those of no trie"),
-            BuildError::Pairs { first, second } => write!(f, "the lists of pairs have {first} and {second} numbers"),
-            BuildError::MoreOnes { shard } => write!(f, "shard {shard} has more 1 bits than bits"),
-            BuildError::TooManyBits => f.write_str("the shards have 2^64 bits or more"),
-            BuildError::WrongTables => WrongTables.fmt(f),
-            BuildError::NoMemory(why) => why.fmt(f),
+            E::TooLong { len } => write!(f, "a length is too great: {len}"),
+            E::NotSorted { index, number, before } => falls(f, "number", *index, [*number, *before], "less than"),
+            E::NotRising { index, position, before } => falls(f, "position", *index, [*position, *before], "not above"),
+            E::PastEnd { index, position, len } => write!(f, "position {index} ({position}) is not below {len}"),
+            E::EqualHashes { pair, .. } => pair.fmt(f),
+            E::NotATree { node } => no_tree(f, *node),
+            E::NotATrie(fault) => fault.fmt(f),
+            E::UnsortedWord { index } => {
+                write!(f, "word {index} does not stand after word {}", index.saturating_sub(1))
+            }
+            E::TooWide { index, number, width } => write!(f, "number {index} ({number}) has more than {width} bits"),
+            E::WrongWidth { width } => write!(f, "a width is 1 to 64 bits, not {width}"),
+            E::WrongBits { bits } => write!(f, "a fingerprint has 0 to 32 bits, not {bits}"),
+            E::LetterOutside { index, letter, letters } => {
+                write!(f, "letter {index} ({letter}) is not below {letters}")
+            }
+            E::WrongStep => f.write_str("the step between samples is 0"),
+            E::Pairs { first, second } => write!(f, "the lists of pairs have {first} and {second} numbers"),
+            E::MoreOnes { shard } => write!(f, "shard {shard} has more 1 bits than bits"),
+            E::TooManyBits => f.write_str("the shards have 2^64 bits or more"),
+            E::WrongTables => WrongTables.fmt(f),
+            E::NoMemory(why) => why.fmt(f),
         }
     }
 }

@@ -50,6 +50,10 @@ extern "C" {
         seeds: *mut u8, seeds_len: usize, again: *mut u64, again_len: usize, sorted: *mut u64, sorted_len: usize,
         sizes: *mut u64, sizes_len: usize, levels: *mut u64, used_words: *mut u64, left: *mut u64,
     ) -> u32;
+    pub fn bitm_hash_level_seeded(
+        hashes: *mut u64, hashes_len: usize, level: u32, tries: u16, ones: *mut u64, ones_len: usize, seeds: *mut u8,
+        seeds_len: usize, again: *mut u64, again_len: usize, sorted: *mut u64, sorted_len: usize, left: *mut u64,
+    ) -> u32;
     pub fn bitm_hash_get_seeded(hash: *const bitm_seeded_hash, key_hash: u64, out: *mut u64) -> u32;
     pub fn bitm_hash_get_list_seeded(
         hash: *const bitm_seeded_hash, key_hashes: *const u64, key_hashes_len: usize, out: *mut u64, out_len: usize,
@@ -118,6 +122,7 @@ pub struct bitm_strings {
 }
 extern "C" {
     pub fn bitm_strings_hash(string: *const u8, string_len: usize, seed: u64, out: *mut u64) -> u32;
+    pub fn bitm_key_hash(key: *const u8, key_len: usize, seed: u64, kind: u64, hash: *mut u64, print: *mut u64) -> u32;
     pub fn bitm_strings_hashes(
         bytes: *const u8, bytes_len: usize, ends: *const u64, ends_len: usize, seed: u64, out: *mut u64, out_len: usize,
     ) -> u32;

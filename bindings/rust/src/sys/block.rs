@@ -1,20 +1,21 @@
 //! Blocks: a structure of any kind in one slice of words, which is also its file. What all views of blocks have.
 use crate::errors::{StoredError, WrongTables};
+use crate::sys::kinds::Kind;
 use crate::sys::{query, OK};
 use core::mem::MaybeUninit;
 
-/// The first word of each block: the letters `bitmtab`, and the version.
-const MARK: u64 = u64::from_ne_bytes(*b"bitmtab\x03");
+/// The first word of a block: the letters `bitmtab`, and the version. Blocks of version 3 are read alone.
+const MARKS: [u64; 2] = [u64::from_ne_bytes(*b"bitmtab\x03"), u64::from_ne_bytes(*b"bitmtab\x04")];
 
 /// Whether the words of a file begin as a block does.
 pub(crate) fn is_block(file: &[u64]) -> bool {
-    file.first() == Some(&MARK)
+    file.first().is_some_and(|mark| MARKS.contains(mark))
 }
 
 /// The words of the block that begins a file, by its first words.
-fn block_in(file: &[u64]) -> Option<&[u64]> {
+pub(crate) fn block_in(file: &[u64]) -> Option<&[u64]> {
     match *file {
-        [MARK, _, bytes, ..] => file.get(..(bytes / 8) as usize),
+        [_, _, bytes, ..] if is_block(file) => file.get(..(bytes / 8) as usize),
         _ => None,
     }
 }
@@ -27,6 +28,7 @@ fn block_in(file: &[u64]) -> Option<&[u64]> {
 pub(crate) unsafe trait Parts: Copy {
     const OPEN: unsafe extern "C" fn(*const u64, usize, *mut Self) -> u32;
     const CHECK: unsafe extern "C" fn(*const u64, usize) -> u32;
+    const KIND: Kind;
 
     /// How many bits, numbers, keys, nodes or letters there are.
     fn len(&self) -> usize;
@@ -47,13 +49,13 @@ unsafe impl<P: Parts> Sync for Block<'_, P> {}
 impl<'a, P: Parts> Block<'a, P> {
     /// The block that begins the words of a file.
     pub(crate) fn open(file: &'a [u64]) -> Result<Self, StoredError> {
-        let words = block_in(file).ok_or(StoredError::NotWhole)?;
+        let words = block_in(file).ok_or_else(|| P::KIND.refused(file))?;
         let mut parts = MaybeUninit::zeroed();
         // SAFETY: a slice, and a struct of zeros, which the call may write.
         match unsafe { P::OPEN(words.as_ptr(), words.len(), parts.as_mut_ptr()) } {
             // SAFETY: zero bytes are a value, and so is what the call has written.
             OK => Ok(Block { parts: unsafe { parts.assume_init() }, words }),
-            _ => Err(StoredError::NotWhole),
+            _ => Err(P::KIND.refused(words)),
         }
     }
 
@@ -105,16 +107,17 @@ impl<'a, P: Parts> Block<'a, P> {
     }
 }
 
-/// What each view of a block has beside its queries. How many nodes, numbers, .. the struct of C has; the calls that
+/// What each view of a block has beside its queries. Its kind; how many nodes, numbers, .. the struct of C has; the calls that
 /// open and check a block; whose block it is; an example of its owner, and how many that has; what they are; what
 /// `check` finds.
 macro_rules! views {
-    ($view:ident; |$it:ident: $parts:ty| $count:expr, $open:ident, $check:ident;
+    ($view:ident of $kind:ident; |$it:ident: $parts:ty| $count:expr, $open:ident, $check:ident;
      $of:literal, $made:literal, $len:literal, $counted:literal, $checked:literal) => {
         // SAFETY: numbers and pointers alone; the call that opens a block writes pointers into it.
         unsafe impl Parts for $parts {
             const OPEN: unsafe extern "C" fn(*const u64, usize, *mut Self) -> u32 = $open;
             const CHECK: unsafe extern "C" fn(*const u64, usize) -> u32 = $check;
+            const KIND: crate::Kind = crate::Kind::$kind;
 
             #[inline(always)]
             fn len(&self) -> usize {
@@ -127,7 +130,8 @@ macro_rules! views {
             /// Of the block that begins the words of a file. What its sections hold is not tested: `check` does that.
             ///
             /// # Errors
-            /// `NotWhole` where the words begin with no such block, or are fewer than it has.
+            /// `OtherKind` where the words begin with the block of another structure; `NotWhole` where they begin with no block,
+            /// or are fewer than it has.
             ///
             /// ```
             #[doc = concat!("use bitm_proved::{StoredError, ", stringify!($view), "};")]
@@ -209,6 +213,12 @@ macro_rules! views {
             /// ```
             pub fn check(&self) -> bool {
                 self.block.check()
+            }
+        }
+
+        impl core::fmt::Debug for $view<'_> {
+            fn fmt(&self, f: &mut core::fmt::Formatter<'_>) -> core::fmt::Result {
+                self.show(f, stringify!($view))
             }
         }
     };

@@ -1,10 +1,11 @@
 //! Dictionaries of numbers, each in one block of memory: views of borrowed blocks.
 pub(crate) mod owned;
 
-use crate::errors::{BuildError, ListError, StoredError, WrongTables};
+use crate::errors::{BuildError, EqualPair, ListError, StoredError, WrongTables};
 use crate::ffi::hashes::*;
 use crate::sys::block::{views, Block, Parts};
 use crate::sys::hash::PerfectHash;
+use crate::sys::levels::named;
 use crate::sys::lists::query_list;
 use crate::sys::memory::{as_u64_mut, copied, words_of, zeroed};
 use crate::sys::OK;
@@ -27,7 +28,7 @@ pub struct DictionaryView<'a> {
     block: Block<'a, bitm_dictionary>,
 }
 
-views! { DictionaryView;
+views! { DictionaryView of Dictionary;
     |it: bitm_dictionary| it.keys_len, bitm_dictionary_open, bitm_dictionary_check;
     "this dictionary", "bitm_proved::Dictionary::build(&[4, 9, 49])?", "3", "keys",
     "a dictionary: looks at all of it"
@@ -108,9 +109,9 @@ impl<'a> DictionaryView<'a> {
     }
 }
 
-impl fmt::Debug for DictionaryView<'_> {
-    fn fmt(&self, f: &mut fmt::Formatter<'_>) -> fmt::Result {
-        write!(f, "dictionary of {} keys", self.len())
+impl DictionaryView<'_> {
+    pub(crate) fn show(&self, f: &mut fmt::Formatter<'_>, name: &str) -> fmt::Result {
+        f.debug_struct(name).field("keys", &self.len()).finish()
     }
 }
 
@@ -118,7 +119,10 @@ impl fmt::Debug for DictionaryView<'_> {
 pub(crate) fn build(keys: &[u64], percent: u32, seed: u64) -> Result<Vec<u64>, BuildError> {
     let mut hashes = copied(keys)?;
     hashes.iter_mut().for_each(|it| *it = it.wrapping_add(seed));
-    let hash = PerfectHash::build_with(hashes, percent)?;
+    let hash = PerfectHash::of(&mut hashes, percent, None).map_err(|why| {
+        let again = keys.iter().map(|it| it.wrapping_add(seed));
+        named(why, &hashes, again, |first, second| EqualPair::Keys { first, second })
+    })?;
     let mut placed = zeroed::<u64>(keys.len())?;
     for key in keys {
         if let Ok(Some(number)) = hash.checked_get(key.wrapping_add(seed)) {

@@ -2,6 +2,7 @@
 use crate::errors::OpenError;
 use crate::sys::dictionary::owned::Dictionary;
 use crate::sys::index::Index;
+use crate::sys::key_hash::owned::KeyHash;
 use crate::sys::mapped::Mapped;
 use crate::sys::matrix::owned::WaveletMatrix;
 use crate::sys::owned::Sequence;
@@ -103,4 +104,7 @@ files! { StringsFile: Strings;
 }
 files! { SeededHashFile: SeededHash;
     "A hash with seeds", "SeededHash", "SeededHash::build(vec![5])?.block()", "get(5) == Some(0)", "SeededHash"
+}
+files! { KeyHashFile: KeyHash;
+    "A hash of keys", "KeyHash", "KeyHash::build(&[\"ada\"])?.block()", "get(\"ada\") == Some(0)", "KeyHash"
 }

@@ -1,12 +1,12 @@
 //! Minimal perfect hashes: a number of its own below n for each of n keys, by the key's hash of 64 bits.
 mod queries;
 
-use crate::errors::{sure, BuildError, ListError, NoMemory, WrongTables};
+use crate::errors::{sure, BuildError, ListError, WrongTables};
 use crate::ffi::hashes::*;
-use crate::sys::memory::{copied, zeroed};
+use crate::sys::levels::{Levels, Progress};
+use crate::sys::memory::copied;
 use crate::sys::tables::Tables;
 use crate::sys::view::IndexView;
-use crate::sys::OK;
 use alloc::vec::Vec;
 use core::fmt;
 pub(crate) use queries::{fingerprint_width, hash_queries};
@@ -43,68 +43,6 @@ unsafe impl Send for PerfectHash {}
 // SAFETY: as of `Send`.
 unsafe impl Sync for PerfectHash {}
 
-/// Memory for the levels of some hashes, how many levels and words of it are used, and how many hashes have no number.
-pub(crate) struct Levels {
-    pub(crate) words: Vec<u64>,
-    pub(crate) again: Vec<u64>,
-    pub(crate) sizes: Vec<u64>,
-    pub(crate) levels: u64,
-    pub(crate) used: u64,
-    pub(crate) left: u64,
-}
-
-/// No hash has more levels.
-const LEVELS: usize = 256;
-
-impl Levels {
-    /// The words of all levels of n hashes have about n * g * e^(1/g) bits, with g = `percent` / 100, and there is at
-    /// least one word for each level.
-    pub(crate) fn with_room(keys: usize, percent: u32) -> Result<Self, NoMemory> {
-        let percent_of_all = (percent.max(50) as usize + 200).max(400);
-        let bits = (keys as u128 * percent_of_all as u128).div_ceil(90);
-        let words = zeroed((bits / 64) as usize + 2 * LEVELS)?;
-        // SAFETY: numbers are passed.
-        let again = zeroed(unsafe { bitm_hash_level_len(keys, percent) })?;
-        Ok(Levels { words, again, sizes: zeroed(LEVELS)?, levels: 0, used: 0, left: 0 })
-    }
-
-    /// What a call has written of the levels of the given number of hashes, by its status; else why it has not.
-    pub(crate) fn written(mut self, status: u32, keys: usize) -> Result<Self, BuildError> {
-        match status {
-            OK if self.left > 0 => Err(BuildError::EqualHashes { left: self.left as usize }),
-            OK => {
-                self.words.truncate(self.used as usize);
-                self.sizes.truncate(self.levels as usize);
-                Ok(self)
-            }
-            _ => Err(BuildError::TooLong { len: keys }),
-        }
-    }
-
-    /// Those of the hashes, which are put into another order.
-    fn of(hashes: &mut [u64], percent: u32) -> Result<Self, BuildError> {
-        let mut all = Levels::with_room(hashes.len(), percent)?;
-        // SAFETY: four mutable slices that do not overlap, and room for three numbers.
-        let status = unsafe {
-            bitm_hash_build(
-                hashes.as_mut_ptr(),
-                hashes.len(),
-                percent,
-                all.words.as_mut_ptr(),
-                all.words.len(),
-                all.again.as_mut_ptr(),
-                all.again.len(),
-                all.sizes.as_mut_ptr(),
-                all.sizes.len(),
-                &mut all.levels,
-                &mut all.used,
-                &mut all.left,
-            )
-        };
-        all.written(status, hashes.len())
-    }
-}
-
 /// The struct that each query takes: of memory that stays where it is.
 fn raw(words: &[u64], tables: &Tables, sizes: &[u64], keys: usize) -> bitm_hash {
     let view = IndexView::over(words, 64 * words.len(), &tables.upper, &tables.lower);
@@ -138,9 +76,35 @@ impl PerfectHash {
     /// # Ok::<(), bitm_proved::BuildError>(())
     /// ```
     pub fn build_with(mut hashes: Vec<u64>, percent: u32) -> Result<Self, BuildError> {
+        Self::of(&mut hashes, percent, None)
+    }
+
+    /// As `build_with`: `progress(done, total)` is called after each level, with how many keys have a number and how
+    /// many there are; at last with all. Where it panics, all memory is freed. The numbers are the same.
+    ///
+    /// # Errors
+    /// As of `build`.
+    ///
+    /// ```
+    /// use bitm_proved::PerfectHash;
+    /// let mut last = (0, 0);
+    /// let numbers = PerfectHash::build_with_progress(vec![5, 7, 9], 100, |done, total| last = (done, total))?;
+    /// assert_eq!((last, numbers.len()), ((3, 3), 3));
+    /// # Ok::<(), bitm_proved::BuildError>(())
+    /// ```
+    pub fn build_with_progress(
+        mut hashes: Vec<u64>,
+        percent: u32,
+        mut progress: impl FnMut(usize, usize),
+    ) -> Result<Self, BuildError> {
+        Self::of(&mut hashes, percent, Some(&mut progress))
+    }
+
+    /// Of these hashes, which are dropped then; where some are equal, they are left as `Levels::of` does.
+    pub(crate) fn of(hashes: &mut Vec<u64>, percent: u32, progress: Progress<'_>) -> Result<Self, BuildError> {
         let keys = hashes.len();
-        let Levels { words: room, sizes, .. } = Levels::of(&mut hashes, percent)?;
-        drop(hashes);
+        let Levels { words: room, sizes, .. } = Levels::of(hashes, percent, None, progress)?;
+        *hashes = Vec::new();
         let words = copied(&room)?;
         let tables = Tables::of(&words)?;
         let raw = raw(&words, &tables, &sizes, keys);
@@ -222,6 +186,6 @@ hash_queries! { PerfectHash;
 
 impl fmt::Debug for PerfectHash {
     fn fmt(&self, f: &mut fmt::Formatter<'_>) -> fmt::Result {
-        write!(f, "PerfectHash of {} keys", self.len())
+        f.debug_struct("PerfectHash").field("keys", &self.len()).finish()
     }
 }

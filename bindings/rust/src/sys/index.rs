@@ -113,7 +113,7 @@ impl<O: AsRef<[u64]>> Index<O> {
     /// format version 2. What the file holds is not tested: `check` does that.
     ///
     /// # Errors
-    /// `NotWhole` where these are no such words, or fewer than the file has; `OtherKind` where they are a sequence;
+    /// `NotWhole` where these are no such words, or fewer than the file has; `OtherKind` where they hold another structure;
     /// `NoMemory` where memory is refused.
     ///
     /// ```
@@ -246,6 +246,6 @@ impl<O> Index<O> {
 
 impl<O> fmt::Debug for Index<O> {
     fn fmt(&self, f: &mut fmt::Formatter<'_>) -> fmt::Result {
-        f.debug_tuple("Index").field(self.as_view()).finish()
+        self.as_view().show(f, "Index")
     }
 }

@@ -5,6 +5,8 @@ use crate::errors::{BuildError, ListError, StoredError, WrongTables};
 use crate::ffi::blocks::*;
 use crate::ffi::words::bitm_list_counts;
 use crate::sys::block::{views, Block, Parts};
+use crate::sys::faults::wider;
+use crate::sys::levels::Progress;
 use crate::sys::lists::{pairs, query_items, query_list};
 use crate::sys::memory::{as_u64, as_u64_mut, words_of, zeroed};
 use crate::sys::{OK, WRONG};
@@ -40,7 +42,7 @@ pub struct WaveletMatrixView<'a> {
     block: Block<'a, bitm_matrix>,
 }
 
-views! { WaveletMatrixView;
+views! { WaveletMatrixView of WaveletMatrix;
     |it: bitm_matrix| it.len, bitm_matrix_open, bitm_matrix_check;
     "this list", "bitm_proved::WaveletMatrix::build(&[3, 1, 4])?", "3", "numbers",
     "such a list: looks at all of it, twice"
@@ -294,14 +296,20 @@ impl<'a> WaveletMatrixView<'a> {
     }
 }
 
-impl fmt::Debug for WaveletMatrixView<'_> {
-    fn fmt(&self, f: &mut fmt::Formatter<'_>) -> fmt::Result {
-        write!(f, "{} numbers of {} bits", self.len(), self.width())
+impl WaveletMatrixView<'_> {
+    pub(crate) fn show(&self, f: &mut fmt::Formatter<'_>, name: &str) -> fmt::Result {
+        f.debug_struct(name).field("numbers", &self.len()).field("width", &self.width()).finish()
     }
 }
 
-/// The block of numbers of `width` bits at most, with quarters or without.
-pub(crate) fn build(numbers: &[u64], width: u32, quarters: bool) -> Result<Vec<u64>, BuildError> {
+/// The block of numbers of `width` bits at most, with quarters or without: by one call, or level by level with a call
+/// of `progress` after each.
+pub(crate) fn build(
+    numbers: &[u64],
+    width: u32,
+    quarters: bool,
+    progress: Progress<'_>,
+) -> Result<Vec<u64>, BuildError> {
     let (len, mut words) = (numbers.len(), 0);
     if !(1..=64).contains(&width) {
         return Err(BuildError::WrongWidth { width });
@@ -311,20 +319,55 @@ pub(crate) fn build(numbers: &[u64], width: u32, quarters: bool) -> Result<Vec<u
         return Err(BuildError::TooLong { len });
     }
     let (mut scratch, mut block) = (zeroed::<u64>(2 * len)?, zeroed::<u64>(words as usize)?);
-    // SAFETY: a shared and two mutable slices, which do not overlap.
-    let status = unsafe {
-        let (from, room, to) = (numbers.as_ptr(), scratch.as_mut_ptr(), block.as_mut_ptr());
-        bitm_matrix_build(from, len, width, quarters, room, scratch.len(), to, block.len())
+    let status = match progress {
+        Some(_) if wider(numbers, width).is_some() => WRONG,
+        Some(progress) => level_by_level(numbers, (width, quarters), &mut scratch, &mut block, progress),
+        // SAFETY: a shared and two mutable slices, which do not overlap.
+        None => unsafe {
+            let (from, room, to) = (numbers.as_ptr(), scratch.as_mut_ptr(), block.as_mut_ptr());
+            bitm_matrix_build(from, len, width, quarters, room, scratch.len(), to, block.len())
+        },
     };
     match status {
         OK => Ok(block),
-        WRONG => Err(BuildError::TooWide { index: too_wide(numbers, width) }),
+        WRONG => Err(too_wide(numbers, width)),
         _ => Err(BuildError::TooLong { len }),
     }
 }
 
-fn too_wide(numbers: &[u64], width: u32) -> usize {
-    numbers.iter().position(|it| width_of(*it) > width).unwrap_or(0)
+/// Why C refuses numbers of that width.
+fn too_wide(numbers: &[u64], width: u32) -> BuildError {
+    match wider(numbers, width) {
+        Some(index) => BuildError::TooWide { index, number: numbers[index], width },
+        None => BuildError::TooLong { len: numbers.len() },
+    }
+}
+
+/// Writes the block of numbers, of which none has more bits than the width, with a scratch of twice as many.
+fn level_by_level(
+    numbers: &[u64],
+    (width, quarters): (u32, bool),
+    scratch: &mut [u64],
+    block: &mut [u64],
+    progress: &mut dyn FnMut(usize, usize),
+) -> u32 {
+    let len = numbers.len();
+    let (sorted, room) = scratch.split_at_mut(len);
+    sorted.copy_from_slice(numbers);
+    let (from, room, to, words) = (sorted.as_mut_ptr(), room.as_mut_ptr(), block.as_mut_ptr(), block.len());
+    for depth in 0..width {
+        // SAFETY: three mutable slices, which do not overlap.
+        let mut status = unsafe { bitm_matrix_write_level(from, len, width, quarters, depth, room, len, to, words) };
+        if status == OK && depth + 1 == width {
+            // SAFETY: a mutable slice.
+            status = unsafe { bitm_matrix_seal(len, width, quarters, to, words) };
+        }
+        if status != OK {
+            return status;
+        }
+        progress(depth as usize + 1, width as usize);
+    }
+    OK
 }
 
 /// How many bits a number has.

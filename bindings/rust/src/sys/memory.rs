@@ -71,6 +71,21 @@ pub(crate) fn one<T>(item: T) -> Result<Vec<T>, NoMemory> {
     Ok(list)
 }
 
+/// The bytes of words one after another, and where each begins and the last one ends.
+pub(crate) fn one_after_another<W: AsRef<[u8]>>(words: &[W]) -> Result<(Vec<u8>, Vec<u64>), NoMemory> {
+    let mut starts = zeroed::<u64>(words.len() + 1)?;
+    let mut all = 0;
+    for (end, word) in starts[1..].iter_mut().zip(words) {
+        all += word.as_ref().len();
+        *end = all as u64;
+    }
+    let mut bytes = zeroed::<u8>(all)?;
+    for (word, span) in words.iter().zip(starts.windows(2)) {
+        bytes[span[0] as usize..span[1] as usize].copy_from_slice(word.as_ref());
+    }
+    Ok((bytes, starts))
+}
+
 /// The numbers as `u64`.
 #[inline(always)]
 pub(crate) fn as_u64(numbers: &[usize]) -> &[u64] {

@@ -7,7 +7,7 @@ use crate::sys::sequence::{build, SequenceView};
 use alloc::vec::Vec;
 use core::fmt;
 
-/// A monotone integer sequence (Elias-Fano) and the owner of its parts, in about 2 + log2(greatest / length) bits a
+/// A monotone integer sequence (Elias-Fano) and the owner of its parts, in about 2.6 + log2(greatest / length) bits a
 /// number.
 ///
 /// ```
@@ -44,7 +44,8 @@ impl EliasFano {
     /// use bitm_proved::{BuildError, EliasFano};
     /// let squares = EliasFano::build(&[0, 1, 4, 4, 9])?;
     /// assert_eq!((squares.get(3), squares.get(4), squares.get(5)), (Some(4), Some(9), None));
-    /// assert_eq!(EliasFano::build(&[3, 2]).err(), Some(BuildError::NotSorted { index: 1 }));
+    /// let why = EliasFano::build(&[3, 2]).err();
+    /// assert_eq!(why, Some(BuildError::NotSorted { index: 1, number: 2, before: 3 }));
     /// # Ok::<(), BuildError>(())
     /// ```
     pub fn build(items: &[u64]) -> Result<Self, BuildError> {

@@ -9,8 +9,8 @@ macro_rules! owners {
             /// `check` does that.
             ///
             /// # Errors
-            /// `NotWhole` where these are no such words, or fewer than the file has; `NoMemory` where memory is
-            /// refused.
+            /// `OtherKind` where the file holds another structure; `NotWhole` where these are no words of a file, or fewer
+            /// than it has; `NoMemory` where memory is refused.
             ///
             /// ```
             #[doc = concat!("use bitm_proved::", stringify!($kind), ";")]
@@ -115,7 +115,7 @@ macro_rules! owners {
 
         impl<O> fmt::Debug for $kind<O> {
             fn fmt(&self, f: &mut fmt::Formatter<'_>) -> fmt::Result {
-                self.view().fmt(f)
+                self.view().show(f, stringify!($kind))
             }
         }
     };

@@ -24,7 +24,7 @@ pub const OWN_ROLE: u64 = 65536;
 /// use bitm_proved::{sections, sections::Section, Tree};
 /// let tree = Tree::build(&[2, 0, 1, 0])?;
 /// let noted = sections::extended(tree.block(), 65536, 7, &[8])?;
-/// assert_eq!(sections::section(&noted, 3)?, Some(Section { role: 65536, count: 7, words: &[8] }));
+/// assert_eq!(sections::section(&noted, 4)?, Some(Section { role: 65536, count: 7, words: &[8] }));
 /// # Ok::<(), Box<dyn std::error::Error>>(())
 /// ```
 #[derive(Clone, Copy, PartialEq, Eq, Debug)]
@@ -53,7 +53,7 @@ pub struct Section<'a> {
     /// use bitm_proved::{bytes_of, sections, Tree};
     /// let tree = Tree::build(&[2, 0, 1, 0])?;
     /// let noted = sections::extended_by_bytes(tree.block(), 65536, b"4 nodes")?;
-    /// let note = sections::section(&noted, 3)?.unwrap();
+    /// let note = sections::section(&noted, 4)?.unwrap();
     /// assert_eq!(&bytes_of(note.words)[..note.count], b"4 nodes");
     /// # Ok::<(), Box<dyn std::error::Error>>(())
     /// ```
@@ -78,7 +78,7 @@ fn refused(status: u32) -> StoredError {
 /// use bitm_proved::{sections, StoredError, Tree};
 /// let tree = Tree::build(&[2, 0, 1, 0])?;
 /// let (block, len) = (tree.block(), tree.block().len());
-/// assert_eq!(sections::extended_size(block, 65536, 64), Ok(len + 8)); // the directory has room for a fourth
+/// assert_eq!(sections::extended_size(block, 65536, 64), Ok(len + 16)); // the directory takes eight words more too
 /// assert_eq!(sections::extended_size(block, 65536, 1 << 58), Err(StoredError::NoSection));
 /// assert_eq!(sections::extended_size(&block[1..], 65536, 7), Err(StoredError::NotWhole));
 /// # Ok::<(), bitm_proved::BuildError>(())
@@ -159,7 +159,7 @@ pub fn extended_by_bytes(block: &[u64], role: u64, bytes: &[u8]) -> Result<Vec<u
 /// ```
 /// use bitm_proved::{sections, StoredError, Tree};
 /// let tree = Tree::build(&[2, 0, 1, 0])?;
-/// assert!(sections::section(tree.block(), 2)?.is_some() && sections::section(tree.block(), 3)?.is_none());
+/// assert!(sections::section(tree.block(), 3)?.is_some() && sections::section(tree.block(), 4)?.is_none());
 /// assert_eq!(sections::section(&[7; 24], 0), Err(StoredError::NotWhole));
 /// # Ok::<(), Box<dyn std::error::Error>>(())
 /// ```

@@ -1,13 +1,11 @@
 //! Minimal perfect hashes with a seed for each word, each in one block of memory: views of borrowed blocks.
 pub(crate) mod owned;
 
-use crate::errors::{BuildError, ListError, StoredError, WrongTables};
+use crate::errors::{ListError, StoredError, WrongTables};
 use crate::ffi::hashes::*;
 use crate::sys::block::{views, Block, Parts};
-use crate::sys::hash::{hash_queries, Levels};
-use crate::sys::memory::{words_of, zeroed};
-use crate::sys::OK;
-use alloc::vec::Vec;
+use crate::sys::hash::hash_queries;
+use crate::sys::memory::words_of;
 use core::fmt;
 
 /// A hash with seeds in a borrowed block, whose header is right. Its other words may hold anything; `check` tests it.
@@ -44,7 +42,7 @@ unsafe extern "C" fn open(block: *const u64, len: usize, parts: *mut SeededParts
     }
 }
 
-views! { SeededHashView;
+views! { SeededHashView of SeededHash;
     |it: SeededParts| it.hash.hash.keys, open, bitm_hash_block_check_seeded;
     "this hash", "bitm_proved::SeededHash::build(vec![5, 7, 9])?", "3", "keys",
     "a hash with seeds: looks at all of it"
@@ -78,53 +76,8 @@ impl SeededHashView<'_> {
     }
 }
 
-impl fmt::Debug for SeededHashView<'_> {
-    fn fmt(&self, f: &mut fmt::Formatter<'_>) -> fmt::Result {
-        write!(f, "hash with seeds of {} keys", self.len())
-    }
-}
-
-/// The levels of the hashes, which are put into another order, and a seed for each of their words.
-fn levels(hashes: &mut [u64], percent: u32, tries: u16) -> Result<(Levels, Vec<u8>), BuildError> {
-    let mut all = Levels::with_room(hashes.len(), percent)?;
-    let (mut seeds, mut sorted) = (zeroed::<u8>(all.words.len())?, zeroed::<u64>(hashes.len())?);
-    // SAFETY: six mutable slices that do not overlap, and room for three numbers.
-    let status = unsafe {
-        bitm_hash_build_seeded(
-            hashes.as_mut_ptr(),
-            hashes.len(),
-            percent,
-            tries,
-            all.words.as_mut_ptr(),
-            all.words.len(),
-            seeds.as_mut_ptr(),
-            seeds.len(),
-            all.again.as_mut_ptr(),
-            all.again.len(),
-            sorted.as_mut_ptr(),
-            sorted.len(),
-            all.sizes.as_mut_ptr(),
-            all.sizes.len(),
-            &mut all.levels,
-            &mut all.used,
-            &mut all.left,
-        )
-    };
-    Ok((all.written(status, hashes.len())?, seeds))
-}
-
-/// The block of the hash with seeds of these hashes.
-fn build(mut hashes: Vec<u64>, percent: u32, tries: u16, seed: u64) -> Result<Vec<u64>, BuildError> {
-    let (Levels { words, sizes, .. }, seeds) = levels(&mut hashes, percent, tries)?;
-    let (len, levels, mut block_len) = (words.len(), sizes.len(), 0);
-    // SAFETY: numbers are passed, and room for one.
-    let sized = unsafe { bitm_hash_block_size_seeded(len, levels, &mut block_len) };
-    let mut block = zeroed::<u64>(if sized == OK { block_len as usize } else { 0 })?;
-    let (to, room) = (block.as_mut_ptr(), block.len());
-    let (w, s, of) = (words.as_ptr(), seeds.as_ptr(), sizes.as_ptr());
-    // SAFETY: shared slices, of as many seeds as there are words, and a mutable one, which overlaps none of them.
-    match unsafe { bitm_hash_block_build_seeded(w, len, s, len, of, levels, seed, to, room) } {
-        OK => Ok(block),
-        _ => Err(BuildError::TooLong { len: hashes.len() }),
+impl SeededHashView<'_> {
+    pub(crate) fn show(&self, f: &mut fmt::Formatter<'_>, name: &str) -> fmt::Result {
+        f.debug_struct(name).field("keys", &self.len()).finish()
     }
 }

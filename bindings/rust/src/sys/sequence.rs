@@ -3,6 +3,7 @@ use crate::errors::{BuildError, ListError, WrongTables};
 use crate::ffi::blocks::*;
 use crate::ffi::words::bitm_list_counts;
 use crate::sys::block::Block;
+use crate::sys::faults::unsorted;
 use crate::sys::lists::{query_items, query_list};
 use crate::sys::memory::{as_u64, as_u64_mut, zeroed};
 use crate::sys::{query, OK, UNSORTED};
@@ -80,8 +81,8 @@ impl<'a> SequenceView<'a> {
             upper_len: upper.len(),
             lower: lower.as_ptr(),
             lower_len: lower.len(),
-            samples: core::ptr::null(),
-            samples_len: 0,
+            hints: core::ptr::null(),
+            hints_len: 0,
         };
         let view = Self::of(raw);
         // There is no number at index `len`, so an error is one of the lengths.
@@ -306,9 +307,15 @@ impl<'a> SequenceView<'a> {
     }
 }
 
+impl SequenceView<'_> {
+    pub(crate) fn show(&self, f: &mut fmt::Formatter<'_>, name: &str) -> fmt::Result {
+        f.debug_struct(name).field("numbers", &self.len()).finish()
+    }
+}
+
 impl fmt::Debug for SequenceView<'_> {
     fn fmt(&self, f: &mut fmt::Formatter<'_>) -> fmt::Result {
-        write!(f, "{} numbers with {} low bits", self.len(), self.width())
+        self.show(f, "SequenceView")
     }
 }
 
@@ -324,11 +331,10 @@ pub(crate) fn build(items: &[u64]) -> Result<Vec<u64>, BuildError> {
     // SAFETY: a shared and a mutable slice, which do not overlap.
     match unsafe { bitm_sequence_block_build(items.as_ptr(), items.len(), block.as_mut_ptr(), block.len()) } {
         OK => Ok(block),
-        UNSORTED => Err(BuildError::NotSorted { index: unsorted(items) }),
+        UNSORTED => Err(unsorted(items, false).map_or(too_long, |index| {
+            let (number, before) = (items[index], items[index - 1]);
+            BuildError::NotSorted { index, number, before }
+        })),
         _ => Err(too_long),
     }
-}
-
-fn unsorted(items: &[u64]) -> usize {
-    items.windows(2).position(|it| it[1] < it[0]).map_or(0, |it| it + 1)
 }

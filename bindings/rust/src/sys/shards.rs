@@ -5,6 +5,7 @@ use crate::sys::memory::{with_room, zeroed};
 use crate::sys::view::IndexView;
 use crate::sys::{query, NONE, OK};
 use alloc::vec::Vec;
+use core::fmt;
 use core::marker::PhantomData;
 
 mod lists;
@@ -206,6 +207,18 @@ pub struct ShardedIndex<'a> {
 unsafe impl Send for ShardedIndex<'_> {}
 // SAFETY: as of `Send`.
 unsafe impl Sync for ShardedIndex<'_> {}
+
+impl fmt::Debug for ShardedIndex<'_> {
+    fn fmt(&self, f: &mut fmt::Formatter<'_>) -> fmt::Result {
+        let PrefixCounts { bits, ones } = &self.counts;
+        let (bits, ones) = (&bits[bits.len() - 1], &ones[ones.len() - 1]);
+        f.debug_struct("ShardedIndex")
+            .field("bits", bits)
+            .field("ones", ones)
+            .field("shards", &self.shards.len())
+            .finish()
+    }
+}
 
 impl<'a> ShardedIndex<'a> {
     /// Of these indexes, whose 1 bits are counted by their tables.

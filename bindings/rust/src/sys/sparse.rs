@@ -5,6 +5,7 @@ use crate::errors::{BuildError, ListError, StoredError, WrongTables};
 use crate::ffi::blocks::*;
 use crate::ffi::words::bitm_list_counts;
 use crate::sys::block::{views, Block, Parts};
+use crate::sys::faults::{not_below, unsorted};
 use crate::sys::lists::query_list;
 use crate::sys::memory::{as_u64, as_u64_mut, words_of, zeroed};
 use crate::sys::sequence::SequenceView;
@@ -32,7 +33,7 @@ pub struct SparseBitsView<'a> {
     block: Block<'a, bitm_sparse>,
 }
 
-views! { SparseBitsView;
+views! { SparseBitsView of SparseBits;
     |it: bitm_sparse| it.bits_len as usize, bitm_sparse_open, bitm_sparse_check;
     "these bits", "bitm_proved::SparseBits::build(&[3, 100], 5000)?", "5000", "bits",
     "sparse bits: looks at all of it"
@@ -262,30 +263,34 @@ impl<'a> SparseBitsView<'a> {
     }
 }
 
-impl fmt::Debug for SparseBitsView<'_> {
-    fn fmt(&self, f: &mut fmt::Formatter<'_>) -> fmt::Result {
-        write!(f, "{} bits, {} ones", self.len(), self.block.parts().positions.len)
+impl SparseBitsView<'_> {
+    pub(crate) fn show(&self, f: &mut fmt::Formatter<'_>, name: &str) -> fmt::Result {
+        f.debug_struct(name).field("bits", &self.len()).field("ones", &self.block.parts().positions.len).finish()
     }
 }
 
 /// The block of `len` bits, of which those at the positions are 1 bits.
 pub(crate) fn build(positions: &[u64], len: usize) -> Result<Vec<u64>, BuildError> {
     let (ones, mut words) = (positions.len(), 0);
+    let too_long = BuildError::TooLong { len: ones };
     // SAFETY: numbers are passed, and room for one.
     if unsafe { bitm_sparse_size(ones, positions.last().map_or(0, |it| *it), &mut words) } != OK {
-        return Err(BuildError::TooLong { len: ones });
+        return Err(too_long);
     }
     let mut block = zeroed::<u64>(words as usize)?;
     // SAFETY: a shared and a mutable slice, which do not overlap.
     let status = unsafe { bitm_sparse_build(positions.as_ptr(), ones, len as u64, block.as_mut_ptr(), block.len()) };
     match status {
         OK => Ok(block),
-        UNSORTED => Err(BuildError::NotRising { index: not_rising(positions) }),
-        WRONG => Err(BuildError::PastEnd { index: positions.partition_point(|it| *it < len as u64) }),
-        _ => Err(BuildError::TooLong { len: ones }),
+        UNSORTED => Err(unsorted(positions, true).map_or(too_long, |index| {
+            let (position, before) = (positions[index], positions[index - 1]);
+            BuildError::NotRising { index, position, before }
+        })),
+        WRONG => Err(not_below(positions, len as u64).map_or(too_long, |index| BuildError::PastEnd {
+            index,
+            position: positions[index],
+            len,
+        })),
+        _ => Err(too_long),
     }
-}
-
-fn not_rising(positions: &[u64]) -> usize {
-    positions.windows(2).position(|it| it[1] <= it[0]).map_or(0, |it| it + 1)
 }

@@ -4,6 +4,7 @@ use crate::errors::{BuildError, StoredError};
 use crate::ffi::blocks::*;
 use crate::ffi::words::*;
 use crate::sys::block::{is_block, Block, Parts};
+use crate::sys::kinds::Kind;
 use crate::sys::memory::{copied, halves, halves_mut, words_of, zeroed};
 use crate::sys::sections::{extended, section, Section};
 use crate::sys::sequence::{build, SequenceView};
@@ -16,6 +17,7 @@ use alloc::vec::Vec;
 unsafe impl Parts for bitm_index {
     const OPEN: unsafe extern "C" fn(*const u64, usize, *mut Self) -> u32 = bitm_index_block_open;
     const CHECK: unsafe extern "C" fn(*const u64, usize) -> u32 = bitm_index_block_check;
+    const KIND: Kind = Kind::Index;
 
     fn len(&self) -> usize {
         self.bits_len as usize
@@ -26,18 +28,11 @@ unsafe impl Parts for bitm_index {
 unsafe impl Parts for bitm_sequence {
     const OPEN: unsafe extern "C" fn(*const u64, usize, *mut Self) -> u32 = bitm_sequence_block_open;
     const CHECK: unsafe extern "C" fn(*const u64, usize) -> u32 = bitm_sequence_block_check;
+    const KIND: Kind = Kind::Sequence;
 
     fn len(&self) -> usize {
         self.len
     }
-}
-
-/// The block of a kind that begins the words of a file; `OtherKind` where one of the other kind does.
-fn open<'a, P: Parts, Other: Parts>(file: &'a [u64]) -> Result<Block<'a, P>, StoredError> {
-    Block::open(file).map_err(|why| match Block::<Other>::open(file) {
-        Ok(_) => StoredError::OtherKind,
-        Err(_) => why,
-    })
 }
 
 /// How many sections the block of an index has of its own: words, and both tables.
@@ -92,7 +87,8 @@ impl<'a> IndexView<'a> {
     /// its sections hold is not tested: `check` does that.
     ///
     /// # Errors
-    /// `NotWhole` where these are no such words, or fewer than the file has; `OtherKind` where they are a sequence.
+    /// `NotWhole` where these are no such words, or fewer than the file has; `OtherKind` where they hold another
+    /// structure.
     ///
     /// ```
     /// use bitm_proved::{ArrayWithRank101111, IndexView, Queries, Select, StoredError};
@@ -108,7 +104,7 @@ impl<'a> IndexView<'a> {
         if !is_block(file) {
             return version2::index_of(file);
         }
-        let block = open::<bitm_index, bitm_sequence>(file)?;
+        let block = Block::<bitm_index>::open(file)?;
         // The call that opens a block names no samples, by pointers that are not null.
         let parts = bitm_index { ones: NO_SAMPLES, zeros: NO_SAMPLES, ..*block.parts() };
         let mut view = IndexView::of(parts);
@@ -186,7 +182,8 @@ impl<'a> SequenceView<'a> {
     /// `check` does that.
     ///
     /// # Errors
-    /// `NotWhole` where these are no such words, or fewer than the file has; `OtherKind` where they are an index.
+    /// `NotWhole` where these are no such words, or fewer than the file has; `OtherKind` where they hold another
+    /// structure.
     ///
     /// ```
     /// use bitm_proved::{EliasFano, SequenceView};
@@ -199,7 +196,7 @@ impl<'a> SequenceView<'a> {
         if !is_block(file) {
             return version2::sequence_of(file);
         }
-        let block = open::<bitm_sequence, bitm_index>(file)?;
+        let block = Block::<bitm_sequence>::open(file)?;
         Ok(SequenceView::of(*block.parts()).in_block(block.words()))
     }
 

@@ -1,11 +1,13 @@
 //! Strings of bytes with a number each, in one block of memory: views of borrowed blocks.
 pub(crate) mod owned;
 
-use crate::errors::{BuildError, StoredError, WrongTables};
+use crate::errors::{BuildError, EqualPair, StoredError, WrongTables};
 use crate::ffi::hashes::*;
 use crate::sys::block::{views, Block, Parts};
 use crate::sys::hash::PerfectHash;
-use crate::sys::memory::{words_of, zeroed};
+use crate::sys::key_hash::{siphash, STRING};
+use crate::sys::levels::named;
+use crate::sys::memory::{one_after_another, words_of, zeroed};
 use crate::sys::{NONE, OK};
 use alloc::vec::Vec;
 use core::{fmt, slice};
@@ -26,7 +28,7 @@ pub struct StringsView<'a> {
     block: Block<'a, bitm_strings>,
 }
 
-views! { StringsView;
+views! { StringsView of Strings;
     |it: bitm_strings| it.hash.keys, bitm_strings_open, bitm_strings_check;
     "these strings", "bitm_proved::Strings::build(&[\"ada\", \"bob\", \"eve\"])?", "3", "strings",
     "strings: looks at all of it"
@@ -96,36 +98,33 @@ impl<'a> StringsView<'a> {
     }
 }
 
-impl fmt::Debug for StringsView<'_> {
-    fn fmt(&self, f: &mut fmt::Formatter<'_>) -> fmt::Result {
-        write!(f, "{} strings", self.len())
+impl StringsView<'_> {
+    pub(crate) fn show(&self, f: &mut fmt::Formatter<'_>, name: &str) -> fmt::Result {
+        f.debug_struct(name).field("strings", &self.len()).finish()
     }
 }
 
 /// The block of strings, by a hash of their hashes by the seed.
 pub(crate) fn build<S: AsRef<[u8]>>(strings: &[S], percent: u32, seed: u64) -> Result<Vec<u64>, BuildError> {
-    let (mut ends, mut all) = (zeroed::<u64>(strings.len())?, 0);
-    for (end, string) in ends.iter_mut().zip(strings) {
-        all += string.as_ref().len();
-        *end = all as u64;
-    }
-    let (mut bytes, mut hashes) = (zeroed::<u8>(all)?, zeroed::<u64>(strings.len())?);
-    let mut begin = 0;
-    for string in strings.iter().map(AsRef::as_ref) {
-        bytes[begin..begin + string.len()].copy_from_slice(string);
-        begin += string.len();
-    }
-    let (len, room) = (strings.len(), hashes.len());
+    let ((bytes, starts), mut hashes) = (one_after_another(strings)?, zeroed::<u64>(strings.len())?);
+    let (at, all, ends, len) = (bytes.as_ptr(), bytes.len(), starts[1..].as_ptr(), strings.len());
     // SAFETY: shared slices, and a mutable one.
-    unsafe { bitm_strings_hashes(bytes.as_ptr(), all, ends.as_ptr(), len, seed, hashes.as_mut_ptr(), room) };
-    let hash = PerfectHash::build_with(hashes, percent)?;
+    unsafe { bitm_strings_hashes(at, all, ends, len, seed, hashes.as_mut_ptr(), len) };
+    let hash = PerfectHash::of(&mut hashes, percent, None).map_err(|why| {
+        let string = |number: usize| &bytes[starts[number] as usize..starts[number + 1] as usize];
+        let again = (0..len).map(|number| siphash(string(number), seed, STRING).0);
+        named(why, &hashes, again, |first, second| match string(first) == string(second) {
+            true => EqualPair::Strings { first, second },
+            false => EqualPair::OneHash { first, second },
+        })
+    })?;
     let (raw, mut words) = (*hash.raw(), 0);
     // SAFETY: numbers are passed, and room for one.
     let sized = unsafe { bitm_strings_size(raw.index.words_len, raw.sizes_len, len, all, &mut words) };
     let mut block = zeroed::<u64>(if sized == OK { words as usize } else { 0 })?;
     let (to, room) = (block.as_mut_ptr(), block.len());
     // SAFETY: parts that stay where they are, shared slices, and a mutable one, which overlaps none of them.
-    match unsafe { bitm_strings_build(&raw, seed, bytes.as_ptr(), all, ends.as_ptr(), len, to, room) } {
+    match unsafe { bitm_strings_build(&raw, seed, at, all, ends, len, to, room) } {
         OK => Ok(block),
         _ => Err(BuildError::TooLong { len }),
     }

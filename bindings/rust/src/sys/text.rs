@@ -4,6 +4,8 @@ pub(crate) mod owned;
 use crate::errors::{BuildError, StoredError, WrongTables};
 use crate::ffi::blocks::*;
 use crate::sys::block::{views, Block, Parts};
+use crate::sys::faults::not_below;
+use crate::sys::levels::Progress;
 use crate::sys::memory::{as_u64_mut, words_of, zeroed};
 use crate::sys::{NONE, OK, WRONG};
 use alloc::vec::Vec;
@@ -30,7 +32,7 @@ pub struct TextIndexView<'a> {
     block: Block<'a, bitm_text>,
 }
 
-views! { TextIndexView;
+views! { TextIndexView of TextIndex;
     |it: bitm_text| it.letters.len, bitm_text_open, bitm_text_check;
     "this index", "bitm_proved::TextIndex::build(b\"banana\", 32)?", "6", "letters of the text",
     "the index of a text: looks at all of it, and walks through it"
@@ -156,27 +158,31 @@ impl<'a> TextIndexView<'a> {
     }
 }
 
-impl fmt::Debug for TextIndexView<'_> {
-    fn fmt(&self, f: &mut fmt::Formatter<'_>) -> fmt::Result {
-        write!(f, "{} letters", self.len())
+impl TextIndexView<'_> {
+    pub(crate) fn show(&self, f: &mut fmt::Formatter<'_>, name: &str) -> fmt::Result {
+        f.debug_struct(name).field("letters", &self.len()).field("width", &self.block.parts().letters.width).finish()
     }
 }
 
-/// The block of the index of bytes.
-pub(crate) fn build(text: &[u8], step: u32) -> Result<Vec<u64>, BuildError> {
+/// The block of the index of bytes: by one call, or by two with a call of `progress` after each.
+pub(crate) fn build(text: &[u8], step: u32, progress: Progress<'_>) -> Result<Vec<u64>, BuildError> {
     let (from, len, mut words, mut room) = (text.as_ptr(), text.len(), 0, 0);
-    if step == 0 {
-        return Err(BuildError::WrongStep);
-    }
     // SAFETY: a slice, and room for two numbers.
     if unsafe { bitm_text_size_bytes(from, len, step, &mut words, &mut room) } != OK {
-        return Err(BuildError::TooLong { len });
+        return Err(if step == 0 { BuildError::WrongStep } else { BuildError::TooLong { len } });
     }
     let (mut scratch, mut block) = (zeroed::<u32>(room as usize)?, zeroed::<u64>(words as usize)?);
-    // SAFETY: a shared and two mutable slices, which do not overlap.
-    let status = unsafe {
-        let (order, to) = (scratch.as_mut_ptr(), block.as_mut_ptr());
-        bitm_text_build_bytes(from, len, step, order, scratch.len(), to, block.len())
+    let (order, room, to, words) = (scratch.as_mut_ptr(), scratch.len(), block.as_mut_ptr(), block.len());
+    let status = match progress {
+        // SAFETY: a shared and two mutable slices, which do not overlap.
+        None => unsafe { bitm_text_build_bytes(from, len, step, order, room, to, words) },
+        Some(progress) => in_two_steps(
+            progress,
+            // SAFETY: as above, of one mutable slice.
+            || unsafe { bitm_text_order_bytes(from, len, order, room) },
+            // SAFETY: as above.
+            || unsafe { bitm_text_build_ordered_bytes(from, len, step, order, room, to, words) },
+        ),
     };
     match status {
         OK => Ok(block),
@@ -184,30 +190,60 @@ pub(crate) fn build(text: &[u8], step: u32) -> Result<Vec<u64>, BuildError> {
     }
 }
 
-/// The block of the index of numbers below `letters`.
-pub(crate) fn build_of_letters(text: &[u64], letters: u32, step: u32) -> Result<Vec<u64>, BuildError> {
-    let (from, len, mut words, mut room) = (text.as_ptr(), text.len(), 0, 0);
-    if step == 0 {
-        return Err(BuildError::WrongStep);
-    }
-    // SAFETY: numbers are passed, and room for two.
-    let status = unsafe { bitm_text_size_letters(len, letters, step, &mut words, &mut room) };
+/// The status of two calls of which the second needs the first, with a call of `progress` after each.
+fn in_two_steps(
+    progress: &mut dyn FnMut(usize, usize),
+    first: impl FnOnce() -> u32,
+    second: impl FnOnce() -> u32,
+) -> u32 {
+    let status = first();
     if status != OK {
-        return Err(BuildError::TooLong { len });
+        return status;
+    }
+    progress(1, 2);
+    let status = second();
+    if status == OK {
+        progress(2, 2);
+    }
+    status
+}
+
+/// The block of the index of numbers below `letters`, as `build`.
+pub(crate) fn build_of_letters(
+    text: &[u64],
+    letters: u32,
+    step: u32,
+    progress: Progress<'_>,
+) -> Result<Vec<u64>, BuildError> {
+    let (from, len, mut words, mut room) = (text.as_ptr(), text.len(), 0, 0);
+    // SAFETY: numbers are passed, and room for two.
+    if unsafe { bitm_text_size_letters(len, letters, step, &mut words, &mut room) } != OK {
+        return Err(if step == 0 { BuildError::WrongStep } else { BuildError::TooLong { len } });
     }
     let (mut scratch, mut block) = (zeroed::<u32>(room as usize)?, zeroed::<u64>(words as usize)?);
-    // SAFETY: a shared and two mutable slices, which do not overlap.
-    let status = unsafe {
-        let (order, to) = (scratch.as_mut_ptr(), block.as_mut_ptr());
-        bitm_text_build(from, len, letters, step, order, scratch.len(), to, block.len())
+    let (order, room, to, words) = (scratch.as_mut_ptr(), scratch.len(), block.as_mut_ptr(), block.len());
+    let status = match progress {
+        // SAFETY: a shared and two mutable slices, which do not overlap.
+        None => unsafe { bitm_text_build(from, len, letters, step, order, room, to, words) },
+        Some(progress) => in_two_steps(
+            progress,
+            // SAFETY: as above, of one mutable slice.
+            || unsafe { bitm_text_order(from, len, letters, order, room) },
+            // SAFETY: as above.
+            || unsafe { bitm_text_build_ordered(from, len, letters, step, order, room, to, words) },
+        ),
     };
     match status {
         OK => Ok(block),
-        WRONG => Err(BuildError::LetterOutside { index: outside(text, letters) }),
+        WRONG => Err(outside(text, letters)),
         _ => Err(BuildError::TooLong { len }),
     }
 }
 
-fn outside(text: &[u64], letters: u32) -> usize {
-    text.iter().position(|it| *it >= letters.into()).unwrap_or(0)
+/// Why C refuses letters of that alphabet.
+fn outside(text: &[u64], letters: u32) -> BuildError {
+    match not_below(text, letters.into()) {
+        Some(index) => BuildError::LetterOutside { index, letter: text[index], letters },
+        None => BuildError::TooLong { len: text.len() },
+    }
 }

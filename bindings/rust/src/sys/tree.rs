@@ -5,6 +5,7 @@ use crate::errors::{BuildError, ListError, StoredError, WrongTables};
 use crate::ffi::blocks::*;
 use crate::ffi::words::bitm_list_counts;
 use crate::sys::block::{views, Block, Parts};
+use crate::sys::faults::misfit;
 use crate::sys::lists::{pairs, query_list};
 use crate::sys::memory::{as_u64, as_u64_mut, words_of, zeroed};
 use crate::sys::{OK, WRONG};
@@ -33,7 +34,7 @@ pub struct TreeView<'a> {
     block: Block<'a, bitm_tree>,
 }
 
-views! { TreeView;
+views! { TreeView of Tree;
     |it: bitm_tree| it.len, bitm_tree_open, bitm_tree_check;
     "this tree", "bitm_proved::Tree::build(&[2, 0, 1, 0])?", "4", "nodes",
     "a tree: looks at all of it, three times"
@@ -202,9 +203,9 @@ impl<'a> TreeView<'a> {
     }
 }
 
-impl fmt::Debug for TreeView<'_> {
-    fn fmt(&self, f: &mut fmt::Formatter<'_>) -> fmt::Result {
-        write!(f, "a tree of {} nodes", self.len())
+impl TreeView<'_> {
+    pub(crate) fn show(&self, f: &mut fmt::Formatter<'_>, name: &str) -> fmt::Result {
+        f.debug_struct(name).field("nodes", &self.len()).finish()
     }
 }
 
@@ -220,7 +221,7 @@ pub(crate) fn build(degrees: &[u64]) -> Result<Vec<u64>, BuildError> {
     // SAFETY: a shared and a mutable slice, which do not overlap.
     match unsafe { bitm_tree_build(degrees.as_ptr(), degrees.len(), block.as_mut_ptr(), block.len()) } {
         OK => Ok(block),
-        WRONG => Err(BuildError::NotATree),
+        WRONG => Err(BuildError::NotATree { node: misfit(degrees) }),
         _ => Err(too_long),
     }
 }

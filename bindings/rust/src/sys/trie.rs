@@ -1,10 +1,11 @@
 //! Tries, each in one block of memory: views of borrowed blocks.
 pub(crate) mod owned;
 
-use crate::errors::{BuildError, StoredError, WrongTables};
+use crate::errors::{BuildError, StoredError, TrieFault, WrongTables};
 use crate::ffi::blocks::*;
 use crate::sys::block::{views, Block, Parts};
-use crate::sys::memory::{words_of, zeroed};
+use crate::sys::faults::{misfit, unsorted, unsorted_word, wider};
+use crate::sys::memory::{one_after_another, words_of, zeroed};
 use crate::sys::{NONE, OK};
 use alloc::vec::Vec;
 use core::fmt;
@@ -30,7 +31,7 @@ pub struct TrieView<'a> {
     block: Block<'a, bitm_trie>,
 }
 
-views! { TrieView;
+views! { TrieView of Trie;
     |it: bitm_trie| it.tree.len, bitm_trie_open, bitm_trie_check;
     "this trie", "bitm_proved::Trie::build(&[2, 0, 1, 0], &[97, 98, 101], 8, &[14])?", "4", "nodes",
     "a trie: looks at all of it, four times"
@@ -249,9 +250,9 @@ impl<'a> TrieView<'a> {
     }
 }
 
-impl fmt::Debug for TrieView<'_> {
-    fn fmt(&self, f: &mut fmt::Formatter<'_>) -> fmt::Result {
-        write!(f, "a trie of {} nodes", self.len())
+impl TrieView<'_> {
+    pub(crate) fn show(&self, f: &mut fmt::Formatter<'_>, name: &str) -> fmt::Result {
+        f.debug_struct(name).field("nodes", &self.len()).field("width", &self.block.parts().width).finish()
     }
 }
 
@@ -260,7 +261,7 @@ pub(crate) fn build(degrees: &[u64], labels: &[u64], width: u32, ends: &[u64]) -
     let mut words = 0;
     // SAFETY: numbers are passed, and room for one.
     if unsafe { bitm_trie_size(degrees.len(), width, !ends.is_empty(), &mut words) } != OK {
-        return Err(BuildError::NotATrie);
+        return Err(fault_of(degrees, labels, width, ends));
     }
     let mut block = zeroed(words as usize)?;
     let (from, of, at) =
@@ -269,8 +270,41 @@ pub(crate) fn build(degrees: &[u64], labels: &[u64], width: u32, ends: &[u64]) -
     // SAFETY: three shared slices and a mutable one, which overlaps none.
     match unsafe { bitm_trie_build(from.0, from.1, of.0, of.1, width, at.0, at.1, to, len) } {
         OK => Ok(block),
-        _ => Err(BuildError::NotATrie),
+        _ => Err(fault_of(degrees, labels, width, ends)),
     }
+}
+
+/// Why these are the parts of no trie: lengths first, as C looks at them.
+fn fault_of(degrees: &[u64], labels: &[u64], width: u32, ends: &[u64]) -> BuildError {
+    let (nodes, node) = (degrees.len(), misfit(degrees));
+    BuildError::NotATrie(if !(1..=63).contains(&width) {
+        TrieFault::Width { width }
+    } else if labels.len() != nodes.saturating_sub(1) {
+        TrieFault::Labels { labels: labels.len(), nodes }
+    } else if !ends.is_empty() && ends.len() != nodes.div_ceil(64) {
+        TrieFault::Ends { words: ends.len(), nodes }
+    } else if nodes == 0 || node.is_some() {
+        TrieFault::NoTree { node }
+    } else if let Some(index) = wider(labels, width) {
+        TrieFault::WideLabel { index, label: labels[index], width }
+    } else if let Some(index) = falling(degrees, labels) {
+        TrieFault::NotRising { index, label: labels[index], before: labels[index - 1] }
+    } else {
+        return BuildError::TooLong { len: nodes };
+    })
+}
+
+/// The first label that is not above the one before it, of the same parent; the degrees form a tree.
+fn falling(degrees: &[u64], labels: &[u64]) -> Option<usize> {
+    let mut begin = 0;
+    for degree in degrees.iter().map(|it| *it as usize) {
+        let own = labels.get(begin..)?.get(..degree)?;
+        if let Some(index) = unsorted(own, true) {
+            return Some(begin + index);
+        }
+        begin += degree;
+    }
+    None
 }
 
 /// The block of the trie of these words.
@@ -293,31 +327,13 @@ pub(crate) fn grown<W: AsRef<[u8]>>(words: &[W]) -> Result<Vec<u64>, BuildError>
     }
 }
 
-/// The bytes of words one after another, and where each begins and the last one ends.
-fn one_after_another<W: AsRef<[u8]>>(words: &[W]) -> Result<(Vec<u8>, Vec<u64>), BuildError> {
-    let mut starts = zeroed::<u64>(words.len() + 1)?;
-    let mut all = 0;
-    for (end, word) in starts[1..].iter_mut().zip(words) {
-        all += word.as_ref().len();
-        *end = all as u64;
-    }
-    let mut bytes = zeroed::<u8>(all)?;
-    for (word, span) in words.iter().zip(starts.windows(2)) {
-        bytes[span[0] as usize..span[1] as usize].copy_from_slice(word.as_ref());
-    }
-    Ok((bytes, starts))
-}
-
 /// How many nodes the trie of such words has.
 fn nodes_of(bytes: &[u8], starts: &[u64]) -> Result<usize, BuildError> {
     let mut nodes = 0;
     // SAFETY: shared slices, and room for a number.
     match unsafe { bitm_trie_nodes_of_words(bytes.as_ptr(), bytes.len(), starts.as_ptr(), starts.len(), &mut nodes) } {
         OK => Ok(nodes as usize),
-        _ => {
-            let word = |span: &[u64]| &bytes[span[0] as usize..span[1] as usize];
-            let falls = starts.windows(3).position(|it| word(&it[..2]) >= word(&it[1..]));
-            Err(BuildError::UnsortedWord { index: falls.map_or(0, |it| it + 1) })
-        }
+        _ => Err(unsorted_word(bytes, starts)
+            .map_or(BuildError::TooLong { len: bytes.len() }, |index| BuildError::UnsortedWord { index })),
     }
 }

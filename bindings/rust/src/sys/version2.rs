@@ -1,6 +1,7 @@
 //! Files of format version 2, which earlier releases wrote: an index or a sequence after a header. They are read alone.
 use crate::errors::StoredError;
 use crate::ffi::words::*;
+use crate::sys::kinds::Kind;
 use crate::sys::memory::halves;
 use crate::sys::sequence::SequenceView;
 use crate::sys::view::{IndexView, Samples};
@@ -28,14 +29,28 @@ fn empty() -> bitm_stored {
     }
 }
 
-fn header(file: &[u64], kind: u32) -> Result<bitm_stored, StoredError> {
+fn header(file: &[u64]) -> Option<bitm_stored> {
     let mut out = empty();
     // SAFETY: a slice, and room for a header.
-    match unsafe { bitm_stored_read(file.as_ptr(), file.len(), &mut out) } {
-        OK if out.kind == u64::from(kind) => Ok(out),
-        OK => Err(StoredError::OtherKind),
-        _ => Err(StoredError::NotWhole),
+    let status = unsafe { bitm_stored_read(file.as_ptr(), file.len(), &mut out) };
+    (status == OK).then_some(out)
+}
+
+fn held(header: &bitm_stored) -> Kind {
+    match header.kind == u64::from(BITM_STORED_INDEX) {
+        true => Kind::Index,
+        false => Kind::Sequence,
     }
+}
+
+/// What a file holds.
+pub(crate) fn kind_of(file: &[u64]) -> Option<Kind> {
+    header(file).as_ref().map(held)
+}
+
+/// The header of a file of a kind.
+fn header_of(file: &[u64], kind: Kind) -> Result<bitm_stored, StoredError> {
+    header(file).filter(|it| held(it) == kind).ok_or_else(|| kind.refused(file))
 }
 
 /// The numbers of a span.
@@ -55,7 +70,7 @@ fn samples(file: &[u64], log2: u64, starts: bitm_span, of: bitm_span) -> Result<
 
 /// The index of a file.
 pub(crate) fn index_of(file: &[u64]) -> Result<IndexView<'_>, StoredError> {
-    let of = header(file, BITM_STORED_INDEX)?;
+    let of = header_of(file, Kind::Index)?;
     let (words, upper, lower) = (part(file, of.words)?, part(file, of.upper)?, part(file, of.lower)?);
     let view = IndexView::new(words, of.len as usize, upper, lower);
     let mut view = view.map_err(|_| StoredError::NotWhole)?;
@@ -71,7 +86,7 @@ pub(crate) fn index_of(file: &[u64]) -> Result<IndexView<'_>, StoredError> {
 
 /// The sequence of a file.
 pub(crate) fn sequence_of(file: &[u64]) -> Result<SequenceView<'_>, StoredError> {
-    let of = header(file, BITM_STORED_SEQUENCE)?;
+    let of = header_of(file, Kind::Sequence)?;
     let (low, words) = (part(file, of.low)?, part(file, of.words)?);
     let parts = [low, words, part(file, of.upper)?, part(file, of.lower)?];
     SequenceView::new(of.len as usize, of.width, parts).map_err(|_| StoredError::NotWhole)

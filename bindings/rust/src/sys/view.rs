@@ -353,12 +353,20 @@ impl<'a> IndexView<'a> {
     }
 }
 
+impl IndexView<'_> {
+    pub(crate) fn show(&self, f: &mut fmt::Formatter<'_>, name: &str) -> fmt::Result {
+        let (mut f, ones) = (f.debug_struct(name), self.call(bitm_index_rank, true, self.len()));
+        f.field("bits", &self.len());
+        match ones {
+            Ok(ones) => f.field("ones", &ones.unwrap_or(0)),
+            Err(why) => f.field("ones", &why),
+        };
+        f.finish()
+    }
+}
+
 impl fmt::Debug for IndexView<'_> {
     fn fmt(&self, f: &mut fmt::Formatter<'_>) -> fmt::Result {
-        f.debug_struct("IndexView")
-            .field("bits", &self.len())
-            .field("samples", &self.samples(true).map(|it| it.log2))
-            .field("samples0", &self.samples(false).map(|it| it.log2))
-            .finish()
+        self.show(f, "IndexView")
     }
 }

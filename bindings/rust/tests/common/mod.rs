@@ -1,5 +1,6 @@
 //! Shared by the tests: random numbers, plain lists of bits, the messages of panics, spoilt blocks.
 #![allow(dead_code, unused_macros, unused_imports)]
+use bitm_proved::{Kind, StoredError};
 use std::panic::{catch_unwind, UnwindSafe};
 
 pub struct Random(pub u64);
@@ -30,6 +31,11 @@ impl Random {
             })
             .collect()
     }
+}
+
+/// The error for a right file of another kind.
+pub fn other_kind(held: Kind, wanted: Kind) -> Option<StoredError> {
+    Some(StoredError::OtherKind { held, wanted })
 }
 
 /// The first `len` bits, one by one.

@@ -33,9 +33,10 @@ impl Dictionary {
     /// `NoMemory` where memory is refused.
     ///
     /// ```
-    /// use bitm_proved::{BuildError, Dictionary};
+    /// use bitm_proved::{BuildError, Dictionary, EqualPair};
     /// assert_eq!(Dictionary::build(&[4, 9, 49])?.len(), 3);
-    /// assert_eq!(Dictionary::build(&[4, 9, 4]).err(), Some(BuildError::EqualHashes { left: 2 }));
+    /// let pair = EqualPair::Keys { first: 0, second: 2 };
+    /// assert_eq!(Dictionary::build(&[4, 9, 4]).err(), Some(BuildError::EqualHashes { left: 2, pair }));
     /// # Ok::<(), BuildError>(())
     /// ```
     pub fn build(keys: &[u64]) -> Result<Self, BuildError> {

@@ -51,11 +51,12 @@ impl WaveletMatrix {
     /// ```
     /// use bitm_proved::{BuildError, WaveletMatrix};
     /// assert_eq!(WaveletMatrix::build_with(&[3, 1, 4], 8)?.width(), 8);
-    /// assert_eq!(WaveletMatrix::build_with(&[3, 1, 4], 2).err(), Some(BuildError::TooWide { index: 2 }));
+    /// let why = WaveletMatrix::build_with(&[3, 1, 4], 2).err();
+    /// assert_eq!(why, Some(BuildError::TooWide { index: 2, number: 4, width: 2 }));
     /// # Ok::<(), BuildError>(())
     /// ```
     pub fn build_with(numbers: &[u64], width: u32) -> Result<Self, BuildError> {
-        Self::of_block(build(numbers, width, false)?, BuildError::TooLong { len: numbers.len() })
+        Self::of_block(build(numbers, width, false, None)?, BuildError::TooLong { len: numbers.len() })
     }
 
     /// Of numbers of at most `width` bits, with quarters: counts of 1 bits for every eight words. The block takes an
@@ -71,7 +72,30 @@ impl WaveletMatrix {
     /// # Ok::<(), bitm_proved::BuildError>(())
     /// ```
     pub fn build_with_quarters(numbers: &[u64], width: u32) -> Result<Self, BuildError> {
-        Self::of_block(build(numbers, width, true)?, BuildError::TooLong { len: numbers.len() })
+        Self::of_block(build(numbers, width, true, None)?, BuildError::TooLong { len: numbers.len() })
+    }
+
+    /// As `build_with`, or as `build_with_quarters`, level by level: `progress(done, total)` is called after each bit
+    /// of the numbers, at last with `width` of `width`. Where it panics, all memory is freed. The block is the same.
+    ///
+    /// # Errors
+    /// As of `build_with`.
+    ///
+    /// ```
+    /// use bitm_proved::WaveletMatrix;
+    /// let mut steps = vec![];
+    /// let made = WaveletMatrix::build_with_progress(&[3, 1, 4], 3, false, |done, total| steps.push((done, total)))?;
+    /// assert_eq!((steps, made.block()), (vec![(1, 3), (2, 3), (3, 3)], WaveletMatrix::build(&[3, 1, 4])?.block()));
+    /// # Ok::<(), bitm_proved::BuildError>(())
+    /// ```
+    pub fn build_with_progress(
+        numbers: &[u64],
+        width: u32,
+        quarters: bool,
+        mut progress: impl FnMut(usize, usize),
+    ) -> Result<Self, BuildError> {
+        let otherwise = BuildError::TooLong { len: numbers.len() };
+        Self::of_block(build(numbers, width, quarters, Some(&mut progress))?, otherwise)
     }
 }
 

@@ -1,9 +1,10 @@
 //! Hashes with seeds and the owner of their block.
 use crate::errors::{made, BuildError, StoredError};
 use crate::sys::held::Held;
+use crate::sys::levels::{Levels, Progress};
 use crate::sys::memory::copied;
 use crate::sys::owner::owners_of_blocks;
-use crate::sys::seeded::{build, SeededHashView};
+use crate::sys::seeded::SeededHashView;
 use alloc::vec::Vec;
 use core::fmt;
 
@@ -38,9 +39,10 @@ impl SeededHash {
     /// refused.
     ///
     /// ```
-    /// use bitm_proved::{BuildError, SeededHash};
+    /// use bitm_proved::{BuildError, EqualPair, SeededHash};
     /// assert_eq!(SeededHash::build(vec![5, 7, 9])?.len(), 3);
-    /// assert_eq!(SeededHash::build(vec![5, 7, 5]).err(), Some(BuildError::EqualHashes { left: 2 }));
+    /// let pair = EqualPair::Hashes { hash: 5 };
+    /// assert_eq!(SeededHash::build(vec![5, 7, 5]).err(), Some(BuildError::EqualHashes { left: 2, pair }));
     /// # Ok::<(), BuildError>(())
     /// ```
     pub fn build(hashes: Vec<u64>) -> Result<Self, BuildError> {
@@ -59,8 +61,41 @@ impl SeededHash {
     /// # Ok::<(), bitm_proved::BuildError>(())
     /// ```
     pub fn build_with(hashes: Vec<u64>, percent: u32, tries: u16, seed: u64) -> Result<Self, BuildError> {
+        Self::of(hashes, percent, tries, seed, None)
+    }
+
+    /// As `build_with`: `progress(done, total)` is called after each level, with how many keys have a number and how
+    /// many there are; at last with all. Where it panics, all memory is freed. The block is the same.
+    ///
+    /// # Errors
+    /// As of `build`.
+    ///
+    /// ```
+    /// use bitm_proved::SeededHash;
+    /// let mut last = (0, 0);
+    /// let numbers = SeededHash::build_with_progress(vec![5, 7], 100, 64, 0, |done, total| last = (done, total))?;
+    /// assert_eq!((last, numbers.len()), ((2, 2), 2));
+    /// # Ok::<(), bitm_proved::BuildError>(())
+    /// ```
+    pub fn build_with_progress(
+        hashes: Vec<u64>,
+        percent: u32,
+        tries: u16,
+        seed: u64,
+        mut progress: impl FnMut(usize, usize),
+    ) -> Result<Self, BuildError> {
+        Self::of(hashes, percent, tries, seed, Some(&mut progress))
+    }
+
+    fn of(
+        mut hashes: Vec<u64>,
+        percent: u32,
+        tries: u16,
+        seed: u64,
+        progress: Progress<'_>,
+    ) -> Result<Self, BuildError> {
         let otherwise = BuildError::TooLong { len: hashes.len() };
-        Self::of_block(build(hashes, percent, tries, seed)?, otherwise)
+        Self::of_block(Levels::of(&mut hashes, percent, Some(tries), progress)?.block(seed)?, otherwise)
     }
 }
 

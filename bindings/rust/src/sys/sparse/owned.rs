@@ -7,8 +7,8 @@ use crate::sys::sparse::{build, SparseBitsView};
 use alloc::vec::Vec;
 use core::fmt;
 
-/// Bits of which few are 1 bits, and the owner of their block: about 2 + log2(n / m) bits for each of m 1 bits among n
-/// bits.
+/// Bits of which few are 1 bits, and the owner of their block: about 2.6 + log2(n / m) bits for each of m 1 bits among
+/// n bits.
 ///
 /// The positions of the 1 bits are kept as a monotone sequence; the queries are those of an index. The block is the file
 /// of the bits, the same in each language.
@@ -36,8 +36,10 @@ impl SparseBits {
     /// ```
     /// use bitm_proved::{BuildError, SparseBits};
     /// assert_eq!(SparseBits::build(&[3, 100], 5000)?.len(), 5000);
-    /// assert_eq!(SparseBits::build(&[3, 3], 5000).err(), Some(BuildError::NotRising { index: 1 }));
-    /// assert_eq!(SparseBits::build(&[3, 100], 100).err(), Some(BuildError::PastEnd { index: 1 }));
+    /// let why = SparseBits::build(&[3, 3], 5000).err();
+    /// assert_eq!(why, Some(BuildError::NotRising { index: 1, position: 3, before: 3 }));
+    /// let why = SparseBits::build(&[3, 100], 100).err();
+    /// assert_eq!(why, Some(BuildError::PastEnd { index: 1, position: 100, len: 100 }));
     /// # Ok::<(), BuildError>(())
     /// ```
     pub fn build(positions: &[u64], len: usize) -> Result<Self, BuildError> {

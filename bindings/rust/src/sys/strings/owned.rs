@@ -33,9 +33,10 @@ impl Strings {
     /// `NoMemory` where memory is refused.
     ///
     /// ```
-    /// use bitm_proved::{BuildError, Strings};
+    /// use bitm_proved::{BuildError, EqualPair, Strings};
     /// assert_eq!(Strings::build(&["ada", "bob", ""])?.len(), 3);
-    /// assert_eq!(Strings::build(&["ada", "bob", "ada"]).err(), Some(BuildError::EqualHashes { left: 2 }));
+    /// let pair = EqualPair::Strings { first: 0, second: 2 };
+    /// assert_eq!(Strings::build(&["ada", "bob", "ada"]).err(), Some(BuildError::EqualHashes { left: 2, pair }));
     /// # Ok::<(), BuildError>(())
     /// ```
     pub fn build<S: AsRef<[u8]>>(strings: &[S]) -> Result<Self, BuildError> {

@@ -37,7 +37,7 @@ impl TextIndex {
     /// # Ok::<(), bitm_proved::BuildError>(())
     /// ```
     pub fn build(text: &[u8], step: u32) -> Result<Self, BuildError> {
-        Self::of_block(build(text, step)?, BuildError::TooLong { len: text.len() })
+        Self::of_block(build(text, step, None)?, BuildError::TooLong { len: text.len() })
     }
 
     /// Of numbers below `letters`, for each of which a word is kept.
@@ -52,7 +52,52 @@ impl TextIndex {
     /// # Ok::<(), bitm_proved::BuildError>(())
     /// ```
     pub fn build_of_letters(text: &[u64], letters: u32, step: u32) -> Result<Self, BuildError> {
-        Self::of_block(build_of_letters(text, letters, step)?, BuildError::TooLong { len: text.len() })
+        let otherwise = BuildError::TooLong { len: text.len() };
+        Self::of_block(build_of_letters(text, letters, step, None)?, otherwise)
+    }
+
+    /// As `build`, in two steps: `progress(done, total)` is called after each, at last with 2 of 2. Where it panics,
+    /// all memory is freed. The block is the same.
+    ///
+    /// # Errors
+    /// As of `build`.
+    ///
+    /// ```
+    /// use bitm_proved::TextIndex;
+    /// let mut steps = vec![];
+    /// let text = TextIndex::build_with_progress(b"banana", 32, |done, total| steps.push((done, total)))?;
+    /// assert_eq!((steps, text.view().count(b"ana")), (vec![(1, 2), (2, 2)], Ok(2)));
+    /// # Ok::<(), bitm_proved::BuildError>(())
+    /// ```
+    pub fn build_with_progress(
+        text: &[u8],
+        step: u32,
+        mut progress: impl FnMut(usize, usize),
+    ) -> Result<Self, BuildError> {
+        let otherwise = BuildError::TooLong { len: text.len() };
+        Self::of_block(build(text, step, Some(&mut progress))?, otherwise)
+    }
+
+    /// As `build_of_letters`, with calls of `progress` as of `build_with_progress`.
+    ///
+    /// # Errors
+    /// As of `build_of_letters`.
+    ///
+    /// ```
+    /// use bitm_proved::TextIndex;
+    /// let (text, mut last) = ([1, 0, 2, 0, 2, 0], (0, 0));
+    /// let text = TextIndex::build_of_letters_with_progress(&text, 3, 32, |done, total| last = (done, total))?;
+    /// assert_eq!((last, text.view().count_letters(&[0, 2])), ((2, 2), Ok(2)));
+    /// # Ok::<(), bitm_proved::BuildError>(())
+    /// ```
+    pub fn build_of_letters_with_progress(
+        text: &[u64],
+        letters: u32,
+        step: u32,
+        mut progress: impl FnMut(usize, usize),
+    ) -> Result<Self, BuildError> {
+        let otherwise = BuildError::TooLong { len: text.len() };
+        Self::of_block(build_of_letters(text, letters, step, Some(&mut progress))?, otherwise)
     }
 }
 

@@ -7,7 +7,7 @@ use crate::sys::tree::{build, TreeView};
 use alloc::vec::Vec;
 use core::fmt;
 
-/// A tree (LOUDS) and the owner of its block, in about 2.1 bits a node.
+/// A tree (LOUDS) and the owner of its block, in about 2.6 bits a node.
 ///
 /// Nodes are numbered level by level: the root is node 0, and the children of a node follow one another, after those of
 /// the node before it. The block is the file of the tree, the same in each language.
@@ -35,11 +35,12 @@ impl Tree {
     /// ```
     /// use bitm_proved::{BuildError, Tree};
     /// assert_eq!(Tree::build(&[2, 0, 1, 0])?.parent(3), Some(2));
-    /// assert_eq!(Tree::build(&[0, 1]).err(), Some(BuildError::NotATree)); // node 1 would be its own parent
+    /// let why = Tree::build(&[0, 1]).err(); // node 1 would be its own parent
+    /// assert_eq!(why, Some(BuildError::NotATree { node: Some(1) }));
     /// # Ok::<(), BuildError>(())
     /// ```
     pub fn build(degrees: &[u64]) -> Result<Self, BuildError> {
-        Self::of_block(build(degrees)?, BuildError::NotATree)
+        Self::of_block(build(degrees)?, BuildError::TooLong { len: degrees.len() })
     }
 }
 

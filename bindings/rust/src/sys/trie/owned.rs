@@ -59,13 +59,14 @@ impl Trie {
     /// number of ends is another. `NoMemory` where memory is refused.
     ///
     /// ```
-    /// use bitm_proved::{BuildError, Trie};
+    /// use bitm_proved::{BuildError, Trie, TrieFault};
     /// assert_eq!(Trie::build(&[2, 0, 1, 0], &[97, 98, 101], 8, &[14])?.find(b"be"), Some(3));
-    /// assert_eq!(Trie::build(&[2, 0, 1, 0], &[98, 97, 101], 8, &[]).err(), Some(BuildError::NotATrie)); // b before a
+    /// let fault = TrieFault::NotRising { index: 1, label: 97, before: 98 }; // b before a
+    /// assert_eq!(Trie::build(&[2, 0, 1, 0], &[98, 97, 101], 8, &[]).err(), Some(BuildError::NotATrie(fault)));
     /// # Ok::<(), BuildError>(())
     /// ```
     pub fn build(degrees: &[u64], labels: &[u64], width: u32, ends: &[u64]) -> Result<Self, BuildError> {
-        Self::of_block(build(degrees, labels, width, ends)?, BuildError::NotATrie)
+        Self::of_block(build(degrees, labels, width, ends)?, BuildError::TooLong { len: degrees.len() })
     }
 }
 
