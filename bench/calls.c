@@ -81,6 +81,18 @@ static void numbers(int log2, int rounds, size_t count)
         });
 }
 
+/* Rows of the block of an index: building it, which sums its words, comparing its checksums, and its check. */
+static void blocks(int log2, int rounds, const uint64_t *words, size_t len)
+{
+    uint64_t size;
+    if (bitm_index_block_size(64 * len, &size) != BITM_OK) abort();
+    uint64_t *block = some(size, 8);
+    ROW_OF(size, "build_block_a_word", "C", sum += bitm_index_block_build(words, len, 64 * len, block, size) == BITM_OK;);
+    ROW_OF(size, "checksums_a_word", "C", sum += bitm_block_check(block, size) == BITM_OK;);
+    ROW_OF(size, "check_block_a_word", "C", sum += bitm_index_block_check(block, size) == BITM_OK;);
+    free(block);
+}
+
 int main(int argc, char **argv)
 {
     if (argc != 3) return 2;
@@ -114,5 +126,6 @@ int main(int argc, char **argv)
     ROW("select0_list", "C", ALL(bitm_index_select_list, &plain, false));
     ROW("select0_list", "C sampled", ALL(bitm_index_select_list, &sampled, false));
     numbers(log2, rounds, (size_t)1 << (log2 - 2));
+    blocks(log2, rounds, words, len);
     return 0;
 }

@@ -8,7 +8,10 @@
                             program, and writes TO/compare.csv with the columns row, log2, percent of 1 bits, who (up is
                             the original, rt this library), value and unit
     sdsl [RUNS]             sdsl.csv: beside sdsl-lite (Debian: libsdsl-dev)
-    structures [RUNS]       structures.csv: matrices, sequences and trees beside those of sdsl-lite; 8 GB of memory
+    structures [RUNS]       structures.csv: matrices, sequences, sparse bits and trees beside those of sdsl-lite; 8 GB of memory
+    peers [RUNS]            peers.csv: tries, strings and dictionaries beside marisa-trie and std::unordered_map, merges beside
+                            std:: and CRoaring (Debian: libmarisa-dev, libroaring-dev, wamerican)
+    hashes [RUNS]           hashes.csv: perfect hashes beside those of cmph (Debian: libcmph-dev)
     texts [RUNS]            texts.csv: indexes of texts beside those of sdsl-lite; words from a list (Debian: wamerican)
     limits [RUNS]           limits.csv: beside one random word and a rank by hand, in the loop that is timed and as a call
                             with checks, in small pages and huge ones
@@ -42,10 +45,11 @@ CC = ("cc", "-std=c11", "-O2", "-march=x86-64-v2")
 CXX = ("c++", "-std=c++14", "-O3", "-DNDEBUG", "-march=x86-64-v2")
 OF_SDSL = ("-lsdsl", "-ldivsufsort", "-ldivsufsort64")
 ARCHIVE = TOP / "crates/bitm_c/out/libbitm_c.a"
-STRUCTURES = ("numbers8", "numbers16", "sequence", "tree")
+STRUCTURES = ("numbers8", "numbers16", "sequence", "sparse", "tree")
 SIZES_OF_ITEMS = {20: 15, 24: 5, 27: 3}  # the logarithm, and the rounds of a program
 TEXTS = ("words", "four")  # words of a list, and random ones of four letters
 WORDS = "/usr/share/dict/words"
+SIZES_OF_PEERS = {20: 15, 24: 5}
 SIZES_OF_TEXTS = {20: 15, 24: 5}
 BLOCKS = ("index", "sequence", "matrix", "tree")
 BITS_OF_BLOCK = 33
@@ -146,7 +150,7 @@ def add(found, *command):
 
 
 def structures(runs):
-    """Matrices, sequences and trees beside those of sdsl-lite."""
+    """Matrices, sequences, sparse bits and trees beside those of sdsl-lite."""
     made("make", "archive")
     made(*CXX, "-o", ROOM / "structures", BENCH / "structures.cpp", ARCHIVE, *OF_SDSL)
     found = {}
@@ -155,6 +159,30 @@ def structures(runs):
             for log2, rounds in SIZES_OF_ITEMS.items():
                 add(found, ROOM / "structures", what, log2, rounds)
     write("structures", found)
+
+
+def peers(runs):
+    """Beside what a program would take in their place."""
+    made("make", "archive")
+    made(*CXX, "-o", ROOM / "peers", BENCH / "peers.cpp", ARCHIVE, "-lmarisa", "-lroaring")
+    found = {}
+    for _ in range(runs):
+        add(found, ROOM / "peers", "words", WORDS, 15)
+        for what in ("keys", "lists"):
+            for log2, rounds in SIZES_OF_PEERS.items():
+                add(found, ROOM / "peers", what, log2, rounds)
+    write("peers", found)
+
+
+def hashes(runs):
+    """Perfect hashes beside those of cmph."""
+    made("make", "archive")
+    made(*CXX, "-o", ROOM / "cmph", BENCH / "cmph.cpp", ARCHIVE, "-lcmph")
+    found = {}
+    for _ in range(runs):
+        for log2, rounds in SIZES_OF_PEERS.items():
+            add(found, ROOM / "cmph", log2, rounds)
+    write("hashes", found)
 
 
 def text(kind, size):
@@ -226,13 +254,13 @@ def space(_):
 def main(arguments):
     what, rest = arguments[0] if arguments else "", arguments[1:]
     folder = [rest.pop(0)] if what == "original" and rest else []
-    known = folder or what in ("sdsl", "structures", "texts", "limits", "mapped", "javascript", "space")
+    known = folder or what in ("sdsl", "structures", "peers", "hashes", "texts", "limits", "mapped", "javascript", "space")
     if not known or len(rest) > 1 or not all(it.isdigit() for it in rest):
         print(__doc__)
         return 2
     ROOM.mkdir(exist_ok=True)
-    measure = {"original": original, "sdsl": sdsl, "structures": structures, "texts": texts, "limits": limits, "mapped": mapped,
-               "javascript": javascript, "space": space}
+    measure = {"original": original, "sdsl": sdsl, "structures": structures, "peers": peers, "hashes": hashes, "texts": texts, "limits": limits,
+               "mapped": mapped, "javascript": javascript, "space": space}
     measure[what](*folder, int(rest[0]) if rest else 3)
     said(BENCH / "page")
     return 0

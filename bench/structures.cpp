@@ -1,15 +1,15 @@
-// Times three structures of the C library beside those of sdsl-lite, over 2^LOG2 items: structures WHAT LOG2 ROUNDS.
+// Times four structures of the C library beside those of sdsl-lite, over 2^LOG2 items: structures WHAT LOG2 ROUNDS.
 //
 //     numbers8, numbers16  wavelet matrices of numbers of 8 and of 16 bits, beside wm_int, and wt_int up to 2^24
 //     sequence             rising numbers, beside sd_vector
-//     tree                 trees, beside louds_tree
+//     sparse               bits of which one in 500 is 1, beside sd_vector
+//     tree                 trees, beside the bits of louds_tree with select_support_mcl
 //
 // The forms of a call take turns, round by round, over the same queries: each answers all of them once untimed, and
 // then again by the thread's processor time. A row is the least of the rounds, as those of `tool_bench`, whose numbers,
 // trees and queries these are, but that the numbers of a sequence rise by 1 more, since a set has each number once. The
 // last column is the sum of the answers; the program fails where the forms differ in it. A `list` has 4096 queries. All
-// memory is in small pages. The C library selects without samples here, but in the rows `C with samples` of sequences, which
-// have one for each 2^13 bits of a kind; the rows of space say what each side keeps.
+// memory is in small pages. The rows of space say what each side keeps.
 #include "turns.hpp"
 
 #include <cstring>
@@ -221,38 +221,6 @@ void matrices(const Bench &bench, int width)
     });
 }
 
-// Samples of the high bits of a sequence, and the sequence with them.
-struct Sampled {
-    static constexpr uint32_t LOG2 = 13;
-    std::vector<uint32_t> samples[2];
-    Numbers starts[2];
-    bitm_samples both[2] = {};
-    bitm_sequence sequence;
-
-    explicit Sampled(const bitm_sequence &plain) : sequence(plain)
-    {
-        bitm_index high{};
-        high.words = plain.words, high.words_len = plain.words_len, high.bits_len = 64 * plain.words_len;
-        high.upper = plain.upper, high.upper_len = plain.upper_len;
-        high.lower = plain.lower, high.lower_len = plain.lower_len;
-        for (int zeros = 0; zeros < 2; zeros++) {
-            uint64_t used = 0;
-            samples[zeros].resize(bitm_index_samples_len(plain.words_len, LOG2));
-            starts[zeros].resize(plain.upper_len);
-            have(bitm_index_build_samples(&high, !zeros, LOG2, samples[zeros].data(), samples[zeros].size(),
-                                          starts[zeros].data(), starts[zeros].size(), &used),
-                 "bitm_index_build_samples");
-            both[zeros] = {samples[zeros].data(), used, starts[zeros].data(), starts[zeros].size(), LOG2, 0};
-        }
-        sequence.samples = both;
-        sequence.samples_len = 2;
-    }
-    size_t bytes() const
-    {
-        return 4 * (both[0].samples_len + both[1].samples_len) + 8 * (both[0].starts_len + both[1].starts_len);
-    }
-};
-
 // Rows of numbers that rise by 1 to 1000.
 void sequences(const Bench &bench)
 {
@@ -279,10 +247,8 @@ void sequences(const Bench &bench)
              return got + 1;
          }},
     });
-    const Sampled sampled(sequence);
     bench.space("space", "sdsl", sdsl::size_in_bytes(set));
     bench.space("space", "C", words * 8.0);
-    bench.space("space", "C with samples", words * 8.0 + sampled.bytes());
 
     const sdsl::select_support_sd<> select(&set);
     const sdsl::rank_support_sd<> rank(&set);
@@ -292,20 +258,10 @@ void sequences(const Bench &bench)
         {"get", "sdsl", [&] { return each(places, [&](uint64_t at) { return select(at + 1); }); }},
         {"get", "C",
          [&] { return each(places, [&](uint64_t at) { return bitm_sequence_get(&sequence, at, &got), got; }); }},
-        {"get", "C with samples",
-         [&] {
-             return each(places, [&](uint64_t at) { return bitm_sequence_get(&sampled.sequence, at, &got), got; });
-         }},
         {"get_list", "C",
          [&] {
              return lists([&](size_t from) {
                  return bitm_sequence_get_list(&sequence, &places[from], LIST, answers, LIST, &got), 0;
-             });
-         }},
-        {"get_list", "C with samples",
-         [&] {
-             return lists([&](size_t from) {
-                 return bitm_sequence_get_list(&sampled.sequence, &places[from], LIST, answers, LIST, &got), 0;
              });
          }},
     });
@@ -315,12 +271,6 @@ void sequences(const Bench &bench)
          [&] {
              return each(values, [&](uint64_t it) { return bitm_sequence_first_at_least(&sequence, it, &got), got; });
          }},
-        {"first_at_least", "C with samples",
-         [&] {
-             return each(values, [&](uint64_t it) {
-                 return bitm_sequence_first_at_least(&sampled.sequence, it, &got), got;
-             });
-         }},
         {"first_at_least_list", "C",
          [&] {
              return lists([&](size_t from) {
@@ -328,13 +278,55 @@ void sequences(const Bench &bench)
                  return counts.missing;
              });
          }},
-        {"first_at_least_list", "C with samples",
+    });
+}
+
+// Rows of bits of which one in 500 is 1: 2^LOG2 1 bits, at the numbers of `sequences`. Half of the bits that are read are 1.
+void sparse(const Bench &bench)
+{
+    const uint64_t count = bench.count();
+    Numbers positions(count);
+    uint64_t state = 88172645463325252, last = 0, words = 0, got = 0;
+    for (auto &it : positions) it = last += draw(&state) % 1000 + 1;
+
+    have(bitm_sparse_size(count, last, &words), "bitm_sparse_size");
+    Block block(words);
+    bitm_sparse bits{};
+    sdsl::sd_vector<> set;
+    bench.build({
+        {"build", "sdsl",
          [&] {
-             return lists([&](size_t from) {
-                 bitm_sequence_first_at_least_list(&sampled.sequence, &values[from], LIST, answers, LIST, &counts);
-                 return counts.missing;
-             });
+             set = sdsl::sd_vector<>(positions.begin(), positions.end());
+             return set.size();
          }},
+        {"build", "C",
+         [&] {
+             have(bitm_sparse_build(positions.data(), count, last + 1, block.words, words), "bitm_sparse_build");
+             have(bitm_sparse_open(block.words, words, &bits), "bitm_sparse_open");
+             return bits.bits_len;
+         }},
+    });
+    bench.space("space", "sdsl", sdsl::size_in_bytes(set));
+    bench.space("space", "C", words * 8.0);
+
+    const sdsl::select_support_sd<> select(&set);
+    const sdsl::rank_support_sd<> rank(&set);
+    const Numbers ranks = queries(count), values = queries(last);
+    Numbers read = values;
+    for (size_t i = 0; i < QUERIES; i += 2) read[i] = positions[ranks[i]];
+    bench.answer({
+        {"get", "sdsl", [&] { return each(read, [&](uint64_t at) { return set[at]; }); }},
+        {"get", "C", [&] { return each(read, [&](uint64_t at) { return bitm_sparse_get(&bits, at, &got), got; }); }},
+    });
+    bench.answer({
+        {"rank", "sdsl", [&] { return each(values, [&](uint64_t at) { return rank(at); }); }},
+        {"rank", "C",
+         [&] { return each(values, [&](uint64_t at) { return bitm_sparse_rank(&bits, true, at, &got), got; }); }},
+    });
+    bench.answer({
+        {"select", "sdsl", [&] { return each(ranks, [&](uint64_t it) { return select(it + 1); }); }},
+        {"select", "C",
+         [&] { return each(ranks, [&](uint64_t it) { return bitm_sparse_select(&bits, true, it, &got), got; }); }},
     });
 }
 
@@ -374,8 +366,22 @@ Numbers drawn_degrees(uint64_t count)
     return degrees;
 }
 
-// Rows of a tree. A node of sdsl-lite is its number and its position among the bits. In the rows `of_node` both are
-// known before the clock starts, and both are answered; in the others, as in C, a node is its number.
+// The bits of a tree, level by level: 10, and for each node a 1 bit for each child and a 0 bit.
+sdsl::bit_vector level_bits(const Numbers &degrees)
+{
+    sdsl::bit_vector bits(2 * degrees.size() + 1, 0);
+    uint64_t at = 2;
+    bits[0] = 1;
+    for (uint64_t degree : degrees) {
+        for (uint64_t k = 0; k < degree; k++) bits[at++] = 1;
+        at++;
+    }
+    return bits;
+}
+
+// Rows of a tree. A node of louds_tree is its number and its position among the bits. In the rows `of_node` both are known
+// before the clock starts, and both are answered. In the others, as in C, a node is its number, and sdsl-lite answers by
+// select_support_mcl over the bits, with one selection where that is enough.
 void trees(const Bench &bench)
 {
     const uint64_t count = bench.count();
@@ -395,21 +401,23 @@ void trees(const Bench &bench)
          }},
     });
     const Tree tree = made();
-    const sdsl::bit_vector::select_1_type ones(&tree.bv);
-    const sdsl::bit_vector::select_0_type zeros(&tree.bv);
-    bench.space("space", "sdsl", sdsl::size_in_bytes(tree.bv) + sdsl::size_in_bytes(ones) + sdsl::size_in_bytes(zeros));
+    const sdsl::bit_vector bits = level_bits(degrees);
+    const sdsl::select_support_mcl<1> ones(&bits);
+    const sdsl::select_support_mcl<0> zeros(&bits);
+    const sdsl::bit_vector::select_1_type of_node(&tree.bv);
+    bench.space("space", "sdsl", sdsl::size_in_bytes(bits) + sdsl::size_in_bytes(ones) + sdsl::size_in_bytes(zeros));
     bench.space("space", "C", words * 8.0);
 
     // A node of sdsl-lite is not copied right, so only its number and its position are kept.
     const Numbers nodes = queries(count), first(QUERIES, 0);
     Numbers at(QUERIES);
-    for (size_t i = 0; i < QUERIES; i++) at[i] = ones(nodes[i] + 1);
+    for (size_t i = 0; i < QUERIES; i++) at[i] = of_node(nodes[i] + 1);
     // The positions that were answered: a call whose position nobody reads would be cut short.
     uint64_t positions = 0;
     bitm_list_counts counts{};
-    auto numbered = [&](uint64_t node) { return Tree::node_type(node, ones(node + 1)); };
     bench.answer({
-        {"parent", "sdsl", [&] { return each(nodes, [&](uint64_t node) { return tree.parent(numbered(node)).nr; }); }},
+        {"parent", "sdsl",
+         [&] { return each(nodes, [&](uint64_t node) { return node ? ones(node + 1) - node - 1 : 0; }); }},
         {"parent_of_node", "sdsl",
          [&] {
              return each(nodes, at, [&](uint64_t node, uint64_t position) {
@@ -432,8 +440,8 @@ void trees(const Bench &bench)
         {"child", "sdsl",
          [&] {
              return each(nodes, [&](uint64_t node) -> uint64_t {
-                 const Tree::node_type it = numbered(node);
-                 return tree.is_leaf(it) ? 0 : tree.child(it, 1).nr;
+                 const uint64_t begin = zeros(node + 1) + 1;
+                 return bits[begin] ? begin - node - 1 : 0;
              });
          }},
         {"child_of_node", "sdsl",
@@ -459,7 +467,8 @@ void trees(const Bench &bench)
          }},
     });
     bench.answer({
-        {"degree", "sdsl", [&] { return each(nodes, [&](uint64_t node) { return tree.degree(numbered(node)); }); }},
+        {"degree", "sdsl",
+         [&] { return each(nodes, [&](uint64_t node) { return zeros(node + 2) - zeros(node + 1) - 1; }); }},
         {"degree_of_node", "sdsl",
          [&] {
              return each(nodes, at, [&](uint64_t node, uint64_t position) {
@@ -484,13 +493,15 @@ int main(int argc, char **argv)
     const bool three = argc == 4;
     const Bench bench({three ? argv[1] : "", three ? std::atoi(argv[2]) : 0, three ? std::atoi(argv[3]) : 0});
     const std::string &what = bench.what;
-    const bool known = what == "numbers8" || what == "numbers16" || what == "sequence" || what == "tree";
+    const bool known = what == "numbers8" || what == "numbers16" || what == "sequence" || what == "sparse" ||
+                       what == "tree";
     if (!known || bench.log2 < 10 || bench.log2 > 30 || bench.rounds < 1) {
-        std::fprintf(stderr, "structures numbers8|numbers16|sequence|tree LOG2 ROUNDS, LOG2 from 10 to 30\n");
+        std::fprintf(stderr, "structures numbers8|numbers16|sequence|sparse|tree LOG2 ROUNDS, LOG2 from 10 to 30\n");
         return 2;
     }
     if (what == "numbers8") matrices(bench, 8);
     if (what == "numbers16") matrices(bench, 16);
     if (what == "sequence") sequences(bench);
+    if (what == "sparse") sparse(bench);
     if (what == "tree") trees(bench);
 }

@@ -1,13 +1,9 @@
 """The site of documents and references, which docs/site/build makes of the packages of Debian 12, without network."""
-import importlib.util
-import json
 import os
 import pathlib
 import sys
 
-from pygments.lexer import RegexLexer, words
-from pygments.lexers.special import TextLexer
-from pygments.token import Comment, Keyword, Name, Number, Operator, String, Text
+from lexers import Commands, Output, Rattle
 
 OUT = pathlib.Path(os.environ["SITE"])  # where build puts the XML of Doxygen and the Python package
 sys.path.insert(0, str(OUT / "python"))
@@ -15,8 +11,7 @@ sys.path.insert(0, str(OUT / "python"))
 project = "Vokhuliza"
 version = release = os.environ["VERSION"]
 copyright = "the authors of Vokhuliza; Apache-2.0"
-optional = [it for it in ("sphinx_inline_tabs", "sphinx_copybutton") if importlib.util.find_spec(it)]
-extensions = ["myst_parser", "breathe", "sphinx.ext.autodoc", *optional]
+extensions = ["myst_parser", "breathe", "sphinx.ext.autodoc", "sphinx_inline_tabs", "sphinx_copybutton", "entries", "finding"]
 nitpicky = False
 highlight_language = "none"
 default_role = "py:obj"  # `name` in a docstring is code, and a link where there is such a name
@@ -38,6 +33,8 @@ html_theme = "furo"
 html_title = f"Vokhuliza {release}"
 html_static_path = ["static"]
 html_css_files = ["site.css"]
+html_js_files = ["language.js"]
+html_search_scorer = str(pathlib.Path(__file__).parent / "static/scorer.js")
 html_copy_source = False
 html_show_sphinx = False
 html_show_copyright = False
@@ -45,37 +42,10 @@ html_theme_options = {"navigation_with_keys": True}
 if address := os.environ.get("SOURCE_URL"):  # where the repository is, if it is anywhere
     html_theme_options["footer_icons"] = [{"name": "Source", "url": address, "html": "Source", "class": ""}]
 pygments_dark_style = "github-dark"
-copybutton_selector = ".tab-content div.highlight pre, article > section > section > div.highlight pre"
+copybutton_selector = ("article div.doctest pre, "  # without quotes, which would end the script's own
+                       "article div[class^=highlight-]:not(.highlight-output, .highlight-none, .highlight-antt, table.contract *) pre")
 copybutton_prompt_text = r">>> |\.\.\. |\$ "
 copybutton_prompt_is_regexp = True
-
-
-class Rattle(RegexLexer):
-    """Rattle, and the language of its definitions."""
-
-    name, aliases = "Rattle", ["rattle", "antt"]
-    tokens = {
-        "root": [
-            (r"(//[/!]?|--) .*?$|//$", Comment.Single),
-            (r'"(?:\\.|[^"\\])*"', String),
-            (words(("requires", "ensures", "ghost", "invariant", "record", "abbrev", "unfoldable", "where", "then", "λ"),
-                   suffix=r"\b"), Keyword.Declaration),
-            (words(("as const else enum fn for if impl in let match mod mut pub return self Self struct trait type use "
-                    "while loop break continue").split(), prefix=r"\b", suffix=r"\b"), Keyword),
-            (r"\b(?:[ui](?:8|16|32|64|size)|bool|str)\b", Keyword.Type),
-            (r"\b[A-Z]\w*", Name.Class),
-            (r"\b\d[\d_]*(?:[ui]\w+)?\b|\b0x[0-9a-f_]+", Number),
-            (r"'[a-z_]\w*\b", Name.Label),
-            (r"[≡≤<>↔→×∷¬+*/^=&|-]+", Operator),
-            (r"\w+|\s+|.", Text),
-        ]
-    }
-
-
-class Output(TextLexer):
-    """What a guide's programs print: test_blocks compares it."""
-
-    name, aliases = "Output", ["output"]
 
 
 def mend_furo(app, failed):
@@ -94,19 +64,8 @@ def mend_furo(app, failed):
         sheet.write_text(text.replace(lost, plain.read_text()) + "@media not print { @media (prefers-color-scheme: dark) {" + by_system + "} }\n")
 
 
-def sort_titles(app, failed):
-    """The index of the search has the titles in the order in which Sphinx's processes ended, so that two runs would differ."""
-    file, begin = pathlib.Path(app.outdir) / "searchindex.js", "Search.setIndex("
-    if failed or app.builder.format != "html":
-        return
-    index = json.loads(file.read_text().removeprefix(begin).removesuffix(")"))
-    index["alltitles"] = {title: sorted(places, key=str) for title, places in sorted(index["alltitles"].items())}
-    file.write_text(f"{begin}{json.dumps(index)})")
-
-
 def setup(app):
     app.connect("build-finished", mend_furo)
-    app.connect("build-finished", sort_titles)
-    for lexer in (Rattle, Output):
+    for lexer in (Rattle, Output, Commands):
         for alias in lexer.aliases:
             app.add_lexer(alias, lexer)

@@ -30,5 +30,6 @@ def definitions_page(known):
         text += f"\n## {crate}\n"
         for name, (of, file, comment, made) in known.items():
             if of == crate:
-                text += f"\n({anchor(name)})=\n### {name}\n\n{comment or '*no comment*'} (`{file}`)\n\n```antt\n{made}\n```\n"
+                source = f'<a href="../../source/crates/{of}/specs/{file}.html">{file}</a>'
+                text += f"\n({anchor(name)})=\n### {name}\n\n{comment or '*no comment*'} ({source})\n\n```antt\n{made}\n```\n"
     return text

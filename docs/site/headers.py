@@ -77,6 +77,11 @@ def cpp_header(text):
         yield line
 
 
+def filtered(path):
+    """What Doxygen is given of a header."""
+    text = path.read_text(encoding="utf-8")
+    return "\n\n".join(c_header(text)) if path.suffix == ".h" else "\n".join(cpp_header(text))
+
+
 if __name__ == "__main__":
-    source = pathlib.Path(sys.argv[1]).read_text(encoding="utf-8")
-    print("\n\n".join(c_header(source)) if sys.argv[1].endswith(".h") else "\n".join(cpp_header(source)))
+    print(filtered(pathlib.Path(sys.argv[1])))

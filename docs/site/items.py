@@ -3,7 +3,8 @@
 
 C: each call, struct, field, constant and status of include/bitm.h; each call is called in code of the page. C++: each class and
 member in namespace bitm, by what Doxygen found; each method is called in code of a page. Python: each name that bitm
-exports, and each public member of its classes; their docstrings have examples. Rattle, and the guides: each page has code.
+exports, and each public member of its classes; their docstrings have examples. JavaScript: each declaration. Rust: each item
+that rustdoc lists, if it ran. Rattle, and the guides: each page has code.
 """
 import html
 import inspect
@@ -11,6 +12,8 @@ import pathlib
 import re
 import sys
 import xml.etree.ElementTree as xml
+
+import declarations
 
 SITE = pathlib.Path(sys.argv[1]).resolve()
 HEADER = pathlib.Path(__file__).resolve().parents[2] / "include/bitm.h"
@@ -80,13 +83,33 @@ def python():
             see(">>>" in (inspect.getdoc(what) or ""), f"Python: {name}: {getattr(what, '__name__', what)} has no example")
 
 
+def javascript():
+    ids, _ = page("reference/javascript.html")
+    for path in sorted(declarations.TYPES.glob("*.d.ts")):
+        see(path.name[:-5] in declarations.FILES, f"JavaScript: {path.name} is on no page")
+        holder = ""
+        for it in declarations.parsed(path):
+            names = {declarations.name(text) for text in it.signatures}
+            holder = names.copy().pop() if it.kind == "class" else holder
+            for name in names:
+                see((f"{holder}.{name}".replace("[", "-").strip("]") if it.indent else name) in ids, f"JavaScript: {holder} {name} is on no page")
+
+
+def rust():
+    listed = SITE / "html/rustdoc/bitm_proved/all.html"
+    here = (SITE / "html/reference/rust.html").read_text(encoding="utf-8")
+    for link in re.findall(r'<li><a href="(\w[^"]+)"', listed.read_text(encoding="utf-8") if listed.exists() else ""):
+        module = link.split("/")[0]
+        see(f'bitm_proved/{link}"' in here or "/" in link and f'bitm_proved/{module}/index.html"' in here, f"Rust: {link} is on no page")
+
+
 def pages():
     """Each page has an example, but for that of a crate in which nothing runs."""
     for path in sorted([*(SITE / "html/reference").rglob("*.html"), *(SITE / "html/docs/guides").glob("[!R]*.html")]):
         see("<pre" in path.read_text(encoding="utf-8") or path.stem == "number_lists", f"{path.relative_to(SITE / 'html')} has no example")
 
 
-for part in (c, cpp, python, pages):
+for part in (c, cpp, python, javascript, rust, pages):
     part()
 print(*lacks, sep="\n", end="\n" if lacks else "")
 print(f"{looked} looks at public items, {len(lacks)} of which found no page, text or example")

@@ -1,8 +1,9 @@
 #!/usr/bin/env python3
 """look.py HTML [--shots FOLDER [PAGE..]]: opens each page of the site in headless Chromium, 1280 and 390 pixels wide.
 
-A page fails if it is empty, if it is wider than the window, if a block of code or a signature is cut off where nothing
-scrolls, or if the search finds nothing for `select`. With --shots, pictures of the pages (light, dark) go to FOLDER.
+A page fails if it is empty, if a block of code has no button to copy it, if it is wider than the window, if a block of
+code or a signature is cut off where nothing scrolls, or if the search does not find on its first screen what SOUGHT says.
+With --shots, pictures of the pages (light, dark) go to FOLDER.
 """
 import base64
 import json
@@ -14,6 +15,11 @@ import sys
 import time
 
 WIDTHS = (1280, 390)
+SCREEN = 14  # results of the search that are seen without scrolling
+# What people look for, and parts of links that have to be among the first results.
+SOUGHT = {"autocomplete": ["docs/guides/trie"], "bitm_index_rank": ["c.bitm_index_rank", "docs/guides/"],
+          "rank": ["docs/guides/rank-and-select", "Index.rank", "c.bitm_index_rank"], "select": ["docs/guides/rank-and-select"],
+          "mmap": ["docs/guides/store-and-map"], "grep": ["docs/guides/text-index"]}
 LOOK = """(() => {
   const width = WIDTH, cut = [];
   for (const it of document.querySelectorAll('article *')) {
@@ -24,7 +30,9 @@ LOOK = """(() => {
     if (!scrolls) cut.push(it.tagName + '.' + it.className + ' ' + it.textContent.slice(0, 60));
   }
   let scroll = 0; for (const it of document.querySelectorAll('article pre, article .table-wrapper')) scroll += it.scrollWidth > it.clientWidth + 1;
-  return {wide: document.documentElement.scrollWidth - width, text: document.body.innerText.length, cut: cut.slice(0, 3), cuts: cut.length, scroll};
+  const code = [...document.querySelectorAll('article :is(.highlight-c, .highlight-cpp, .highlight-python, .doctest) pre')];
+  const bare = code.filter(it => !it.nextElementSibling?.matches('.copybtn')).length;
+  return {bare, wide: document.documentElement.scrollWidth - width, text: document.body.innerText.length, cut: cut.slice(0, 3), cuts: cut.length, scroll};
 })()"""
 
 
@@ -72,7 +80,7 @@ class Chromium:
         self("Emulation.setDeviceMetricsOverride", width=width, height=height, deviceScaleFactor=1, mobile=width < 800)
         self("Emulation.setEmulatedMedia", features=[{"name": "prefers-color-scheme", "value": scheme}])
         self("Page.navigate", url=url)
-        for _ in range(500):
+        for _ in range(3000):
             time.sleep(0.01)
             if self.value("document.readyState + ' ' + location.href") == "complete " + url:
                 return
@@ -105,20 +113,30 @@ def take_pictures(browser, top, folder, names):
 
 def look(browser, top):
     """How many looks failed, and how many there were."""
-    pages, failed = sorted(it for it in top.rglob("*.html") if "rustdoc" not in it.relative_to(top).parts), 0
+    pages, failed = sorted(it for it in top.rglob("*.html") if {"rustdoc", "source"}.isdisjoint(it.relative_to(top).parts)), 0
     for width in WIDTHS:
         for page in pages:
             browser.open(f"file://{page}", width)
             seen = browser.value(LOOK.replace("WIDTH", str(width)))
-            if seen["wide"] > 0 or seen["text"] < 200 or seen["cuts"]:
+            if seen["wide"] > 0 or seen["text"] < 200 or seen["cuts"] or seen["bare"]:
                 failed += 1
                 print(f"{page.relative_to(top)} at {width} pixels: {seen}")
-    browser.open(f"file://{top}/search.html?q=select", WIDTHS[0])
-    time.sleep(3)
-    if not browser.value("document.querySelectorAll('#search-results li').length"):
-        print("the search finds nothing for `select`")
-        failed += 1
-    return failed, len(WIDTHS) * len(pages) + 1
+    failed += sum(not found(browser, top, query, parts) for query, parts in SOUGHT.items())
+    return failed, len(WIDTHS) * len(pages) + len(SOUGHT)
+
+
+def found(browser, top, query, parts):
+    """Whether the first results of a search have a link with each part."""
+    browser.open(f"file://{top}/search.html?q={query}", WIDTHS[0])
+    for _ in range(300):
+        time.sleep(0.1)
+        if browser.value("document.querySelector('#search-results p')?.innerText"):
+            break
+    links = browser.value(f"[...document.querySelectorAll('#search-results li a')].slice(0, {SCREEN}).map(it => it.href)") or []
+    lacks = [part for part in parts if not any(part in it for it in links)]
+    if lacks:
+        print(f"the search for `{query}` has no {lacks} among {links}")
+    return not lacks
 
 
 def main():

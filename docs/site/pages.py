@@ -2,9 +2,9 @@
 """pages.py TO: lays the documents of the repository out as pages of the site, in folder TO.
 
 A page keeps its path, so that its links hold; README.md becomes index.md. Links to documents that are no page become plain
-text, names of pages in backquotes become links, blocks of code in several languages, one right after another, become tabs.
+text, names of pages in backquotes become links, `rustdoc:ITEM` leads to the page of an item in Rust, blocks of code in
+several languages, one right after another, become tabs.
 """
-import importlib.util
 import os
 import pathlib
 import re
@@ -17,7 +17,9 @@ NAMES = {"c": "C", "cpp": "C++", "rust": "Rust", "python": "Python", "rattle": "
          "javascript": "JavaScript"}
 PAGES = re.compile(r"(README|CONTRIBUTING|CHANGELOG)\.md|docs/[\w-]+\.md|docs/guides/[\w-]+\.md|docs/site/reference/[\w-]+\.md"
                    r"|bindings/(javascript|python|rust)/README\.md|crates/bitm_c/README\.md|crates/\w+/CALLING\.md|examples/(demo|browser)/README\.md")
-TABS = importlib.util.find_spec("sphinx_inline_tabs") is not None
+
+# The playground itself stands below the title of its page.
+PLAYGROUND = '\n\n<iframe class="playground" src="index.html" title="Playground"></iframe>\n\n'
 
 
 def tabs(text):
@@ -28,7 +30,7 @@ def tabs(text):
             return run[0]
         return "".join(f"`````{{tab}} {NAMES[it]}\n```{it}\n{code}```\n`````\n" for it, code in parts)
     fence = r"^```\w+\n(?:(?!^```).*\n)*?^```\n"
-    return re.sub(rf"(?:{fence}\n*){{2,}}", one, text, flags=re.M) if TABS else text
+    return re.sub(rf"(?:{fence}\n*){{2,}}", one, text, flags=re.M)
 
 
 def outside_code(change, text):
@@ -48,6 +50,9 @@ def page(name, pages):
     def link(it):
         target, _, anchor = it[2].partition("#")
         path = os.path.normpath(os.path.join(folder, target)) if target else name
+        if item := re.match(r"rustdoc:([\w./]+)", target):
+            text = re.sub("`(.*)`", r"<code>\1</code>", it[1])
+            return f'<a href="../rustdoc/bitm_proved/{item[1]}.html">{text}</a>'
         if re.match(r"\w+:", it[2]) or not target or path.startswith("reference/") or re.search(r"\.svg$", path):
             return it[0]
         return f"[{it[1]}]({to(path)}{'#' + anchor if anchor else ''})" if path in pages else it[1]
@@ -60,7 +65,8 @@ def page(name, pages):
         text = re.sub(r"(?<!!)\[([^\]\n]*(?:\n[^\]\n]+)?)\]\(([^)\s]+)\)", link, text)
         return re.sub(r"(?<!\[)`([\w./-]+\.md)`(?!\])", named, text)
 
-    return tabs(outside_code(change, (TOP / name).read_text(encoding="utf-8")))
+    text = tabs(outside_code(change, (TOP / name).read_text(encoding="utf-8")))
+    return text.replace("\n\n", PLAYGROUND, 1) if name == "examples/browser/README.md" else text
 
 
 def main():
@@ -73,7 +79,7 @@ def main():
         target.write_text(page(name, pages), encoding="utf-8")
     with open(to / "index.md", "a", encoding="utf-8") as out:
         out.write((TOP / "docs/site/contents.md").read_text(encoding="utf-8"))
-    for it in (it for it in files if re.fullmatch(r"docs/(plots/)?[\w-]+\.svg|bindings/javascript/types/\S+", it)):
+    for it in (it for it in files if re.fullmatch(r"(docs|examples)/([\w-]+/)?[\w-]+\.svg", it)):
         (to / it).parent.mkdir(parents=True, exist_ok=True)
         shutil.copyfile(TOP / it, to / it)
 

@@ -9,11 +9,12 @@ A name that a lib.rt hands on and that is on no page is an error.
 import collections, pathlib, re, sys
 import callers
 from definitions import CRATES, TOP, anchor, definitions, definitions_page
+from sources import address
 
 COST = re.compile(r"^(?:reads|cost|size|searches)\b|\bReads|\breads\b")
 ERRORS = re.compile(r"IsErr|IfErr|AllocError|\bErr\b")
 ITEM = re.compile(r"( {0,4})(?:pub )?(?:const )?(fn|struct|enum|trait|const|type) (\w+)")
-COUNT, Item = collections.Counter(), collections.namedtuple("Item", "box kind name doc head clauses")
+COUNT, Item = collections.Counter(), collections.namedtuple("Item", "box kind name doc head clauses place")
 
 def ended(kind, text):
     """Whether the lines of an item are all there, up to its body."""
@@ -46,7 +47,7 @@ def items(path):
         if bare.startswith("///"):
             doc.append(bare[4:])
         elif line.startswith("impl") or (made := ITEM.match(line)):
-            kind, text = ("trait", line) if line.startswith("impl") else (made[2], line)
+            kind, text, begin = ("trait", line, k) if line.startswith("impl") else (made[2], line, k)
             while not ended(kind, text) and lines[k] != "}" and not (kind == "trait" and text.endswith("}")):
                 k += 1
                 text += "\n" + lines[k]
@@ -58,7 +59,8 @@ def items(path):
             else:
                 owner = (box or "").split()[-1:] if made[1] else [""]
                 if owner and (bare.startswith("pub ") or (made[1] and box.startswith("trait "))):
-                    yield Item(owner[0], kind, made[3], doc, *split(re.sub("^" + made[1], "", text, flags=re.M), kind))
+                    head, clauses = split(re.sub("^" + made[1], "", text, flags=re.M), kind)
+                    yield Item(owner[0], kind, made[3], doc, head, clauses, (path.relative_to(TOP.parent), begin + 1))
                 box, doc = (f"trait {made[3]}" if kind == "trait" else box), []
         elif line == "}":
             box, doc = None, []
@@ -86,6 +88,7 @@ def item(crate, it, known):
     pieces = re.split(r"^# (.*)$", "\n".join(it.doc), flags=re.M)
     texts = {"": fenced(pieces[0].strip()), **{t: fenced(x.strip()) for t, x in zip(pieces[1::2], pieces[2::2])}}
     yield f"(rattle-{crate}-{full.replace('::', '.')})=\n{'###' if it.box else '##'} `{full}`\n\n```rattle\n{it.head}\n```\n"
+    yield f'<a class="source" href="../../{address(*it.place)}">source</a>\n'
     COUNT.update({"items": 1, "items without `///`": not texts[""], "clauses": len(it.clauses)})
     if not it.clauses:
         yield "\n\n".join(f"**{title}.** {text}" if title else text for title, text in texts.items()) + "\n"
@@ -114,16 +117,23 @@ def public(crate):
     names, files, _ = reached(crate)
     return [x for path in sorted((TOP / crate / "src").rglob("*.rt")) for x in items(path) if (x.box or x.name) in names or path in files]
 
+def definer(crate, name, entries):
+    """The crate that defines what a crate hands on by this name, and whether that is an item of its page, no module."""
+    if name in {x.name for x in entries[crate] if not x.box}:
+        return crate, True
+    if (TOP / crate / f"src/{name}.rt").exists():
+        return crate, False
+    return next((definer(at, name, entries) for at, listed in reached(crate)[2] if name in listed), (None, False))
+
 def page(crate, known, entries):
     lib, handed = (TOP / crate / "src/lib.rt").read_text(encoding="utf-8"), {}
     yield f"(rattle-{crate})=\n# {crate}\n\n" + fenced("\n".join(x[4:] for x in lib.split("\n") if x.startswith("//!"))) + "\n"
     if caller := callers.opening(crate):
         yield f"```rattle\n{caller}\n```\n\n[How to call it](../../crates/{crate}/CALLING.md) goes on from this example.\n\n```{{toctree}}\n:hidden:\n\n../../crates/{crate}/CALLING\n```\n"
     for at, name in ((at, x) for at, listed in reached(crate)[2] for x in listed):
-        of = next((c for c in CRATES if c != crate and name in {x.name for x in entries[c] if not x.box}), None)
-        module = next((c for c in (at, *CRATES) if c != crate and (TOP / c / f"src/{name}.rt").exists()), None)
-        COUNT[f"name of {crate} without a page: {name}"] += not (of or module)
-        handed.setdefault(of or module, []).append(f"[`{name}`](rattle-{of}-{name})" if of else f"`{name}`")
+        of, is_item = definer(at, name, entries)
+        COUNT[f"name of {crate} without a page: {name}"] += not of
+        handed.setdefault(of, []).append(f"[`{name}`](rattle-{of}-{name})" if is_item else f"`{name}`")
     for other, listed in handed.items():
         yield f"From [{other}](rattle-{other}): " + ", ".join(listed) + ".\n"
     types = list(dict.fromkeys(x.box or x.name for x in entries[crate] if x.box or x.kind in ("struct", "enum", "trait")))

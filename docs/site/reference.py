@@ -11,7 +11,7 @@ import xml.etree.ElementTree as xml
 
 TOP = pathlib.Path(__file__).resolve().parents[2] / "include"
 FOUND = pathlib.Path(os.environ["SITE"]) / "doxygen"
-HEADERS = ("bits", "bits_view", "index", "index_block", "sequence", "sequence_view", "cursor", "perfect_hash", "seeded_hash", "dictionary", "strings", "tree", "trie", "matrix", "sparse", "text", "sections", "shards", "file", "format", "core", "memory")
+HEADERS = ("bits", "bits_view", "index", "index_block", "sequence", "sequence_view", "cursor", "perfect_hash", "seeded_hash", "key_hash", "levels", "dictionary", "strings", "tree", "trie", "matrix", "sparse", "text", "sections", "shards", "file", "format", "core", "failure", "memory")
 
 
 def opening(path):
