@@ -19,7 +19,8 @@ NAME = re.compile(r"(total_)?(\w+?)((?:_on|_by)*)")
 LEFT = {
     ("bitm_view", "rank_on"): "ranks by ranked_on of lent_tables, which runs total_rank_on",
     ("bitm_view", "select_on"): "selects by search_on, as total_select_on does",
-    ("louds", "children_on"): "an index finds both ends by its strategies",
+    ("louds", "degree_by"): "reads the words after one selection, where the clause of degree_on has two",
+    ("louds", "degree_on"): "its clause has two selections, and no words between them",
     ("text_index", "longer_on"): "for the check, where the letters are a matrix, and nothing else is known",
 }
 SHARED = {
@@ -27,9 +28,8 @@ SHARED = {
     "why nothing was made": "IsReason",
     "the text of an error": "build_error_text error_text failure_text",
     "what a call of C answers":
-        "FindAnswered RankAnswered SelectAnswered NextAnswered PreviousAnswered ChildAnswered",
+        "FindAnswered RankAnswered NextAnswered PreviousAnswered",
     "a command of the program": "command_in IsDone Did DidAsAsked",
-    "not one idea: each stands in two crates, and has to get two names": "AreBest AreShared IsIndexOf IsWithin StandsAt",
 }
 DEFINED = re.compile(r"^(?:abbrev )?pub (?:record |data )?([A-Za-z]\w*)(?= [({:])", re.M)
 

@@ -28,12 +28,11 @@ bitm_view/src/view.rt rank_of:rank_on rank:rank_of
 elias_fano/src/finding.rt first_at_least:successor+found last_at_most:_by+found contains:_by
 elias_fano/src/items.rt item:_by+parts successor:first_at_least_by+parts
 elias_fano_view/src/sequence.rt item:get successor:first_at_least
-louds/src/counted.rt degree_on:total_degree_on child_on:total_child_on is_leaf_on:is_leaf_by parent_on:parent_by
-    next_sibling_on:next_sibling_by
+louds/src/counted.rt child_on:total_child_on is_leaf_on:is_leaf_by parent_on:parent_by next_sibling_on:next_sibling_by
 louds/src/labelled.rt child_by_label:_by find:_by
-louds/src/node.rt degree_of:degree_after_on is_leaf_of:ends_after_on children_of:children_after_on parent_of:_by
-louds/src/tree.rt end:_after_on degree:_after_on+zero child:_after_on+zero children:_after_on+zero zero:_by is_leaf:_by
-    parent:_by child_rank:_by next_sibling:_by previous_sibling:_by
+louds/src/node.rt degree_of:degree_after_by is_leaf_of:ends_after_on children_of:children_after_by parent_of:_by
+louds/src/tree.rt end:_after_by degree:_by child:_by children:_by zero:_by is_leaf:_by parent:_by child_rank:_by
+    next_sibling:_by previous_sibling:_by
 perfect_hash/src/asking.rt number_by_on:total_number_by_on+found+tables_have_sizes total_number_by_on:number_by
 perfect_hash/src/table.rt get:number number:_by+found get_counted:number_by_on
 sharded_index/src/shard.rt rank:rank_of
@@ -95,15 +94,13 @@ OTHER_WAYS = {
             "self.rank::<BIT>(rank); return self.select_on::<BIT, Probe<'_>, ByTables>(",
     },
     "louds_block/src/tree.rt": {
-        "total_degree_on(&mut self.probe(), self.len, node)":
-            "self.children(node); total_degree_on(&mut self.probe(), self.len, node)",
+        "degree_by(&self.finder(),": "self.child(node, 0); degree_by(&self.finder(),",
     },
     "string_block/src/view.rt": {
         "self.find_counted(string).0": "self.check(); self.find_counted(string).0",
     },
     "trie_block/src/view.rt": {
-        "total_find_on(&mut source,":
-            "total_find_on(&mut self.tree.probe(), &mut labels, self.len(), word); total_find_on(&mut source,",
+        "find_by(&finder, &mut source,": "self.longest(word); find_by(&finder, &mut source,",
     },
     "louds/src/node.rt": {
         "ends_after_on(&mut self.probe(), self.len(), node.number, node.place)": "self.is_leaf(node.number)",
@@ -142,7 +139,7 @@ ANSWERED = re.compile(
     r"(?:Some\(\2\),\s*Answer::Absent => None,\s*Answer::Wrong|\2,\s*_|\3\.\.\4,\s*_|\{\}\s*_) => unreachable!\(\),\s*\}", re.S)
 SAMPLED = re.compile(r"if samples\.samples\.is_empty\(\) \{\s*return ([^;]*);\s*\}")
 # Calls that read neither words nor tables.
-HANDED = set("""all_parts as_slice by_ones by_zeros hash into_reads is_one keys l1ranks l2ranks len low_digits new
+HANDED = set("""all_parts as_slice by_ones by_zeros finder hash into_reads is_one keys l1ranks l2ranks len low_digits new
     no_reads no_source number own_parts parts probe right samples sizes step tables tables_have_sizes""".split())
 
 

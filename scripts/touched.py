@@ -17,7 +17,7 @@ TESTS = {
     "bindings/javascript/": "javascript",
     "bindings/tests/": "",
     "examples/": "example",
-    "docs/": "test_blocks",
+    "docs/": "test_blocks or test_guides",
     "README.md": "test_blocks",
 }
 

@@ -1,11 +1,11 @@
 """The program bitm beside docs/FORMAT.md: `check` finds blocks of each kind good that are written by that page alone,
-with a section of a caller's own too, and wrong once a bit is flipped (of each word, with LARGE=1 each bit); `info` says what
+of version 3, without hints and with a section of a caller's own too, and wrong once a bit is flipped (of each word, with LARGE=1 each bit); `info` says what
 their headers have. The same of files of version 2, which earlier releases wrote."""
 import subprocess
 
 import pytest
-from blocks import as_bytes, of_bits, of_bytes, of_dictionary, of_hash, of_matrix, of_old_bits, of_old_sequence, of_seeded_hash, of_sequence
-from blocks import noted, of_sparse, of_strings, of_text, of_tree, of_trie, old_checksum, packed
+from blocks import as_bytes, as_version_3, of_bits, of_bytes, of_dictionary, of_hash, of_matrix, of_old_bits, of_old_sequence, of_seeded_hash, of_sequence
+from blocks import noted, of_sparse, of_strings, of_text, of_tree, of_trie, old_checksum, packed, unhinted
 from checks import TOP
 from programs import LARGE, built, room
 
@@ -44,10 +44,11 @@ def info(kind, length, width, data):
     return f"kind {kind}\nlen {length}\nwidth {width}\nbytes {len(data)}\nbits_per_item {rate}\n"
 
 
+@pytest.mark.parametrize("of", [list, unhinted, as_version_3], ids=["", "without hints", "of version 3"])
 @pytest.mark.parametrize("name", BLOCKS)
-def test_block(name):
+def test_block(name, of):
     kind, length, width, words = BLOCKS[name]
-    data = as_bytes(words)
+    data = as_bytes(of(words))
     assert bitm("check", data) == (0, "good\n", "")
     assert bitm("info", data) == (0, info(kind, length, width, data), "")
 
@@ -55,7 +56,7 @@ def test_block(name):
 WRONG = (2, "", "bitm: not a block of a kind that bitm queries, or not as it was written\n")
 
 
-@pytest.mark.parametrize("of", [list, noted], ids=["", "with a section of a caller's own"])
+@pytest.mark.parametrize("of", [list, unhinted, noted, as_version_3], ids=["", "without hints", "with a section of a caller's own", "of version 3"])
 @pytest.mark.parametrize("name", BLOCKS)
 def test_flipped(name, of):
     words = of(BLOCKS[name][3])
@@ -67,7 +68,7 @@ def test_flipped(name, of):
     assert bitm("info", data) == WRONG
 
 
-@pytest.mark.parametrize("data", [as_bytes(BLOCKS["a tree"][3][:-8]), as_bytes(BLOCKS["a tree"][3])[:-1], b"bitmtab\x03", b"bitmtab\x02"])
+@pytest.mark.parametrize("data", [as_bytes(BLOCKS["a tree"][3][:-8]), as_bytes(BLOCKS["a tree"][3])[:-1], b"bitmtab\x04", b"bitmtab\x03", b"bitmtab\x02"])
 def test_cut(data):
     assert bitm("check", data) == (1, "wrong\n", "")
     assert bitm("info", data) == bitm("query", data) == WRONG
@@ -79,7 +80,16 @@ def test_unmarked(data):
     assert bitm("info", data) == bitm("query", data) == (2, "", "bitm: not a file of bitm\n")
 
 
-@pytest.mark.parametrize("version", [0, 1, 4, 255])
+@pytest.mark.parametrize("name", BLOCKS)
+def test_version_of_another_block(name):
+    """The checksums are those of the other version of blocks."""
+    new, old = as_bytes(BLOCKS[name][3]), as_bytes(as_version_3(BLOCKS[name][3]))
+    for data in (old[:8] + new[8:], new[:8] + old[8:]):
+        assert bitm("check", data) == (1, "wrong\n", "")
+        assert bitm("info", data) == bitm("query", data) == WRONG
+
+
+@pytest.mark.parametrize("version", [0, 1, 5, 255])
 def test_other_version(version):
     for words in (BLOCKS["bits"][3], OLD["bits"][3]):
         data = as_bytes(words)

@@ -29,8 +29,8 @@ PLANTS = {
         "promises", "include/bitm.h", "Reads or writes at most two words", "Reads or writes at most one word",
         "bitm_bits_get_number: its comment has NONE one"),
     "the reads of a rank": (
-        "promises", "include/bitm.h", "one upper entry, one lower entry and eight words.",
-        "one upper entry, one lower entry and seven words.", "bitm_index_rank: its reads"),
+        "promises", "include/bitm.h", " upper entry, one lower entry and eight words.",
+        " upper entry, one lower entry and seven words.", "bitm_index_rank: its reads"),
     "a limit": (
         "promises", "include/bitm.h", "BITM_BAD_SIZE if there are 2^57 nodes or more",
         "BITM_BAD_SIZE if there are 2^59 nodes or more", "['bitm_trie_size']: 2^59 is in none of its clauses"),
@@ -41,15 +41,18 @@ PLANTS = {
     "a kind": (
         "numbers", "docs/FORMAT.md", "| 7 | tree (LOUDS)", "| 12 | tree (LOUDS)",
         "its kinds are not those of the code"),
+    "a section of a kind": (
+        "numbers", "docs/FORMAT.md", "| words, upper, lower, labels, ends; then hints or not |",
+        "| words, upper, lower, ends, labels; then hints or not |", "asks TRIE for the sections"),
     "the factor of the checksum": (
         "numbers", "docs/FORMAT.md", "(h xor word) * 0x9e3779b97f4a7c15", "(h xor word) * 0x9e3779b97f4a7c17",
         "the factor of the checksum is not that"),
     "a test vector": (
         "numbers", "docs/FORMAT.md", "`0xb5dda96bf4e1ef47`", "`0xb5dda96bf4e1ef48`",
-        "the checksum of eight times 0 is"),
+        "the checksums of eight times 0 are"),
     "a word of a trie looked up twice": (
-        "thin", "crates/trie_block/src/view.rt", "total_find_on(&mut source,",
-        "total_find_on(&mut self.tree.probe(), &mut labels, self.tree.len(), word); total_find_on(&mut source,",
+        "thin", "crates/trie_block/src/view.rt", "find_by(&finder, &mut source,",
+        "self.longest(word); find_by(&finder, &mut source,",
         "trie_block/src/view.rt: find does more or less"),
     "a string found after a check of the block": (
         "thin", "crates/string_block/src/view.rt", "self.find_counted(string).0",
@@ -175,7 +178,7 @@ PLANTS = {
         "documents", "crates/bitm/CALLING.md", "rank_on(&mut probe, place)", "rank_on(&mut probe, place + 1)",
         "crates/bitm/CALLING.md: its first caller is not of"),
     "the crates below one": (
-        "documents", "docs/ARCHITECTURE.md", "(Elias-Fano), over the index | `lent_tables`, ", "(Elias-Fano), over the index | ",
+        "documents", "docs/ARCHITECTURE.md", "(Elias-Fano), over the index | `bitm_selection`, ", "(Elias-Fano), over the index | ",
         "docs/ARCHITECTURE.md: elias_fano lists"),
     "how many exports there are": (
         "documents", "crates/bitm_c/README.md", "202 exports", "201 exports", "crates/bitm_c/README.md does not say:"),
@@ -184,7 +187,7 @@ PLANTS = {
     "mutants out of their order": (
         "mutants", "crates/bitm_bits/mutants.txt", "gate: ", "gate: zz.",
         "crates/bitm_bits/mutants.txt: its mutants are not in their order"),
-    "the mark": ("numbers", "docs/FORMAT.md", "74 61 62 03`", "74 61 62 04`", "the mark is not that of the code"),
+    "the mark": ("numbers", "docs/FORMAT.md", "74 61 62 04`", "74 61 62 05`", "the mark is not that of the code"),
     "a byte of the header": (
         "numbers", "docs/FORMAT.md", "| 32 | 4 | width", "| 40 | 4 | width", "its HEADER_WORDS begin at the bytes"),
     "how many sections there are at most": (

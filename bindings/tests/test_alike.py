@@ -1,6 +1,7 @@
 """One format: the same values make the same bytes in C++, Python and JavaScript, a file of each kind; where no hash has a
 parameter they are those of docs/FORMAT.md. What one language writes the other two open, and find as it was written."""
 import os
+import re
 import subprocess
 
 import pytest
@@ -10,10 +11,12 @@ from common import PYTHON, compiled
 from shell import needs
 
 CPP = """#include <bitm.hpp>
+#include <fstream>
 static char **folders;
 template <class Owner> static void both(const char *name, const Owner &made)
 {
     made.save(name);
+    std::ofstream(name + std::string(".shown")) << made;
     for (char **it = folders; *it; it++)
         if (Owner::load(std::string(*it) + name, bitm::verify::yes) != made) throw std::runtime_error(*it);
 }
@@ -32,7 +35,7 @@ int main(int, char **words)
 }
 """
 PYTHON_PROGRAM = """
-import sys, bitm
+import pathlib, sys, bitm
 ones = [1, 500, 999]
 made = dict(index=bitm.Index(bitm.BitVector.from_indices(ones, 1000)), sequence=bitm.EliasFano([2, 3, 5, 2**60]),
             sparse=bitm.SparseBits(ones, 1000), matrix=bitm.WaveletMatrix([3, 1, 4, 1, 5]), tree=bitm.Tree([2, 0, 1, 0]),
@@ -40,12 +43,14 @@ made = dict(index=bitm.Index(bitm.BitVector.from_indices(ones, 1000)), sequence=
             strings=bitm.Strings(["ada", "bob", "eve"]), text=bitm.TextIndex(b"banana"))
 for name, value in made.items():
     value.save(name)
+    pathlib.Path(name + ".shown").write_text(repr(value))
     for folder in sys.argv[1:]:
         found = bitm.load(folder + name)
         assert type(found) is type(value) and found.check(), (folder, name)
 """
 JAVASCRIPT = """
 import { readFileSync, writeFileSync } from "node:fs";
+import { inspect } from "node:util";
 const B = await import(process.argv[2]), ones = [1, 500, 999];
 const made = {
     index: new B.Index(B.BitVector.fromPositions(ones, 1000)), sequence: new B.EliasFano([2, 3, 5, 2n ** 60n]),
@@ -55,6 +60,7 @@ const made = {
 };
 for (const [name, value] of Object.entries(made)) {
     writeFileSync(name, value.toBytes());
+    writeFileSync(name + ".shown", inspect(value));
     for (const folder of process.argv.slice(3)) {
         const read = value.constructor.open ?? B.open;
         if (read.call(value.constructor, readFileSync(folder + name)).length !== value.length) throw new Error(folder + name);
@@ -98,3 +104,11 @@ def test_same_bytes(kind, files):
     assert len(set(written.values())) == 1
     if kind in BY_THE_PAGE:
         assert written["cpp"] == as_bytes(BY_THE_PAGE[kind])
+
+
+@pytest.mark.parametrize("kind", KINDS)
+def test_same_names_and_numbers_are_shown(kind, files):
+    """But where a value is shown by what it holds: bits, an index and a sequence in C++, a short sequence in Python."""
+    shown = {name: (it / f"{kind}.shown").read_text() for name, it in files.items()}
+    fields = {re.sub(r"[():={},\s]+", " ", text).split(" ", 1)[1] for text in shown.values() if re.search(r"\w[=:]", text)}
+    assert len(fields) == 1 and all(re.search(r"\d", text) for text in shown.values()), shown

@@ -6,7 +6,7 @@ from checks import TOP
 from common import LARGE, SANITIZED, SEEDS, WARNINGS, compiled, large
 from shell import bash, needs
 
-PROGRAMS = "check one_view sequences walks cursors stored statuses lengths opened flipped pages guarded hostile careless hashes fingerprints shards trees tries trie_words sections matrices matrix_ranges matrix_tallies blocks extended sparse texts built_texts dictionaries seeded_blocks strings string_hashes costs hostile_blocks".split()
+PROGRAMS = "check one_view sequences walks cursors stored statuses lengths opened flipped pages guarded hostile careless hashes fingerprints shards trees tries trie_words items sections matrices matrix_levels matrix_ranges matrix_tallies blocks extended sparse texts built_texts dictionaries seeded_blocks strings string_hashes costs hostile_blocks".split()
 # They touch what they may not, or map pages of their own.
 BY_GCC_ALONE = {"pages", "guarded", "hostile", "hostile_blocks", "careless", "cursors"}
 WAYS = {"gcc": "gcc -O2 -pthread", "sanitizers": f"gcc {SANITIZED}", "clang": "clang -O2"}

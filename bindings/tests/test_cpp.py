@@ -5,12 +5,16 @@ from common import SANITIZED, compiled, large
 from shell import bash, needs
 
 WAYS = {"gpp": "g++ -std=c++17 -O2", "sanitizers": f"g++ -std=c++17 {SANITIZED}", "clang": "clang++ -std=c++20 -O2"}
-DATA = {"texts": TOP / "bindings/tests/sea_shells.block", "files": TOP / "bindings/cpp/version2"}
+VERSION_2, TESTS = TOP / "bindings/cpp/version2", TOP / "bindings/tests"
+DATA = {"texts": TESTS / "sea_shells.block", "files": VERSION_2, "kinds": VERSION_2, "version3": TESTS / "version_3.blocks",
+        "keys": TESTS / "key_hashes.blocks"}
 MODES = ["c++17 -fno-exceptions -fno-rtti", "c++20", "c++20 -fno-exceptions -fno-rtti", "c++2b"]
 
 
 @pytest.mark.parametrize("way", WAYS)
-@pytest.mark.parametrize("program", ["check", "stored", "shards", "trees", "tries", "matrices", "sparse", "sections", "cursors", "dictionaries", "hashes", "strings", "texts", "files"])
+@pytest.mark.parametrize("program", [
+    "check", "stored", "shards", "trees", "tries", "matrices", "sparse", "sections", "cursors", "dictionaries", "hashes", "keys", "strings", "texts",
+    "files", "kinds", "shown", "version3"])
 def test_program(program, way, tmp_path):
     """It says at its end what it found, so one that ends before fails."""
     needs(WAYS[way].split()[0])

@@ -19,7 +19,7 @@ from test_c import PROGRAMS as IN_C
 # The exports, by their statuses besides BITM_OK (None, Bad size, Wrong, Unsorted) and the arrays of which they read a part.
 EXPORTS = {
     "": "version bits_words_len bits_to_store index_upper_len index_lower_len index_samples_len optimal_log2"
-        " hash_level_len strings_hash",
+        " hash_level_len strings_hash key_hash",
     "NB words": "bits_get bits_set bits_get_number bits_set_number bits_xor_number bits_get_fragment"
         " bits_set_fragment bits_swap_fragments bits_fill_fragments bits_count_range bits_next bits_previous"
         " bits_fill_range bits_flip_range",
@@ -31,13 +31,15 @@ EXPORTS = {
         " matrix_get_list matrix_rank_list matrix_select_list index_block_size index_block_build sequence_block_size"
         " sparse_size text_size text_size_letters text_size_bytes text_build_bytes text_len"
         " hash_block_size hash_block_build hash_block_size_seeded hash_block_build_seeded"
-        " dictionary_size trie_size strings_size strings_hashes strings_find_list",
+        " dictionary_size trie_size strings_size strings_hashes strings_find_list"
+        " hash_level_seeded matrix_write_level matrix_seal text_order_bytes",
     "- words": "bits_clear_from",
-    "N": "bits_copy_range bits_equal_range bits_select_in_word",
+    "N": "bits_copy_range bits_equal_range bits_select_in_word numbers_unsorted numbers_above tree_misfit",
+    "NB": "trie_unsorted_word",
     "B words other": "bits_intersects bits_is_subset",
     "N bytes": "bytes_get57 bytes_init57 bytes_set57 bytes_get25 bytes_init25 bytes_set25",
     "BW": "hash_set_prints hash_set_prints_seeded index_check sequence_check tree_build matrix_build text_build cursor_start cursors_intersect"
-        " dictionary_build trie_build strings_build block_extend",
+        " dictionary_build trie_build strings_build block_extend text_order text_build_ordered text_build_ordered_bytes",
     "BW block": "block_extended_size",
     "NW block": "block_section",
     "BW words": "index_check_samples",

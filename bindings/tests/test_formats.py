@@ -5,7 +5,7 @@ import subprocess
 
 import pytest
 
-from blocks import as_bytes, of_bits, of_bytes, of_dictionary, of_hash, of_matrix, of_old_bits, of_old_sequence
+from blocks import as_bytes, as_version_3, of_bits, of_bytes, of_dictionary, of_hash, of_matrix, of_old_bits, of_old_sequence
 from blocks import of_seeded_hash, of_sequence, of_sparse, of_strings, of_tree, of_trie, packed, siphash
 from checks import TOP
 from common import compiled
@@ -34,8 +34,9 @@ def test_blocks_are_those_of_the_format(tmp_path):
         2: 9, 3: 9, 4: 18, 5: 9, 6: 24, 7: 18, 9: 36, 12: 9, 50: 9, 51: 12}
 
 
+@pytest.mark.parametrize("of", [list, as_version_3], ids=["", "of version 3"])
 @pytest.mark.parametrize("kind", [10, 12])
-def test_strings_in_blocks_of_either_kind_are_found(tmp_path, kind):
+def test_strings_in_blocks_of_either_kind_are_found(tmp_path, kind, of):
     """Blocks that are written by docs/FORMAT.md: strings hashed by FNV-1a in kind 10, by SipHash-1-3 in kind 12."""
     needs("gcc")
     it = compiled("gcc -O2 -std=c11", "bindings/c/read_strings.c", tmp_path)
@@ -43,7 +44,7 @@ def test_strings_in_blocks_of_either_kind_are_found(tmp_path, kind):
         strings = [b"%d" % (k * k) * (k % 5) + b"!" * (k % 17) + b"%x" % k for k in range(count)]
         ends, text = [*itertools.accumulate(map(len, strings))], b"".join(strings)
         words = struct.unpack(f"<{-(-len(text) // 8)}Q", text + bytes(-len(text) % 8))
-        made = of_strings(count, 100, [*ends, *words], 7 * count, kind)
+        made = of(of_strings(count, 100, [*ends, *words], 7 * count, kind))
         printed = subprocess.run([it], input=as_bytes(made), capture_output=True, check=True).stdout
         assert sorted(printed.splitlines()) == sorted(strings), (kind, count)
 
@@ -61,6 +62,37 @@ def test_the_block_that_other_tests_read():
     made = as_bytes(of_bytes(b"she sells sea shells on the sea shore"))
     for folder in ("bindings/tests", "bindings/rust/tests/common"):
         assert (TOP / folder / "sea_shells.block").read_bytes() == made
+
+
+SQUARES = [n * n for n in range(40)]
+STRINGS = [3, 6, int.from_bytes(b"adabob", "little")]
+EACH_KIND = [
+    of_bits(100, 0, packed([at % 3 == 0 for at in range(100)])),
+    of_sequence(40, 0, SQUARES),
+    of_sparse(40, 2000, SQUARES),
+    of_hash(40, 100, SQUARES, 7),
+    of_seeded_hash(40, 100, [*SQUARES, 16], 7),
+    of_dictionary(40, 100, SQUARES, 7),
+    of_matrix(6, 3, [3, 1, 4, 1, 5, 1]),
+    of_tree(4, 0, [2, 0, 1, 0]),
+    of_bytes(b"banana"),
+    of_trie(4, 8, [2, 0, 1, 0, 97, 98, 101, 0b1110]),
+    of_strings(2, 100, STRINGS, 0),
+    of_strings(2, 100, STRINGS, 0, kind=10),
+]
+
+
+def test_the_blocks_of_version_3_that_other_tests_read():
+    """One of each kind, one after another, which tests in C, C++, Rust, Python and JavaScript open, check and query."""
+    made = b"".join(as_bytes(as_version_3(it)) for it in EACH_KIND)
+    for folder in ("bindings/tests", "bindings/rust/tests/common"):
+        assert (TOP / folder / "version_3.blocks").read_bytes() == made
+
+
+def test_blocks_of_version_3_in_c(tmp_path):
+    needs("gcc")
+    it = compiled("gcc -O2 -std=c11", "bindings/c/version3.c", tmp_path)
+    assert subprocess.run([it, TOP / "bindings/tests/version_3.blocks"], capture_output=True, check=True).stdout
 
 
 def test_files_of_version_2_are_those_of_the_format():

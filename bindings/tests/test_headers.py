@@ -99,7 +99,7 @@ def test_symbols_are_of_this_series():
 
 # Structs whose reserved words were taken since: what stands there, a word each. A program of before has zeros there, which
 # mean none, as its header said.
-TAKEN = {"bitm_sequence": [("samples", "const struct bitm_samples *"), ("samples_len", "size_t")]}
+TAKEN = {it: [("hints", "const uint64_t *"), ("hints_len", "size_t")] for it in ("bitm_sequence", "bitm_tree")}
 
 
 def with_room(name, members):

@@ -1,5 +1,6 @@
 """Rust, Python and JavaScript, each by its own tests, in this order: each language leaves a file of the same bits and one
 of the same numbers, and reads those of the languages before it."""
+import hashlib
 import os
 import re
 
@@ -130,8 +131,9 @@ def test_dask(example, site, tmp_path):
 def test_demonstration(text, site, tmp_path):
     """Over this repository's documents; it compares its answers with the plain way."""
     needs(f"{PYTHON}:matplotlib", f"{PYTHON}:numpy")
-    bash(f"{PYTHON} examples/demo/demo.py {text} {tmp_path}/picture.svg", **site)
-    assert (tmp_path / "picture.svg").stat().st_size > 0
+    bash(f"{PYTHON} examples/demo/demo.py {text} {tmp_path}/picture.svg {tmp_path}/rows.csv", **site)
+    total = hashlib.sha256((tmp_path / "rows.csv").read_bytes()).hexdigest()
+    assert f"rows {total}" in (tmp_path / "picture.svg").read_text(encoding="utf-8")
 
 
 def test_javascript(of, noted):

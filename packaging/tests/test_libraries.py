@@ -40,7 +40,8 @@ def test_pkg_config():
 
 def test_links_of_the_guides():
     for page in (tree() / "share/doc/bitm").rglob("*.md"):
-        for link in re.findall(r"\]\(([^)#\s]+)", page.read_text()):
+        prose = re.sub(r"^(`{3,}).*?^\1", "", page.read_text(), flags=re.M | re.S)
+        for link in re.findall(r"\]\(([^)#\s]+)", prose):
             assert re.match(r"\w+:", link) or (page.parent / link).exists(), f"{page} links to {link}"
 
 
