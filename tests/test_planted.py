@@ -133,7 +133,7 @@ PLANTS = {
     "a mutant that is gone, and its number": (
         "ran", "crates/elias_fano/mutants.txt", "thorough: ", "", "crates/elias_fano/mutants.txt: "),
     "a program that must not compile": (
-        "ran", "bindings/cpp/refused.cpp", "#elif CASE == 84", "#elif 84", "bindings/cpp/refused.cpp: 106 where"),
+        "ran", "bindings/cpp/refused.cpp", "#elif CASE == 84", "#elif 84", "bindings/cpp/refused.cpp: "),
     "a version in one place": (
         "version", "include/bitm.h", '#define BITM_VERSION "', '#define BITM_VERSION "9', "include/bitm.h: after"),
     "a file that is not there": (
@@ -181,7 +181,7 @@ PLANTS = {
         "documents", "docs/ARCHITECTURE.md", "(Elias-Fano), over the index | `bitm_selection`, ", "(Elias-Fano), over the index | ",
         "docs/ARCHITECTURE.md: elias_fano lists"),
     "how many exports there are": (
-        "documents", "crates/bitm_c/README.md", "202 exports", "201 exports", "crates/bitm_c/README.md does not say:"),
+        "documents", "crates/bitm_c/README.md", " exports and no undefined", "0 exports and no undefined", "crates/bitm_c/README.md does not say:"),
     "a link to no file": (
         "documents", "docs/FAQ.md", "](PLATFORMS.md)", "](PLATFORM.md)", "docs/FAQ.md links to PLATFORM.md"),
     "mutants out of their order": (

@@ -22,19 +22,23 @@ WORDS = {
 
 
 def add_words(app, tree):
+    """A guide's words are entries of the search's index, which go before methods of the same name."""
     folder, _, name = app.env.docname.rpartition("/")
     if folder == "docs/guides" and name in WORDS:
         tree.insert(0, addnodes.docutils_meta("", name="keywords", content=WORDS[name]))
+        entries = [("single", word, "", "", None) for word in WORDS[name].split(", ")]
+        tree.insert(0, addnodes.index(entries=entries))
 
 
 def tidy(app, failed):
-    """Parameters leave the index. Titles stand in it in the order in which Sphinx's processes ended, so that two runs
-    would differ: they are sorted."""
+    """Parameters leave the index. Titles and entries stand in it in the order in which Sphinx's processes ended, so that
+    two runs would differ: they are sorted."""
     file, begin = pathlib.Path(app.outdir) / "searchindex.js", "Search.setIndex("
     if failed or app.builder.format != "html":
         return
     index = json.loads(file.read_text().removeprefix(begin).removesuffix(")"))
-    index["alltitles"] = {title: sorted(places, key=str) for title, places in sorted(index["alltitles"].items())}
+    for listed in ("alltitles", "indexentries"):
+        index[listed] = {name: sorted(places, key=str) for name, places in sorted(index[listed].items())}
     no_items = {int(it) for it, kind in index["objtypes"].items() if kind.endswith("Param")}
     index["objects"] = {name: [it for it in listed if it[1] not in no_items] for name, listed in index["objects"].items()}
     file.write_text(f"{begin}{json.dumps(index)})")
