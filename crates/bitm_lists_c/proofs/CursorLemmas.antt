@@ -1,16 +1,21 @@
 -- A cursor of C moves as the spot that it holds.
-use Rattle.std.proofs.Common.{◌≡◌, ℕ, ◌≤◌, List, drop, sym, ap, subst, ◌∙◌, arith}
+use Rattle.std.proofs.Common.{◌≡◌, ℕ, ◌<◌, ◌≤◌, List, Option, Some, None, drop, sym, ap, subst, ◌∙◌, arith}
+use Rattle.std.specs.Prelude.{IfSome}
 use Rattle.bitm_tables.specs.declared.answer.Answer.{Answer}
 use Rattle.bitm_tables.specs.declared.answer.Answer.TheVariants.{Found, Absent, Wrong}
 use Rattle.bitm_tables.specs.Tables.{Lists}
 use Rattle.elias_fano.proofs.lemmas.HintLemmas.{holds_without}
 use Rattle.elias_fano.specs.LentParts.{parts_of, parts_with, Holds}
 use Rattle.elias_fano.specs.Low.{unread, Lows}
+use Rattle.elias_fano.specs.Parts.{ArePartsOf}
+use Rattle.elias_fano.specs.Sequence.{Reaches}
 use Rattle.postings.specs.Moves.{IfFound, HasMoved, IsAnswered, IsHere, IsMove}
+use Rattle.postings.specs.Spot.{IsSpot}
 use Rattle.postings.specs.declared.spot.Spot.{Spot}
+use Rattle.postings.proofs.MoveLemmas.{move_found}
 use Rattle.bitm_abi.specs.Sequence.{lent_parts, IsSequenceSized}
 use Rattle.bitm_abi.specs.declared.sequence.Sequence.{Sequence}
-use Rattle.bitm_lists_c.specs.Cursor.{left_in, sequence_items, spot_of, IsRight}
+use Rattle.bitm_lists_c.specs.Cursor.{left_in, sequence_items, spot_of, IsMoveIn, IsRight}
 use Rattle.bitm_lists_c.specs.declared.cursor.Cursor.{Cursor}
 
 -- the parts as they are read, which is without hints
@@ -62,6 +67,21 @@ module _ (old new : Cursor) (spot : Spot) (low : Lows) (lists : Lists) (low_is :
         subst (λ (ys : List ℕ). IsAnswered (left_in old) v answer ys) (sym (left_at old new spot same at)) (move.next here),
         right_at old new spot same at right.sized right.parts there,
       )
+
+-- the number that was found near is a move to it
+pub near_moves : (cursor : Cursor) (spot : Spot) (v : ℕ) (low : Lows) (o : Option Spot) → low ≡ unread cursor.sequence.low.now cursor.sequence.width
+    → spot ≡ spot_of cursor → cursor.index < cursor.sequence.len → cursor.number < v
+    → ((xs : List ℕ) → ArePartsOf xs cursor.sequence.len low.width low.words cursor.sequence.words.now → IsSpot xs cursor.sequence.words.now spot
+    → IfSome o (λ s. IsSpot xs cursor.sequence.words.now s × Reaches xs v s.at))
+    → IsRight cursor → IfSome o (λ s. IsMoveIn cursor.sequence v (spot_of cursor) (Found s.number) s)
+near_moves cursor spot v low None low_is at inside less near right = tt
+near_moves cursor spot v low (Some s) low_is at inside less near right =
+    let xs = sequence_items cursor.sequence in
+    let words = cursor.sequence.words.now in
+    let n = cursor.sequence.len in
+    let are = right.parts.are in
+    move_found xs words n v (spot_of cursor) are.sequence.rising are.count s inside less
+    (λ here. near xs (subst (λ (l : Lows). ArePartsOf xs n l.width l.words words) (sym low_is) are) (subst (IsSpot xs words) (sym at) here))
 
 -- a number that is found is at least the value
 pub found_at_least : (n v : ℕ) (old : Spot) (answer : Answer ℕ) (new : Spot) → HasMoved n v old answer new → IfFound answer (λ x. v ≤ x)

@@ -3,7 +3,7 @@ use Rattle.std.specs.Prelude.{◌≡◌, ℕ, ◌≤◌, List, drop}
 use Rattle.bitm_tables.specs.declared.answer.Answer.{Answer}
 use Rattle.elias_fano.specs.LentParts.{Holds}
 use Rattle.elias_fano.specs.Parts.{items_of}
-use Rattle.postings.specs.Moves.{IfFound, IsAnswered, IsHere}
+use Rattle.postings.specs.Moves.{IfFound, IsAnswered, IsHere, IsMove}
 use Rattle.postings.specs.declared.spot.Spot.{Spot}
 use Rattle.postings.specs.declared.merged.Merged.{Merged}
 use Rattle.postings.specs.declared.merged.Merged.TheVariants.{Done, Wrong}
@@ -32,6 +32,10 @@ pub record IsRight (cursor : Cursor) : Type 0 where
   pub sized : IsSequenceSized cursor.sequence
   pub parts : Holds (sequence_items cursor.sequence) (lent_parts cursor.sequence)
   pub here : IsHere (sequence_items cursor.sequence) cursor.sequence.words.now cursor.sequence.len (spot_of cursor)
+
+-- from a spot of the sequence to the first number from there on that is at least v
+abbrev pub IsMoveIn : Sequence → ℕ → Spot → Answer ℕ → Spot → Type 0
+IsMoveIn sequence v old answer new = IsMove (sequence_items sequence) sequence.words.now sequence.len v old answer new
 
 -- the first number from the cursor on that is at least v, where the cursor is right; a number that is at least v
 -- whatever it holds

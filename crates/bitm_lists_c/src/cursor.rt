@@ -1,14 +1,14 @@
 //! A cursor over a sequence as C passes it.
-ghost use Rattle.std.specs.Prelude.{◌≡◌, ◌≤◌, SomeIff};
+ghost use Rattle.std.specs.Prelude.{◌≡◌, ◌<◌, ◌≤◌, IfSome, SomeIff};
 ghost use Rattle.bitm_abi.specs.Sequence.{lent_parts, IsSequenceSized};
 ghost use Rattle.postings.specs.Moves.{IfFound, IsAnswered};
-ghost use Rattle.bitm_lists_c.specs.Cursor.{left_in, spot_of, IsRight};
+ghost use Rattle.bitm_lists_c.specs.Cursor.{left_in, spot_of, IsMoveIn, IsRight};
 
 use bitm_abi::Sequence;
 use bitm_tables::answer::Answer;
 use elias_fano::LowDigits;
 use lent_tables::Lent;
-use postings::{Spot, TotalCursor, total_next_on};
+use postings::{Spot, TotalCursor, near_in_word, total_next_on};
 
 /// A cursor over a sequence in the caller's memory: the sequence, and where the cursor stands in it. Both may hold any
 /// numbers.
@@ -40,9 +40,69 @@ impl<'a> Cursor<'a> {
         }
     }
 
-    /// Moves to the first number from the cursor on that is at least `v`, and answers it.
+    /// Where the cursor stands.
+    #[inline(always)]
+    fn spot(&self) -> Spot
+        ensures { result ≡ spot_of self.now }
+    {
+        Spot {
+            at: self.index,
+            one: self.position,
+            number: self.number,
+        }
+    }
+
+    /// The position of the first number that is at least `v`, which is more than the number at the cursor, where it is
+    /// one of the next four and stands in the word of the cursor's 1 bit. No length of the sequence is tested but those
+    /// that are needed.
+    #[inline(always)]
+    fn near(&self, v: u64) -> Option<Spot>
+        requires { self.now.number < v }
+        ensures near { IsRight self.now
+            → IfSome result (λ s. IsMoveIn self.now.sequence v (spot_of self.now) (Answer.Found s.number) s) }
+        ensures at_least { IfSome result (λ s. v ≤ s.number) }
+    {
+        if self.sequence.width > 63 {
+            return None;
+        }
+        let mut low = LowDigits::new(self.sequence.low, self.sequence.width as u8);
+        if self.index >= self.sequence.len || !low.has(self.sequence.len) {
+            return None;
+        }
+        near_in_word(
+            self.sequence.words,
+            &mut low,
+            self.sequence.len,
+            self.spot(),
+            v,
+        )
+    }
+
+    /// Moves to the first number from the cursor on that is at least `v`, and answers it: inside the word of the
+    /// cursor's 1 bit where it is near, else by `seek`.
     #[inline]
-    pub(crate) fn advance(&mut self, upper: &Lent<'_>, v: u64) -> Answer<u64>
+    fn go(&mut self, v: u64) -> Answer<u64>
+        ensures next { IsRight self.old → IsAnswered (left_in self.old) v result (left_in self.new) }
+        ensures stays { IsRight self.old → IsRight self.new }
+        ensures at_least { IfFound result (λ x. v ≤ x) }
+        ensures sequence { self.new.sequence ≡ self.old.sequence }
+    {
+        if self.number < v
+            && let Some(spot) = self.near(v)
+        {
+            self.stand_at(spot);
+            return Answer::Found(spot.number);
+        }
+        match self.upper() {
+            Some(upper) => self.seek(&upper, v),
+            None => Answer::Wrong,
+        }
+    }
+
+    /// Moves to the first number from the cursor on that is at least `v`, and answers it, by the words after the cursor
+    /// and by selections.
+    #[inline]
+    fn seek(&mut self, upper: &Lent<'_>, v: u64) -> Answer<u64>
         requires sized { IsSequenceSized self.old.sequence }
         requires upper { upper.now ≡ (lent_parts self.old.sequence).upper }
         ensures next { IsRight self.old → IsAnswered (left_in self.old) v result (left_in self.new) }
@@ -51,11 +111,7 @@ impl<'a> Cursor<'a> {
         ensures sequence { self.new.sequence ≡ self.old.sequence }
     {
         let mut low = LowDigits::new(self.sequence.low, self.sequence.width as u8);
-        let mut spot = Spot {
-            at: self.index,
-            one: self.position,
-            number: self.number,
-        };
+        let mut spot = self.spot();
         let answer = total_next_on(
             &mut upper.probe(),
             &mut low,
@@ -95,15 +151,12 @@ impl<'a> TotalCursor for Cursor<'a> {
 
     ghost kept = { λ c. c.sequence };
 
-    #[inline]
+    #[inline(always)]
     fn total_next_geq(&mut self, v: u64) -> Answer<u64> {
         // Where the cursor stays, no length of its sequence matters.
         if self.index < self.sequence.len && self.number >= v {
             return Answer::Found(self.number);
         }
-        match self.upper() {
-            Some(upper) => self.advance(&upper, v),
-            None => Answer::Wrong,
-        }
+        self.go(v)
     }
 }

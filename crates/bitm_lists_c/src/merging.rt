@@ -1,13 +1,18 @@
 //! The intersection and the union of the sequences of several cursors.
-ghost use Rattle.std.specs.Prelude.{◌≡◌, ◌≢◌, ◌<◌, ◌≤◌, ◌↔◌, ◌⊎◌, ℕ, All, IsTrue, map, length, slice_index};
+ghost use Rattle.std.specs.Prelude.{◌≡◌, ◌≢◌, ◌<◌, ◌≤◌, ◌↔◌, ◌⊎◌, ℕ, [], ◌∷◌, All, IsTrue, map, length, slice_index};
 ghost use Rattle.postings.specs.Joined.{AreJoined, IsInSome};
 ghost use Rattle.bit_lists.specs.Kept.{IsKeptFrom};
+ghost use Rattle.postings.specs.Merged.{written_in, IsMerged};
 ghost use Rattle.postings.specs.Shared.{AreInAll, IsInAll};
 ghost use Rattle.bitm_lists_c.specs.Cursor.{left_in, IsCursorSized, IsMergeStatus, IsRight};
 
 use crate::cursor::Cursor;
 use bitm_abi::{BAD_SIZE, OK, WRONG};
-use postings::{Merged, total_intersect, total_union};
+use bitm_tables::answer::Answer;
+use postings::{Merged, least_from, total_intersect, total_union, total_union_of_two};
+
+/// The room from which on the sequences of two cursors are decoded by blocks.
+const ROOM: usize = 64;
 
 /// Whether the sequence of each cursor has the right lengths.
 fn are_sized(cursors: &[Cursor<'_>]) -> bool
@@ -28,6 +33,64 @@ fn tell_merged(merged: Merged, written: &mut usize) -> u32
         }
         Merged::Wrong(_) => WRONG,
     }
+}
+
+/// The union of the sequences of two cursors, from the cursors on, decoded by blocks. No cursor moves.
+fn union_of_two(one: &Cursor<'_>, other: &Cursor<'_>, from: u64, out: &mut [u64]) -> Merged
+    ensures joined { IsRight one.now → IsRight other.now → IsMerged result (λ count.
+        AreJoined (left_in one.now ∷ left_in other.now ∷ []) from count (length out.old) out.new) }
+    ensures most { written_in result ≤ length out.old }
+    ensures rest { IsKeptFrom (written_in result) out.old out.new }
+{
+    let (Some(first), Some(second)) = (one.sequence.lent(), other.sequence.lent()) else {
+        return Merged::Wrong(0);
+    };
+    let one_at = one.index.min(first.len());
+    let other_at = other.index.min(second.len());
+    total_union_of_two(&first, one_at, &second, other_at, from, out)
+}
+
+/// Moves each cursor past the numbers that were written, the first of `out`, by one call for each.
+fn pass(cursors: &mut [Cursor<'_>], from: u64, merged: Merged, out: &[u64]) -> Merged
+    requires { written_in merged ≤ length out.now }
+    ensures merged { All IsRight cursors.old → result ≡ merged }
+    ensures count { written_in result ≡ written_in merged }
+    ensures left { All IsRight cursors.old → (x : ℕ) → from ≤ x → IsInSome (map left_in cursors.old) x
+        → ((k : ℕ) → k < written_in merged → slice_index out.now k < x) → IsInSome (map left_in cursors.new) x }
+    ensures right { All IsRight cursors.old → All IsRight cursors.new }
+    ensures sequences { map (λ c. c.sequence) cursors.new ≡ map (λ c. c.sequence) cursors.old }
+{
+    let Merged::Done(count) = merged else {
+        return merged;
+    };
+    let low = if count == 0 {
+        from
+    } else {
+        out[count - 1].saturating_add(1)
+    };
+    match least_from(cursors, low) {
+        Answer::Wrong => Merged::Wrong(count),
+        _ => merged,
+    }
+}
+
+/// The union of the sequences of several cursors, from the cursors on, which move past the numbers that are written: of
+/// two cursors by blocks where there is room for many numbers.
+fn unite(cursors: &mut [Cursor<'_>], from: u64, out: &mut [u64]) -> Merged
+    ensures joined { All IsRight cursors.old → IsMerged result (λ count.
+        AreJoined (map left_in cursors.old) from count (length out.old) out.new) }
+    ensures most { written_in result ≤ length out.old }
+    ensures rest { IsKeptFrom (written_in result) out.old out.new }
+    ensures left { All IsRight cursors.old → (x : ℕ) → from ≤ x → IsInSome (map left_in cursors.old) x
+        → ((k : ℕ) → k < written_in result → slice_index out.new k < x) → IsInSome (map left_in cursors.new) x }
+    ensures right { All IsRight cursors.old → All IsRight cursors.new }
+    ensures sequences { map (λ c. c.sequence) cursors.new ≡ map (λ c. c.sequence) cursors.old }
+{
+    if cursors.len() != 2 || out.len() < ROOM {
+        return total_union(cursors, from, out);
+    }
+    let merged = union_of_two(&cursors[0], &cursors[1], from, out);
+    pass(cursors, from, merged, out)
 }
 
 /// Writes the numbers from `from` on that stand in the sequence of each cursor, from the cursors on, and how many. A
@@ -87,5 +150,5 @@ pub extern "C" fn bitm_cursors_union(
     if !are_sized(cursors) {
         return WRONG;
     }
-    tell_merged(total_union(cursors, from, out), written)
+    tell_merged(unite(cursors, from, out), written)
 }

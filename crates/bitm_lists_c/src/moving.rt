@@ -8,7 +8,7 @@ ghost use Rattle.bitm_lists_c.specs.Cursor.{left_in, IsNextFromCursor, IsRight};
 use crate::cursor::Cursor;
 use bitm_abi::{BAD_SIZE, OK, WRONG, report};
 use elias_fano::{LowDigits, laws};
-use postings::total_start_on;
+use postings::{TotalCursor, total_start_on};
 
 /// Sets a cursor to the first number of its sequence, or to the end where there is none.
 #[unsafe(no_mangle)]
@@ -42,7 +42,7 @@ pub extern "C" fn bitm_cursor_next(cursor: &mut Cursor<'_>, at_least: u64, out: 
     ensures sequence { cursor.new.sequence ≡ cursor.old.sequence }
 {
     match cursor.upper() {
-        Some(upper) => report(cursor.advance(&upper, at_least), out),
+        Some(_) => report(cursor.total_next_geq(at_least), out),
         None => BAD_SIZE,
     }
 }

@@ -4,7 +4,7 @@ ghost use Rattle.std.specs.List.{Contains};
 ghost use Rattle.elias_fano.specs.Sequence.{IsFirstAtLeast, IsLastAtMost};
 
 use crate::items::Items;
-use crate::predecessor::{contains_by, last_at_most_by};
+use crate::predecessor::last_at_most_by;
 use crate::sequence::Sequence;
 use bitm_select::search::selected::found;
 use bitm_strategies::{Select0ForRank101111, SelectForRank101111};
@@ -45,8 +45,7 @@ impl<S: SelectForRank101111, S0: Select0ForRank101111> Sequence<S, S0> {
     pub fn contains(&self, v: u64) -> bool
         ensures { IsTrue result ↔ Contains self.now.items v }
     {
-        let (mut source, mut low, bits) = self.parts();
-        match contains_by(&mut source, &bits, &mut low, self.len(), v) {
+        match self.has(v) {
             Some(is) => is,
             None => unreachable!(),
         }

@@ -1,7 +1,9 @@
 //! The queries of a sequence, whoever holds it.
-ghost use Rattle.std.specs.Prelude.{◌≡◌, ◌^◌, ◌<◌, ℕ, List, length};
+ghost use Rattle.std.specs.Prelude.{◌≡◌, ◌↔◌, ◌^◌, ◌<◌, ℕ, List, length, IsSomeAnd, IsTrue};
+ghost use Rattle.std.specs.List.{Contains};
 ghost use Rattle.elias_fano.specs.Answers.{IsItem, IsOfPlace, IsPlaceOf, IsSuccessorOf};
 
+use crate::predecessor::contains_by;
 use crate::searching::{first_at_least_by, item_by};
 use crate::sequence::Sequence;
 use bitm_strategies::{Select0ForRank101111, SelectForRank101111};
@@ -32,6 +34,11 @@ pub trait Items {
     fn successor(&self, v: u64) -> Answer<usize>
         ensures inside { IsPlaceOf (len self.now) result }
         ensures answer { (xs : List ℕ) → holds xs self.now → IsSuccessorOf xs v result };
+
+    /// Whether `v` is one of the numbers; where it is numbers in order, never `None`.
+    fn has(&self, v: u64) -> Option<bool>
+        ensures answer { (xs : List ℕ) → holds xs self.now
+            → IsSomeAnd result (λ is. IsTrue is ↔ Contains xs v) };
 }
 
 impl<S: SelectForRank101111, S0: Select0ForRank101111> Items for Sequence<S, S0> {
@@ -54,5 +61,11 @@ impl<S: SelectForRank101111, S0: Select0ForRank101111> Items for Sequence<S, S0>
     fn successor(&self, v: u64) -> Answer<usize> {
         let (mut source, mut low, bits) = self.parts();
         first_at_least_by(&mut source, &bits, &mut low, self.len(), v)
+    }
+
+    #[inline(always)]
+    fn has(&self, v: u64) -> Option<bool> {
+        let (mut source, mut low, bits) = self.parts();
+        contains_by(&mut source, &bits, &mut low, self.len(), v)
     }
 }

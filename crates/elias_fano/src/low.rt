@@ -1,7 +1,7 @@
 //! The low bits of a sequence's numbers. A search reads a fragment by a call that counts it, and by no other.
-ghost use Rattle.std.specs.Prelude.{◌≡◌, ◌+◌, ◌<◌, ◌≤◌, ◌^◌};
+ghost use Rattle.std.specs.Prelude.{◌≡◌, ◌↔◌, ◌+◌, ◌<◌, ◌≤◌, ◌^◌, IsTrue};
 ghost use Rattle.bit_lists.specs.Number.{IsFragmentInRange};
-ghost use Rattle.elias_fano.specs.Low.{fragment, unread};
+ghost use Rattle.elias_fano.specs.Low.{fragment, unread, HasFragments};
 
 use bit_words::words;
 use bitm_tables::source::counts::ReadCounts;
@@ -45,6 +45,16 @@ impl<'a> LowDigits<'a> {
         ensures { result ≡ self.now.width }
     {
         self.width
+    }
+
+    /// Whether there are `n` fragments, of at most 63 bits, and `n` is less than 2^56.
+    #[inline(always)]
+    pub fn has(&self, n: usize) -> bool
+        ensures { IsTrue result ↔ HasFragments self.now n }
+    {
+        n < 1 << 56
+            && self.width <= 63
+            && (n * self.width as usize).div_ceil(64) <= self.words.len()
     }
 
     /// The low bits of number `at`; one more fragment is read.

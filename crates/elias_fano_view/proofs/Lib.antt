@@ -1,5 +1,5 @@
 pub mod CheckLemmas
 pub mod FollowLemmas
-pub mod OnesLemmas
+pub mod RestLemmas
 pub mod RiseLemmas
 pub mod RoomLemmas

@@ -2,6 +2,7 @@ pub mod Checks
 pub mod Error
 pub mod Lists
 pub mod Order
+pub mod Rests
 pub mod Sizes
 pub use Rattle.bit_lists.specs.Bits
 pub use Rattle.bit_lists.specs.Count

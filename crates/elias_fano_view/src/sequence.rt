@@ -321,4 +321,9 @@ impl<'a> Items for LentSequence<'a> {
     fn successor(&self, v: u64) -> Answer<usize> {
         self.first_at_least(v)
     }
+
+    #[inline(always)]
+    fn has(&self, v: u64) -> Option<bool> {
+        self.contains(v)
+    }
 }

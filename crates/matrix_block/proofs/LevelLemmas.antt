@@ -18,6 +18,7 @@ use Rattle.matrix_levels.proofs.lemmas.DecodeLemmas.{any-levels, items-fit, item
 use Rattle.matrix_levels.proofs.lemmas.MakeLemmas.{columns-held, columns-none, level-more, level-none}
 use Rattle.matrix_block.proofs.BlockLemmas.{block_is, parts-are, stands, stands-on, HaveLengths}
 use Rattle.matrix_block.specs.Block.{end_at, lists_in, lower_of_numbers, matrix_head, sections_with, upper_of_numbers, CanHold, HaveQuarters, IsBlockOf, IsSoundBlock, StandsIn}
+use Rattle.matrix_block.specs.Room.{IsRoomOf, MatrixRoom}
 use Rattle.matrix_block.specs.Levelwise.{level_bits, AreLevelsWritten, Completes, HoldsLevels, LevelsRoundTrip, WritesLevel, WritesLevels}
 
 -- the words of the levels, where a block is split at them
@@ -110,6 +111,28 @@ parts-stand n w k old head words gap upper gap2 lower gap3 ones gap4 zeros tail 
 -- whatever the numbers, a call writes the sections of those whose levels stand in the old block
 abbrev pub Stands : ℕ → ℕ → List ℕ → List ℕ → Type 0
 Stands n w old new = (xs : List ℕ) → length xs ≡ n → CanHold xs w → HoldsLevels xs w w old → StandsIn xs w new
+
+-- the sections that stand in the room after the first 40 words
+pub room-stands : (n w : ℕ) (old head source room : List ℕ) (r : MatrixRoom) → length head ≡ 40 → source ≡ drop 40 old → IsRoomOf source n w room r
+    → Stands n w old (head ++ ((r.words ++ r.words_gap) ++ ((r.upper ++ r.upper_gap) ++ ((r.lower ++ r.lower_gap)
+    ++ ((r.ones ++ r.ones_gap) ++ (r.zeros ++ r.zeros_gap))))))
+room-stands n w old head source room r head_len own is =
+    let made = is.copies in
+    parts-stand n w w old head r.words r.words_gap r.upper r.upper_gap r.lower r.lower_gap r.ones r.ones_gap r.zeros r.zeros_gap
+    (record {
+      head_len = head_len;
+      words_len = made.words_len;
+      gap_len = omega (arith, made.words_len, is.words_room);
+      upper_len = made.upper_len;
+      gap2_len = omega (arith, made.upper_len, is.upper_room);
+      lower_len = made.lower_len;
+      gap3_len = omega (arith, made.lower_len, is.lower_room);
+      ones_len = made.ones_len;
+      gap4_len = omega (arith, made.ones_len, is.ones_room);
+      zeros_len = made.zeros_len;
+    })
+    (made.words_are ∙ ap (take (matrix_words n w)) own ∙ sym (words-of old (matrix_words n w)))
+    refl made.indexed made.counts
 
 -- what stands in the front
 pub front-stands : (n w : ℕ) (block front back : List ℕ) → length front ≡ end_at n w → Stands n w (take (end_at n w) block) front

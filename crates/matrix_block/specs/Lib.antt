@@ -2,6 +2,7 @@ pub mod Block
 pub mod Error
 pub mod Levelwise
 pub mod RangeLists
+pub mod Room
 pub use Rattle.lent_levels.specs.Answers
 pub use Rattle.lent_levels.specs.Check
 pub use Rattle.lent_levels.specs.Levels

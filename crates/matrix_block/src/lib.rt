@@ -48,9 +48,9 @@ mod shared;
 mod tallies;
 
 pub use bitm_tables::answer::Answer;
-pub use building::{build, seal_levels, write_tables};
+pub use building::{build, seal_levels, write_tables_after};
 pub use by_levels::{levels_round_trip, write_level};
 pub use error::BuildError;
 pub use lent_levels::LevelsView;
 pub use matrix::MatrixView;
-pub use sections::{Lens, MATRIX, matrix_sections, size};
+pub use sections::{Lens, MATRIX, matrix_room, matrix_sections, size};

@@ -5,6 +5,7 @@ pub mod LeastLemmas
 pub mod MergeLemmas
 pub mod MoveLemmas
 pub mod NextLemmas
+pub mod PairLemmas
 pub mod PartLemmas
 pub mod SharingLemmas
 pub mod SpotLemmas

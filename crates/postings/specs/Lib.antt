@@ -5,3 +5,4 @@ pub mod Spot
 pub mod Moves
 pub mod Held
 pub mod Joined
+pub mod Pair

@@ -22,7 +22,7 @@ fn lesser(one: Option<u64>, other: u64) -> u64
 }
 
 /// The least number from `v` on in any of the lists; each is queried once, up to one that turns out wrong.
-fn least_from<C: TotalCursor>(lists: &mut [C], v: u64) -> Answer<u64>
+pub fn least_from<C: TotalCursor>(lists: &mut [C], v: u64) -> Answer<u64>
     ensures least { All C.right lists.old
         → IsLeastAnswer (map C.left lists.old) (length (map C.left lists.old)) v result }
     ensures keeps { All C.right lists.old → KeepsFrom (map C.left lists.old) (map C.left lists.new) v }

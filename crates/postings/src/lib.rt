@@ -17,23 +17,29 @@
 // - `joining`: the union of lists
 // - `merged`: how a merge of lists ends
 // - `near`: the next number of a sequence that is at least a value, from a position on
+// - `pair`: the union of two sequences
 // - `plain`: a cursor over a slice
 // - `sequence`: a cursor over a sequence
 // - `sharing`: the intersection of lists
 // - `spot`: where a cursor over a sequence stands, and how it moves
+// - `stepping`: a step of a position inside a word
 mod cursor;
 mod joining;
 mod merged;
 mod near;
+mod pair;
 mod plain;
 mod sequence;
 mod sharing;
 mod spot;
+mod stepping;
 
 pub use cursor::{Cursor, TotalCursor};
-pub use joining::{total_union, union};
+pub use joining::{least_from, total_union, union};
 pub use merged::Merged;
+pub use pair::total_union_of_two;
 pub use plain::SliceCursor;
 pub use sequence::Seeker;
 pub use sharing::{intersect, total_intersect};
 pub use spot::{Spot, total_next_on, total_start_on};
+pub use stepping::near_in_word;

@@ -33,6 +33,7 @@ use std::io::Write;
 /// // out has "kind matrix\nlen 6\nwidth 3\nbytes 640\nbits_per_item 853.33\n"
 /// info(alloc, bytes, Form::Text, &mut out);   // Ok(())
 /// ```
+#[tactic(auto, using(program_blocks::proofs::lemmas::RefusalLemmas::old_refused, crate::proofs::lemmas::FormatLemmas::not_sound))]
 pub fn info<W: Write>(alloc: Global, block: &[u8], form: Form, out: &mut W) -> Result<(), Failure>
     ensures written { OnOk result (WroteInfoOfFile form block.now (W.contents out.old) (W.contents out.new)) }
     ensures refused { IfErr (format_in block.now) (λ e. result ≡ Err e) }

@@ -1,6 +1,8 @@
 //! The queries of borrowed positions of 1 bits, which may be anything. A query makes no more searches, and reads no
 //! more positions, than its clause says; sparse bits and views of them answer by these.
-ghost use Rattle.std.specs.Prelude.{◌≡◌, ◌-◌, ◌<◌, ◌≤◌, ℕ, List, length, IfSome, IsSomeAnd, true, false};
+ghost use Rattle.std.specs.Prelude.{◌≡◌, ◌↔◌, ◌-◌, ◌<◌, ◌≤◌, ℕ, List, length, true, false};
+ghost use Rattle.std.specs.Prelude.{IfSome, IsSomeAnd, IsTrue};
+ghost use Rattle.std.specs.List.{Contains};
 ghost use Rattle.bit_lists.specs.Bits.{digit_count};
 ghost use Rattle.bitm_select.specs.Answers.{IsSelected};
 ghost use Rattle.bitm_tables.specs.declared.answer.Answer.TheVariants.{Found, Wrong};
@@ -106,6 +108,17 @@ impl<'a, P: Items> Ones<'a, P> {
         self.positions.successor(v)
     }
 
+    /// Whether `v` is one of the positions. One more search is made.
+    #[inline(always)]
+    fn has(&mut self, v: u64) -> Option<bool>
+        ensures answer { (xs : List ℕ) → P.holds xs self.old.positions
+            → IsSomeAnd result (λ is. IsTrue is ↔ Contains xs v) }
+        ensures counted { self.new ≡ one_more_search self.old }
+    {
+        self.searches.read_word();
+        self.positions.has(v)
+    }
+
     /// How many of the first `index` bits are 1 bits. Whatever the positions are, that is at most `index`, and the
     /// answer is `Absent` exactly where there are fewer bits. Where they are positions of 1 bits, it is never `Wrong`.
     ///
@@ -168,12 +181,14 @@ impl<'a, P: Items> Ones<'a, P> {
         ensures bit { (xs : List ℕ)
             → ArePlacesHeld xs (P.holds xs self.old.positions) self.old.len
             → IsBitOf (bits_at self.old.len 0 xs) place result }
-        ensures queries { LooksAtMost self.old self.new 1 1 }
+        ensures queries { LooksAtMost self.old self.new 1 0 }
     {
-        match self.bit_and_rank_in(place) {
-            Answer::Found((bit, _)) => Answer::Found(bit),
-            Answer::Absent => Answer::Absent,
-            Answer::Wrong => Answer::Wrong,
+        if place >= self.len() {
+            return Answer::Absent;
+        }
+        match self.has(place as u64) {
+            Some(bit) => Answer::Found(bit),
+            None => Answer::Wrong,
         }
     }
 

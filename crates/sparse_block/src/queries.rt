@@ -64,7 +64,7 @@ impl<'a> SparseView<'a> {
     /// Where it holds bits, the answer is never `Wrong`.
     ///
     /// # Cost
-    /// One search for a successor, and at most one position is read (`sparse_bits::Ones::bit_in` has the clause).
+    /// One search for the position (`sparse_bits::Ones::bit_in` has the clause).
     ///
     /// ```
     /// bits.get_bit(100);   // Found(true)

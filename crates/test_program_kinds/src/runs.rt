@@ -150,3 +150,49 @@ fn a_flush_that_fails_is_told(rt: HostRuntime) -> Result<(), Fail> {
     assert!(rt; err.as_slice() == b"bitm: cannot write\n".as_slice());
     Ok(())
 }
+
+/// The words of a file of version 2 that has no items.
+fn of_version_2() -> [u64; 24] {
+    [
+        0x0262_6174_6d74_6962,
+        1,
+        0,
+        0,
+        192,
+        0,
+        0,
+        192,
+        0,
+        192,
+        0,
+        192,
+        0,
+        192,
+        0,
+        192,
+        0,
+        192,
+        0,
+        192,
+        0,
+        192,
+        0,
+        0x6b2b_60c3_7795_fbb7,
+    ]
+}
+
+#[test]
+fn a_file_of_version_2_is_checked_by_its_parts(rt: HostRuntime) -> Result<(), Fail> {
+    let mut file = file_of(&rt, &of_version_2())?;
+    let good = "good: the parts fit each other (version 2, which has no checksum of them)\n";
+    expect_start(
+        &rt,
+        file.as_slice(),
+        &["check", "held.block"],
+        0,
+        (good, ""),
+    )?;
+    file[8] ^= 2;
+    let wrong = ("wrong\n", "");
+    expect_start(&rt, file.as_slice(), &["check", "held.block"], 1, wrong)
+}

@@ -1,64 +1,60 @@
 //! The numbers from an index on, by one walk over the words of the high bits.
-ghost use Rattle.std.specs.Prelude.{◌≡◌, ◌+◌, ◌-◌, ◌*◌, ◌/◌, ◌^◌, ◌<◌, ◌≤◌, ℕ, List, true, false, length, min};
-ghost use Rattle.std.specs.Prelude.{slice_index, IfSome, MatchOption};
-ghost use Rattle.bit_lists.specs.Bits.{item, IsShort};
-ghost use Rattle.bit_lists.specs.Count.{ones_before, ones_of, IsFirstFrom, Picks};
+ghost use Rattle.std.specs.Prelude.{◌≡◌, ◌+◌, ◌-◌, ◌*◌, ◌/◌, ◌^◌, ◌<◌, ◌≤◌, ℕ, List};
+ghost use Rattle.std.specs.Prelude.{count_ones, length, min, true};
+ghost use Rattle.bit_lists.specs.Bits.{bits_of, IsShort};
+ghost use Rattle.bit_lists.specs.Count.{ones_before, ones_of, Picks};
+ghost use Rattle.bit_lists.specs.Kept.{IsKeptFrom};
 ghost use Rattle.bitm_tables.specs.Reads.{OnlyReads, ReadsAtMost};
 ghost use Rattle.bitm_tables.specs.Tables.{bits_in};
-ghost use Rattle.elias_fano.specs.Parts.{ArePartsOf, HasFragment};
 ghost use Rattle.elias_fano.specs.LentParts.{Holds};
-ghost use Rattle.bit_lists.specs.Kept.{IsKeptFrom};
-ghost use Rattle.elias_fano_view.specs.Lists.{AreItemsFrom};
 ghost use Rattle.elias_fano.specs.Low.{ReadsFragments};
+ghost use Rattle.elias_fano.specs.Parts.{ArePartsOf, HasFragment};
+ghost use Rattle.elias_fano_view.specs.Lists.{AreItemsFrom};
+ghost use Rattle.elias_fano_view.specs.Rests.{IsRestFrom};
 
 use crate::sequence::LentSequence;
-use bit_words::words;
+use bit_words::n_lowest_bits;
 use bitm_selection::{Hints, hinted_select_on};
 use bitm_tables::answer::Answer;
 use bitm_tables::source::{Probe, TableSource};
 use elias_fano::LowDigits;
 use elias_fano::building::item_at_one;
 
-/// The position of the first 1 bit from position `from` on, and the word that has it; `None` exactly where there is
-/// none.
+/// Writes numbers `begin` up to `end` of those from number `from` on, by the first 1 bits of `rest`: what word `at` has
+/// from the 1 bit of number `begin` on. Where it is something else, these are some numbers.
 ///
 /// # Conditions
-/// `word` is word `at` of the source, and `from` is the position of one of its bits or of the bit after them; there are
-/// fewer than 2^58 words.
+/// `rest` has a 1 bit for each of these numbers, the low words a fragment, and `out` room.
 /// # Cost
-/// Reads the words after word `at` up to the word with that 1 bit, or to the last.
+/// Reads the low bits of each number.
 #[inline(always)]
-fn next_one_on<T: TableSource>(
-    source: &mut T,
+fn write_ones_of(
+    rest: u64,
     at: usize,
-    word: u64,
+    low: &mut LowDigits<'_>,
     from: usize,
-) -> Option<(usize, u64)>
-    requires short { IsShort (T.lists source.old).words }
-    requires at { at < length (T.lists source.old).words }
-    requires word { word ≡ slice_index (T.lists source.old).words at }
-    requires low { 64 * at ≤ from }
-    requires near { from ≤ 64 * at + 64 }
-    ensures one { let b = bits_in (T.lists source.old) in MatchOption result
-        ((p : ℕ) → from ≤ p → p < length b → item b p ≡ false)
-        (λ next. IsFirstFrom b true from next.0) }
-    ensures word { IfSome result (λ next.
-        next.1 ≡ slice_index (T.lists source.old).words (next.0 / 64)) }
-    ensures reads { IfSome result (λ next.
-        ReadsAtMost (T.reads source.old) (T.reads source.new) 0 0 (next.0 / 64 - at)) }
-    ensures all { OnlyReads T.lists T.reads source.old source.new 0 0
-        (length (T.lists source.old).words - (at + 1)) }
+    begin: usize,
+    end: usize,
+    out: &mut [u64],
+)
+    requires at { at + 1 < 2 ^ 58 }
+    requires order { begin ≤ end }
+    requires ones { end ≤ begin + count_ones rest }
+    requires some { (i : ℕ) → i < from + end → HasFragment low.old.words i low.old.width }
+    requires room { end ≤ length out.old }
+    ensures items { (xs : List ℕ) (n : ℕ) (upper : List ℕ) (place : ℕ)
+        → ArePartsOf xs n low.old.width low.old.words upper → from + end ≤ n
+        → IsRestFrom upper place at rest → ones_before (bits_of upper) place ≡ from + begin
+        → AreItemsFrom xs from begin out.old → AreItemsFrom xs from end out.new }
+    ensures kept { IsKeptFrom end out.old out.new }
+    ensures fragments { ReadsFragments low.old low.new (end - begin) }
 {
-    if let Some(place) = words::find_bit_one(&[word], from - 64 * at) {
-        return Some((64 * at + place, word));
+    let mut left = rest;
+    for k in begin..end {
+        let one = 64 * at + left.trailing_zeros() as usize;
+        out[k] = item_at_one(one, &mut *low, from + k);
+        left &= left - 1;
     }
-    for k in at + 1..source.words_len() {
-        let next = source.word(k);
-        if let Some(place) = words::find_bit_one(&[next], 0) {
-            return Some((64 * k + place, next));
-        }
-    }
-    None
 }
 
 /// Writes the `most` numbers from number `from` on, whose 1 bits start at bit `first` of the source's words, or fewer
@@ -94,20 +90,18 @@ fn write_items_on<T: TableSource>(
         → Picks (bits_in (T.lists source.old)) true (ones_before (bits_in (T.lists source.old)) first + (most - 1)) p
         → ReadsAtMost (T.reads source.old) (T.reads source.new) 0 0 (p / 64 + 1 - first / 64) }
 {
-    let mut at = first / 64;
-    let mut word = source.word(at);
-    let mut place = first;
-    for k in 0..most {
-        let (one, held) = match next_one_on(source, at, word, place) {
-            Some(next) => next,
-            None => return k,
-        };
-        out[k] = item_at_one(one, &mut *low, from + k);
-        at = one / 64;
-        word = held;
-        place = one + 1;
+    let mut done = 0;
+    for at in first / 64..source.words_len() {
+        // Only the word of bit `first` has bits before it.
+        let rest = source.word(at) & !n_lowest_bits(first.saturating_sub(64 * at) as u8);
+        let end = done + (rest.count_ones() as usize).min(most - done);
+        write_ones_of(rest, at, &mut *low, from, done, end, &mut *out);
+        done = end;
+        if done == most {
+            return most;
+        }
     }
-    most
+    done
 }
 
 impl<'a> LentSequence<'a> {

@@ -3,7 +3,7 @@ use Rattle.std.proofs.Common.{◌≡◌, ℕ, zero, suc, ◌+◌, ◌-◌, ◌<�
 use Rattle.std.proofs.lemmas.Bool.{cases_lt, cases_eq, eqb-true, ne_eqb, false_from_ne_true}
 use Rattle.std.proofs.lemmas.List.{get_or_default}
 use Rattle.std.specs.List.{All, Contains}
-use Rattle.std.specs.Prelude.{if◌then◌else◌, ◌==◌}
+use Rattle.std.specs.Prelude.{if◌then◌else◌, ◌==◌, ◌↔◌, IsTrue}
 use Rattle.bit_lists.proofs.BitLaws.{places_are_picked, places_are_counted, places_rise, counts_grow, count_after_item, ones_and_zeros, picked_by_rank, at_most_one_picked}
 use Rattle.bit_lists.specs.Bits.{item}
 use Rattle.elias_fano.specs.Sequence.{Reaches}
@@ -231,6 +231,10 @@ module _ (len : ℕ) (xs : List ℕ) (h : ArePlaces len 0 xs) where
   pub bit_none : (p : ℕ) → p < len → All (λ x. x < p) xs → item (bits_at len 0 xs) p ≡ false
   bit_none p inside all =
       zero_between (bits_at len 0 xs) xs is p (length xs) (omega (arith, inside, bits_count)) (omega arith) (λ j l. all j 0 l) (λ j from l. absurd (omega (arith, from, l)))
+
+  -- a bit is 1 where its position is one of the numbers
+  pub bit_held : (p : ℕ) (t : Bool) → p < len → (IsTrue t ↔ Contains xs p) → t ≡ item (bits_at len 0 xs) p
+  bit_held p t inside held = item_contains (bits_at len 0 xs) xs is p t (omega (arith, inside, bits_count)) held.0 held.1
 
   pub select_some : (r : ℕ) → r < length xs → Picks (bits_at len 0 xs) true r (get_or xs r 0)
   select_some r l = picked_at (bits_at len 0 xs) xs is r l

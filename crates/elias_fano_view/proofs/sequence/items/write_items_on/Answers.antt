@@ -1,153 +1,147 @@
--- Each step gives the next of the ones, that of the next number.
-use Rattle.std.proofs.Common.{◌≡◌, ◌≢◌, ℕ, ◌+◌, ◌-◌, ◌/◌, ◌<◌, ◌≤◌, true, false, List, length, get_or, slice_index, refl, sym, subst, ap, ◌∙◌, arith}
-use Rattle.std.proofs.lemmas.List.{get_or-set_other}
-use Rattle.bit_lists.proofs.BitLaws.{at_most_one_picked, bits_are_counted}
-use Rattle.bit_lists.proofs.Callers.{ones_grow}
-use Rattle.bit_lists.proofs.lemmas.PickLemmas.{rank_below}
-use Rattle.bit_lists.specs.Bits.{item}
-use Rattle.bit_lists.specs.Count.{ones_before, IsFirstFrom, Picks}
-use Rattle.bitm_tables.specs.Reads.{ReadsAtMost}
+-- What each word has from the first bit on are the 1 bits of the next numbers.
+use Rattle.std.proofs.Common.{◌≡◌, ℕ, ◌+◌, ◌-◌, ◌*◌, ◌^◌, ◌<◌, ◌≤◌, true, max, List, length, get_or, bit_and, count_ones, w64, refl, sym, subst, ap, ◌∙◌, arith, rules}
+use Rattle.std.specs.Int.{bit_not}
+use Rattle.bit_lists.proofs.BitLaws.{bits_are_counted}
+use Rattle.bit_lists.proofs.lemmas.PickLemmas.{from-Picks, rank_below}
+use Rattle.bit_lists.specs.Count.{ones_before}
 use Rattle.bitm_tables.specs.Tables.{bits_in, Lists}
-use Rattle.bit_slices.proofs.lemmas.PositionLemmas.{placed_more}
+use Rattle.bit_slices.proofs.lemmas.PositionLemmas.{few_before}
 use Rattle.elias_fano.proofs.lemmas.UpperLemmas.{ones_are}
-use Rattle.elias_fano.specs.Parts.{HasOneAt}
-use Rattle.elias_fano_view.proofs.OnesLemmas.{all-counted, first-next, first-picked}
+use Rattle.elias_fano.specs.Parts.{ArePartsOf}
+use Rattle.elias_fano_view.proofs.RestLemmas.{masked-rest, rest-ones}
+use Rattle.elias_fano_view.specs.Lists.{AreItemsFrom}
+use Rattle.elias_fano_view.specs.Rests.{IsRestFrom}
 use Rattle.elias_fano_view.proofs.sequence.items.write_items_on.Goals as goal
-use Rattle.elias_fano_view.proofs.sequence.items.write_items_on.Goals.{In-None}
+use Rattle.elias_fano_view.proofs.sequence.items.write_items_on.Goals.{After-loop-at, After-write_ones_of}
 
-pub word-word-requires : goal.word-word-requires
-word-word-requires g c = omega (arith, c.requires.first, bits_are_counted (g.T.TableSource.lists c.args.source.now).words)
+-- ---- one word
 
-pub loop-k-init : goal.loop-k-init
-loop-k-init g c = record {
-  at_inside = omega (arith, c.requires.first, bits_are_counted (g.T.TableSource.lists c.args.source.now).words);
-  word_is = c.word-word.ensures.item;
-  low_end = omega arith;
-  near = omega arith;
-  count = omega arith;
-  last = λ some. absurd (omega (arith, some));
-  begin = omega arith;
-  items = λ xs n parts room begin j less. absurd (omega (arith, less));
-  kept = λ j past. refl;
-  fragments = record { at_most = omega arith; words = refl; width = refl };
-  same = c.word-word.ensures.same;
-  reads = record {
-    upper = omega (arith, ap (λ r. r.upper) c.word-word.ensures.counted);
-    lower = omega (arith, ap (λ r. r.lower) c.word-word.ensures.counted);
-    words = omega (arith, ap (λ r. r.words) c.word-word.ensures.counted);
-    upper_kept = omega (arith, ap (λ r. r.upper) c.word-word.ensures.counted);
-    lower_kept = omega (arith, ap (λ r. r.lower) c.word-word.ensures.counted);
-    words_kept = omega (arith, ap (λ r. r.words) c.word-word.ensures.counted);
-  };
-}
+read : (g : _) (c : After-write_ones_of g) → c.word.result ≡ get_or (g.T.TableSource.lists c.args.source.now).words c.loop-at.at 0
+read g c = c.word.ensures.item ∙ ap (λ (l : Lists). get_or l.words c.loop-at.at 0) c.loop-at.invariant.same
 
-pub overflow_add-place : goal.overflow_add-place
-overflow_add-place g c =
-    let lists = g.T.TableSource.lists c.loop-k.source in
+left : (g : _) (c : After-write_ones_of g)
+    → IsRestFrom (g.T.TableSource.lists c.args.source.now).words (max c.args.first (64 * c.loop-at.at)) c.loop-at.at
+    (bit_and c.word.result (bit_not w64 c.n_lowest_bits.result))
+left g c =
+    let at = c.loop-at.at in
+    let fits : c.word.result < 2 ^ 64 = search rules in
+    let skipped : c.saturating_sub.result ≡ max c.args.first (64 * at) - 64 * at = omega (arith, c.saturating_sub.ensures) in
+    masked-rest (g.T.TableSource.lists c.args.source.now).words (max c.args.first (64 * at)) at c.word.result c.n_lowest_bits.result
+    (omega (arith, c.loop-at-test.true, c.words_len-at-end.ensures)) (omega arith) (omega (arith, c.loop-at.auto.at)) (read g c) fits
+    (c.n_lowest_bits.ensures ∙ ap (λ d. 2 ^ d - 1) skipped)
+
+counted : (g : _) (c : After-write_ones_of g) → let b = bits_in (g.T.TableSource.lists c.args.source.now) in
+    ones_before b (max c.args.first (64 * c.loop-at.at)) + count_ones (bit_and c.word.result (bit_not w64 c.n_lowest_bits.result))
+    ≡ ones_before b (64 * (c.loop-at.at + 1))
+counted g c =
+    let fits : c.word.result < 2 ^ 64 = search rules in
+    rest-ones (g.T.TableSource.lists c.args.source.now).words _ c.loop-at.at _ (left g c) (omega (arith, read g c, fits))
+
+written : (g : _) (c : After-write_ones_of g) (xs : List ℕ) (n : ℕ) → let lists = g.T.TableSource.lists c.args.source.now in
+    ArePartsOf xs n c.args.low.now.width c.args.low.now.words lists.words → c.args.from + c.args.most ≤ n
+    → ones_before (bits_in lists) c.args.first ≡ c.args.from
+    → AreItemsFrom xs c.args.from (c.loop-at.done + c.min.result) c.write_ones_of.new.out
+written g c xs n parts room begin =
+    let words = (g.T.TableSource.lists c.args.source.now).words in
+    let i = c.loop-at.invariant in
+    let W : ℕ → Type 0 = λ w. ArePartsOf xs n w c.args.low.now.words words in
+    let L : List ℕ → Type 0 = λ ws. ArePartsOf xs n c.loop-at.low.width ws words in
+    let here = subst L (sym i.fragments.words) (subst W (sym i.fragments.width) parts) in
+    c.write_ones_of.ensures.items xs n words (max c.args.first (64 * c.loop-at.at)) here (omega (arith, room, c.min.ensures, i.most))
+    (left g c) (omega (arith, i.count, begin)) (i.items xs n parts room begin)
+
+pub loop-at-preserved : goal.loop-at-preserved
+loop-at-preserved g c =
+    let d = (goal.at.loop-at-preserved g c).After-write_ones_of in
+    let b = bits_in (g.T.TableSource.lists c.args.source.now) in
+    let i = c.loop-at.invariant in
+    let next : max c.args.first (64 * (c.loop-at.at + 1)) ≡ 64 * (c.loop-at.at + 1) = omega (arith, c.loop-at.auto.at) in
+    let some = c.write_ones_of.ensures.fragments in
     record {
-      fits = omega (arith, c.in-Some.ensures.one.inside, bits_are_counted lists.words, ap (λ (l : Lists). length l.words) c.loop-k.invariant.same, c.requires.short);
-    }
-
-pub loop-k-preserved : goal.loop-k-preserved
-loop-k-preserved g c =
-    let lists = g.T.TableSource.lists c.args.source.now in
-    let b = bits_in lists in
-    let i = c.loop-k.invariant in
-    let k = c.loop-k.k in
-    let one = c.in-Some.next.0 in
-    let F : Lists → Type 0 = λ m. IsFirstFrom (bits_in m) true c.loop-k.place one in
-    let first : IsFirstFrom b true c.loop-k.place one = subst F i.same c.in-Some.ensures.one in
-    let rank_is : ones_before b c.loop-k.place ≡ ones_before b c.args.first + (k + 1 - 1) = omega (arith, i.count) in
-    let place_is : one ≡ one + 1 - 1 = omega arith in
-    let R : ℕ → Type 0 = λ r. Picks b true r one in
-    let P : ℕ → Type 0 = λ p. Picks b true (ones_before b c.args.first + (k + 1 - 1)) p in
-    let read = c.item_at_one.ensures.fragments in
-    let words_read = c.in-Some.ensures.reads in
-    record {
-      at_inside = omega (arith, first.inside, bits_are_counted lists.words);
-      word_is = c.in-Some.ensures.word ∙ ap (λ (l : Lists). slice_index l.words (one / 64)) i.same;
-      low_end = omega arith;
-      near = omega arith;
-      count = omega (arith, first-next b c.loop-k.place one first, i.count);
-      last = λ some. (subst P place_is (subst R rank_is (first-picked b c.loop-k.place one first)), ap (λ (p : ℕ). p / 64) place_is);
-      begin = omega (arith, i.begin, i.low_end, first.from);
-      items = λ xs n parts room begin.
-          let is : ones_before b c.loop-k.place ≡ c.args.from + k = omega (arith, i.count, begin) in
-          let picked = subst R is (first-picked b c.loop-k.place one first) in
-          let here : HasOneAt xs n c.args.low.now.width c.args.low.now.words lists.words (c.args.from + k) one =
-          record { parts = parts; inside = omega (arith, room, c.loop-k-test.true, c.loop-k.auto.k-end); one = picked } in
-          let W : ℕ → Type 0 = λ w. HasOneAt xs n w c.args.low.now.words lists.words (c.args.from + k) one in
-          let L : List ℕ → Type 0 = λ ws. HasOneAt xs n c.loop-k.low.width ws lists.words (c.args.from + k) one in
-          let number = c.item_at_one.ensures.item xs n lists.words (subst L (sym i.fragments.words) (subst W (sym i.fragments.width) here)) in
-          placed_more (λ j x. x ≡ get_or xs (c.args.from + j) 0) c.loop-k.out k c.item_at_one.result (i.items xs n parts room begin)
-          (omega (arith, c.requires.room, c.loop-k-test.true, c.loop-k.auto.k-end, c.loop-k.auto.out)) number;
-      kept = λ j past.
-          let other : j ≢ k = λ e. omega (arith, e, past) in
-          get_or-set_other c.loop-k.out k j c.item_at_one.result 0 other ∙ i.kept j (omega (arith, past));
+      count = omega (arith, ap (ones_before b) next, counted g d, i.count, c.min.ensures, c.if-done-most.false);
+      most = omega (arith, i.most, c.min.ensures);
+      more = λ _. omega (arith, i.most, c.min.ensures, c.if-done-most.false);
+      items = written g d;
+      kept = λ j past. c.write_ones_of.ensures.kept.1 j past ∙ i.kept j (omega (arith, past));
       fragments = record {
-        at_most = omega (arith, read.at_most, i.fragments.at_most);
-        words = read.words ∙ i.fragments.words;
-        width = read.width ∙ i.fragments.width;
+        at_most = omega (arith, some.at_most, i.fragments.at_most);
+        words = some.words ∙ i.fragments.words;
+        width = some.width ∙ i.fragments.width;
       };
-      same = c.in-Some.ensures.all.same ∙ i.same;
+      same = c.word.ensures.same ∙ i.same;
       reads = record {
-        upper = omega (arith, i.reads.upper, words_read.upper);
-        lower = omega (arith, i.reads.lower, words_read.lower);
-        words = omega (arith, i.reads.words, words_read.words, i.begin, i.low_end, first.from);
-        upper_kept = omega (arith, i.reads.upper_kept, words_read.upper_kept);
-        lower_kept = omega (arith, i.reads.lower_kept, words_read.lower_kept);
-        words_kept = omega (arith, i.reads.words_kept, words_read.words_kept);
+        upper = omega (arith, i.reads.upper, ap (λ r. r.upper) c.word.ensures.counted);
+        lower = omega (arith, i.reads.lower, ap (λ r. r.lower) c.word.ensures.counted);
+        words = omega (arith, i.reads.words, ap (λ r. r.words) c.word.ensures.counted, c.loop-at.auto.at);
+        upper_kept = omega (arith, i.reads.upper_kept, ap (λ r. r.upper) c.word.ensures.counted);
+        lower_kept = omega (arith, i.reads.lower_kept, ap (λ r. r.lower) c.word.ensures.counted);
+        words_kept = omega (arith, i.reads.words_kept, ap (λ r. r.words) c.word.ensures.counted);
       };
     }
 
--- where there is no next one, all are counted
-none_left : (g : _) (c : In-None g) → let b = bits_in (g.T.TableSource.lists c.args.source.now) in ones_before b (length b) ≡ ones_before b c.args.first + c.loop-k.k
-none_left g c =
-    let lists = g.T.TableSource.lists c.args.source.now in
-    let i = c.loop-k.invariant in
-    let Z : Lists → Type 0 = λ m. (p : ℕ) → c.loop-k.place ≤ p → p < length (bits_in m) → item (bits_in m) p ≡ false in
-    let zeros : Z lists = subst Z i.same c.in-None.ensures.one in
-    all-counted (bits_in lists) c.loop-k.place (omega (arith, i.near, i.at_inside, bits_are_counted lists.words)) zeros ∙ i.count
+-- ---- where all are written
 
-pub returns-in-None-clause-items : goal.returns-in-None-clause-items
-returns-in-None-clause-items g c = λ xs n parts room begin.
-    let all = ones_are xs c.args.low.now.width (g.T.TableSource.lists c.args.source.now).words parts.upper_is in
-    absurd (omega (arith, none_left g c, all, begin, room, parts.count, c.loop-k-test.true, c.loop-k.auto.k-end))
+pub returns-then-done-most-clause-ones : goal.returns-then-done-most-clause-ones
+returns-then-done-most-clause-ones g c =
+    let d = (goal.at.returns-then-done-most-clause-ones g c).After-write_ones_of in
+    let among = few_before (bits_in (g.T.TableSource.lists c.args.source.now)) true (64 * (c.loop-at.at + 1)) in
+    omega (arith, among, counted g d, c.loop-at.invariant.count, c.min.ensures, c.if-done-most.true)
 
-pub returns-in-None-clause-ones : goal.returns-in-None-clause-ones
-returns-in-None-clause-ones g c = omega (arith, none_left g c, c.loop-k-test.true, c.loop-k.auto.k-end)
+pub returns-then-done-most-clause-items : goal.returns-then-done-most-clause-items
+returns-then-done-most-clause-items g c = λ xs n parts room begin.
+    let d = (goal.at.returns-then-done-most-clause-items g c).After-write_ones_of in
+    (refl, λ j less. written g d xs n parts room begin j (omega (arith, less, c.if-done-most.true)))
 
-pub returns-in-None-clause-once : goal.returns-in-None-clause-once
-returns-in-None-clause-once g c p some picked =
-    absurd (omega (arith, rank_below (bits_in (g.T.TableSource.lists c.args.source.now)) true _ p picked, none_left g c, c.loop-k-test.true, c.loop-k.auto.k-end))
+pub returns-then-done-most-clause-once : goal.returns-then-done-most-clause-once
+returns-then-done-most-clause-once g c p some picked =
+    let b = bits_in (g.T.TableSource.lists c.args.source.now) in
+    let i = c.loop-at.invariant in
+    let from = from-Picks b true (max c.args.first (64 * c.loop-at.at)) _ p (omega (arith, i.count, i.more some)) picked in
+    record {
+      upper = omega (arith, i.reads.upper, ap (λ r. r.upper) c.word.ensures.counted);
+      lower = omega (arith, i.reads.lower, ap (λ r. r.lower) c.word.ensures.counted);
+      words = omega (arith, i.reads.words, ap (λ r. r.words) c.word.ensures.counted, c.loop-at.auto.at, from);
+      upper_kept = omega (arith, i.reads.upper_kept, ap (λ r. r.upper) c.word.ensures.counted);
+      lower_kept = omega (arith, i.reads.lower_kept, ap (λ r. r.lower) c.word.ensures.counted);
+      words_kept = omega (arith, i.reads.words_kept, ap (λ r. r.words) c.word.ensures.counted);
+    }
+
+-- ---- where no word is left
+
+all : (g : _) (c : After-loop-at g) → let b = bits_in (g.T.TableSource.lists c.args.source.now) in
+    ones_before b (length b) ≡ ones_before b c.args.first + c.loop-at.done
+all g c =
+    let b = bits_in (g.T.TableSource.lists c.args.source.now) in
+    let bits = bits_are_counted (g.T.TableSource.lists c.args.source.now).words in
+    let end : max c.args.first (64 * c.loop-at.at) ≡ length b =
+    omega (arith, bits, c.requires.first, c.loop-at-test.false, c.loop-at.auto.at-end, c.words_len-at-end.ensures) in
+    ap (ones_before b) (sym end) ∙ c.loop-at.invariant.count
 
 pub returns-clause-ones : goal.returns-clause-ones
-returns-clause-ones g c =
-    let lists = g.T.TableSource.lists c.args.source.now in
-    let b = bits_in lists in
-    let i = c.loop-k.invariant in
-    omega (
-      arith,
-      ones_grow b c.loop-k.place (length b) (omega (arith, i.near, i.at_inside, bits_are_counted lists.words)),
-      i.count,
-      c.loop-k-test.false,
-      c.loop-k.auto.k-end,
-    )
+returns-clause-ones g c = omega (arith, all g c, c.loop-at.invariant.most)
 
 pub returns-clause-items : goal.returns-clause-items
 returns-clause-items g c = λ xs n parts room begin.
-    (refl, λ j less. c.loop-k.invariant.items xs n parts room begin j (omega (arith, less, c.loop-k-test.false)))
+    let here = ones_are xs c.args.low.now.width (g.T.TableSource.lists c.args.source.now).words parts.upper_is in
+    (omega (arith, all g c, here, begin, room, parts.count, c.loop-at.invariant.most), c.loop-at.invariant.items xs n parts room begin)
+
+pub returns-clause-reads : goal.returns-clause-reads
+returns-clause-reads g c =
+    let i = c.loop-at.invariant in
+    let bits = bits_are_counted (g.T.TableSource.lists c.args.source.now).words in
+    record {
+      at_most = record {
+        upper = i.reads.upper;
+        lower = i.reads.lower;
+        words = omega (arith, i.reads.words, c.loop-at.auto.at-end, c.words_len-at-end.ensures, c.requires.first, bits);
+        upper_kept = i.reads.upper_kept;
+        lower_kept = i.reads.lower_kept;
+        words_kept = i.reads.words_kept;
+      };
+      same = i.same;
+    }
 
 pub returns-clause-once : goal.returns-clause-once
 returns-clause-once g c p some picked =
     let b = bits_in (g.T.TableSource.lists c.args.source.now) in
-    let i = c.loop-k.invariant in
-    let last = i.last (omega (arith, some, c.loop-k-test.false)) in
-    let rank_is : ones_before b c.args.first + (c.args.most - 1) ≡ ones_before b c.args.first + (c.loop-k.k - 1) =
-    omega (arith, c.loop-k-test.false, c.loop-k.auto.k-end) in
-    let R : ℕ → Type 0 = λ r. Picks b true r p in
-    let is : p ≡ c.loop-k.place - 1 = at_most_one_picked b true _ p (c.loop-k.place - 1) (subst R rank_is picked) last.0 in
-    let at_is : c.loop-k.at ≡ p / 64 = last.1 ∙ ap (λ (m : ℕ). m / 64) (sym is) in
-    let Q : ℕ → Type 0 = λ n.
-    ReadsAtMost (g.T.TableSource.reads c.args.source.now) (g.T.TableSource.reads c.loop-k.source) 0 0 (n + 1 - c.args.first / 64) in
-    subst Q at_is i.reads
+    absurd (omega (arith, rank_below b true _ p picked, all g c, c.loop-at.invariant.more some))
