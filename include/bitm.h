@@ -820,7 +820,8 @@ BITM_MUST_USE uint32_t bitm_cursor_start(struct bitm_cursor *cursor);
 /* Moves a cursor to the first number from there on that is at least at_least, and writes the number; a cursor whose
  * number is stays. BITM_NONE if each is less: the cursor is at the end then, and remains there. BITM_WRONG if the parts
  * turn out to form no sequence: the cursor stays. Any number that is written is at least at_least, whatever parts and
- * cursor hold. Reads nothing if the cursor stays. Else reads up to 25 words, and 8 fragments of low; and also what
+ * cursor hold. Reads nothing if the cursor stays. If it moves by a few numbers that the word of position has, reads
+ * that word, and low for these numbers. Else it reads up to 25 words and 8 fragments of low more; and also what
  * bitm_cursor_start reads, unless the number is near: one of the eight after the 0 bits to skip, which end in the eight
  * words from position on. */
 BITM_MUST_USE uint32_t bitm_cursor_next(struct bitm_cursor *cursor, uint64_t at_least, uint64_t *out);
@@ -831,8 +832,10 @@ BITM_MUST_USE uint32_t bitm_cursor_next(struct bitm_cursor *cursor, uint64_t at_
  * then no cursor moves and out stays; or if the parts of a sequence turn out wrong as its cursor moves, and then out
  * may have some of the numbers: BITM_OK says that no move was BITM_WRONG. BITM_BAD_SIZE if there is no cursor to
  * intersect. The sequences of the cursors stay. Moves each cursor at most once for each number that is written and once
- * more; the intersection for each number of the first sequence and once more, so the shortest is best first. The
- * cursors, out and written may not overlap one another or the parts; cursors may share parts. */
+ * more; the intersection for each number of the first sequence and once more, so the shortest is best first. The union
+ * of a pair of sequences, where there is room for many numbers, reads both by blocks, as bitm_sequence_items does, and
+ * then moves each cursor once. The cursors, out and written may not overlap one another or the parts; cursors may share
+ * parts. */
 BITM_MUST_USE uint32_t bitm_cursors_intersect(struct bitm_cursor *cursors, size_t cursors_len, uint64_t from,
                                               uint64_t *out, size_t out_len, uint64_t *written);
 BITM_MUST_USE uint32_t bitm_cursors_union(struct bitm_cursor *cursors, size_t cursors_len, uint64_t from,

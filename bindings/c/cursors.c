@@ -45,13 +45,14 @@ static void build(struct list *list)
                                         upper,     of.upper_len, list->lower, of.lower_len, NULL,        0};
 }
 
-/* A sequence of drawn numbers: dense or sparse, with equal ones; sometimes of none. */
+/* A sequence of drawn numbers: dense or sparse, with equal ones; sometimes of none, or with the greatest of 64 bits. */
 static void make(struct list *list)
 {
     uint64_t number = 0;
     const uint64_t most = draw() % 3 ? 1 + draw() % 5 : (uint64_t)1 << draw() % 46, unit = draw() % 4 ? 1 : 1000;
     list->len = draw() % 6 ? draw() % MOST : draw() % 3, list->at = 0;
     for (size_t i = 0; i < list->len; i++) list->numbers[i] = number += draw() % most * (draw() % 20 ? 1 : unit);
+    if (list->len > 0 && draw() % 8 == 0) list->numbers[list->len - 1] = UINT64_MAX;
     build(list);
 }
 
@@ -85,7 +86,8 @@ static void move(struct bitm_cursor *cursor, struct list *list)
 {
     uint64_t *out = one_number();
     const uint64_t here = list->at < list->len ? list->numbers[list->at] : 9;
-    const uint64_t value = draw() % 8 ? here + draw() % 9 : draw() % 4 ? here + draw() % 3000 : draw() % (here + 1);
+    const uint64_t less = here < UINT64_MAX ? draw() % (here + 1) : draw();
+    const uint64_t value = draw() % 8 ? here + draw() % 9 : draw() % 4 ? here + draw() % 3000 : less;
     while (list->at < list->len && list->numbers[list->at] < value) list->at++;
     MUST(bitm_cursor_next(cursor, value, out) == (list->at < list->len ? BITM_OK : BITM_NONE));
     MUST(out[0] == (list->at < list->len ? list->numbers[list->at] : UNTOUCHED) && out[-1] == UNTOUCHED);
@@ -129,7 +131,9 @@ static uint32_t merge(bool of_all, struct bitm_cursor *cursors, size_t n, uint64
 /* A merge in parts of some numbers, each from one more than the last number of the part before. */
 static void merge_all(bool of_all)
 {
-    const size_t n = 1 + draw() % LISTS, room = draw() % 3 ? draw() % 20 : ROOM;
+    const size_t n = draw() % 2 ? 2 : 1 + draw() % LISTS;
+    /* two unite by blocks where there is room for 64 */
+    const size_t room = draw() % 2 ? draw() % 20 : draw() % 2 ? 60 + draw() % 60 : ROOM;
     struct bitm_cursor *cursors = started(n);
     for (size_t i = 0; i < n; i++)
         for (uint64_t turn = draw() % 8; turn > 0; turn--) move(&cursors[i], &lists[i]);
@@ -145,7 +149,7 @@ static void merge_all(bool of_all)
         MUST(cursors[-1].index == UNTOUCHED && cursors[-1].sequence.len == 0);
         MUST(memcmp(out, expected + done, 8 * written) == 0);
         for (size_t i = written; i < room; i++) MUST(out[i] == UNTOUCHED);
-        if (written < room || room == 0) return;
+        if (written < room || room == 0 || out[room - 1] == UINT64_MAX) return;
         from = out[room - 1] + 1;
     }
 }
@@ -153,7 +157,7 @@ static void merge_all(bool of_all)
 /* Parts of no sequence, and any numbers in the cursors. */
 static void wrong(void)
 {
-    const size_t n = 1 + draw() % LISTS, room = draw() % 50;
+    const size_t n = draw() % 2 ? 2 : 1 + draw() % LISTS, room = draw() % 120;
     struct bitm_cursor *cursors = started(n), before[LISTS];
     for (size_t i = 0; i < n; i++) {
         for (int turn = 0; turn < 4; turn++) lists[i].words[draw() % lists[i].made.words_len] ^= draw() & draw();

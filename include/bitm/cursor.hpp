@@ -58,7 +58,7 @@ public:
     }
 
     // Moves to the first number from here on that is at least a value, or stays where the number here is: that number,
-    // or none, and then it is at the end. It never goes back. Reads 25 words where the number is near, else what three
+    // or none, and then it is at the end. It never goes back. Reads 26 words where the number is near, else what three
     // selections read too.
     maybe_position next_geq(std::uint64_t value) { return try_next_geq(value).value(); }
     result<maybe_position> try_next_geq(std::uint64_t value) noexcept

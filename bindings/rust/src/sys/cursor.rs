@@ -79,7 +79,7 @@ impl<'a> Cursor<'a> {
     }
 
     /// Moves to the first number from here on that is at least `value`, and returns it; stays where the number here is.
-    /// `None` where each is less: it is at the end then. Reads 25 words where the number is near, else what three
+    /// `None` where each is less: it is at the end then. Reads 26 words where the number is near, else what three
     /// selections read too.
     ///
     /// ```
