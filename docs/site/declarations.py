@@ -1,6 +1,6 @@
 #!/usr/bin/env python3
 """declarations.py PAGE: adds to PAGE what the package for JavaScript exports, of bindings/javascript/types: a chapter a
-file, an entry a declaration. Neighbours of one name, or of names that differ by a 0 at the end, share a comment."""
+file, an entry a declaration. Overloads, which are neighbours of one name, share a comment."""
 import collections
 import pathlib
 import re
@@ -25,10 +25,6 @@ def name(text):
     return re.match(f"{WORDS}({NAME})", text)[1]
 
 
-def family(text):
-    return re.sub(r"0(?=List$|$)", "", name(text))
-
-
 def parsed(path):
     """The declarations of a file, with their comments."""
     found, comment, begun = [], "", 0
@@ -40,7 +36,7 @@ def parsed(path):
         elif (made := DECLARED.fullmatch(line)) and not line.startswith(("import ", "export *")):
             indent, said = len(made[1]), re.sub(r"(;| \{\}?)$", "", made[2])
             kind, last = kind_of(said, indent), found[-1] if found else None
-            if last and not comment and (last.indent, last.kind) == (indent, kind) and family(last.signatures[-1]) == family(said):
+            if last and not comment and (last.indent, last.kind) == (indent, kind) and name(last.signatures[-1]) == name(said):
                 last.signatures.append(said)
                 last.lines.append(number)
             else:

@@ -5,7 +5,7 @@ import { Copied, InBlock } from "./in_block.js";
 import { BITM_INDEX } from "./layout.js";
 import { answers, chunks } from "./lists.js";
 import { dispose } from "./memory.js";
-import { must, orNone, orThrow, place } from "./numbers.js";
+import { must, orNone, orThrow, place, within } from "./numbers.js";
 import { attachSamples, withSamples } from "./samples.js";
 import { shows } from "./shown.js";
 
@@ -40,15 +40,15 @@ export class Index {
     }
 
     #build({ at, words_len, length, logs }) {
-        const words = orThrow(calls.bitm_index_block_size(length), "the length", length);
-        const fill = block => must(calls.bitm_index_block_build(at, words_len, length, block, words), "the bits");
+        const words = orThrow(calls.bitm_index_block_size(length), "length", length);
+        const fill = block => must(calls.bitm_index_block_build(at, words_len, length, block, words), "bits");
         const made = (size, write) => { this.#held = new InBlock(KIND, this, size, write); };
         if (logs.ones || logs.zeros) withSamples({ words, fill }, logs, made);
         else made(words, fill);
     }
 
     static fromPositions(positions, length, options) { return indexOf(BitVector.fromPositions(positions, length), options); }
-    static fromBooleans(booleans, options) { return indexOf(BitVector.fromBooleans(booleans), options); }
+    static fromBooleans(bits, options) { return indexOf(BitVector.fromBooleans(bits), options); }
 
     get length() { return this.#length; }
 
@@ -81,10 +81,10 @@ export class Index {
     }
 
     /** The position of the first 1 bit, or 0 bit, at or after `from`; of the last one at or before it. */
-    next(from) { return orNone(calls.bitm_index_next(this.#held.at, 1, place(from, "position")), "position", from); }
-    next0(from) { return orNone(calls.bitm_index_next(this.#held.at, 0, place(from, "position")), "position", from); }
-    previous(from) { return orNone(calls.bitm_index_previous(this.#held.at, 1, place(from, "position")), "position", from); }
-    previous0(from) { return orNone(calls.bitm_index_previous(this.#held.at, 0, place(from, "position")), "position", from); }
+    next(from) { return orNone(calls.bitm_index_next(this.#held.at, 1, place(from, "from")), "from", from); }
+    next0(from) { return orNone(calls.bitm_index_next(this.#held.at, 0, place(from, "from")), "from", from); }
+    previous(from) { return orNone(calls.bitm_index_previous(this.#held.at, 1, place(from, "from")), "from", from); }
+    previous0(from) { return orNone(calls.bitm_index_previous(this.#held.at, 0, place(from, "from")), "from", from); }
 
     /** How many 1 bits, or 0 bits, there are. */
     count() { return this.rank(this.length); }
@@ -106,7 +106,7 @@ export class Index {
 
     #positions(one, from) {
         const fetch = (begin, at, size) => calls.bitm_index_positions(this.#held.at, one, begin, at, size);
-        return chunks(fetch, place(from, "position"), (_, found) => found.at(-1) + 1);
+        return chunks(fetch, place(from, "from"), (_, found) => found.at(-1) + 1);
     }
 
     *[Symbol.iterator]() {
@@ -134,9 +134,8 @@ shows(Index, "Index", it => ({ bits: it.length, ones: it.count() }));
 
 /** The words of a vector that a user gave, with samples as options say. */
 function wordsGiven(bits, options) {
-    if (!(bits instanceof BitVector)) throw new TypeError("bitm: an index is made of a BitVector");
-    const log2 = options.sampleLog2 === undefined ? 0 : sampleLog2(options.sampleLog2);
-    return new Words(...wordsOf(bits), { ones: log2, zeros: log2 });
+    const log2 = options.sampleLog2 === undefined ? 0 : within(options.sampleLog2, 7, 31, "sampleLog2");
+    return new Words(...wordsOf(bits, "bits"), { ones: log2, zeros: log2 });
 }
 
 function indexOf(bits, options) {
@@ -145,9 +144,4 @@ function indexOf(bits, options) {
     } finally {
         bits.free();
     }
-}
-
-function sampleLog2(it) {
-    if (!Number.isInteger(it) || it < 7 || it > 31) throw new RangeError(`bitm: sampleLog2 is 7 to 31, and not ${String(it)}`);
-    return it;
 }

@@ -1,15 +1,19 @@
 import { bytesAt, calls, wasm, wordsAt } from "./core.js";
-import { arrayKind, bytesOf } from "./given.js";
+import { arrayKind, bytesOf, isIterable, mustBe, mustBeAttached } from "./given.js";
+import { STATUS } from "./layout.js";
 import { chunks, copyIn, copyOut, numbersOf } from "./lists.js";
 import { Block, dispose, freed, withRoom } from "./memory.js";
-import { big, must, orNone, orThrow, place, refused, upTo } from "./numbers.js";
+import { big, must, noRange, orNone, orThrow, pastEnd, place, refused, upTo, within } from "./numbers.js";
 import { shows } from "./shown.js";
 
 const MOST_BITS = 2 ** 50;
 /** How many words are combined at a time where the result is counted alone. */
 const PIECE = 1024;
 
-/** Where the words of a vector stand, how many there are, and how many bits: for the other values of this package. */
+/**
+ * Where the words of a vector stand, how many there are, and how many bits: for the other values of this package. TypeError where
+ * what a user gave is no BitVector, which the name says, or one that was freed.
+ */
 export let wordsOf;
 
 /** A fixed number of bits, each 0 or 1. Bit i is bit i % 64, lowest first, of word i / 64. */
@@ -18,11 +22,17 @@ export class BitVector {
     #words;
     #length;
 
-    static { wordsOf = it => [it.#live(), it.#words, it.#length]; }
+    static { wordsOf = (it, name) => [BitVector.#given(it, name).#live(), it.#words, it.#length]; }
+
+    /** The vector that a user gave, of this class by its own members and not by what it says of itself. */
+    static #given(it, name) {
+        if (typeof it !== "object" || it === null || !(#block in it)) throw mustBe(name, "a BitVector", it);
+        return it;
+    }
 
     /** All bits are 0. */
     constructor(length) {
-        this.#length = upTo(length, MOST_BITS, "the length");
+        this.#length = upTo(length, MOST_BITS, "length");
         this.#words = calls.bitm_bits_words_len(this.#length);
         const bytes = 8 * this.#words;
         this.#block = new Block(bytes).heldBy(this, at => bytesAt(at, bytes).fill(0));
@@ -45,42 +55,48 @@ export class BitVector {
         const { items } = numbersOf(positions, "positions"), n = items.length;
         return withRoom(8 * n, list => {
             copyIn(items, list, "positions");
-            let bits = length;
-            if (bits === undefined) bits = items.reduce((most, it) => (it >= most ? Number(it) + 1 : most), 0);
+            const bits = length === undefined ? lengthOf(items) : length;
             return BitVector.#filled(bits, made => {
                 const outside = calls.bitm_bits_set_list(made.#live(), made.#words, made.#length, list, n, 1);
                 if (orThrow(outside, "positions", n) === 0) return;
-                throw new RangeError(`bitm: position ${items.find(it => it >= made.#length)} is past the end of ${made.#length} bits`);
+                const k = items.findIndex(it => it >= made.#length);
+                throw pastEnd(`item ${k} of positions`, items[k], made.#length - 1);
             });
         });
     }
 
     /** From booleans, or numbers and BigInts that are 0 or 1. */
     static fromBooleans(bits) {
+        if (!isIterable(bits)) throw mustBe("bits", "a list of booleans", bits);
         const isTyped = arrayKind(bits) !== undefined, items = Array.isArray(bits) || isTyped ? bits : Array.from(bits);
-        if (isTyped) bytesOf(bits, "bits");
-        else if (ArrayBuffer.isView(bits)) throw new TypeError("bitm: bits: a DataView is no list of bits");
+        if (isTyped) mustBeAttached(bits, "bits");
         const bytes = new Uint8Array(Math.ceil(items.length / 8));
         for (let k = 0; k < items.length; k++) {
-            if (bitOf(items[k], `bit ${k}`)) bytes[Math.floor(k / 8)] |= 1 << k % 8;
+            const bit = bitIn(items[k]);
+            if (bit === undefined) throw noBit(`item ${k} of bits`, items[k]);
+            if (bit) bytes[Math.floor(k / 8)] |= 1 << k % 8;
         }
         return BitVector.fromBytes(bytes, items.length);
     }
 
     /** From bytes, the lowest bit of each first: a Uint8Array, or any buffer or view. */
     static fromBytes(bytes, length) {
-        const from = bytesOf(bytes, "bytes"), bits = upTo(length ?? 8 * from.length, MOST_BITS, "the length"), needed = Math.ceil(bits / 8);
-        if (bits > 8 * from.length) throw new RangeError(`bitm: ${bits} bits are more than ${from.length} bytes have`);
+        return BitVector.#ofBytes(bytesOf(bytes, "bytes"), length);
+    }
+
+    static #ofBytes(from, length) {
+        const most = Math.min(8 * from.length, MOST_BITS), bits = length === undefined ? most : upTo(length, most, "length");
+        const needed = Math.ceil(bits / 8);
         return BitVector.#filled(bits, made => {
             bytesAt(made.#live(), needed).set(from.subarray(0, needed));
-            must(calls.bitm_bits_clear_from(made.#live(), made.#words, bits), "the bits");
+            must(calls.bitm_bits_clear_from(made.#live(), made.#words, bits), "length", bits);
         });
     }
 
     /** From 64-bit words, the lowest bit of each first. */
     static fromWords(words, length) {
-        if (arrayKind(words) !== "BigUint64Array") throw new TypeError("bitm: words must be a BigUint64Array");
-        return BitVector.fromBytes(words, length);
+        if (arrayKind(words) !== "BigUint64Array") throw mustBe("words", "a BigUint64Array", words);
+        return BitVector.#ofBytes(bytesOf(words, "words"), length);
     }
 
     #live() {
@@ -106,19 +122,25 @@ export class BitVector {
 
     /** Makes the bits from begin on and before end equal to value. */
     fill(value = true, begin = 0, end = this.#length) {
-        return this.#fill(bitOf(value, "value"), place(begin, "begin"), place(end, "end"));
+        return this.#fill(bitOf(value, "value"), begin, end);
     }
 
-    #fill(bit, from, to) {
-        must(calls.bitm_bits_fill_range(this.#live(), this.#words, this.#length, from, to, bit), `the range from ${from} to ${to}`);
+    #fill(bit, begin, end) {
+        const from = place(begin, "begin"), to = place(end, "end");
+        const got = calls.bitm_bits_fill_range(this.#live(), this.#words, this.#length, from, to, bit);
+        if (got !== 0) throw this.#noRange(got, begin, end);
         return this;
     }
 
+    /** The error of a range that a call refused. */
+    #noRange(got, begin, end) { return got === -STATUS.NONE ? noRange(begin, end, this.#length) : refused(got, "end", end); }
+
     /** Changes a single bit; each from begin on and before end; without arguments all. */
     flip(...range) {
-        const from = range.length ? place(range[0], "position") : 0;
-        const to = range.length > 1 ? place(range[1], "end") : range.length ? from + 1 : this.#length;
-        must(calls.bitm_bits_flip_range(this.#live(), this.#words, this.#length, from, to), `the range from ${from} to ${to}`);
+        const isOne = range.length === 1, from = range.length ? place(range[0], isOne ? "position" : "begin") : 0;
+        const to = range.length > 1 ? place(range[1], "end") : isOne ? from + 1 : this.#length;
+        const got = calls.bitm_bits_flip_range(this.#live(), this.#words, this.#length, from, to);
+        if (got !== 0) throw isOne ? pastEnd("position", range[0]) : this.#noRange(got, ...range);
         return this;
     }
 
@@ -131,7 +153,8 @@ export class BitVector {
         const got = from === 0 && to === this.#length
             ? calls.bitm_bits_count(this.#live(), this.#words, this.#length, one)
             : calls.bitm_bits_count_range(this.#live(), this.#words, this.#length, one, from, to);
-        return orThrow(got, "the range", `${from} to ${to}`);
+        if (got < 0) throw this.#noRange(got, begin, end);
+        return got;
     }
 
     /** The position of the first 1 bit, or 0 bit, at or after `from`; of the last one at or before it. */
@@ -141,7 +164,7 @@ export class BitVector {
     previous0(from) { return this.#seek("bitm_bits_previous", 0, from); }
 
     #seek(name, one, from) {
-        return orNone(calls[name](this.#live(), this.#words, this.#length, one, place(from, "position")), "position", from);
+        return orNone(calls[name](this.#live(), this.#words, this.#length, one, place(from, "from")), "from", from);
     }
 
     /** The positions of the 1 bits, or 0 bits, from `from` on, in increasing order. */
@@ -150,7 +173,7 @@ export class BitVector {
 
     #positions(one, from) {
         const fetch = (begin, at, size) => calls.bitm_bits_positions(this.#live(), this.#words, this.#length, one, begin, at, size);
-        return chunks(fetch, place(from, "position"), (_, found) => found.at(-1) + 1);
+        return chunks(fetch, place(from, "from"), (_, found) => found.at(-1) + 1);
     }
 
     /** The positions of all 1 bits. */
@@ -172,51 +195,55 @@ export class BitVector {
     /** The number in `width` bits from begin on, lowest bit first; a BigInt if it is 2^53 or more. */
     getNumber(begin, width) {
         const got = calls.bitm_bits_get_number(this.#live(), this.#words, this.#length, place(begin, "begin"), widthOf(width));
-        return orThrow(got, "the number", `${width} bits from ${begin} on`);
+        return orThrow(got, "the end of the number", `${width} bits from begin ${begin} on`);
     }
 
     /** Replaces these bits by the lowest of value; combines them with these by exclusive or. */
-    setNumber(begin, width, value) { return this.#write("bitm_bits_set_number", begin, width, value); }
-    xorNumber(begin, width, value) { return this.#write("bitm_bits_xor_number", begin, width, value); }
+    setNumber(begin, width, value) { return this.#write("bitm_bits_set_number", "begin", begin, width, value); }
+    xorNumber(begin, width, value) { return this.#write("bitm_bits_xor_number", "begin", begin, width, value); }
 
     /** The bits as an array of numbers of `width` bits: reads, replaces, exchanges; replaces each of the first `count`. */
     getFragment(index, width) {
         const got = calls.bitm_bits_get_fragment(this.#live(), this.#words, this.#length, place(index, "index"), widthOf(width));
-        return orThrow(got, "fragment", index);
+        return orThrow(got, "index", `${index}, of fragments of ${width} bits`);
     }
-    setFragment(index, width, value) { return this.#write("bitm_bits_set_fragment", index, width, value); }
+    setFragment(index, width, value) { return this.#write("bitm_bits_set_fragment", "index", index, width, value); }
     swapFragments(first, second, width) {
-        const a = place(first, "index"), b = place(second, "index");
-        must(calls.bitm_bits_swap_fragments(this.#live(), this.#words, this.#length, a, b, widthOf(width)), `fragment ${Math.max(a, b)}`);
+        const a = place(first, "first"), b = place(second, "second");
+        const got = calls.bitm_bits_swap_fragments(this.#live(), this.#words, this.#length, a, b, widthOf(width));
+        must(got, a > b ? "first" : "second", `${Math.max(a, b)}, of fragments of ${width} bits`);
         return this;
     }
     fillFragments(width, value, count) {
-        const number = big(value, "value"), n = width === 0 ? 0n : BigInt(place(count, "count"));
+        const bits = widthOf(width), number = big(value, "value"), n = place(count, "count");
         const vector = [this.#live(), this.#words, this.#length].map(BigInt);
-        must(wasm.bitm_bits_fill_fragments(...vector, widthOf(width), number, n), `fragment ${count}`);
+        must(wasm.bitm_bits_fill_fragments(...vector, bits, number, BigInt(bits === 0 ? 0 : n)), "count", `${count} fragments of ${width} bits`);
         return this;
     }
 
-    #write(name, at, width, value) {
-        const where = BigInt(place(at, "position")), number = big(value, "value");
-        must(wasm[name](BigInt(this.#live()), BigInt(this.#words), BigInt(this.#length), where, widthOf(width), number), `position ${at}`);
+    #write(name, what, at, width, value) {
+        const where = BigInt(place(at, what)), bits = widthOf(width), number = big(value, "value");
+        const got = wasm[name](BigInt(this.#live()), BigInt(this.#words), BigInt(this.#length), where, bits, number);
+        must(got, what, `${at}, of ${width} bits`);
         return this;
     }
 
     /** Replaces `count` bits from begin on by those of other from otherBegin on. */
-    setRange(begin, other, otherBegin = 0, count = other.length - Number(otherBegin)) {
-        const to = place(begin, "begin"), from = place(otherBegin, "begin"), n = place(count, "count"), its = [other.#live(), other.#words];
-        if (to + n > this.#length || from + n > other.#length) throw new RangeError("bitm: the range is past the end");
+    setRange(begin, other, otherBegin = 0, count = undefined) {
+        const [at, words_len, length] = wordsOf(other, "the other"), its = [at, words_len];
+        const to = upTo(begin, this.#length, "begin"), from = upTo(otherBegin, length, "otherBegin"), rest = length - from;
+        const n = count === undefined ? rest : upTo(count, rest, "count");
+        if (n > this.#length - to) throw pastEnd("begin + count", to + n, this.#length);
         if (other !== this) return this.#copy(to, ...its, from, n);
         const words = calls.bitm_bits_words_len(n);
         return withRoom(8 * words, room => { // the call takes no words that overlap
-            must(calls.bitm_bits_copy_range(room, words, 0, ...its, from, n), "the range");
+            must(calls.bitm_bits_copy_range(room, words, 0, ...its, from, n), "count", n);
             return this.#copy(to, room, words, 0, n);
         });
     }
 
     #copy(to, words, words_len, from, n) {
-        must(calls.bitm_bits_copy_range(this.#live(), this.#words, to, words, words_len, from, n), "the range");
+        must(calls.bitm_bits_copy_range(this.#live(), this.#words, to, words, words_len, from, n), "count", n);
         return this;
     }
 
@@ -229,9 +256,9 @@ export class BitVector {
     clone() { return this.slice(); }
 
     equals(other) {
-        if (this.#length !== other.#length) return false;
-        const got = calls.bitm_bits_equal_range(this.#live(), this.#words, 0, other.#live(), other.#words, 0, this.#length);
-        return orThrow(got, "the range", this.#length) === 1;
+        const [at, words, length] = wordsOf(other, "the other"), from = this.#live();
+        if (this.#length !== length) return false;
+        return orThrow(calls.bitm_bits_equal_range(from, this.#words, 0, at, words, 0, length), "the other", length) === 1;
     }
 
     /** These change this vector, bit by bit; other has as many bits. */
@@ -243,8 +270,8 @@ export class BitVector {
 
     /** The other, if it is a vector of as many bits. */
     #alike(other) {
-        if (!(other instanceof BitVector)) throw new TypeError("bitm: the other must be a BitVector");
-        if (other.#length !== this.#length) throw new RangeError(`bitm: ${other.#length} bits are not ${this.#length}`);
+        const [, , length] = wordsOf(other, "the other");
+        if (length !== this.#length) throw new RangeError(`bitm: the other has ${length} bits, and not ${this.#length}`);
         return other;
     }
 
@@ -307,14 +334,28 @@ export class BitVector {
 
 shows(BitVector, "BitVector", it => ({ bits: it.length, ones: it.count() }));
 
-function bitOf(value, name) {
-    if (value === true || value === 1 || value === 1n) return 1;
-    if (value === false || value === 0 || value === 0n) return 0;
-    throw new TypeError(`bitm: ${name} must be a boolean, or 0 or 1, and is ${String(value)}`);
+/** How many bits a vector has of which the last is at the largest of these positions. */
+function lengthOf(positions) {
+    const k = positions.findIndex(it => it >= MOST_BITS);
+    if (k >= 0) throw pastEnd(`item ${k} of positions`, positions[k], MOST_BITS - 1);
+    return positions.reduce((most, it) => (it >= most ? Number(it) + 1 : most), 0);
 }
 
-function widthOf(width) {
-    if (typeof width !== "number" || !Number.isInteger(width) || width < 0 || width > 64)
-        throw new RangeError(`bitm: a width is 0 to 64, and not ${String(width)}`);
-    return width;
+/** 0 or 1 of what is a bit, else undefined. */
+function bitIn(value) {
+    if (value === true || value === 1 || value === 1n) return 1;
+    return value === false || value === 0 || value === 0n ? 0 : undefined;
 }
+
+function noBit(name, it) {
+    if (typeof it === "number" || typeof it === "bigint") return new TypeError(`bitm: ${name} must be a boolean, or 0 or 1, and is ${it}`);
+    return mustBe(name, "a boolean, or 0 or 1", it);
+}
+
+function bitOf(value, name) {
+    const bit = bitIn(value);
+    if (bit === undefined) throw noBit(name, value);
+    return bit;
+}
+
+const widthOf = width => within(width, 0, 64, "width");

@@ -2,7 +2,7 @@
 // move, or for a block of the answer.
 import { bytesAt, calls, numberAt, smallest, wordsAt } from "./core.js";
 import { partsOf } from "./elias_fano.js";
-import { isIterable } from "./given.js";
+import { isIterable, mustBe } from "./given.js";
 import { BITM_CURSOR, BITM_SEQUENCE } from "./layout.js";
 import { copyOut } from "./lists.js";
 import { Block, dispose, freed, withRoom } from "./memory.js";
@@ -17,7 +17,7 @@ const BLOCK = 2048;
 function startAt(at, parts) {
     bytesAt(at, BITM_CURSOR.sizeof).fill(0);
     bytesAt(at, BITM_SEQUENCE.sizeof).set(bytesAt(parts, BITM_SEQUENCE.sizeof));
-    must(calls.bitm_cursor_start(at), "the sequence");
+    must(calls.bitm_cursor_start(at), "sequence");
 }
 
 /**
@@ -30,7 +30,7 @@ export class Cursor {
 
     /** At the first number of a sequence. */
     constructor(sequence) {
-        const parts = partsOf(sequence);
+        const parts = partsOf(sequence, "sequence");
         this.#sequence = sequence;
         this.#block = new Block(BITM_CURSOR.sizeof).heldBy(this, at => startAt(at, parts));
     }
@@ -78,7 +78,7 @@ shows(Cursor, "Cursor", it => ({ index: it.index, number: it.number }), "the toB
 
 /** Runs body(cursors, n, out) with cursors at the first numbers of n sequences, of the shortest first, and room for numbers. */
 function withCursors(sequences, room, body) {
-    const parts = [...sequences].sort((a, b) => a.length - b.length).map(partsOf), n = parts.length;
+    const parts = [...sequences].sort((a, b) => a.length - b.length).map(it => partsOf(it)), n = parts.length;
     return withRoom(BITM_CURSOR.sizeof * n + 8 * room, cursors => {
         parts.forEach((it, k) => startAt(cursors + BITM_CURSOR.sizeof * k, it));
         return body(cursors, n, cursors + BITM_CURSOR.sizeof * n);
@@ -94,9 +94,9 @@ function written(name, cursors, n, from, out, room) {
 
 /** All sequences that a user gave, of which each is one that is not freed. */
 function allOf(sequences) {
-    if (!isIterable(sequences)) throw new TypeError("bitm: sequences must be an array or another iterable of EliasFano values");
+    if (!isIterable(sequences)) throw mustBe("sequences", "an array or another iterable of EliasFano values", sequences);
     const all = Array.from(sequences);
-    all.forEach(partsOf);
+    all.forEach((it, k) => partsOf(it, `item ${k} of sequences`));
     return all;
 }
 
@@ -114,10 +114,10 @@ function eachBlock(name, sequences, { from, most }, each) {
     });
 }
 
-/** The first `limit` numbers from `from` on. */
-function merged(name, sequences, from, limit) {
+/** The first `limit` numbers from `from` on, of sequences that a user gave. */
+function merged(name, all, from, limit) {
     const found = [], range = { from: big(from, "from"), most: limit === undefined ? Infinity : place(limit, "limit") };
-    eachBlock(name, allOf(sequences), range, (out, count) => {
+    eachBlock(name, all, range, (out, count) => {
         for (const it of copyOut(out, count, "plain", false)) found.push(it);
     });
     return found;
@@ -126,16 +126,20 @@ function merged(name, sequences, from, limit) {
 /** How many numbers a call finds in sequences. */
 export function countMerged(name, sequences) {
     let sum = 0;
-    eachBlock(name, allOf(sequences), { from: 0n, most: Infinity }, (_, count) => { sum += count; });
+    eachBlock(name, sequences, { from: 0n, most: Infinity }, (_, count) => { sum += count; });
     return sum;
 }
 
 /** The numbers from `from` on that each of the sequences has, rising and each once, the first `limit` of them. RangeError where
  *  there is no sequence. */
-export function intersect(sequences, from = 0, limit = undefined) { return merged("bitm_cursors_intersect", sequences, from, limit); }
+export function intersect(sequences, from = 0, limit = undefined) {
+    const all = allOf(sequences);
+    if (all.length === 0) throw new RangeError("bitm: sequences is an empty list: what all of no sequences have is every number");
+    return merged("bitm_cursors_intersect", all, from, limit);
+}
 
 /** The numbers from `from` on that any of the sequences has, likewise. */
-export function union(sequences, from = 0, limit = undefined) { return merged("bitm_cursors_union", sequences, from, limit); }
+export function union(sequences, from = 0, limit = undefined) { return merged("bitm_cursors_union", allOf(sequences), from, limit); }
 
 /** Runs body(at, n) over all n numbers in memory that a call finds in sequences, which are no more than `most`. */
 export function withMerged(name, sequences, most, body) {

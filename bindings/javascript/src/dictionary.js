@@ -6,7 +6,7 @@ import { BITM_DICTIONARY, BITM_HASH, BITM_LIST_COUNTS } from "./layout.js";
 import { withHash } from "./levels.js";
 import { answers, copyIn, numbersOf } from "./lists.js";
 import { dispose, withRoom } from "./memory.js";
-import { WrongTables, answerOf, big, must, orNone, orThrow } from "./numbers.js";
+import { WrongTables, answerOf, big, must, orNone, orThrow, whole } from "./numbers.js";
 import { shows } from "./shown.js";
 
 const KIND = { name: "Dictionary", open: "bitm_dictionary_open", check: "bitm_dictionary_check", layout: BITM_DICTIONARY };
@@ -54,7 +54,7 @@ export class Dictionary {
         withRoom(BITM_DICTIONARY.sizeof, at => {
             put(at, BITM_DICTIONARY, { keys: it.placed, keys_len: it.n, seed: it.salt });
             bytesAt(at, BITM_HASH.sizeof).set(bytesAt(hash.at, BITM_HASH.sizeof));
-            this.#held = new InBlock(KIND, this, size, to => must(calls.bitm_dictionary_build(at, to, size), "the keys"));
+            this.#held = new InBlock(KIND, this, size, to => must(calls.bitm_dictionary_build(at, to, size), "keys"));
         });
     }
 
@@ -84,7 +84,7 @@ export class Dictionary {
     get seed() { return this.#held.member("seed"); }
 
     /** The number of a key, below length; undefined for what is no key. And whether it is one. */
-    get(key) { return orNone(answerOf("bitm_dictionary_find", this.#held.at, key), "key", key); }
+    get(key) { return orNone(answerOf("bitm_dictionary_find", this.#held.at, whole(key, "key")), "key", key); }
     has(key) { return this.get(key) !== undefined; }
 
     /** The numbers of a list of keys: an array of the same kind, see README.md. */

@@ -1,11 +1,12 @@
 import { BESIDE, calls, smallest, wordsAt } from "./core.js";
 import { Cursor, countMerged, withMerged } from "./cursor.js";
 import { unsorted } from "./faults.js";
+import { mustBe } from "./given.js";
 import { Copied, InBlock } from "./in_block.js";
 import { BITM_SEQUENCE, STATUS } from "./layout.js";
 import { answers, copyIn, copyOut, itemsAt, numbersOf } from "./lists.js";
 import { dispose, withRoom } from "./memory.js";
-import { WrongTables, answerOf, byBigInts, must, notWhole, orNone, orThrow, place, wrongType } from "./numbers.js";
+import { WrongTables, answerOf, byBigInts, must, orNone, orThrow, place, wrongType } from "./numbers.js";
 import { shows } from "./shown.js";
 
 const CALLS = { open: "bitm_sequence_block_open", check: "bitm_sequence_block_check" };
@@ -19,7 +20,7 @@ export class Listed {
     }
 }
 
-/** Where the struct of a sequence stands: TypeError where it is no EliasFano, or one that was freed. */
+/** Where the struct of a sequence stands: TypeError where it is no EliasFano, which the name says, or one that was freed. */
 export let partsOf;
 
 /** Numbers that do not decrease, each from 0 to 2^64 - 1, in little memory. */
@@ -28,8 +29,8 @@ export class EliasFano {
     #length;
 
     static {
-        partsOf = it => {
-            if (typeof it !== "object" || it === null || !(#held in it)) throw new TypeError("bitm: it is no EliasFano");
+        partsOf = (it, name) => {
+            if (typeof it !== "object" || it === null || !(#held in it)) throw mustBe(name, "an EliasFano", it);
             return it.#held.at;
         };
     }
@@ -50,11 +51,11 @@ export class EliasFano {
 
     #build(list, n) {
         const largest = n ? smallest(wordsAt(list, n)[n - 1]) : 0;
-        const words = orThrow(answerOf("bitm_sequence_block_size", n, largest), "the numbers", n);
+        const words = orThrow(answerOf("bitm_sequence_block_size", n, largest), "numbers", n);
         this.#held = new InBlock(KIND, this, words, at => {
             const got = calls.bitm_sequence_block_build(list, n, at, words);
             if (got === -STATUS.UNSORTED) throw unsorted(list, n, "number", false);
-            must(got, "the numbers");
+            must(got, "numbers");
         });
     }
 
@@ -66,7 +67,8 @@ export class EliasFano {
     /** The number at an index, which counts from the end if it is negative; undefined where there is none. */
     at(index) {
         if (typeof index !== "number" && typeof index !== "bigint") throw wrongType("index", index);
-        if (typeof index === "number" && !Number.isSafeInteger(index)) throw notWhole("index", index);
+        if (typeof index === "number" && !Number.isSafeInteger(index))
+            throw new RangeError(`bitm: index must be a whole number above -2^53 and below 2^53, and is ${index}`);
         const k = index < 0 ? this.length + Number(index) : index;
         const at = this.#held.at;
         if (k < 0 || k >= this.length) return undefined;
@@ -120,16 +122,18 @@ export class EliasFano {
     }
 
     /** The numbers from an index on, or from the first that is at least value on. */
-    *values(from = 0) {
+    values(from = 0) { return this.#valuesAt(place(from, "from")); }
+    valuesFrom(value) { return this.values(this.firstAtLeast(value) ?? this.length); }
+    [Symbol.iterator]() { return this.values(); }
+
+    *#valuesAt(from) {
         let size = 16;
-        for (let k = place(from, "index"); k < this.length; size = Math.min(2 * size, 512)) {
+        for (let k = from; k < this.length; size = Math.min(2 * size, 512)) {
             const found = this.#items(k, size);
             yield* found;
             k += found.length;
         }
     }
-    valuesFrom(value) { return this.values(this.firstAtLeast(value) ?? this.length); }
-    [Symbol.iterator]() { return this.values(); }
 
     #items(from, size) {
         return withRoom(8 * size, at => {
@@ -157,12 +161,12 @@ export class EliasFano {
     cursor() { return new Cursor(this); }
 
     /** The numbers that any of these has, each once; and those that all of them have. */
-    union(...others) { return merged("bitm_cursors_union", [this, ...others], (a, b) => a + b); }
-    intersection(...others) { return merged("bitm_cursors_intersect", [this, ...others], (a, b) => Math.min(a, b)); }
+    union(...others) { return merged("bitm_cursors_union", this, others, (a, b) => a + b); }
+    intersection(...others) { return merged("bitm_cursors_intersect", this, others, (a, b) => Math.min(a, b)); }
 
     /** How many numbers these would have: none is made. */
-    countUnion(...others) { return countMerged("bitm_cursors_union", [this, ...others]); }
-    countIntersection(...others) { return countMerged("bitm_cursors_intersect", [this, ...others]); }
+    countUnion(...others) { return countMerged("bitm_cursors_union", withOthers(this, others)); }
+    countIntersection(...others) { return countMerged("bitm_cursors_intersect", withOthers(this, others)); }
 
     /** Whether the block is as it was written and holds a sequence, by going over all of it. */
     check() { return this.#held.check(); }
@@ -177,8 +181,14 @@ export class EliasFano {
 
 shows(EliasFano, "EliasFano", it => ({ numbers: it.length }));
 
+/** A sequence and others that a user gave, none of which is freed. */
+function withOthers(first, others) {
+    others.forEach((it, k) => partsOf(it, `item ${k} of others`));
+    return [first, ...others];
+}
+
 /** The sequence that a call makes of several; it has no more numbers than most(a, b) of their lengths. */
-function merged(name, sequences, most) {
-    sequences.forEach(partsOf);
+function merged(name, first, others, most) {
+    const sequences = withOthers(first, others);
     return withMerged(name, sequences, sequences.map(it => it.length).reduce(most), (at, n) => new EliasFano(new Listed(at, n)));
 }

@@ -2,7 +2,7 @@
 // class, two calls, and where the members of its struct stand. In place of the name of a call a function of the same arguments
 // says whether all is well.
 import { bytesAt, calls, numberAt } from "./core.js";
-import { bytesOf, optionsOf } from "./given.js";
+import { bytesOf, flag, optionsOf } from "./given.js";
 import { damaged, notOf } from "./kinds.js";
 import { Block, freed } from "./memory.js";
 import { WrongTables } from "./numbers.js";
@@ -13,7 +13,7 @@ const BEFORE = 320;
 /** Memory with a copy of a block that a user gave, which is not looked at yet. */
 export class Copied {
     constructor(kind, bytes) {
-        const from = bytesOf(bytes, "a block");
+        const from = bytesOf(bytes, "bytes");
         if (from.length % 8 !== 0) throw damaged([kind.name]);
         this.block = new Block(BEFORE + from.length);
         bytesAt(this.block.at + BEFORE, from.length).set(from);
@@ -69,8 +69,8 @@ export class InBlock {
 
 /** A value of a class from a copy of its block, all of which is looked at unless options say that it need not be. */
 export function openedAs(Class, kind, bytes, options) {
-    const { check } = optionsOf(options), it = new Class(new Copied(kind, bytes));
-    if (check === false || it.check()) return it;
+    const isChecked = flag(optionsOf(options).check, "check", true), it = new Class(new Copied(kind, bytes));
+    if (!isChecked || it.check()) return it;
     it.free();
     throw new WrongTables("bitm: the block is not as it was written: it was damaged");
 }

@@ -2,7 +2,7 @@
 // Equal keys are equal strings, byte arrays of equal bytes, whole numbers of one value (5 and 5n, 0 and -0), and other numbers
 // that a Map holds for equal.
 import { ANSWER, PIECES, bytesAt, calls, wasm } from "./core.js";
-import { arrayKind, bytesOf, typeOf } from "./given.js";
+import { arrayKind, bytesOf, itemOf, typeOf } from "./given.js";
 import { withRoom } from "./memory.js";
 import { byBigInts } from "./numbers.js";
 import { inOrder } from "./patterns.js";
@@ -42,9 +42,13 @@ export function hashKey(key, seed, hash, print) {
     memory.setUint32(print + 4, halfAt(ANSWER + 4), true);
 }
 
-export function noKey(it) {
-    return new TypeError(`bitm: a key is a string, a number, a BigInt or a Uint8Array, and not ${typeOf(it)}`);
+/** The error of what is no key: an argument, or item k of one. */
+export function noKey(it, name = "key", k = undefined) {
+    return new TypeError(`bitm: ${itemOf(name, k)} is of type ${typeOf(it)}: a key is a string, a number, a BigInt or a Uint8Array`);
 }
+
+/** Whether it is a key. */
+export const isKey = it => ["string", "number", "bigint"].includes(typeof it) || arrayKind(it) === "Uint8Array";
 
 const whole = it => (Number.isInteger(it) ? BigInt(it) : it);
 

@@ -1,10 +1,10 @@
 // Lists of queries and answers. A list crosses in pieces, each as one copy into memory and one out of it; the adaptors change
 // doubles into numbers of 64 bits and back, so nothing is added or cut here.
 import { ANSWER, BESIDE, PIECES, bytesAt, calls, doublesAt, halvesAt, numberAt, smallest, wasm, wordsAt } from "./core.js";
-import { arrayKind, attached, isIterable } from "./given.js";
+import { arrayKind, isIterable, mustBe, mustBeAttached } from "./given.js";
 import { BITM_LIST_COUNTS, STATUS } from "./layout.js";
 import { withRoom } from "./memory.js";
-import { WrongTables, big, must, notWhole, refused } from "./numbers.js";
+import { WrongTables, big, must, notWhole, pastEnd, refused } from "./numbers.js";
 
 /** The typed arrays that are copied as they are, and those that are read as doubles. */
 const WIDE = { Uint32Array, Float64Array, BigUint64Array };
@@ -24,15 +24,21 @@ export function numbersOf(given, name) {
     if (ArrayBuffer.isView(given)) {
         const kind = arrayKind(given), Own = WIDE[kind];
         if (!kind) throw new TypeError(`bitm: ${name}: a DataView is no list of numbers`);
-        attached(given);
+        mustBeAttached(given, name);
         if (Own) return { items: new Own(given.buffer, given.byteOffset, given.length), form: kind === "BigUint64Array" ? "words" : "doubles" };
         if (SMALL.has(kind)) return { items: Float64Array.from(given), form: "doubles" };
     }
-    if (!isIterable(given)) throw new TypeError(`bitm: ${name} must be an array or another iterable of numbers`);
+    if (!isIterable(given)) throw mustBe(name, "an array or another iterable of numbers", given);
     const items = Array.isArray(given) ? given : Array.from(given);
     for (let k = 0; k < items.length; k++)
-        if (typeof items[k] !== "number") return { items: BigUint64Array.from(items, it => big(it, `an item of ${name}`)), form: "plain" };
+        if (typeof items[k] !== "number") return { items: wordsOf(items, name), form: "plain" };
     return { items: Float64Array.from(items), form: "plain" };
+}
+
+/** A list of numbers and BigInts as BigInts. */
+function wordsOf(items, name) {
+    const isWord = it => typeof it === "bigint" && BigInt.asUintN(64, it) === it;
+    return BigUint64Array.from(items, (it, k) => (isWord(it) ? it : big(it, `item ${k} of ${name}`)));
 }
 
 /** Views of the memory from `at` on, for n numbers of 64 bits. */
@@ -142,14 +148,18 @@ function inPieces(lists, missing, ask) {
     return found;
 }
 
-/** The same where the call counts at BESIDE for how many there was no answer. missing: "throw", "fill" or "flags". */
+/**
+ * The same where the call counts at BESIDE for how many there was no answer. missing: "fill", or "throw" and "flags" where each
+ * item has one unless it is past the end; of two lists that is an item of the second.
+ */
 export function answers(lists, missing, ask) {
-    return inPieces(lists, missing, (n, out, first, second) => {
-        const name = lists[0][1];
+    return inPieces(lists, missing, (n, out, first, second, index) => {
+        const [, name] = lists.at(-1);
         must(ask(n, out, first, second), name);
         if (numberAt(BESIDE + BITM_LIST_COUNTS.wrong) !== 0) throw new WrongTables();
-        if (missing === "throw" && numberAt(BESIDE + BITM_LIST_COUNTS.missing) !== 0)
-            throw new RangeError(`bitm: an item of ${name} is past the end`);
+        if (missing === "fill" || numberAt(BESIDE + BITM_LIST_COUNTS.missing) === 0) return;
+        const k = wordsAt(out, n).indexOf(MISSING), at = lists.length > 1 ? second : first;
+        throw pastEnd(`item ${index + k} of ${name}`, numberAt(at + 8 * k));
     });
 }
 
@@ -161,7 +171,7 @@ export function itemsAt(indices, length, ask) {
         if (got < 0 && got !== -STATUS.NONE) throw refused(got, "indices", n);
         const written = numberAt(ANSWER), index = numberAt(at + 8 * written);
         if (index < length) throw new WrongTables();
-        throw new RangeError(`bitm: item ${first + written} of indices is past the end: ${index}`);
+        throw pastEnd(`item ${first + written} of indices`, index);
     });
 }
 
@@ -175,7 +185,7 @@ export function* chunks(fetch, from, after) {
     for (;;) {
         const found = withRoom(8 * size, at => {
             const n = fetch(from, at, size);
-            if (n < 0) throw refused(n, "the position", from);
+            if (n < 0) throw refused(n, "from", from);
             return copyOut(at, n, "plain", false);
         });
         yield* found;

@@ -89,8 +89,9 @@ export class Block {
     }
 }
 
+/** The error of a call of a value after free(): the names of some classes are plurals. */
 export function freed(name) {
-    return new TypeError(`bitm: the ${name} was freed`);
+    return new TypeError(`bitm: ${name.endsWith("s") ? `these ${name} were` : `the ${name} was`} freed`);
 }
 
 /** Symbol.dispose, or where an engine has none a symbol that nobody calls. */

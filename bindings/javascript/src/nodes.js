@@ -12,10 +12,12 @@ export function isNode(name, at, node) {
     return got === undefined ? undefined : got === 1;
 }
 
-/** The children of a node, in their order. */
-export function* childrenOf(held, node) {
+/** The children of a node that a user gave, in their order. */
+export function childrenOf(held, node) { return childrenIn(held, place(node, "node")); }
+
+function* childrenIn(held, node) {
     const n = ofNode("bitm_tree_degree", held.at, node) ?? 0;
-    const first = n === 0 ? 0 : orNone(calls.bitm_tree_child(held.at, place(node, "node"), 0), "node", node);
+    const first = n === 0 ? 0 : orNone(calls.bitm_tree_child(held.at, node, 0), "node", node);
     if (first === undefined) throw new WrongTables();
     for (let k = 0; k < n; k++) yield first + k;
 }

@@ -1,6 +1,7 @@
 // Arguments: a whole number as a number below 2^53 or a BigInt below 2^64. Anything else is refused: TypeError for another
 // type, RangeError for another number.
 import { ANSWER, calls, numberAt, smallest, wasm } from "./core.js";
+import { mustBe } from "./given.js";
 import { BAD_ARGUMENT, STATUS } from "./layout.js";
 
 const MOST = 2n ** 64n - 1n;
@@ -21,12 +22,10 @@ export class OtherKind extends WrongTables {
     }
 }
 
-export function wrongType(name, it) {
-    const found = it === null ? "null" : typeof it;
-    return new TypeError(`bitm: ${name} must be a whole number, and is of type ${found}`);
-}
+export const wrongType = (name, it) => mustBe(name, "a whole number", it);
 
 export function notWhole(name, it) {
+    if (it === undefined) return new RangeError(`bitm: ${name} is no whole number from 0 to 2^53 - 1`);
     if (typeof it === "bigint") return new RangeError(`bitm: ${name} must be 0 to 2^64 - 1, and is ${it}`);
     return new RangeError(`bitm: ${name} must be a whole number from 0 to 2^53 - 1 (beyond it a BigInt), and is ${it}`);
 }
@@ -50,24 +49,46 @@ export function place(it, name) {
     return it;
 }
 
+/** The error of what is past the end, of a list or of bits: `it`, where it is known, and the most that it may be. */
+export function pastEnd(name, it, most) {
+    const found = it === undefined ? "" : `: ${it}`, end = most === undefined ? "" : `, and the most is ${most}`;
+    return new RangeError(`bitm: ${name} is past the end${found}${end}`);
+}
+
 /** A number from 0 to `most`. */
 export function upTo(it, most, name) {
-    const found = place(it, name);
-    if (found > most) throw new RangeError(`bitm: ${name} is past the end: ${it}, and the most is ${most}`);
+    const found = whole(it, name);
+    if (found > most) throw pastEnd(name, it, most);
     return found;
+}
+
+const ENDS = ["begin", "end"];
+
+/** The error of two positions of what has `length` items that are no range: which is past the end, or that it begins above its end. */
+export function noRange(begin, end, length, names = ENDS) {
+    if (begin > length) return pastEnd(names[0], begin, length);
+    if (end > length) return pastEnd(names[1], end, length);
+    return new RangeError(`bitm: ${names[0]} is ${begin}, and ${names[1]} ${end}: the range begins above its end`);
+}
+
+/** The numbers of a range of what has `length` items, as `[begin, end]`. */
+export function rangeOf(begin, end, length, names = ENDS) {
+    const from = whole(begin, names[0]), to = whole(end, names[1]);
+    if (from > to || to > length) throw noRange(from, to, length, names);
+    return [from, to];
 }
 
 /** A whole number from `least` to `most`, which is no BigInt. */
 export function within(it, least, most, name) {
-    if (typeof it !== "number") throw new TypeError(`bitm: ${name} must be a whole number`);
+    if (typeof it !== "number") throw mustBe(name, `a number from ${least} to ${most}`, it);
     if (!Number.isInteger(it) || it < least || it > most) throw new RangeError(`bitm: ${name} is ${least} to ${most}, and not ${it}`);
     return it;
 }
 
-/** The error of what an adaptor returned in place of an answer. */
+/** The error of what an adaptor returned in place of an answer: `it` is what stands for the name, if it is known. */
 export function refused(got, name, it) {
     switch (-got) {
-        case STATUS.NONE: return new RangeError(`bitm: ${name} is past the end: ${it}`);
+        case STATUS.NONE: return pastEnd(name, it);
         case STATUS.BAD_SIZE: return new RangeError(`bitm: a length is wrong: ${name}`);
         case STATUS.WRONG: return new WrongTables();
         case STATUS.UNSORTED: return new RangeError("bitm: a number is less than the one before it");
@@ -77,8 +98,8 @@ export function refused(got, name, it) {
 }
 
 /** Throws unless an adaptor without an answer, or the library itself, said that all is well. */
-export function must(got, name) {
-    if (got !== 0) throw refused(-Math.abs(got), name);
+export function must(got, name, it) {
+    if (got !== 0) throw refused(-Math.abs(got), name, it);
 }
 
 /** A number below 2^53, or a BigInt from 2^53 to 2^64 - 1, of either. */

@@ -1,6 +1,6 @@
 import { Index, KIND as OF_BITS } from "./bit_index.js";
 import { EliasFano, KIND as OF_NUMBERS } from "./elias_fano.js";
-import { bytesOf, optionsOf } from "./given.js";
+import { bytesOf, flag, optionsOf } from "./given.js";
 import { openedAs } from "./in_block.js";
 import { openVersion2 } from "./version2.js";
 
@@ -15,8 +15,8 @@ const VERSION = 7, KIND = 8;
  * and made a block; it has no checksum of its parts, so the check finds only what does not fit.
  */
 export function open(bytes, options) {
-    const own = optionsOf(options), from = bytesOf(bytes, "a file"), isBlock = from[VERSION] === 3 || from[VERSION] === 4;
+    const own = optionsOf(options), from = bytesOf(bytes, "bytes"), isBlock = from[VERSION] === 3 || from[VERSION] === 4;
     if (isBlock && from[KIND] === 2) return openedAs(Index, OF_BITS, bytes, own);
     if (isBlock && from[KIND] === 3) return openedAs(EliasFano, OF_NUMBERS, bytes, own);
-    return openVersion2(from, own.check !== false);
+    return openVersion2(from, flag(own.check, "check", true));
 }

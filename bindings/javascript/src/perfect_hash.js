@@ -2,8 +2,8 @@ import { ANSWER, BESIDE, bytesAt, calls, numberAt, wordsAt } from "./core.js";
 import { bySeeds } from "./collisions.js";
 import { Copied, InBlock, openedAs } from "./in_block.js";
 import { sizeWith, writeWith } from "./extending.js";
-import { callback, isIterable, optionsOf } from "./given.js";
-import { areEqual, halfAt, hashKey } from "./keys.js";
+import { callback, isIterable, mustBe, optionsOf } from "./given.js";
+import { areEqual, halfAt, hashKey, isKey, noKey } from "./keys.js";
 import { BITM_LIST_COUNTS, BITM_SECTION, BITM_SEEDED_HASH } from "./layout.js";
 import { withHash } from "./levels.js";
 import { copyOut } from "./lists.js";
@@ -34,7 +34,7 @@ function opened(block, words, at) {
     const isSeeded = !(got < 0);
     if (!isSeeded) got = calls.bitm_hash_block_open(block, words, at);
     if (got < 0) return false;
-    const seed = orThrow(got, "the seed", "");
+    const seed = orThrow(got, "seed");
     return calls.bitm_block_section(block, words, isSeeded ? 5 : 4, BESIDE) === 0 && isOurs(at, seed, isSeeded);
 }
 
@@ -56,8 +56,10 @@ function isWritten(block, words) {
 
 /** The keys that a user gave, as an array. */
 function listOf(keys) {
-    if (!isIterable(keys)) throw new TypeError("bitm: keys must be an array or another iterable of keys");
-    return Array.from(keys);
+    if (!isIterable(keys)) throw mustBe("keys", "an array or another iterable of keys", keys);
+    const all = Array.from(keys), k = all.findIndex(it => !isKey(it));
+    if (k >= 0) throw noKey(all[k], "keys", k);
+    return all;
 }
 
 /** Writes the hashes of all keys to memory, and what their fingerprints of that width are, each by hash(). */
@@ -151,7 +153,7 @@ export class PerfectHash {
         const number = calls.bitm_hash_find_seeded(this.#held.at, prints, words, width, low, high, print);
         if (number >= 0) return number;
         if (number === -1) return undefined;
-        throw refused(number, "key", "");
+        throw refused(number, "key");
     }
 
     /** The numbers of several keys, as get() answers them. */

@@ -1,7 +1,7 @@
 // Sections of a caller's own in a block of any kind, after those of its kind: notes, samples and the like.
 import { BESIDE, bytesAt, calls, smallest, wordsAt } from "./core.js";
 import { sizeWith, writeWith } from "./extending.js";
-import { bytesOf, isIterable } from "./given.js";
+import { bytesOf, isIterable, mustBe } from "./given.js";
 import { BITM_SECTION, STATUS } from "./layout.js";
 import { withRoom } from "./memory.js";
 import { WrongTables, big, refused } from "./numbers.js";
@@ -13,10 +13,11 @@ export const OWN_ROLE = 65536;
 const ITEMS = new Map([[7, Uint32Array], [8, Uint32Array], [15, Uint8Array]]);
 const itemsOf = role => (role >= OWN_ROLE ? Uint8Array : ITEMS.get(Number(role)) ?? BigUint64Array);
 
-/** Why the library refused: the words are no block, or one that was damaged, or there is no room for more. */
+/** Why the library refused: the words are no block, or one that was damaged, or it has 16 sections already. */
 function failure(status) {
     if (status === -STATUS.WRONG) return new WrongTables("bitm: it is no block, or not as it was written");
-    return refused(status, "there are 16 sections, or too many items", "");
+    if (status === -STATUS.BAD_SIZE) return new RangeError("bitm: sections would be more than 16, which a block has at most, its own among them");
+    return refused(status, "block");
 }
 
 /** Runs body(at, words) over a copy of a block in memory: at is where it stands, words how long it is. */
@@ -28,12 +29,13 @@ function withBlock(bytes, body) {
     });
 }
 
-/** A role, and a copy of the items that are to be its section: `{ role, bytes, count }`. */
-function addedOf(pair) {
-    if (!isIterable(pair)) throw new TypeError("bitm: a section is a role and its items");
-    const [given, items] = pair, role = big(given, "role"), bytes = bytesOf(items, "the items of a section").slice();
+/** A role, and a copy of the items that are to be its section, of item k of what was given: `{ role, bytes, count }`. */
+function addedOf(pair, k) {
+    const name = `item ${k} of sections`;
+    if (!isIterable(pair)) throw mustBe(name, "a pair of a role and its items", pair);
+    const [given, items] = pair, role = big(given, `the role of ${name}`), bytes = bytesOf(items, `what follows the role of ${name}`).slice();
     const each = itemsOf(role).BYTES_PER_ELEMENT;
-    if (bytes.length % each !== 0) throw new RangeError(`bitm: an item of role ${role} has ${each} bytes, and ${bytes.length} bytes were given`);
+    if (bytes.length % each !== 0) throw new RangeError(`bitm: ${name} has ${bytes.length} bytes, and each of the items of role ${role} has ${each}`);
     return { role, bytes, count: bytes.length / each };
 }
 
@@ -60,8 +62,8 @@ const withOne = (block, { role, bytes, count }) => withBlock(block, (from, words
  *     section(noted, OWN_ROLE);       // the seven bytes
  */
 export function extend(block, added) {
-    if (!isIterable(added)) throw new TypeError("bitm: sections must be a Map or another iterable of pairs of a role and items");
-    const all = Array.from(added, addedOf), bytes = bytesOf(block, "a block").slice(); // last, for an iterable may run code
+    if (!isIterable(added)) throw mustBe("sections", "a Map or another iterable of pairs of a role and items", added);
+    const all = Array.from(added, addedOf), bytes = bytesOf(block, "block").slice(); // last, for an iterable may run code
     if (all.length === 0 && !isWritten(bytes)) throw failure(-STATUS.WRONG);
     return all.reduce(withOne, bytes);
 }
@@ -90,7 +92,7 @@ function itemsIn({ role, count, at }) {
  *     sections(new Tree([2, 0, 0]).toBytes()).length;        // 3
  */
 export function sections(block) {
-    return withBlock(bytesOf(block, "a block"), (at, words) => Array.from(sectionsIn(at, words), it => [it.role, itemsIn(it)]));
+    return withBlock(bytesOf(block, "block"), (at, words) => Array.from(sectionsIn(at, words), it => [it.role, itemsIn(it)]));
 }
 
 /**
@@ -101,7 +103,7 @@ export function sections(block) {
  */
 export function section(block, role) {
     const sought = smallest(big(role, "role"));
-    return withBlock(bytesOf(block, "a block"), (at, words) => {
+    return withBlock(bytesOf(block, "block"), (at, words) => {
         for (const it of sectionsIn(at, words)) if (it.role === sought) return itemsIn(it);
         return undefined;
     });
@@ -115,6 +117,6 @@ export function section(block, role) {
  *     isWritten(new Uint8Array(192));        // false
  */
 export function isWritten(block) {
-    const bytes = bytesOf(block, "a block");
+    const bytes = bytesOf(block, "block");
     return bytes.length % 8 === 0 && withBlock(bytes, (at, words) => calls.bitm_block_check(at, words) === 0);
 }

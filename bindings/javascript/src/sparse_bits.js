@@ -1,12 +1,13 @@
-import { BESIDE, calls, numberAt } from "./core.js";
+import { BESIDE, calls } from "./core.js";
 import { notBelow, unsorted } from "./faults.js";
 import { Copied, InBlock, openedAs } from "./in_block.js";
-import { BITM_LIST_COUNTS, BITM_SPARSE, STATUS } from "./layout.js";
+import { BITM_SPARSE, STATUS } from "./layout.js";
 import { answers, copyIn, numbersOf } from "./lists.js";
 import { dispose, withRoom } from "./memory.js";
-import { WrongTables, must, orNone, orThrow, place } from "./numbers.js";
+import { WrongTables, must, orNone, orThrow, place, upTo } from "./numbers.js";
 import { shows } from "./shown.js";
 
+const MOST_BITS = Number.MAX_SAFE_INTEGER;
 const KIND = { name: "SparseBits", open: "bitm_sparse_open", check: "bitm_sparse_check", layout: BITM_SPARSE };
 
 /** Bits of which few are 1 bits, and that do not change: the positions of these alone take memory. */
@@ -28,8 +29,8 @@ export class SparseBits {
     }
 
     #build(items, given) {
-        const n = items.length, last = n === 0 ? 0 : place(items[n - 1], "the last position");
-        const length = given === undefined ? Math.min(n === 0 ? 0 : last + 1, Number.MAX_SAFE_INTEGER) : place(given, "length");
+        const n = items.length, last = n === 0 ? 0 : place(items[n - 1], `item ${n - 1} of positions`);
+        const length = given === undefined ? Math.min(n === 0 ? 0 : last + 1, MOST_BITS) : upTo(given, MOST_BITS, "length");
         withRoom(8 * n, list => {
             copyIn(items, list, "positions");
             const words = orThrow(calls.bitm_sparse_size(n, last), "positions", n);
@@ -37,7 +38,7 @@ export class SparseBits {
                 const got = calls.bitm_sparse_build(list, n, length, at, words);
                 if (got === -STATUS.WRONG) throw notBelow(list, n, "position", length);
                 if (got === -STATUS.UNSORTED) throw unsorted(list, n, "position", true);
-                must(got, "the positions");
+                must(got, "positions");
             });
         });
     }
@@ -67,10 +68,10 @@ export class SparseBits {
     select0(rank) { return orNone(calls.bitm_sparse_select(this.#held.at, 0, place(rank, "rank")), "rank", rank); }
 
     /** The position of the first 1 bit, or 0 bit, at or after `from`; of the last one at or before it. */
-    next(from) { return orNone(calls.bitm_sparse_next(this.#held.at, 1, place(from, "position")), "position", from); }
-    next0(from) { return orNone(calls.bitm_sparse_next(this.#held.at, 0, place(from, "position")), "position", from); }
-    previous(from) { return orNone(calls.bitm_sparse_previous(this.#held.at, 1, place(from, "position")), "position", from); }
-    previous0(from) { return orNone(calls.bitm_sparse_previous(this.#held.at, 0, place(from, "position")), "position", from); }
+    next(from) { return orNone(calls.bitm_sparse_next(this.#held.at, 1, place(from, "from")), "from", from); }
+    next0(from) { return orNone(calls.bitm_sparse_next(this.#held.at, 0, place(from, "from")), "from", from); }
+    previous(from) { return orNone(calls.bitm_sparse_previous(this.#held.at, 1, place(from, "from")), "from", from); }
+    previous0(from) { return orNone(calls.bitm_sparse_previous(this.#held.at, 0, place(from, "from")), "from", from); }
 
     /** How many 1 bits, or 0 bits, there are. */
     count() { return this.#ones; }
@@ -78,11 +79,7 @@ export class SparseBits {
 
     /** Lists: an array of the same kind as the queries, see README.md. */
     getList(positions) {
-        return answers([[positions, "positions"]], "flags", (n, out, at) => {
-            const got = calls.bitm_sparse_get_list(this.#held.at, at, n, out, n, BESIDE);
-            if (got === 0 && numberAt(BESIDE + BITM_LIST_COUNTS.missing) !== 0) throw new RangeError("bitm: an item of positions is past the end");
-            return got;
-        });
+        return answers([[positions, "positions"]], "flags", (n, out, at) => calls.bitm_sparse_get_list(this.#held.at, at, n, out, n, BESIDE));
     }
     rankList(positions) { return this.#list("bitm_sparse_rank_list", 1, positions, "positions", "throw"); }
     rank0List(positions) { return this.#list("bitm_sparse_rank_list", 0, positions, "positions", "throw"); }
@@ -93,13 +90,30 @@ export class SparseBits {
         return answers([[given, what]], missing, (n, out, at) => calls[name](this.#held.at, one, at, n, out, n, BESIDE));
     }
 
-    /** The positions of the 1 bits from `from` on, in increasing order. */
-    *ones(from = 0) {
-        for (let k = from === 0 ? 0 : this.rank(from); k < this.#ones; k++) {
-            const position = this.select(k);
-            if (position === undefined) throw new WrongTables();
-            yield position;
+    /** The positions of the 1 bits, or 0 bits, from `from` on, in increasing order; none from past the end. */
+    ones(from = 0) { return this.#onesFrom(place(from, "from")); }
+    zeros(from = 0) { return this.#zerosFrom(place(from, "from")); }
+
+    *#onesFrom(from) {
+        for (let k = this.rank(Math.min(from, this.#length)); k < this.#ones; k++) yield this.#one(k);
+    }
+
+    /** The 0 bits fill the gaps between the 1 bits: a query for each gap, and none for a 0 bit. */
+    *#zerosFrom(from) {
+        let at = from;
+        for (let k = this.rank(Math.min(from, this.#length)); at < this.#length; k++) {
+            const end = k < this.#ones ? this.#one(k) : this.#length;
+            if (end < at) throw new WrongTables();
+            while (at < end && this.#held.at) yield at++; // it throws if they were freed meanwhile
+            at = end + 1;
         }
+    }
+
+    /** The position of 1 bit k, which there is. */
+    #one(k) {
+        const position = this.select(k);
+        if (position === undefined) throw new WrongTables();
+        return position;
     }
 
     /** Whether the block is as it was written and holds sparse bits, by going over all of it. */

@@ -1,13 +1,13 @@
 import { bySeeds } from "./collisions.js";
 import { BESIDE, bytesAt, calls, numberAt } from "./core.js";
 import { Copied, InBlock, openedAs } from "./in_block.js";
-import { callback, isIterable, optionsOf, typeOf } from "./given.js";
+import { callback, isIterable, mustBe, optionsOf } from "./given.js";
 import { BITM_LIST_COUNTS, BITM_STRINGS } from "./layout.js";
 import { withHash } from "./levels.js";
 import { copyIn, copyOut } from "./lists.js";
 import { dispose, withRoom } from "./memory.js";
 import { WrongTables, big, called, must, orNone, orThrow, place } from "./numbers.js";
-import { encoded, inOrder, withBytes } from "./patterns.js";
+import { inOrder, textBytes, withBytes } from "./patterns.js";
 import { shows } from "./shown.js";
 
 const KIND = { name: "Strings", open: "bitm_strings_open", check: "bitm_strings_check", layout: BITM_STRINGS };
@@ -15,19 +15,13 @@ const decoder = new TextDecoder("utf-8", { ignoreBOM: true });
 /** The seeds that are tried where none is given. */
 const SEEDS = [0n, 1n];
 
-function bytesIn(string) {
-    const bytes = encoded(string, "a string");
-    if (!bytes) throw new TypeError(`bitm: a string is a string or a Uint8Array, and not ${typeOf(string)}`);
-    return bytes;
-}
-
 /**
  * Copies strings into memory, one after another with where each ends, and runs body([bytes, how many, ends, how many], areEqual),
  * where areEqual(i, j) says whether two of them are equal.
  */
 function withStrings(given, body) {
-    if (!isIterable(given)) throw new TypeError("bitm: strings must be an array or another iterable of strings");
-    const all = Array.from(given).map(bytesIn), n = all.length, ends = new Float64Array(n);
+    if (!isIterable(given)) throw mustBe("strings", "an array or another iterable of strings and Uint8Arrays", given);
+    const all = Array.from(given).map((it, k) => textBytes(it, "strings", k)), n = all.length, ends = new Float64Array(n);
     let length = 0;
     all.forEach((it, k) => (ends[k] = length += it.length));
     return withRoom(8 * n + length, at => {
@@ -96,7 +90,7 @@ export class Strings {
 
     /** The number of a string (as UTF-8) or of bytes, below length; undefined for what is none of the strings. And whether it is one. */
     find(string) {
-        return withBytes(bytesIn(string), (at, n) => orNone(calls.bitm_strings_find(this.#held.at, at, n), "the string", n));
+        return withBytes(textBytes(string, "string"), (at, n) => orNone(calls.bitm_strings_find(this.#held.at, at, n), "string", n));
     }
     has(string) { return this.find(string) !== undefined; }
 

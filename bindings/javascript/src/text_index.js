@@ -1,11 +1,11 @@
 import { BESIDE, bytesAt, calls, numberAt } from "./core.js";
 import { notBelow } from "./faults.js";
 import { Copied, InBlock, Made, openedAs } from "./in_block.js";
-import { callback, optionsOf } from "./given.js";
+import { callback, mustBe, optionsOf } from "./given.js";
 import { BITM_TEXT, STATUS } from "./layout.js";
 import { copyIn, copyOut, numbersOf } from "./lists.js";
 import { dispose, withRoom } from "./memory.js";
-import { must, orThrow, place, upTo } from "./numbers.js";
+import { must, orThrow, place, rangeOf, upTo } from "./numbers.js";
 import { encoded, withBytes, withPattern } from "./patterns.js";
 import { shows } from "./shown.js";
 
@@ -18,8 +18,8 @@ const decoder = new TextDecoder("utf-8", { ignoreBOM: true });
 
 /** Each how many letters a position is kept, and what is called as the build goes on. */
 function settingsOf(options) {
-    const given = optionsOf(options), step = place(given.step ?? 32, "step");
-    if (step < 1 || step >= 2 ** 32) throw new RangeError(`bitm: the step must be 1 to 2^32 - 1, and is ${step}`);
+    const given = optionsOf(options), step = given.step === undefined ? 32 : place(given.step, "step");
+    if (step < 1 || step >= 2 ** 32) throw new RangeError(`bitm: step must be 1 to 2^32 - 1, and is ${given.step}`);
     return { step, progress: callback(given.progress) };
 }
 
@@ -33,7 +33,7 @@ function written(names, text, scratch, block, { step, progress }) {
     const got = calls[names.order](...text, ...scratch);
     if (got !== 0) return got;
     progress(1, 2);
-    must(calls[names.ordered](...text, step, ...scratch, ...block), "the text");
+    must(calls[names.ordered](...text, step, ...scratch, ...block), "text");
     progress(2, 2);
     return 0;
 }
@@ -60,13 +60,13 @@ export class TextIndex {
      * each of two steps.
      */
     static of(text, options) {
-        const settings = settingsOf(options), bytes = encoded(text, "the text");
-        if (!bytes) throw new TypeError("bitm: the text must be a string or a Uint8Array; TextIndex.ofLetters takes numbers");
+        const settings = settingsOf(options), bytes = encoded(text, "text");
+        if (!bytes) throw mustBe("text", "a string or a Uint8Array (TextIndex.ofLetters takes numbers)", text);
         return withBytes(bytes, (at, n) => {
-            const room = orThrow(calls.bitm_text_size_bytes(at, n, settings.step, BESIDE), "the text", n);
+            const room = orThrow(calls.bitm_text_size_bytes(at, n, settings.step, BESIDE), "text", n);
             const words = numberAt(BESIDE);
             return withRoom(4 * room, scratch => new TextIndex(new Made(words, block => {
-                must(written(OF_BYTES, [at, n], [scratch, room], [block, words], settings), "the text");
+                must(written(OF_BYTES, [at, n], [scratch, room], [block, words], settings), "text");
             })));
         });
     }
@@ -75,14 +75,14 @@ export class TextIndex {
     static ofLetters(numbers, letters, options) {
         const settings = settingsOf(options), most = 2 ** 32 - 1, below = upTo(letters, most, "letters");
         const { items } = numbersOf(numbers, "numbers"), n = items.length;
-        const room = orThrow(calls.bitm_text_size_letters(n, below, settings.step, BESIDE), "the numbers", n);
+        const room = orThrow(calls.bitm_text_size_letters(n, below, settings.step, BESIDE), "numbers", n);
         const words = numberAt(BESIDE);
         return withRoom(8 * n, at => {
             copyIn(items, at, "numbers");
             return withRoom(4 * room, scratch => new TextIndex(new Made(words, block => {
                 const got = written(OF_LETTERS, [at, n, below], [scratch, room], [block, words], settings);
                 if (got === -STATUS.WRONG) throw notBelow(at, n, "number", below);
-                must(got, "the numbers");
+                must(got, "numbers");
             })));
         });
     }
@@ -105,13 +105,13 @@ export class TextIndex {
 
     /** Runs body(form, at, n) over a pattern that was copied into memory; of numbers only where the text is one of numbers. */
     #with(pattern, body) {
-        return withPattern(pattern, "the pattern", (form, at, n) => {
-            if (form === "numbers" && this.#isOfBytes) throw new TypeError("bitm: this is the index of bytes, and a pattern is a string or a Uint8Array");
+        return withPattern(pattern, "pattern", (form, at, n) => {
+            if (form === "numbers" && this.#isOfBytes) throw new TypeError("bitm: pattern must be a string or a Uint8Array: this is the index of bytes");
             return body(form, at, n);
         });
     }
 
-    #count(form, at, n) { return orThrow(calls[COUNT[form]](this.#held.at, at, n), "the pattern", n); }
+    #count(form, at, n) { return orThrow(calls[COUNT[form]](this.#held.at, at, n), "pattern", n); }
 
     /** At how many positions a pattern stands: a string (as UTF-8) or bytes in a Uint8Array; of numbers a list of them. */
     count(pattern) { return this.#with(pattern, (...it) => this.#count(...it)); }
@@ -124,11 +124,11 @@ export class TextIndex {
      * them, and at most `limit`.
      */
     locate(pattern, options) {
-        const given = optionsOf(options), from = place(given.from ?? 0, "from"), most = place(given.limit ?? Number.MAX_SAFE_INTEGER, "limit");
+        const { from: first = 0, limit = Number.MAX_SAFE_INTEGER } = optionsOf(options), from = place(first, "from"), most = place(limit, "limit");
         return this.#with(pattern, (form, at, n) => {
             const room = Math.min(this.#count(form, at, n), most);
             return withRoom(8 * room, out => {
-                const written = orThrow(calls[LOCATE[form]](this.#held.at, at, n, from, out, room), "the pattern", n);
+                const written = orThrow(calls[LOCATE[form]](this.#held.at, at, n, from, out, room), "pattern", n);
                 return copyOut(out, written, "plain", false);
             });
         });
@@ -142,25 +142,25 @@ export class TextIndex {
         const at = place(position, "position");
         return withRoom(8, out => {
             if (this.#isOfBytes) {
-                must(calls.bitm_text_extract_bytes(this.#held.at, at, out, 1), "position");
+                must(calls.bitm_text_extract_bytes(this.#held.at, at, out, 1), "position", position);
                 return bytesAt(out, 1)[0];
             }
-            must(calls.bitm_text_extract(this.#held.at, at, out, 1), "position");
+            must(calls.bitm_text_extract(this.#held.at, at, out, 1), "position", position);
             return numberAt(out);
         });
     }
 
     /** The letters from one position on and before another: as a Uint8Array where they are bytes, else as an array. */
     slice(from = 0, to = this.#length) {
-        const end = upTo(to, this.#length, "to"), start = upTo(from, end, "from"), n = end - start, text = this.#held.at;
+        const [start, end] = rangeOf(from, to, this.#length, ["from", "to"]), n = end - start, text = this.#held.at;
         if (this.#width > 8 && !this.#isOfBytes) {
             return withRoom(8 * n, out => {
-                must(calls.bitm_text_extract(text, start, out, n), "from");
+                must(calls.bitm_text_extract(text, start, out, n), "from", start);
                 return copyOut(out, n, "plain", false);
             });
         }
         return withRoom(n, out => {
-            must(calls.bitm_text_extract_bytes(text, start, out, n), "from");
+            must(calls.bitm_text_extract_bytes(text, start, out, n), "from", start);
             return bytesAt(out, n).slice();
         });
     }

@@ -26,11 +26,11 @@ export class Tree {
         const n = items.length;
         withRoom(8 * n, list => {
             copyIn(items, list, "degrees");
-            const words = orThrow(calls.bitm_tree_size(n), "the number of nodes", n);
+            const words = orThrow(calls.bitm_tree_size(n), "degrees", n);
             this.#held = new InBlock(KIND, this, words, at => {
                 const got = calls.bitm_tree_build(list, n, at, words);
                 if (got === -STATUS.WRONG) throw noTree(list, n);
-                must(got, "the degrees");
+                must(got, "degrees");
             });
         });
     }

@@ -1,5 +1,5 @@
 import { BESIDE, bytesAt, calls, numberAt } from "./core.js";
-import { BitVector, wordsOf } from "./bit_vector.js";
+import { wordsOf } from "./bit_vector.js";
 import { fallingLabel, noTree, tooWide } from "./faults.js";
 import { Copied, InBlock, Made, openedAs } from "./in_block.js";
 import { optionsOf } from "./given.js";
@@ -37,8 +37,7 @@ export class Trie {
 
     #build(degrees, labels, { width = 8, ends }) {
         const n = degrees.length, bits = within(width, 1, 63, "width");
-        if (ends !== undefined && !(ends instanceof BitVector)) throw new TypeError("bitm: ends is a BitVector");
-        const [at, words_len, length] = ends === undefined ? [0, 0, n] : wordsOf(ends);
+        const [at, words_len, length] = ends === undefined ? [0, 0, n] : wordsOf(ends, "ends");
         if (length !== n) throw new RangeError(`bitm: there are ${n} nodes, and ${length} ends`);
         if (labels.length !== Math.max(n - 1, 0))
             throw new RangeError(`bitm: there are ${n} nodes, and ${labels.length} labels: each node but the root has one`);
@@ -46,12 +45,12 @@ export class Trie {
             const marks = list + 8 * n, parts = [list, n, marks, labels.length, bits, at, words_len];
             copyIn(degrees, list, "degrees");
             copyIn(labels, marks, "labels");
-            const words = orThrow(calls.bitm_trie_size(n, bits, ends === undefined ? 0 : 1), "the number of nodes", n);
+            const words = orThrow(calls.bitm_trie_size(n, bits, ends === undefined ? 0 : 1), "degrees", n);
             this.#held = new InBlock(KIND, this, words, at => {
                 const got = calls.bitm_trie_build(...parts, at, words);
                 if (got === -STATUS.WRONG)
                     throw noTree(list, n) ?? tooWide(marks, labels.length, "label", bits) ?? fallingLabel(list, n, marks);
-                must(got, "the nodes");
+                must(got, "degrees");
             });
         });
     }
@@ -67,11 +66,11 @@ export class Trie {
             const bytes = starts + 8 * (n + 1), given = [bytes, begins[n], starts, n + 1];
             copyIn(begins, starts, "starts");
             all.forEach((it, k) => bytesAt(bytes + begins[k], it.length).set(it));
-            const nodes = orThrow(calls.bitm_trie_nodes_of_words(...given), "the words", n);
-            const size = orThrow(calls.bitm_trie_size(nodes, 8, 1), "the number of nodes", nodes);
+            const nodes = orThrow(calls.bitm_trie_nodes_of_words(...given), "words", n);
+            const size = orThrow(calls.bitm_trie_size(nodes, 8, 1), "words", nodes);
             const room = 3 * nodes - 2 + Math.ceil(nodes / 64);
             return withRoom(8 * room, scratch => new Trie(new Made(size, block => {
-                must(calls.bitm_trie_build_words(...given, scratch, room, block, size), "the words");
+                must(calls.bitm_trie_build_words(...given, scratch, room, block, size), "words");
             })));
         });
     }
@@ -97,7 +96,7 @@ export class Trie {
     get byteLength() { return this.#held.byteLength; }
 
     /** The node to which a word leads from the root: a string (as UTF-8), bytes or a list of labels; undefined where it leads to none. */
-    find(word) { return withPattern(word, "the word", (form, at, n) => orNone(calls[FIND[form]](this.#held.at, at, n), "the word", n)); }
+    find(word) { return withPattern(word, "word", (form, at, n) => orNone(calls[FIND[form]](this.#held.at, at, n), "word", n)); }
 
     /** Whether it is one of the words: it leads to a node, and a word ends there. A trie without ends has no words. */
     has(word) {
@@ -110,8 +109,8 @@ export class Trie {
      * word leads to a node.
      */
     longest(word) {
-        return withPattern(word, "the word", (form, at, n) => {
-            const count = orNone(calls[LONGEST[form]](this.#held.at, at, n, BESIDE), "the word", n);
+        return withPattern(word, "word", (form, at, n) => {
+            const count = orNone(calls[LONGEST[form]](this.#held.at, at, n, BESIDE), "word", n);
             return count === undefined ? { node: 0, count: 0 } : { node: numberAt(BESIDE), count };
         });
     }

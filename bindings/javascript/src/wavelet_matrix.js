@@ -1,11 +1,11 @@
 import { BESIDE, calls, wordsAt } from "./core.js";
 import { tooWide } from "./faults.js";
 import { Copied, InBlock, openedAs } from "./in_block.js";
-import { callback, optionsOf } from "./given.js";
+import { callback, flag, optionsOf } from "./given.js";
 import { BITM_MATRIX, STATUS } from "./layout.js";
 import { answers, copyIn, copyOut, itemsAt, numbersOf } from "./lists.js";
 import { dispose, withRoom } from "./memory.js";
-import { answerOf, must, orNone, orThrow, place, upTo, whole } from "./numbers.js";
+import { answerOf, must, orNone, orThrow, place, rangeOf, upTo, whole, within } from "./numbers.js";
 import { shows } from "./shown.js";
 import { bitsToStore } from "./words.js";
 
@@ -32,11 +32,11 @@ export class WaveletMatrix {
     }
 
     #build(items, options) {
-        const n = items.length, given = checkedWidth(options.width), quarters = options.quarters === true;
-        const progress = callback(options.progress);
+        const n = items.length, quarters = flag(options.quarters, "quarters", false), progress = callback(options.progress);
+        const given = options.width === undefined ? undefined : within(options.width, 1, 64, "width");
         withRoom(24 * n, list => {
             copyIn(items, list, "numbers");
-            const width = given ?? widthOf(items), words = orThrow(calls.bitm_matrix_size(n, width, quarters), "the numbers", n);
+            const width = given ?? widthOf(items), words = orThrow(calls.bitm_matrix_size(n, width, quarters), "numbers", n);
             const how = { list, n, width, quarters, scratch: list + 8 * n, words };
             this.#held = new InBlock(KIND, this, words, at => (progress ? byLevels(how, at, progress) : atOnce(how, at)));
         });
@@ -94,10 +94,7 @@ export class WaveletMatrix {
         return answerOf(name, this.#held.at, ...this.#range(begin, end), number);
     }
 
-    #range(begin, end) {
-        const to = upTo(end, this.#length, "end");
-        return [upTo(begin, to, "begin"), to];
-    }
+    #range(begin, end, names = undefined) { return rangeOf(begin, end, this.#length, names); }
 
     /** The distinct numbers of a range, rising, each as `[number, count]`: how often the range has it. */
     distinct(begin = 0, end = this.#length) {
@@ -116,7 +113,7 @@ export class WaveletMatrix {
 
     /** The numbers that are in both of two ranges, rising and each once. The first is best the shorter one. */
     intersect(begin, end, otherBegin, otherEnd) {
-        const ranges = [...this.#range(begin, end), ...this.#range(otherBegin, otherEnd)];
+        const ranges = [...this.#range(begin, end), ...this.#range(otherBegin, otherEnd, ["otherBegin", "otherEnd"])];
         return this.#pages((from, numbers) => answerOf("bitm_matrix_intersect", this.#held.at, ...ranges, from, numbers, PAGE),
             (numbers, _, n) => copyOut(numbers, n, "plain", false));
     }
@@ -127,7 +124,7 @@ export class WaveletMatrix {
         return withRoom(16 * PAGE, numbers => {
             const counts = numbers + 8 * PAGE;
             for (let from = 0, n = PAGE; n === PAGE && from <= MOST;) {
-                n = orThrow(fetch(from, numbers, counts), "the range", from);
+                n = orThrow(fetch(from, numbers, counts), "end", from);
                 const last = n === 0 ? 0n : wordsAt(numbers, n)[n - 1];
                 for (const it of taken(numbers, counts, n)) all.push(it);
                 from = last < 2n ** 53n - 1n ? Number(last) + 1 : last + 1n;
@@ -171,7 +168,7 @@ shows(WaveletMatrix, "WaveletMatrix", it => ({ numbers: it.length, width: it.wid
 function atOnce({ list, n, width, quarters, scratch, words }, at) {
     const got = calls.bitm_matrix_build(list, n, width, quarters, scratch, 2 * n, at, words);
     if (got === -STATUS.WRONG) throw tooWide(list, n, "number", width);
-    must(got, "the numbers");
+    must(got, "numbers");
 }
 
 /** Builds the same block level by level. progress() may run code of the user's. */
@@ -179,8 +176,8 @@ function byLevels({ list, n, width, quarters, scratch, words }, at, progress) {
     const fault = tooWide(list, n, "number", width);
     if (fault) throw fault;
     for (let depth = 0; depth < width; depth++) {
-        must(calls.bitm_matrix_write_level(list, n, width, quarters, depth, scratch, n, at, words), "the numbers");
-        if (depth === width - 1) must(calls.bitm_matrix_seal(n, width, quarters, at, words), "the numbers");
+        must(calls.bitm_matrix_write_level(list, n, width, quarters, depth, scratch, n, at, words), "numbers");
+        if (depth === width - 1) must(calls.bitm_matrix_seal(n, width, quarters, at, words), "numbers");
         progress(depth + 1, width);
     }
 }
@@ -195,9 +192,4 @@ function paired(numbers, counts, n) {
 function widthOf(items) {
     const largest = items.reduce((most, it) => (it > most ? it : most), items instanceof BigUint64Array ? 0n : 0);
     return Math.max(bitsToStore(largest), 1);
-}
-
-function checkedWidth(it) {
-    if (it === undefined || (Number.isInteger(it) && it >= 1 && it <= 64)) return it;
-    throw new RangeError(`bitm: width is 1 to 64, and not ${String(it)}`);
 }

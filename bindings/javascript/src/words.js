@@ -1,5 +1,5 @@
 // Calls of the library on a single word, or on none.
-import { ANSWER, calls, numberAt, wasm } from "./core.js";
+import { ANSWER, numberAt, wasm } from "./core.js";
 import { big, place, refused } from "./numbers.js";
 
 /** The position, 0 to 63, of the 1 bit of a 64-bit word with the given rank; undefined where it has no more than rank. */
@@ -16,7 +16,5 @@ export function bitsToStore(value) {
 
 /** A sampleLog2 for `items` bits of a kind among `length` bits, such that samples take about the same share of memory. */
 export function optimalSampleLog2(items, length, most = 31) {
-    const got = calls.bitm_optimal_log2(place(items, "items"), place(length, "length"), Math.min(place(most, "most"), 31));
-    if (got < 0) throw refused(got, "items", items);
-    return got;
+    return wasm.bitm_optimal_log2(big(items, "items"), big(length, "length"), Math.min(place(most, "most"), 31));
 }

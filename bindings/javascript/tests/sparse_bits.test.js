@@ -3,7 +3,7 @@ import assert from "node:assert/strict";
 import { test } from "node:test";
 import { Tally, bitm, random, spoil, unlessWrong } from "./plain.js";
 
-const { NO_ANSWER, SparseBits, WrongTables } = bitm;
+const { BitVector, NO_ANSWER, SparseBits, WrongTables } = bitm;
 const tally = new Tally();
 
 /** n positions, each from 1 to `most` after the one before it. */
@@ -52,11 +52,31 @@ function compare(positions, length, seed) {
     lists(bits, of, inside, upTo, ranks);
     tally.list([...bits.ones()], positions, "ones");
     tally.list([...bits.ones(Math.min(n, 50))], positions.filter(it => it >= 50), "ones from 50");
+    walks(bits, of, [0, 1, n - 1, n, n + 1, 2 ** 53 - 1, ...some.slice(0, 9).flatMap(it => [it, it + 1])].filter(it => it >= 0 && it < 2 ** 53));
     const again = SparseBits.open(bits.toBytes());
     assert.deepEqual(again.toBytes(), bits.toBytes());
     assert.equal(again.length, bits.length);
     bits.free();
     again.free();
+}
+
+/** The first 40 answers of an iteration. */
+function begun(walk) {
+    const found = [];
+    for (const it of walk) if (found.push(it) === 40) break;
+    return found;
+}
+
+/** The first 40 positions from each of some on, and all to the end where these are few. */
+function walks(bits, of, froms) {
+    for (const [name, next] of [["ones", "next"], ["zeros", "next0"]]) {
+        for (const from of froms) {
+            const wanted = [];
+            for (let at = of[next](from); at !== undefined && wanted.length < 40; at = of[next](at + 1)) wanted.push(at);
+            tally.list(begun(bits[name](from)), wanted, `${name} from ${from} of ${bits.length}`);
+            tally.list(begun(bits[name](BigInt(from))), wanted, `${name} from the BigInt ${from} of ${bits.length}`);
+        }
+    }
 }
 
 function lists(bits, of, inside, upTo, ranks) {
@@ -87,6 +107,33 @@ test("bits of each density", () => {
     tally.atLeast(10000);
 });
 
+test("walks: the same as those of a BitVector, also from past the end", () => {
+    const r = random(5);
+    for (const share of [0, 1, 2, 8, 15, 16]) {
+        const length = 700, vector = BitVector.fromBooleans(Array.from({ length }, () => r() % 16 < share)), bits = new SparseBits(vector.toPositions(), length);
+        for (const name of ["ones", "zeros"]) {
+            assert.deepEqual([...bits[name]()], [...vector[name]()], `${name} of ${share} in 16`);
+            for (const from of [0, 1, 63, 64, 65, 350, 699, 700, 701, 2 ** 53 - 1, 2n ** 64n - 1n]) assert.deepEqual([...bits[name](from)], [...vector[name](from)], `${name} from ${from}`);
+            assert.throws(() => bits[name](-1), { name: "RangeError", message: /^bitm: from must be/ });
+            assert.throws(() => bits[name](null), { name: "TypeError", message: /^bitm: from must be/ });
+        }
+    }
+    assert.deepEqual([...new SparseBits([]).zeros(), ...new SparseBits([]).ones(1), ...new SparseBits([3]).ones(4), ...new SparseBits([3]).zeros(4n)], []);
+    assert.deepEqual(begun(new SparseBits([2 ** 53 - 2]).zeros(2 ** 53 - 4)), [2 ** 53 - 4, 2 ** 53 - 3]);
+    assert.equal(Symbol.iterator in SparseBits.prototype, false);
+});
+
+test("a walk whose bits are freed throws, inside a gap too", () => {
+    for (const name of ["ones", "zeros"]) {
+        const bits = new SparseBits([3, 100000]), walk = bits[name](), late = bits[name]();
+        walk.next();
+        bits.free();
+        assert.throws(() => walk.next(), /these SparseBits were freed/);
+        assert.throws(() => late.next(), /these SparseBits were freed/);
+        assert.throws(() => bits[name]().next(), /these SparseBits were freed/);
+    }
+});
+
 test("arguments that are wrong", () => {
     const bits = new SparseBits([3, 100, 101, 4000], 5000);
     const names = ["get", "rank", "rank0", "select", "select0", "next", "next0", "previous", "previous0"];
@@ -106,8 +153,8 @@ test("arguments that are wrong", () => {
     assert.equal(bits.rank0(5000), 4996);
     assert.equal(bits.select(2n ** 64n - 1n), undefined);
     assert.equal(bits.previous(2n ** 64n - 1n), 4000);
-    assert.throws(() => bits.getList([0, 5000]), /an item of positions is past the end/);
-    assert.throws(() => bits.rankList([0, 5001]), /an item of positions is past the end/);
+    assert.throws(() => bits.getList([0, 5000]), /item 1 of positions is past the end: 5000$/);
+    assert.throws(() => bits.rankList([0, 5001]), /item 1 of positions is past the end: 5001$/);
     for (const [given, length, said] of [[[3], 3, "0 (3)"], [[3, 4], 4, "1 (4)"], [[0], 0, "0 (0)"], [[7, 2n ** 60n], undefined, `1 (${2n ** 60n})`]])
         assert.throws(() => new SparseBits(given, length), new RangeError(`bitm: position ${said} is not below ${length ?? 2 ** 53 - 1}`));
     for (const [given, k] of [[[3, 3], 1], [[4, 3], 1], [[0, 5, 5, 6], 2], [[0, 5, 2 ** 60, 6], 3]])
@@ -125,6 +172,10 @@ test("each changed byte is seen, and each prefix; unchecked blocks answer within
             for (const name of ["previous", "previous0"]) assert.ok((unlessWrong(() => bits[name](x)) ?? x) <= x, name);
             unlessWrong(() => bits.get(x % length));
         }
+        for (const from of [0, 100, length]) {
+            const ones = unlessWrong(() => [...bits.ones(from)]) ?? [], zeros = unlessWrong(() => [...bits.zeros(from)]) ?? [];
+            for (const it of [ones, zeros]) assert.ok(it.every((at, k) => at < length && (it === ones || (at >= from && !(at <= it[k - 1])))), `${it} from ${from}`);
+        }
     });
     assert.throws(() => SparseBits.open("block"), TypeError);
     assert.throws(() => bitm.Tree.open(bytes), WrongTables);
@@ -140,7 +191,7 @@ test("bits that were freed, and memory", () => {
     const asks = [() => bits.get(1), () => bits.rank(1), () => bits.rank0(1), () => bits.select(1), () => bits.select0(1), () => bits.next(0), () => bits.next0(0),
         () => bits.previous(2), () => bits.previous0(2), () => bits.getList([0]), () => bits.rankList([0]), () => bits.selectList([0]), () => [...bits.ones()], () => bits.check(),
         () => bits.toBytes()];
-    for (const ask of asks) assert.throws(ask, /was freed/);
+    for (const ask of asks) assert.throws(ask, /these SparseBits were freed/);
     assert.throws(() => new SparseBits([2, 1]));
     assert.throws(() => SparseBits.open(new Uint8Array(800)), WrongTables);
     assert.equal(bitm.memoryUse().used, before);

@@ -109,7 +109,8 @@ test("arguments that are wrong", () => {
         for (const call of [() => text.get(it), () => text.slice(it), () => text.slice(0, it), () => text.locate("s", { from: it }), () => text.locate("s", { limit: it })])
             assert.throws(call, RangeError);
     }
-    for (const call of [() => text.get(37), () => text.get(2n ** 64n - 1n), () => text.slice(3, 2), () => text.slice(0, 38), () => text.text(38)]) assert.throws(call, /past the end/);
+    for (const call of [() => text.get(37), () => text.get(2n ** 64n - 1n), () => text.slice(0, 38), () => text.text(38)]) assert.throws(call, /past the end/);
+    for (const call of [() => text.slice(3, 2), () => text.text(37, 36)]) assert.throws(call, /begins above its end/);
     for (const it of ["1", null, {}, true]) for (const call of [() => text.get(it), () => text.slice(it === null ? "0" : it)]) assert.throws(call, TypeError);
     for (const it of ["block", [1], 3, undefined]) assert.throws(() => TextIndex.open(it), TypeError);
     for (const it of [BLOCK, VERSE, undefined]) assert.throws(() => new TextIndex(it), TypeError);

@@ -14,6 +14,7 @@ export * from "./sections.js";
 
 /** What a list of answers in a BigUint64Array has where there is none: 2^64 - 1. In a Float64Array it is NaN. */
 export const NO_ANSWER: bigint;
+/** The version of the package, such as "0.3.0". */
 export const VERSION: string;
 
 /** The tables are not those of the bits, or the file is none: it was damaged. */
@@ -23,9 +24,9 @@ export class OtherKind extends WrongTables {}
 
 /**
  * An Index or an EliasFano of the bytes of a block, which are copied once: OtherKind where the block holds another
- * structure; WrongTables where they are not as they were written, unless `check` is false. A file of version 2 of the format is read too and made a block, for which a
- * sequence takes 8 bytes a number until the call ends; its parts have no checksum, so the check finds only what does
- * not fit.
+ * structure; WrongTables where they are not as they were written, unless `check` is false. A file of version 2 of the
+ * format is read too and made a block, for which a sequence takes 8 bytes a number until the call ends; its parts have
+ * no checksum, so the check finds only what does not fit.
  */
 export function open(bytes: Bytes, options?: OpenOptions): Index | EliasFano;
 
@@ -33,15 +34,19 @@ export function open(bytes: Bytes, options?: OpenOptions): Index | EliasFano;
  *  task frees them. */
 export function memoryUse(): { total: number; used: number };
 
-/** The position, 0 to 63, of the 1 bit of a 64-bit word with the given rank. */
+/** The position, 0 to 63, of the 1 bit of a 64-bit word that has `rank` 1 bits before it; undefined where the word has no
+ *  more than rank. */
 export function selectInWord(word: Whole, rank: Whole): number | undefined;
-/** How many binary digits a number has; 0 for 0. */
+/** How many binary digits a number has, which is the width that stores it: 0 for 0, and 64 at most. */
 export function bitsToStore(value: Whole): number;
-/** A sampleLog2 for `items` bits of a kind among `length`, such that samples take about the same share of memory. */
+/** A sampleLog2 for `items` bits of a kind among `length`, such that samples take about the same share of memory: 7 to
+ *  `most`, which is 31 unless it is given. */
 export function optimalSampleLog2(items: Whole, length: Whole, most?: Whole): number;
 
 /** For "bitm/core", which loads nothing by itself: whether the modules for 64-bit memory run here. */
 export function has64(): boolean;
-/** Makes the values usable, given bitm64.wasm and calls64.wasm, or bitm32.wasm and calls32.wasm. */
+/** For "bitm/core": makes the values usable, given bitm64.wasm and calls64.wasm, or bitm32.wasm and calls32.wasm, as bytes or
+ *  compiled. Nothing is done the second time. An Error where they are of another version. */
 export function start(module: Bytes | WebAssembly.Module, adaptors: Bytes | WebAssembly.Module): Promise<void>;
+/** The same as start() at once, where an engine compiles modules of this size at once: in Node, and in workers. */
 export function startSync(module: Bytes | WebAssembly.Module, adaptors: Bytes | WebAssembly.Module): void;

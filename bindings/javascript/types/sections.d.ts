@@ -13,9 +13,11 @@ export type Items = Uint8Array | Uint32Array | BigUint64Array;
  * than 16, or the bytes do not fill the items of a role; WrongTables where a section of the block is not as it was written.
  */
 export function extend(block: Bytes, sections: Iterable<readonly [Whole, Bytes]>): Uint8Array;
-/** The items of the first section with a role. WrongTables where the bytes are no block. */
+/** A copy of the items of the first section with a role; undefined where the block has none. WrongTables where the bytes are no
+ *  block. */
 export function section(block: Bytes, role: Whole): Items | undefined;
-/** The sections of a block in their order, those of its kind first: roles and items. WrongTables where the bytes are no block. */
+/** The sections of a block in their order, those of its kind first: pairs of a role and a copy of its items. WrongTables where the
+ *  bytes are no block. */
 export function sections(block: Bytes): [role: number | bigint, items: Items][];
-/** Whether the block of any kind is as it was written, by going over all of it. */
+/** Whether the block of any kind is as it was written, by going over all of it: false too where the bytes are no block. */
 export function isWritten(block: Bytes): boolean;
