@@ -25,9 +25,9 @@ bitm/src/ranges.rt ones_between:_in zeros_between:_in next_one:_in next_zero:_in
 bitm_strategies/src/binary.rt select:_counted select0:_counted
 bitm_strategies/src/combined.rt select:_counted select0:_counted
 bitm_view/src/view.rt rank_of:rank_on rank:rank_of
-elias_fano/src/finding.rt first_at_least:successor+found last_at_most:_by+found contains:_by
-elias_fano/src/items.rt item:_by+parts successor:first_at_least_by+parts
-elias_fano_view/src/sequence.rt item:get successor:first_at_least
+elias_fano/src/finding.rt first_at_least:successor+found last_at_most:_by+found contains:has
+elias_fano/src/items.rt item:_by+parts successor:first_at_least_by+parts has:contains_by+parts
+elias_fano_view/src/sequence.rt item:get successor:first_at_least has:contains
 louds/src/counted.rt child_on:total_child_on is_leaf_on:is_leaf_by parent_on:parent_by next_sibling_on:next_sibling_by
 louds/src/labelled.rt child_by_label:_by find:_by
 louds/src/node.rt degree_of:degree_after_by is_leaf_of:ends_after_on children_of:children_after_by parent_of:_by
