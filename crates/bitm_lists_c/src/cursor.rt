@@ -1,12 +1,14 @@
 //! A cursor over a sequence as C passes it.
-ghost use Rattle.std.specs.Prelude.{◌≡◌, ◌<◌, ◌≤◌, IfSome, SomeIff};
+ghost use Rattle.std.specs.Prelude.{◌≡◌, ◌<◌, ◌≤◌, IfSome, IsSomeAnd, SomeIff};
 ghost use Rattle.bitm_abi.specs.Sequence.{lent_parts, IsSequenceSized};
+ghost use Rattle.elias_fano.specs.LentParts.{Holds};
 ghost use Rattle.postings.specs.Moves.{IfFound, IsAnswered};
-ghost use Rattle.bitm_lists_c.specs.Cursor.{left_in, spot_of, IsMoveIn, IsRight};
+ghost use Rattle.bitm_lists_c.specs.Cursor.{left_in, sequence_items, spot_of, IsMoveIn, IsRight};
 
 use bitm_abi::Sequence;
 use bitm_tables::answer::Answer;
 use elias_fano::LowDigits;
+use elias_fano_view::LentSequence;
 use lent_tables::Lent;
 use postings::{Spot, TotalCursor, near_in_word, total_next_on};
 
@@ -38,6 +40,17 @@ impl<'a> Cursor<'a> {
             ),
             None => None,
         }
+    }
+
+    /// The cursor's sequence, and the index of its number there, or the end; `None` only where a length is wrong.
+    #[inline(always)]
+    pub(crate) fn lent_from(&self) -> Option<(LentSequence<'a>, usize)>
+        ensures { IsRight self.now → IsSomeAnd result (λ r. Holds (sequence_items self.now.sequence) r.0
+            × (r.1 ≡ self.now.index)) }
+    {
+        let sequence = self.sequence.lent()?;
+        let at = self.index.min(sequence.len());
+        Some((sequence, at))
     }
 
     /// Where the cursor stands.

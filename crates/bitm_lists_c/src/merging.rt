@@ -1,5 +1,6 @@
 //! The intersection and the union of the sequences of several cursors.
-ghost use Rattle.std.specs.Prelude.{◌≡◌, ◌≢◌, ◌<◌, ◌≤◌, ◌↔◌, ◌⊎◌, ℕ, [], ◌∷◌, All, IsTrue, map, length, slice_index};
+ghost use Rattle.std.specs.Prelude.{◌≡◌, ◌≢◌, ◌-◌, ◌/◌, ◌<◌, ◌≤◌, ◌↔◌, ◌⊎◌, ℕ, [], ◌∷◌, All, IsTrue};
+ghost use Rattle.std.specs.Prelude.{length, map, slice_index};
 ghost use Rattle.postings.specs.Joined.{AreJoined, IsInSome};
 ghost use Rattle.bit_lists.specs.Kept.{IsKeptFrom};
 ghost use Rattle.postings.specs.Merged.{written_in, IsMerged};
@@ -9,7 +10,9 @@ ghost use Rattle.bitm_lists_c.specs.Cursor.{left_in, IsCursorSized, IsMergeStatu
 use crate::cursor::Cursor;
 use bitm_abi::{BAD_SIZE, OK, WRONG};
 use bitm_tables::answer::Answer;
-use postings::{Merged, least_from, total_intersect, total_union, total_union_of_two};
+use postings::{
+    Merged, least_from, total_intersect, total_intersect_of_two, total_union, total_union_of_two,
+};
 
 /// The room from which on the sequences of two cursors are decoded by blocks.
 const ROOM: usize = 64;
@@ -42,12 +45,36 @@ fn union_of_two(one: &Cursor<'_>, other: &Cursor<'_>, from: u64, out: &mut [u64]
     ensures most { written_in result ≤ length out.old }
     ensures rest { IsKeptFrom (written_in result) out.old out.new }
 {
-    let (Some(first), Some(second)) = (one.sequence.lent(), other.sequence.lent()) else {
+    let (Some((first, one_at)), Some((second, other_at))) = (one.lent_from(), other.lent_from())
+    else {
         return Merged::Wrong(0);
     };
-    let one_at = one.index.min(first.len());
-    let other_at = other.index.min(second.len());
     total_union_of_two(&first, one_at, &second, other_at, from, out)
+}
+
+/// The intersection of the sequences of two cursors, from the cursors on, decoded by blocks. No cursor moves.
+fn intersection_of_two(one: &Cursor<'_>, other: &Cursor<'_>, from: u64, out: &mut [u64]) -> Merged
+    ensures shared { IsRight one.now → IsRight other.now → IsMerged result (λ count.
+        AreInAll (left_in one.now ∷ left_in other.now ∷ []) from count (length out.old) out.new) }
+    ensures most { written_in result ≤ length out.old }
+    ensures rest { IsKeptFrom (written_in result) out.old out.new }
+{
+    let (Some((first, one_at)), Some((second, other_at))) = (one.lent_from(), other.lent_from())
+    else {
+        return Merged::Wrong(0);
+    };
+    total_intersect_of_two(&first, one_at, &second, other_at, from, out)
+}
+
+/// Whether neither of two cursors has more than some 16 times the numbers left that the other has.
+fn are_alike(one: &Cursor<'_>, other: &Cursor<'_>) -> bool
+    ensures { IsTrue result
+        ↔ ((one.now.sequence.len - one.now.index) / 16 ≤ other.now.sequence.len - other.now.index)
+        × ((other.now.sequence.len - other.now.index) / 16 ≤ one.now.sequence.len - one.now.index) }
+{
+    let one_left = one.sequence.len.saturating_sub(one.index);
+    let other_left = other.sequence.len.saturating_sub(other.index);
+    one_left / 16 <= other_left && other_left / 16 <= one_left
 }
 
 /// Moves each cursor past the numbers that were written, the first of `out`, by one call for each.
@@ -57,6 +84,8 @@ fn pass(cursors: &mut [Cursor<'_>], from: u64, merged: Merged, out: &[u64]) -> M
     ensures count { written_in result ≡ written_in merged }
     ensures left { All IsRight cursors.old → (x : ℕ) → from ≤ x → IsInSome (map left_in cursors.old) x
         → ((k : ℕ) → k < written_in merged → slice_index out.now k < x) → IsInSome (map left_in cursors.new) x }
+    ensures shared { All IsRight cursors.old → (x : ℕ) → from ≤ x → IsInAll (map left_in cursors.old) x
+        → ((k : ℕ) → k < written_in merged → slice_index out.now k < x) → IsInAll (map left_in cursors.new) x }
     ensures right { All IsRight cursors.old → All IsRight cursors.new }
     ensures sequences { map (λ c. c.sequence) cursors.new ≡ map (λ c. c.sequence) cursors.old }
 {
@@ -93,6 +122,26 @@ fn unite(cursors: &mut [Cursor<'_>], from: u64, out: &mut [u64]) -> Merged
     pass(cursors, from, merged, out)
 }
 
+/// The intersection of the sequences of several cursors, from the cursors on, which move past the numbers that are
+/// written: of two cursors by blocks where there is room for many numbers, and they have about as many left.
+fn share(cursors: &mut [Cursor<'_>], from: u64, out: &mut [u64]) -> Merged
+    requires { 0 < length cursors.old }
+    ensures shared { All IsRight cursors.old → IsMerged result (λ count.
+        AreInAll (map left_in cursors.old) from count (length out.old) out.new) }
+    ensures most { written_in result ≤ length out.old }
+    ensures rest { IsKeptFrom (written_in result) out.old out.new }
+    ensures left { All IsRight cursors.old → (x : ℕ) → from ≤ x → IsInAll (map left_in cursors.old) x
+        → ((k : ℕ) → k < written_in result → slice_index out.new k < x) → IsInAll (map left_in cursors.new) x }
+    ensures right { All IsRight cursors.old → All IsRight cursors.new }
+    ensures sequences { map (λ c. c.sequence) cursors.new ≡ map (λ c. c.sequence) cursors.old }
+{
+    if cursors.len() != 2 || out.len() < ROOM || !are_alike(&cursors[0], &cursors[1]) {
+        return total_intersect(cursors, from, out);
+    }
+    let merged = intersection_of_two(&cursors[0], &cursors[1], from, out);
+    pass(cursors, from, merged, out)
+}
+
 /// Writes the numbers from `from` on that stand in the sequence of each cursor, from the cursors on, and how many. A
 /// wrong length of a sequence is found before anything is written or a cursor moves.
 #[unsafe(no_mangle)]
@@ -122,7 +171,7 @@ pub extern "C" fn bitm_cursors_intersect(
     if !are_sized(cursors) {
         return WRONG;
     }
-    tell_merged(total_intersect(cursors, from, out), written)
+    tell_merged(share(cursors, from, out), written)
 }
 
 /// Writes the numbers from `from` on that stand in the sequence of any cursor, from the cursors on, and how many. A

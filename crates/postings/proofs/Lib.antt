@@ -2,6 +2,8 @@ pub mod AskLemmas
 pub mod HeldLemmas
 pub mod JoiningLemmas
 pub mod LeastLemmas
+pub mod MeetLemmas
+pub mod MeetingLemmas
 pub mod MergeLemmas
 pub mod MoveLemmas
 pub mod NextLemmas

@@ -7,7 +7,8 @@ use Rattle.postings.specs.Shared.{list_at, AreInAll, AskedAtMost, IsAsked, IsInA
 use Rattle.postings.specs.declared.sharing.Agreed.{Agreed}
 use Rattle.postings.proofs.SharingLemmas.{keeps_through, next_least}
 use Rattle.postings.proofs.StepLemmas.{step_next, step_next_there, step_keeps, step_asked, step_once}
-use Rattle.postings.proofs.TurnLemmas.{not_written, still_in_all, shared_none, ended_first, turn_next, turn_all, asked_in_all, in_mid}
+use Rattle.postings.proofs.MeetingLemmas.{not_written, still_in_all, shared_none}
+use Rattle.postings.proofs.TurnLemmas.{ended_first, turn_next, turn_all, asked_in_all, in_mid}
 
 module _ {C : Type 0} (L : C → List ℕ) (K : C → ℕ) (old lists : List C) (from n low room : ℕ) (ys : List ℕ) (was now : C)
     (sharing : IsSharing (map L old) (map K old) from n ys (map L lists) (map K lists) low) (fits : n ≤ room)
@@ -35,8 +36,8 @@ module _ {C : Type 0} (L : C → List ℕ) (K : C → ℕ) (old lists : List C) 
   pub first_left : IsNextAtLeast (L (get_or lists 0 was)) low None (L now)
       → (x : ℕ) → from ≤ x → IsInAll (map L old) x → ((k : ℕ) → k < n → get_or ys k 0 < x) → IsInAll (map L (set lists 0 now)) x
   first_left next =
-      still_in_all (map L old) (map L lists) (map K old) (map K lists) from n low room ys sharing fits (map L (set lists 0 now))
-      (keeps_through (map L old) (map L lists) (map L (set lists 0 now)) low sharing.keeps (step_keeps L lists 0 was now inside low None next))
+      still_in_all (map L old) (map L lists) from n low ys sharing.meeting (map L (set lists 0 now))
+      (keeps_through (map L old) (map L lists) (map L (set lists 0 now)) low sharing.meeting.keeps (step_keeps L lists 0 was now inside low None next))
 
   -- it has v, and the others were asked
   module _ (v : ℕ) (next : IsNextAtLeast (L (get_or lists 0 was)) low (Some v) (L now)) (after : List C) (a : Agreed)
@@ -62,16 +63,16 @@ module _ {C : Type 0} (L : C → List ℕ) (K : C → ℕ) (old lists : List C) 
     module _ (none : (y : ℕ) → v ≤ y → IsInAll (map L (set lists 0 now)) y → ⊥) where
       no_more : (x : ℕ) → low ≤ x → IsInAll (map L old) x → ⊥
       no_more x l all = ⊎_elim
-          (λ (before : x < v). omega (arith, next_least (list_at (map L lists) 0) low v (list_at (map L (set lists 0 now)) 0) x there l (sharing.keeps.kept 0 x l (all 0 some)), before))
+          (λ (before : x < v). omega (arith, next_least (list_at (map L lists) 0) low v (list_at (map L (set lists 0 now)) 0) x there l (sharing.meeting.keeps.kept 0 x l (all 0 some)), before))
           (λ (past : v ≤ x). none x past (middle x past all))
           (cases_lt x v)
 
       pub others_ended : AreInAll (map L old) from n room ys
-      others_ended = shared_none (map L old) (map L lists) (map K old) (map K lists) from n low room ys sharing fits (λ x l s all. no_more x l all)
+      others_ended = shared_none (map L old) (map L lists) from n low ys sharing.meeting room fits (λ x l s all. no_more x l all)
 
       pub none_left : (x : ℕ) → from ≤ x → IsInAll (map L old) x → ((k : ℕ) → k < n → get_or ys k 0 < x) → IsInAll (map L after) x
       none_left x l all more =
-          absurd (no_more x (not_written (map L old) (map L lists) (map K old) (map K lists) from n low room ys sharing fits x l all more) all)
+          absurd (no_more x (not_written (map L old) (map L lists) from n low ys sharing.meeting x l all more) all)
 
     pub turned_next : (x : ℕ) → v < x → ((y : ℕ) → v ≤ y → y < x → IsInAll (map L (set lists 0 now)) y → ⊥)
         → IsSharing (map L old) (map K old) from n ys (map L after) (map K after) x

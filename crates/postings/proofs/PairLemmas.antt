@@ -58,7 +58,7 @@ same_block xs block other from n m e is block_is =
 
 module _ (xs : List ℕ) (p h : ℕ) (head : IsHeadAt xs p h) where
   -- it is no more than each from there on
-  head_least : IsNonDecreasing xs → (y : ℕ) → IsNumberIn (drop p xs) y → h ≤ y
+  pub head_least : IsNonDecreasing xs → (y : ℕ) → IsNumberIn (drop p xs) y → h ≤ y
   head_least rising y c =
       let inside : p + c.0 < length xs = omega (arith, c.1, length-drop p xs) in
       omega (arith, head.there (omega (arith, inside)), rising p (p + c.0) 0 (omega arith) inside, get_or-drop p xs c.0 0, c.2)

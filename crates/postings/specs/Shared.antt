@@ -77,9 +77,8 @@ pub record IsAsking (old : List (List ℕ)) (asked : List ℕ) (v i : ℕ) (new 
   pub first : slice_index calls 0 ≡ slice_index asked 0
   pub same : list_at new 0 ≡ list_at old 0
 
--- the first n of ys are what the lists, old at the call, share from one number up to another; and each list was asked
--- at most once for each number of the first that was passed, and once more
-pub record IsSharing (old : List (List ℕ)) (asked : List ℕ) (from n : ℕ) (ys : List ℕ) (now : List (List ℕ)) (calls : List ℕ) (low : ℕ) : Type 0 where
+-- the first n of ys are what the lists, old at the call, share from one number up to another
+pub record IsMeeting (old : List (List ℕ)) (from n : ℕ) (ys : List ℕ) (now : List (List ℕ)) (low : ℕ) : Type 0 where
   pub order : from ≤ low
   pub keeps : KeepsFrom old now low
   pub rising : (j k : ℕ) → j < k → k < n → slice_index ys j < slice_index ys k
@@ -87,6 +86,10 @@ pub record IsSharing (old : List (List ℕ)) (asked : List ℕ) (from n : ℕ) (
   pub below : (k : ℕ) → k < n → slice_index ys k < low
   pub in_all : (k : ℕ) → k < n → IsInAll old (slice_index ys k)
   pub found : (x : ℕ) → from ≤ x → x < low → IsInAll old x → IsAmong ys n x
+
+-- so they are, and each list was asked at most once for each number of the first that was passed, and once more
+pub record IsSharing (old : List (List ℕ)) (asked : List ℕ) (from n : ℕ) (ys : List ℕ) (now : List (List ℕ)) (calls : List ℕ) (low : ℕ) : Type 0 where
+  pub meeting : IsMeeting old from n ys now low
   pub rounds : ℕ
   pub at_most : AskedAtMost asked calls rounds
   pub passed : rounds + length (list_at now 0) ≤ length (list_at old 0) + 1

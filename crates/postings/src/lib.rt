@@ -15,6 +15,7 @@
 // What is in each file:
 // - `cursor`: what a cursor is
 // - `joining`: the union of lists
+// - `meeting`: the intersection of two sequences, by blocks of their numbers
 // - `merged`: how a merge of lists ends
 // - `near`: the next number of a sequence that is at least a value, from a position on
 // - `pair`: the union of two sequences
@@ -25,6 +26,7 @@
 // - `stepping`: a step of a position inside a word
 mod cursor;
 mod joining;
+mod meeting;
 mod merged;
 mod near;
 mod pair;
@@ -36,6 +38,7 @@ mod stepping;
 
 pub use cursor::{Cursor, TotalCursor};
 pub use joining::{least_from, total_union, union};
+pub use meeting::total_intersect_of_two;
 pub use merged::Merged;
 pub use pair::total_union_of_two;
 pub use plain::SliceCursor;

@@ -6,34 +6,35 @@ ghost use Rattle.elias_fano.specs.LentParts.{Holds};
 ghost use Rattle.postings.specs.Joined.{AreJoined, IsJoining, IsLeastOf};
 ghost use Rattle.postings.specs.Merged.{written_in, IsMerged};
 ghost use Rattle.postings.specs.Pair.{pair_from, IsBlockOf};
+ghost use Rattle.postings.specs.Shared.{IsInAll, IsMeeting};
 
 use crate::merged::Merged;
 use elias_fano_view::LentSequence;
 
 /// How many numbers are decoded at once.
-const BLOCK: usize = 32;
+pub(crate) const BLOCK: usize = 32;
 
 /// How far a merge is: the indices in the two blocks, how many numbers were written, and the least number that may be
 /// written next.
 #[derive(Clone, Copy)]
-struct Stand {
-    one: usize,
-    other: usize,
-    count: usize,
-    low: u64,
+pub(crate) struct Stand {
+    pub(crate) one: usize,
+    pub(crate) other: usize,
+    pub(crate) count: usize,
+    pub(crate) low: u64,
 }
 
 /// The first `len` of some numbers; `ends` where no number of their sequence comes after these.
 #[derive(Clone, Copy)]
-struct Block<'a> {
-    numbers: &'a [u64],
-    len: usize,
-    ends: bool,
+pub(crate) struct Block<'a> {
+    pub(crate) numbers: &'a [u64],
+    pub(crate) len: usize,
+    pub(crate) ends: bool,
 }
 
 /// What is to do after a merge that left room.
 #[derive(Clone, Copy)]
-enum Step {
+pub(crate) enum Step {
     /// The next block of the one sequence is to be read.
     One,
     /// The next block of the other sequence is to be read.
@@ -46,10 +47,10 @@ enum Step {
 
 /// A block of numbers that was read, and the index of its first number.
 #[derive(Drop)]
-struct Read {
-    numbers: [u64; BLOCK],
-    from: usize,
-    len: usize,
+pub(crate) struct Read {
+    pub(crate) numbers: [u64; BLOCK],
+    pub(crate) from: usize,
+    pub(crate) len: usize,
 }
 
 /// The number at an index of a block, or the greatest number of 64 bits past its end.
@@ -68,7 +69,7 @@ fn head(block: Block<'_>, at: usize) -> u64
 
 /// The index after a number that is no more than the least, else the index of the number.
 #[inline(always)]
-fn passed(at: usize, number: u64, least: u64) -> usize
+pub(crate) fn passed(at: usize, number: u64, least: u64) -> usize
     requires { number ≤ least → at < 2 ^ 64 - 1 }
     ensures past { number ≤ least → result ≡ at + 1 }
     ensures same { least < number → result ≡ at }
@@ -79,12 +80,16 @@ fn passed(at: usize, number: u64, least: u64) -> usize
 /// Writes the least number, unless it is below `low`; answers how many are written then, and the least number that may
 /// still be written.
 #[inline(always)]
-fn write(out: &mut [u64], count: usize, low: u64, least: u64) -> (usize, u64)
+pub(crate) fn write(out: &mut [u64], count: usize, low: u64, least: u64) -> (usize, u64)
     requires room { count < length out.old }
     requires some { least < 2 ^ 64 - 1 }
     ensures joins { (old now : List (List ℕ)) → (from : ℕ) → IsJoining old from count out.old now low
         → (low ≤ least → IsLeastOf now (length now) low least)
         → IsJoining old from result.0 out.new now result.1 }
+    ensures meets { (old now : List (List ℕ)) → (from : ℕ) → IsMeeting old from count out.old now low
+        → (low ≤ least → IsInAll old least)
+        → ((x : ℕ) → low ≤ x → x < least → IsInAll old x → ⊥)
+        → IsMeeting old from result.0 out.new now result.1 }
     ensures low { least < result.1 }
     ensures count { (count ≤ result.0) × (result.0 ≤ count + 1) }
     ensures rest { IsKeptFrom result.0 out.old out.new }
@@ -167,7 +172,7 @@ fn step_after(stand: Stand, one: Block<'_>, other: Block<'_>) -> Step
 
 /// The block that was read, of a sequence of `len` numbers.
 #[inline(always)]
-fn block_of(read: &Read, len: usize) -> Block<'_>
+pub(crate) fn block_of(read: &Read, len: usize) -> Block<'_>
     requires within { read.now.from + read.now.len ≤ len }
     ensures numbers { result.numbers.now ≡ read.now.numbers }
     ensures len { result.len ≡ read.now.len }
@@ -183,7 +188,7 @@ fn block_of(read: &Read, len: usize) -> Block<'_>
 
 /// Reads the next block; `false` only where the parts form no sequence.
 #[inline(always)]
-fn read_on(sequence: &LentSequence<'_>, read: &mut Read) -> bool
+pub(crate) fn read_on(sequence: &LentSequence<'_>, read: &mut Read) -> bool
     requires more { read.old.from + read.old.len < sequence.now.len }
     ensures from { read.new.from ≡ read.old.from + read.old.len }
     ensures within { read.new.from + read.new.len ≤ sequence.now.len }

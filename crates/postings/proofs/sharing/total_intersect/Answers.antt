@@ -4,7 +4,8 @@ use Rattle.std.proofs.lemmas.List.{length-set, get_or-set_other}
 use Rattle.std.proofs.Math.Seq.{map-set_same}
 use Rattle.std.proofs.lemmas.List.Elements.{All-set, All-get_or}
 use Rattle.postings.proofs.MergeLemmas.{first_asked, first_shared, first_left, others_asked, others_ended, none_left, turned_next, turned_all}
-use Rattle.postings.proofs.TurnLemmas.{sharing_none, still_in_all, shared_none, shared_full}
+use Rattle.postings.proofs.MeetingLemmas.{still_in_all, shared_none, shared_full}
+use Rattle.postings.proofs.TurnLemmas.{sharing_none}
 use Rattle.postings.proofs.sharing.total_intersect.Goals as goal
 use Rattle.postings.proofs.sharing.total_intersect.Goals.{After-total_next_geq, After-ask_others}
 
@@ -173,7 +174,7 @@ returns-then-v-clause-shared g c =
     λ r.
     let e = (c.in-All.ensures.asked (stays g w r)) in
     let room : c.loop-count.count + 1 ≤ length c.args.out.now = omega (arith, c.loop-count-test.true, c.loop-count.auto.out) in
-    shared_none (map g.C.TotalCursor.left c.args.lists.now) (map g.C.TotalCursor.left c.ask_others.new.lists) (map g.C.TotalCursor.calls c.args.lists.now) (map g.C.TotalCursor.calls c.ask_others.new.lists) c.args.from (c.loop-count.count + 1) (c.in-Found.v + 1) (length c.args.out.now) (set c.loop-count.out c.loop-count.count c.in-Found.v) (turned_all g.C.TotalCursor.left g.C.TotalCursor.calls c.args.lists.now c.loop-count.lists c.args.from c.loop-count.count c.loop-count.low (length c.args.out.now) c.loop-count.out c.index-lists-0.result c.total_next_geq.new.self (c.loop-count.invariant.sharing r) c.loop-count.invariant.room (inside g w) c.loop-count.auto.lists c.total_next_geq.ensures.counted c.in-Found.v (c.in-Found.ensures.next (was_right g w r)) c.ask_others.new.lists _ e c.loop-count-test.true e.agreed) room (λ x l s all. omega (arith, l, s, c.if-v.true))
+    shared_none (map g.C.TotalCursor.left c.args.lists.now) (map g.C.TotalCursor.left c.ask_others.new.lists) c.args.from (c.loop-count.count + 1) (c.in-Found.v + 1) (set c.loop-count.out c.loop-count.count c.in-Found.v) (turned_all g.C.TotalCursor.left g.C.TotalCursor.calls c.args.lists.now c.loop-count.lists c.args.from c.loop-count.count c.loop-count.low (length c.args.out.now) c.loop-count.out c.index-lists-0.result c.total_next_geq.new.self (c.loop-count.invariant.sharing r) c.loop-count.invariant.room (inside g w) c.loop-count.auto.lists c.total_next_geq.ensures.counted c.in-Found.v (c.in-Found.ensures.next (was_right g w r)) c.ask_others.new.lists _ e c.loop-count-test.true e.agreed).meeting (length c.args.out.now) room (λ x l s all. omega (arith, l, s, c.if-v.true))
 
 pub returns-then-v-clause-left : goal.returns-then-v-clause-left
 returns-then-v-clause-left g c =
@@ -181,8 +182,7 @@ returns-then-v-clause-left g c =
     λ r.
     let e = (c.in-All.ensures.asked (stays g w r)) in
     let after = turned_all g.C.TotalCursor.left g.C.TotalCursor.calls c.args.lists.now c.loop-count.lists c.args.from c.loop-count.count c.loop-count.low (length c.args.out.now) c.loop-count.out c.index-lists-0.result c.total_next_geq.new.self (c.loop-count.invariant.sharing r) c.loop-count.invariant.room (inside g w) c.loop-count.auto.lists c.total_next_geq.ensures.counted c.in-Found.v (c.in-Found.ensures.next (was_right g w r)) c.ask_others.new.lists _ e c.loop-count-test.true e.agreed in
-    let room : c.loop-count.count + 1 ≤ length c.args.out.now = omega (arith, c.loop-count-test.true, c.loop-count.auto.out) in
-    still_in_all (map g.C.TotalCursor.left c.args.lists.now) (map g.C.TotalCursor.left c.ask_others.new.lists) (map g.C.TotalCursor.calls c.args.lists.now) (map g.C.TotalCursor.calls c.ask_others.new.lists) c.args.from (c.loop-count.count + 1) (c.in-Found.v + 1) (length c.args.out.now) (set c.loop-count.out c.loop-count.count c.in-Found.v) after room (map g.C.TotalCursor.left c.ask_others.new.lists) after.keeps
+    still_in_all (map g.C.TotalCursor.left c.args.lists.now) (map g.C.TotalCursor.left c.ask_others.new.lists) c.args.from (c.loop-count.count + 1) (c.in-Found.v + 1) (set c.loop-count.out c.loop-count.count c.in-Found.v) after.meeting (map g.C.TotalCursor.left c.ask_others.new.lists) after.meeting.keeps
 
 pub returns-then-v-clause-asked : goal.returns-then-v-clause-asked
 returns-then-v-clause-asked g c =
@@ -228,13 +228,13 @@ loop-count-preserved g c =
 pub returns-clause-shared : goal.returns-clause-shared
 returns-clause-shared g c = λ r.
     let i = c.loop-count.invariant in
-    shared_full (map g.C.TotalCursor.left c.args.lists.now) (map g.C.TotalCursor.left c.loop-count.lists) (map g.C.TotalCursor.calls c.args.lists.now) (map g.C.TotalCursor.calls c.loop-count.lists) c.args.from c.loop-count.count c.loop-count.low (length c.args.out.now) c.loop-count.out (i.sharing r) i.room
+    shared_full (map g.C.TotalCursor.left c.args.lists.now) (map g.C.TotalCursor.left c.loop-count.lists) c.args.from c.loop-count.count c.loop-count.low c.loop-count.out (i.sharing r).meeting (length c.args.out.now) i.room
     (omega (arith, c.loop-count-test.false, c.loop-count.auto.out))
 
 pub returns-clause-left : goal.returns-clause-left
 returns-clause-left g c = λ r.
     let i = c.loop-count.invariant in
-    still_in_all (map g.C.TotalCursor.left c.args.lists.now) (map g.C.TotalCursor.left c.loop-count.lists) (map g.C.TotalCursor.calls c.args.lists.now) (map g.C.TotalCursor.calls c.loop-count.lists) c.args.from c.loop-count.count c.loop-count.low (length c.args.out.now) c.loop-count.out (i.sharing r) i.room (map g.C.TotalCursor.left c.loop-count.lists) (i.sharing r).keeps
+    still_in_all (map g.C.TotalCursor.left c.args.lists.now) (map g.C.TotalCursor.left c.loop-count.lists) c.args.from c.loop-count.count c.loop-count.low c.loop-count.out (i.sharing r).meeting (map g.C.TotalCursor.left c.loop-count.lists) (i.sharing r).meeting.keeps
 
 pub returns-clause-asked : goal.returns-clause-asked
 returns-clause-asked g c = λ r.
