@@ -829,13 +829,13 @@ BITM_MUST_USE uint32_t bitm_cursor_next(struct bitm_cursor *cursor, uint64_t at_
 /* Writes the numbers from from on that stand in each of the sequences, or in any of them, from the cursors on: rising,
  * each once, until none is left or out is full, and to written how many; the rest of out stays as it was. If out is
  * full, a call with one more than its last number for from goes on. BITM_WRONG if a sequence has a wrong length, and
- * then no cursor moves and out stays; or if the parts of a sequence turn out wrong as its cursor moves, and then out
+ * then no cursor moves and out stays; or if the parts of a sequence turn out wrong as they are read, and then out
  * may have some of the numbers: BITM_OK says that no move was BITM_WRONG. BITM_BAD_SIZE if there is no cursor to
  * intersect. The sequences of the cursors stay. Moves each cursor at most once for each number that is written and once
  * more; the intersection for each number of the first sequence and once more, so the shortest is best first. The union
- * of a pair of sequences, where there is room for many numbers, reads both by blocks, as bitm_sequence_items does, and
- * then moves each cursor once. The cursors, out and written may not overlap one another or the parts; cursors may share
- * parts. */
+ * of a pair of sequences, and the intersection of a pair of about the same length, where there is room for many numbers,
+ * read both by blocks, as bitm_sequence_items does, and then move each cursor once. The cursors, out and written may not
+ * overlap one another or the parts; cursors may share parts. */
 BITM_MUST_USE uint32_t bitm_cursors_intersect(struct bitm_cursor *cursors, size_t cursors_len, uint64_t from,
                                               uint64_t *out, size_t out_len, uint64_t *written);
 BITM_MUST_USE uint32_t bitm_cursors_union(struct bitm_cursor *cursors, size_t cursors_len, uint64_t from,

@@ -132,7 +132,7 @@ static uint32_t merge(bool of_all, struct bitm_cursor *cursors, size_t n, uint64
 static void merge_all(bool of_all)
 {
     const size_t n = draw() % 2 ? 2 : 1 + draw() % LISTS;
-    /* two unite by blocks where there is room for 64 */
+    /* two are merged by blocks where there is room for 64 */
     const size_t room = draw() % 2 ? draw() % 20 : draw() % 2 ? 60 + draw() % 60 : ROOM;
     struct bitm_cursor *cursors = started(n);
     for (size_t i = 0; i < n; i++)

@@ -241,10 +241,10 @@ def answer_of(call):
         return WrongTables
 
 
-def union_by_calls(cursors, start):
+def union_by_calls(cursors, start, limit=MOST):
     """The least of what the cursors answer, again and again."""
     found = []
-    while start <= MOST:
+    while start <= MOST and len(found) < limit:
         answers = [it for it in [cursor.next_geq(start) for cursor in cursors] if it is not None]
         if not answers:
             break
@@ -253,10 +253,10 @@ def union_by_calls(cursors, start):
     return found
 
 
-def intersection_by_calls(first, others, start):
+def intersection_by_calls(first, others, start, limit=MOST):
     """Each answer of the first cursor, where the others answer it too."""
     found = []
-    while start <= MOST:
+    while start <= MOST and len(found) < limit:
         number = first.next_geq(start)
         if number is None:
             break
@@ -270,8 +270,9 @@ def intersection_by_calls(first, others, start):
 
 
 def test_parts_of_no_sequence():
-    """A merge answers what its cursors do, call by call, and WrongTables exactly where one of these calls does."""
-    draw, ended = random.Random(3), []
+    """A merge answers what its cursors do, call by call, and WrongTables exactly where one of these calls does; two sequences
+    that are read by blocks, with room for 64 numbers, answer numbers that rise, or WrongTables."""
+    draw, ended, few = random.Random(3), [], 50
     for _ in range(300):
         made = EliasFano(sorted(draw.randrange(4000) for _ in range(200)))
         width, *parts = made.parts
@@ -282,15 +283,20 @@ def test_parts_of_no_sequence():
         wrong = EliasFano.over(200, width, *parts)
         for call, by_calls in (
             (lambda: list(wrong.cursor()), lambda: union_by_calls([wrong.cursor()], 0)),
-            (lambda: union([wrong, made], 9), lambda: union_by_calls([wrong.cursor(), made.cursor()], 9)),
-            (lambda: union([made, wrong]), lambda: union_by_calls([made.cursor(), wrong.cursor()], 0)),
-            (lambda: intersect([made, wrong]), lambda: intersection_by_calls(made.cursor(), [wrong.cursor()], 0)),
+            (lambda: union([wrong, made], 9, few), lambda: union_by_calls([wrong.cursor(), made.cursor()], 9, few)),
+            (lambda: union([made, wrong], 0, few), lambda: union_by_calls([made.cursor(), wrong.cursor()], 0, few)),
+            (lambda: union([made, wrong, made]), lambda: union_by_calls([made.cursor(), wrong.cursor()], 0)),
+            (lambda: intersect([made, wrong], 0, few), lambda: intersection_by_calls(made.cursor(), [wrong.cursor()], 0, few)),
             (lambda: intersect([wrong, made, made], 7), lambda: intersection_by_calls(wrong.cursor(), [made.cursor()] * 2, 7)),
         ):
             found = answer_of(call)
             assert found == answer_of(by_calls)
             ended.append(found is WrongTables)
             assert found is WrongTables or found == sorted(set(found)) and len(found) <= 400
+        for merge, of, start in ((union, [wrong, made], 9), (union, [made, wrong], 0), (intersect, [made, wrong], 0)):
+            found = answer_of(lambda: merge(of, start))
+            ended.append(found is WrongTables)
+            assert found is WrongTables or found == sorted(set(found)) and len(found) <= 400 and min(found, default=start) >= start
         try:
             cursor = wrong.cursor()
         except WrongTables:
