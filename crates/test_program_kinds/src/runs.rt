@@ -183,16 +183,12 @@ fn of_version_2() -> [u64; 24] {
 
 #[test]
 fn a_file_of_version_2_is_checked_by_its_parts(rt: HostRuntime) -> Result<(), Fail> {
-    let mut file = file_of(&rt, &of_version_2())?;
+    let mut words = of_version_2();
+    let file = file_of(&rt, &words)?;
+    let args = ["check", "held.block"].as_slice();
     let good = "good: the parts fit each other (version 2, which has no checksum of them)\n";
-    expect_start(
-        &rt,
-        file.as_slice(),
-        &["check", "held.block"],
-        0,
-        (good, ""),
-    )?;
-    file[8] ^= 2;
-    let wrong = ("wrong\n", "");
-    expect_start(&rt, file.as_slice(), &["check", "held.block"], 1, wrong)
+    expect_start(&rt, file.as_slice(), args, 0, (good, ""))?;
+    words[1] ^= 2;
+    let file = file_of(&rt, &words)?;
+    expect_start(&rt, file.as_slice(), args, 1, ("wrong\n", ""))
 }
