@@ -74,7 +74,7 @@ PLANTS = {
         "thin", "bindings/javascript/src/tree.js", "return got >= 0 ? got :", "return got >= 0 ? got + 1 :",
         "src/tree.js: return"),
     "a line out of the list of plain calls": (
-        "thin", "scripts/plain.py", "\nelias_fano/src/finding.rt first_at_least:successor+found last_at_most:_by+found contains:_by", "",
+        "thin", "scripts/plain.py", "\nelias_fano/src/finding.rt first_at_least:successor+found last_at_most:_by+found contains:has", "",
         "elias_fano/src/finding.rt: first_at_least does more or less"),
     "a file of tests whose tests are renamed": (
         "ran", "bindings/tests/test_formats.py", "def test_", "def check_", "bindings/tests/test_formats.py: 0 where"),
@@ -248,19 +248,21 @@ def copied(folder):
 
 
 def plant(path, old, new):
-    """Changes the first place of a text in a file; with None for it takes the file away, or makes an edit that changes
-    nothing."""
+    """Changes the first place of a text in a file, and answers whether it has that text; with None for it takes the file
+    away, or makes an edit that changes nothing."""
     if old is None and not new:
         path.unlink()
-        return
+        return True
     text = path.read_text(encoding="utf-8")
     if old is None:
         same = re.sub(r"^old: (.*)\nnew: .*$", r"old: \1\nnew: \1", text, count=1, flags=re.M)
         path.write_text(same, encoding="utf-8")
     else:
-        assert old in text, f"{path} has no {old}"
+        if old not in text:
+            return False
         every = old in ("def test_", "#[test]\n", "Apache License")
         path.write_text(text.replace(old, new) if every else text.replace(old, new, 1), encoding="utf-8")
+    return True
 
 
 @pytest.fixture(scope="module")
@@ -270,13 +272,13 @@ def repository(tmp_path_factory):
 
 @pytest.fixture(scope="module")
 def said(repository, tmp_path_factory):
-    """What each stage prints over its plants, its status, and the functions in which a claim failed."""
-    found, seen = {}, tmp_path_factory.mktemp("seen") / "functions"
+    """What each stage prints over its plants, its status, and the functions in which a claim failed; and the plants whose
+    text no file has any more."""
+    found, seen, gone = {}, tmp_path_factory.mktemp("seen") / "functions", []
     for stage in STAGES:
         plants = [it for it in PLANTS.values() if it[0] == stage]
         kept = {file: (repository / file).read_bytes() for _, file, *_ in plants}
-        for _, file, old, new, _ in plants:
-            plant(repository / file, old, new)
+        gone += [it for it in plants if not plant(repository / it[1], *it[2:4])]
         words = script("test").COMMANDS.get(stage, f"scripts/{stage}").split()
         command = [sys.executable, "-c", NOTING, *words]
         how = {"cwd": repository, "env": {**os.environ, "SEEN": str(seen)}, "capture_output": True, "text": True}
@@ -284,12 +286,13 @@ def said(repository, tmp_path_factory):
         found[stage] = made.returncode, made.stdout, json.loads(seen.read_text())
         for file, text in kept.items():
             (repository / file).write_bytes(text)
-    return found
+    return {**found, "gone": gone}
 
 
 @pytest.mark.parametrize("name", PLANTS)
 def test_fault_is_seen(name, said):
-    stage, *_, words = PLANTS[name]
+    stage, file, old, _, words = PLANTS[name]
+    assert PLANTS[name] not in said["gone"], f"{file} has no {old}"
     assert words in said[stage][1]
 
 
