@@ -66,15 +66,16 @@ fn intersection_of_two(one: &Cursor<'_>, other: &Cursor<'_>, from: u64, out: &mu
     total_intersect_of_two(&first, one_at, &second, other_at, from, out)
 }
 
-/// Whether neither of two cursors has more than some 16 times the numbers left that the other has.
+/// Whether neither of two cursors has more than some four times the numbers left that the other has: else a cursor that
+/// skips reads less than blocks do.
 fn are_alike(one: &Cursor<'_>, other: &Cursor<'_>) -> bool
     ensures { IsTrue result
-        ↔ ((one.now.sequence.len - one.now.index) / 16 ≤ other.now.sequence.len - other.now.index)
-        × ((other.now.sequence.len - other.now.index) / 16 ≤ one.now.sequence.len - one.now.index) }
+        ↔ ((one.now.sequence.len - one.now.index) / 4 ≤ other.now.sequence.len - other.now.index)
+        × ((other.now.sequence.len - other.now.index) / 4 ≤ one.now.sequence.len - one.now.index) }
 {
     let one_left = one.sequence.len.saturating_sub(one.index);
     let other_left = other.sequence.len.saturating_sub(other.index);
-    one_left / 16 <= other_left && other_left / 16 <= one_left
+    one_left / 4 <= other_left && other_left / 4 <= one_left
 }
 
 /// Moves each cursor past the numbers that were written, the first of `out`, by one call for each.
