@@ -42,7 +42,7 @@ def beside():
 
 # Sentences of docs/COMPARISON.md, and the quotients in them: a file of rows, the logarithm of the size, a row, who over whom.
 SENTENCES = {
-    "merges are {} to {} times as fast as here": ("peers 24 lists_intersection_of_few C CRoaring", "peers 24 lists_union_of_few C CRoaring"),
+    "merges are {} to {} times as fast as here": ("peers 24 lists_intersection C CRoaring", "peers 24 lists_union_of_few C CRoaring"),
     "`EliasFano`: {} of CRoaring's space": ("peers 24 lists_space C CRoaring",),
     "{} of the space of `Trie`": (f"peers {SIZE_OF_WORDS} words_space marisa C-trie",),
     "`Strings`: {} times as fast as marisa-trie, in {} times its space":
