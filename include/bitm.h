@@ -833,9 +833,10 @@ BITM_MUST_USE uint32_t bitm_cursor_next(struct bitm_cursor *cursor, uint64_t at_
  * may have some of the numbers: BITM_OK says that no move was BITM_WRONG. BITM_BAD_SIZE if there is no cursor to
  * intersect. The sequences of the cursors stay. Moves each cursor at most once for each number that is written and once
  * more; the intersection for each number of the first sequence and once more, so the shortest is best first. The union
- * of a pair of sequences, and the intersection of a pair of about the same length, where there is room for many numbers,
- * read both by blocks, as bitm_sequence_items does, and then move each cursor once. The cursors, out and written may not
- * overlap one another or the parts; cursors may share parts. */
+ * of a pair of sequences, and the intersection of a pair of about the same length, read both by blocks, as
+ * bitm_sequence_items does, where there is room for many numbers and neither cursor is at a number below from; then they
+ * move each cursor once. The cursors, out and written may not overlap one another or the parts; cursors may share
+ * parts. */
 BITM_MUST_USE uint32_t bitm_cursors_intersect(struct bitm_cursor *cursors, size_t cursors_len, uint64_t from,
                                               uint64_t *out, size_t out_len, uint64_t *written);
 BITM_MUST_USE uint32_t bitm_cursors_union(struct bitm_cursor *cursors, size_t cursors_len, uint64_t from,

@@ -1,5 +1,5 @@
 //! A cursor over a sequence as C passes it.
-ghost use Rattle.std.specs.Prelude.{◌≡◌, ◌<◌, ◌≤◌, IfSome, IsSomeAnd, SomeIff};
+ghost use Rattle.std.specs.Prelude.{◌≡◌, ◌<◌, ◌≤◌, ◌↔◌, ◌⊎◌, IfSome, IsSomeAnd, IsTrue, SomeIff};
 ghost use Rattle.bitm_abi.specs.Sequence.{lent_parts, IsSequenceSized};
 ghost use Rattle.elias_fano.specs.LentParts.{Holds};
 ghost use Rattle.postings.specs.Moves.{IfFound, IsAnswered};
@@ -51,6 +51,14 @@ impl<'a> Cursor<'a> {
         let sequence = self.sequence.lent()?;
         let at = self.index.min(sequence.len());
         Some((sequence, at))
+    }
+
+    /// Whether the cursor is at its end, or at a number that is at least `v`.
+    #[inline(always)]
+    pub(crate) fn is_from(&self, v: u64) -> bool
+        ensures { IsTrue result ↔ ((self.now.sequence.len ≤ self.now.index) ⊎ (v ≤ self.now.number)) }
+    {
+        self.index >= self.sequence.len || self.number >= v
     }
 
     /// Where the cursor stands.

@@ -104,6 +104,14 @@ fn pass(cursors: &mut [Cursor<'_>], from: u64, merged: Merged, out: &[u64]) -> M
     }
 }
 
+/// Whether a merge reads two sequences by blocks: true only where there are two cursors, each at its end or at a number
+/// that is at least `from`, and room for many numbers. A cursor that stands before `from` skips to it instead.
+fn reads_blocks(cursors: &[Cursor<'_>], from: u64, room: usize) -> bool
+    ensures { IsTrue result → length cursors.now ≡ 2 }
+{
+    cursors.len() == 2 && room >= ROOM && cursors[0].is_from(from) && cursors[1].is_from(from)
+}
+
 /// The union of the sequences of several cursors, from the cursors on, which move past the numbers that are written: of
 /// two cursors by blocks where there is room for many numbers.
 fn unite(cursors: &mut [Cursor<'_>], from: u64, out: &mut [u64]) -> Merged
@@ -116,7 +124,7 @@ fn unite(cursors: &mut [Cursor<'_>], from: u64, out: &mut [u64]) -> Merged
     ensures right { All IsRight cursors.old → All IsRight cursors.new }
     ensures sequences { map (λ c. c.sequence) cursors.new ≡ map (λ c. c.sequence) cursors.old }
 {
-    if cursors.len() != 2 || out.len() < ROOM {
+    if !reads_blocks(&*cursors, from, out.len()) {
         return total_union(cursors, from, out);
     }
     let merged = union_of_two(&cursors[0], &cursors[1], from, out);
@@ -136,7 +144,7 @@ fn share(cursors: &mut [Cursor<'_>], from: u64, out: &mut [u64]) -> Merged
     ensures right { All IsRight cursors.old → All IsRight cursors.new }
     ensures sequences { map (λ c. c.sequence) cursors.new ≡ map (λ c. c.sequence) cursors.old }
 {
-    if cursors.len() != 2 || out.len() < ROOM || !are_alike(&cursors[0], &cursors[1]) {
+    if !reads_blocks(&*cursors, from, out.len()) || !are_alike(&cursors[0], &cursors[1]) {
         return total_intersect(cursors, from, out);
     }
     let merged = intersection_of_two(&cursors[0], &cursors[1], from, out);
