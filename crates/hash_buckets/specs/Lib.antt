@@ -1,0 +1,7 @@
+pub mod Places
+pub mod Numbers
+pub mod Groups
+pub mod Seeds
+pub mod Building
+pub mod Free
+pub mod Parts
