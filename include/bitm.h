@@ -5,55 +5,64 @@
  * Bit i is bit i % 64, lowest first, of words[i / 64]. You own the memory of words and tables, which may be a mapped
  * file. No call allocates, keeps a pointer or has state, so any number of threads may query at once.
  *
- *     uint64_t words[2] = {0x5a, 1}, ones, position; // the bits 1, 3, 4, 6 and 64
- *     size_t n = 2, m = bitm_index_upper_len(n), k = bitm_index_lower_len(n);
- *     uint64_t *upper = malloc(8 * m), *lower = malloc(8 * k);
- *     if (!upper || !lower || bitm_index_build(words, n, upper, m, lower, k, &ones) != BITM_OK) return 1;
- *     struct bitm_index index = {.words = words, .words_len = n, .upper = upper, .upper_len = m, .lower = lower,
- *                                .lower_len = k, .bits_len = 100};
- *     if (bitm_index_select(&index, true, 4, &position) != BITM_OK || position != 64) return 1;
+ *     const uint64_t words[2] = {0x5a, 1};         // the bits 1, 3, 4, 6 and 64
+ *     uint64_t upper[1], lower[1], ones, position; // bitm_index_upper_len(2) and bitm_index_lower_len(2) are 1
+ *     if (bitm_index_build(words, 2, upper, 1, lower, 1, &ones) || ones != 5) return 1;
+ *     struct bitm_index index = {.words = words, .words_len = 2, .upper = upper, .upper_len = 1, .lower = lower,
+ *                                .lower_len = 1, .bits_len = 100};
+ *     if (bitm_index_select(&index, true, 4, &position) || position != 64) return 1;
+ *
+ * EXAMPLES. Each example of this file is whole: below `#include <bitm.h>` alone it compiles and runs as the body of a
+ * function that returns 0 at its end. BITM_OK is 0, so an example returns 1 where a call fails.
  *
  * NAMES. The prefix says what is queried: bitm_bits_ (words without tables), bitm_index_ (words with tables),
  * bitm_sequence_, bitm_cursor_, bitm_sparse_, bitm_hash_, bitm_dictionary_, bitm_strings_, bitm_tree_, bitm_trie_,
- * bitm_matrix_, bitm_text_, bitm_block_ (a block of any kind), bitm_stored_.
- * `bool one` says which bits are meant: true the 1 bits, false the 0 bits. A position counts from 0; the rank of a bit
- * is how many bits of its kind there are before it.
+ * bitm_matrix_, bitm_text_, bitm_block_ (a block of any kind), bitm_stored_. `bool one` says which bits are meant: true
+ * the 1 bits, false the 0 bits. A position counts from 0; the rank of a bit is the number of bits of its kind before
+ * it.
  *
  * LENGTHS. words_len, upper_len, lower_len, samples_len, .. count the items of that pointer; bits_len counts bits, and
  * is at most 64 * words_len. What lies past the first bits_len bits is neither counted nor found nor changed.
  *
+ * ERRORS. Unless its comment says otherwise, a call that does not return BITM_OK writes nothing. Each call names the
+ * statuses that it may return, and its section the statuses of all its calls.
+ *
+ * LISTS. A call that takes struct bitm_list_counts answers a list of queries, as that struct says.
+ *
+ * BLOCKS. A block is one piece of memory, and also one file: it holds no pointer, and many processes can map it
+ * (docs/FORMAT.md). Of each kind, _size says how many words a block takes, _build writes it, _open writes the struct
+ * that queries take, which points into the block, and _check says whether the block is as it was written. _open reads
+ * few words, however long the block is: each section says how many.
+ *
  * Promised, and proved of each call, for all arguments that keep the duties below:
  *   - it returns, and reads and writes only the memory that it is passed, WHATEVER tables and hints hold;
- *   - a status other than BITM_OK leaves all that the call could have written unchanged, except for cursors, which may
- *     have moved, for memory that is said to be overwritten (scratch of words, room of shards), for the numbers at a
- *     list of indices, which are written up to the first that has none, and, where it is BITM_WRONG, for the numbers of
- *     a sequence in order, the lists of positions or letters of a text, of ranges of a matrix and of cursors, the word
- *     of a node of a trie, the fingerprints of keys, and the block of strings;
  *   - a call that builds a block compares lengths before it looks at what the lists hold: BITM_BAD_SIZE comes before
- *     BITM_UNSORTED, and that before BITM_WRONG;
+ *     BITM_UNSORTED, and BITM_UNSORTED before BITM_WRONG;
  *   - over any tables and hints, stale and hostile ones too, a rank is at most its position and a selection finds a
  *     position that is inside and holds the requested bit; BITM_WRONG means that the tables do not match the words, but
  *     BITM_OK does not mean that they do;
  *   - if the tables match the words, the answer is what plain counting gives, and a query of words and tables never
- *     returns BITM_WRONG. They do if bitm_index_build wrote them or bitm_index_check passes them, as long as neither
+ *     returns BITM_WRONG. They match if bitm_index_build wrote them or bitm_index_check passes them, as long as neither
  *     words nor tables change afterwards. Samples never change an answer, whatever they hold; wrong hints may, as wrong
  *     tables do;
  *   - sequences likewise: over parts that bitm_sequence_build wrote or bitm_sequence_check passes, the answers agree
- *     with one sequence of numbers.
+ *     with one sequence of numbers;
+ *   - blocks likewise, as the section of each kind says.
  *
  * Cost: the reads that are named below are upper bounds for all tables, right or wrong. Time is not proved. Queries are
  * fastest where words and tables begin at multiples of 64 bytes, a line of the cache, and where many MiB of them lie in
  * huge pages: on Linux by madvise(.., MADV_HUGEPAGE) before they are written first (docs/PERFORMANCE.md has figures).
  *
  * Your duties, as for any C function that takes pointers (nothing here can test them):
- *   - a pointer to n numbers is aligned (to 8 bytes; samples to 4, bytes to 1) and n numbers can be read there; it may
- *     be NULL if n is 0. Pointers to one number (out, ones, written, used, ..) and to structs are never NULL;
+ *   - a pointer to n numbers is aligned (to 8 bytes; samples to 4, bytes to 1) and n numbers lie there; it may be NULL
+ *     if n is 0. Pointers to one number (out, ones, written, used, ..) and to structs are never NULL;
  *   - what the pointers in a struct point to counts as passed;
  *   - memory that a call writes (no const) overlaps nothing else that is passed, and nobody else reads or writes it
- *     during the call. It has to be allocated, but need not be initialized;
+ *     during the call. It has to be allocated, but need not be initialized. Memory that a call only reads may overlap;
  *   - memory that a call reads (const) is not written during the call;
  *   - a mapped file is not truncated while a call runs: the system would end the process;
  *   - a bool is 0 or 1, as a C compiler ensures; the processor counts bits in hardware (x86-64-v2).
+ *
  * What a call does where a duty is broken is undefined, as with C's own functions: it may answer wrongly, end the
  * process (SIGILL), or read and write outside the memory that it is passed. */
 #ifndef BITM_H
@@ -119,7 +128,7 @@ static inline bool bitm_version_fits(void)
     return is / series == BITM_VERSION_NUMBER / series && is >= BITM_VERSION_NUMBER;
 }
 
-/* What a call returns; each call names those that it may return. */
+/* What a call returns; each call names the statuses that it may return. */
 enum bitm_status {
     BITM_OK = 0,       /* the answer was written */
     BITM_NONE = 1,     /* there is no such position, bit, number, node, key or word */
@@ -134,7 +143,8 @@ enum bitm_status {
 
 /* A status in words, in memory that stays.
  *
- *     if (strcmp(bitm_status_text(BITM_BAD_SIZE), "a length is wrong") != 0) return 1; */
+ *     const char *const said = bitm_status_text(BITM_BAD_SIZE); // "a length is wrong"
+ *     if (said[0] != 'a' || said == bitm_status_text(BITM_WRONG)) return 1; */
 static inline const char *bitm_status_text(uint32_t status)
 {
     switch (status) {
@@ -152,7 +162,10 @@ static inline const char *bitm_status_text(uint32_t status)
 #define BITM_NO_ANSWER UINT64_MAX
 #define BITM_WRONG_TABLES (UINT64_MAX - 1)
 
-/* How many answers of a list are BITM_NO_ANSWER, and how many BITM_WRONG_TABLES. */
+/* Lists: a call that takes this struct writes to out[i] the answer of query i, as the call of one query gives it, or
+ * BITM_NO_ANSWER for BITM_NONE and BITM_WRONG_TABLES for BITM_WRONG; and to the struct how many answers are
+ * BITM_NO_ANSWER, and how many BITM_WRONG_TABLES. It returns BITM_BAD_SIZE also if out_len, or the length of another
+ * list, is not the number of queries. */
 struct bitm_list_counts {
     uint64_t missing;
     uint64_t wrong;
@@ -160,19 +173,22 @@ struct bitm_list_counts {
 
 /* ---- words without tables
  *
- * The first bits_len bits of words_len words. All these calls return BITM_BAD_SIZE if bits_len is above 64 * words_len;
- * those that count bits or find positions (count, count_range, next, previous, positions) also if words_len is 2^58 or
- * more. Where bits are written, every other bit stays as it was; but whole words are read and written, so other threads
- * may not use these words meanwhile. */
+ * The first bits_len bits of words_len words.
+ *
+ *   - errors: BITM_BAD_SIZE if bits_len is above 64 * words_len; of calls that count bits or find positions (count,
+ *     count_range, next, previous, positions) also if words_len is 2^58 or more. An error writes nothing.
+ *   - writes: where a call writes bits, every other bit stays as it was; but it reads and writes whole words, so other
+ *     threads may not use these words meanwhile.
+ *   - overlap: memory that a call writes overlaps nothing else that it is passed. */
 
 /* How many words hold the given number of bits: bits_len / 64, rounded up.
  *
  *     if (bitm_bits_words_len(100) != 2) return 1; */
 size_t bitm_bits_words_len(uint64_t bits_len);
 
-/* How many words the hints take of words_len words of a sequence, sparse bits, a tree or a trie, which have that many
- * numbers, 1 bits or nodes: 0 if words_len is 2^26 or more. Hints are the positions of each 128th 1 bit, and after
- * these of each 128th 0 bit, two in a word (docs/FORMAT.md).
+/* How many words the hints take for a sequence, sparse bits, a tree or a trie of words_len words with `ones` numbers, 1
+ * bits or nodes: 0 if words_len is 2^26 or more. Hints are the positions of each 128th 1 bit, and after these of each
+ * 128th 0 bit, two in a word (docs/FORMAT.md).
  *
  *     if (bitm_hints_len(1000, 40) != 11) return 1; // 4 words for 1000 1 bits, and 7 for 1560 0 bits */
 static inline size_t bitm_hints_len(size_t ones, size_t words_len)
@@ -182,9 +198,19 @@ static inline size_t bitm_hints_len(size_t ones, size_t words_len)
     return (of_ones + 255) / 256 + (bits - of_ones + 255) / 256;
 }
 
-/* Faults. Which length is wrong where a call returns BITM_BAD_SIZE, in words and in memory that stays; NULL if none is.
- * Each looks at the lengths of one struct, or of words, which are the same for all calls that take these; where it
- * returns NULL, a length is wrong that the call alone takes, such as out_len.
+/* How many words the hints take of words_len words of a matrix, whose number of 1 bits its block does not know ahead:
+ * as many as bitm_hints_len says at most. 0 if words_len is 2^26 or more.
+ *
+ *     if (bitm_hints_room(40) != 11 || bitm_hints_room((size_t)1 << 26) != 0) return 1; */
+static inline size_t bitm_hints_room(size_t words_len)
+{
+    if (words_len >= (size_t)1 << 26) return 0;
+    return (words_len + 3) / 4 + 1;
+}
+
+/* Faults: which length is wrong where a call returns BITM_BAD_SIZE, in words and in memory that stays; NULL if none is.
+ * Each such function looks at the lengths of one struct, or of words, which are the same for all calls that take these;
+ * where it returns NULL, a length is wrong that the call alone takes, such as out_len.
  *
  *     if (bitm_bits_fault(2, 100) != NULL || bitm_bits_fault(2, 129) == NULL) return 1; // two words have 128 bits */
 static inline const char *bitm_bits_fault(size_t words_len, uint64_t bits_len)
@@ -196,9 +222,9 @@ static inline const char *bitm_bits_fault(size_t words_len, uint64_t bits_len)
 
 /* One bit at a position that you know to be below 64 * words_len: nothing is tested.
  *
- *     uint64_t some[2] = {0x5a, 0};
- *     bitm_set_bit_at(some, 70, true);
- *     if (!bitm_bit_at(some, 70) || bitm_bit_at(some, 71)) return 1; */
+ *     uint64_t words[2] = {0x5a, 0};
+ *     bitm_set_bit_at(words, 70, true);
+ *     if (!bitm_bit_at(words, 70) || bitm_bit_at(words, 71)) return 1; */
 static inline bool bitm_bit_at(const uint64_t *words, uint64_t position)
 {
     return (words[position / 64] >> (position % 64)) & 1;
@@ -212,35 +238,35 @@ static inline void bitm_set_bit_at(uint64_t *words, uint64_t position, bool valu
 
 /* The bit at a position, as 0 or 1; makes it equal to value. BITM_NONE if position is bits_len or more.
  *
- *     uint64_t value;
- *     if (bitm_bits_set(some, 2, 100, 70, false) != BITM_OK || bitm_bits_get(some, 2, 100, 70, &value) != BITM_OK ||
- *         value != 0 || bitm_bits_get(some, 2, 100, 100, &value) != BITM_NONE) return 1; */
+ *     uint64_t words[2] = {0x5a, 1}, bit;
+ *     if (bitm_bits_set(words, 2, 100, 70, true) || words[1] != 0x41 || bitm_bits_get(words, 2, 100, 70, &bit) ||
+ *         bit != 1 || bitm_bits_get(words, 2, 100, 100, &bit) != BITM_NONE) return 1; */
 BITM_MUST_USE uint32_t bitm_bits_get(const uint64_t *words, size_t words_len, uint64_t bits_len, uint64_t position,
                                      uint64_t *out);
 BITM_MUST_USE uint32_t bitm_bits_set(uint64_t *words, size_t words_len, uint64_t bits_len, uint64_t position,
                                      bool value);
 
 /* Makes the bits at the positions of a list equal to value, and writes to outside how many of the positions are
- * bits_len or more: these change nothing. positions and outside may not overlap each other or the words. Reads each
- * position once, and reads and writes the word of each that is inside.
+ * bits_len or more: these change nothing. Reads each position once, and reads and writes the word of each that is
+ * inside.
  *
- *     const uint64_t listed[3] = {70, 8, 100};
- *     uint64_t outside;
- *     if (bitm_bits_set_list(some, 2, 100, listed, 3, true, &outside) != BITM_OK || outside != 1 ||
- *         some[0] != 0x15a || some[1] != 1 << 6) return 1; */
+ *     uint64_t words[2] = {0x5a, 1}, outside;
+ *     const uint64_t positions[3] = {70, 8, 100};
+ *     if (bitm_bits_set_list(words, 2, 100, positions, 3, true, &outside) || outside != 1 || words[0] != 0x15a ||
+ *         words[1] != 0x41) return 1; */
 BITM_MUST_USE uint32_t bitm_bits_set_list(uint64_t *words, size_t words_len, uint64_t bits_len,
                                           const uint64_t *positions, size_t positions_len, bool value,
                                           uint64_t *outside);
 
 /* The number in the width bits from position begin on, lowest bit first; replaces it by the width lowest bits of value;
  * combines these bits with the width lowest bits of value by exclusive or. A width is 0 to 64; the number of width 0 is
- * 0. BITM_NONE if begin + width is above bits_len or width is above 64. Reads or writes at most two words
- * (evident from the code).
+ * 0. BITM_NONE if begin + width is above bits_len or width is above 64. Reads or writes at most two words (evident from
+ * the code).
  *
- *     if (bitm_bits_get_number(words, n, 100, 3, 4, &value) != BITM_OK || value != 11) return 1; // bits 3, 4 and 6
- *     if (bitm_bits_set_number(some, 2, 100, 62, 4, 9) != BITM_OK ||
- *         bitm_bits_xor_number(some, 2, 100, 62, 4, 3) != BITM_OK ||
- *         bitm_bits_get_number(some, 2, 100, 62, 4, &value) != BITM_OK || value != 10) return 1; */
+ *     uint64_t words[2] = {0x5a, 1}, number;
+ *     if (bitm_bits_get_number(words, 2, 100, 3, 4, &number) || number != 11 || // bits 3, 4 and 6
+ *         bitm_bits_set_number(words, 2, 100, 62, 4, 9) || bitm_bits_xor_number(words, 2, 100, 62, 4, 3) ||
+ *         bitm_bits_get_number(words, 2, 100, 62, 4, &number) || number != 10) return 1; */
 BITM_MUST_USE uint32_t bitm_bits_get_number(const uint64_t *words, size_t words_len, uint64_t bits_len, uint64_t begin,
                                             uint32_t width, uint64_t *out);
 BITM_MUST_USE uint32_t bitm_bits_set_number(uint64_t *words, size_t words_len, uint64_t bits_len, uint64_t begin,
@@ -252,11 +278,11 @@ BITM_MUST_USE uint32_t bitm_bits_xor_number(uint64_t *words, size_t words_len, u
  * replaces one by the width lowest bits of value; exchanges two; replaces each of the first count. BITM_NONE if a
  * fragment ends past bits_len or width is above 64. Fragments of width 0 are 0 and take no bits.
  *
- *     uint64_t nibbles[1] = {0};
- *     if (bitm_bits_fill_fragments(nibbles, 1, 64, 4, 7, 3) != BITM_OK || nibbles[0] != 0x777 ||
- *         bitm_bits_set_fragment(nibbles, 1, 64, 1, 4, 2) != BITM_OK || nibbles[0] != 0x727 ||
- *         bitm_bits_swap_fragments(nibbles, 1, 64, 0, 1, 4) != BITM_OK || nibbles[0] != 0x772 ||
- *         bitm_bits_get_fragment(nibbles, 1, 64, 0, 4, &value) != BITM_OK || value != 2) return 1; */
+ *     uint64_t nibbles[1] = {0}, number;
+ *     if (bitm_bits_fill_fragments(nibbles, 1, 64, 4, 7, 3) || nibbles[0] != 0x777 ||
+ *         bitm_bits_set_fragment(nibbles, 1, 64, 1, 4, 2) || nibbles[0] != 0x727 ||
+ *         bitm_bits_swap_fragments(nibbles, 1, 64, 0, 1, 4) || nibbles[0] != 0x772 ||
+ *         bitm_bits_get_fragment(nibbles, 1, 64, 0, 4, &number) || number != 2) return 1; */
 BITM_MUST_USE uint32_t bitm_bits_get_fragment(const uint64_t *words, size_t words_len, uint64_t bits_len,
                                               uint64_t index, uint32_t width, uint64_t *out);
 BITM_MUST_USE uint32_t bitm_bits_set_fragment(uint64_t *words, size_t words_len, uint64_t bits_len, uint64_t index,
@@ -266,76 +292,84 @@ BITM_MUST_USE uint32_t bitm_bits_swap_fragments(uint64_t *words, size_t words_le
 BITM_MUST_USE uint32_t bitm_bits_fill_fragments(uint64_t *words, size_t words_len, uint64_t bits_len, uint32_t width,
                                                 uint64_t value, size_t count);
 
-/* How many 1 bits, or 0 bits, there are: of all, and of those from position from on and before position to. BITM_NONE
- * if from is above to or to is above bits_len. Reads each word of the range once.
+/* How many 1 bits, or 0 bits, there are: among all, and from position `from` on and before position `to`. BITM_NONE if
+ * `from` is above `to`, or `to` above bits_len. Reads each word of the range once.
  *
- *     if (bitm_bits_count(words, n, 100, true, &value) != BITM_OK || value != 5 ||
- *         bitm_bits_count_range(words, n, 100, true, 2, 7, &value) != BITM_OK || value != 3) return 1; */
+ *     const uint64_t words[2] = {0x5a, 1}; // the bits 1, 3, 4, 6 and 64
+ *     uint64_t count;
+ *     if (bitm_bits_count(words, 2, 100, true, &count) || count != 5 ||
+ *         bitm_bits_count_range(words, 2, 100, true, 2, 7, &count) || count != 3) return 1; */
 BITM_MUST_USE uint32_t bitm_bits_count(const uint64_t *words, size_t words_len, uint64_t bits_len, bool one,
                                        uint64_t *out);
 BITM_MUST_USE uint32_t bitm_bits_count_range(const uint64_t *words, size_t words_len, uint64_t bits_len, bool one,
                                              uint64_t from, uint64_t to, uint64_t *out);
 
-/* The position of the first 1 bit, or 0 bit, at or after position from; of the last one at or before it, where from may
- * be past the end. BITM_NONE if there is none. Reads each word on the way once.
+/* The position of the first 1 bit, or 0 bit, at or after position `from`; of the last one at or before it, where `from`
+ * may be past the end. BITM_NONE if there is none. Reads each word on the way once.
  *
- *     if (bitm_bits_next(words, n, 100, true, 7, &position) != BITM_OK || position != 64 ||
- *         bitm_bits_previous(words, n, 100, true, 63, &position) != BITM_OK || position != 6) return 1; */
+ *     const uint64_t words[2] = {0x5a, 1}; // the bits 1, 3, 4, 6 and 64
+ *     uint64_t position;
+ *     if (bitm_bits_next(words, 2, 100, true, 7, &position) || position != 64 ||
+ *         bitm_bits_previous(words, 2, 100, true, 63, &position) || position != 6) return 1; */
 BITM_MUST_USE uint32_t bitm_bits_next(const uint64_t *words, size_t words_len, uint64_t bits_len, bool one,
                                       uint64_t from, uint64_t *out);
 BITM_MUST_USE uint32_t bitm_bits_previous(const uint64_t *words, size_t words_len, uint64_t bits_len, bool one,
                                           uint64_t from, uint64_t *out);
 
-/* Writes the positions of the 1 bits, or 0 bits, from position from on, in increasing order, until out is full or there
- * are no more, and to written how many; the rest of out stays as it was. out and written may not overlap each other or
- * the words.
+/* Writes the positions of the 1 bits, or 0 bits, from position `from` on, in increasing order, until out is full or
+ * there are no more, and to written how many; the rest of out stays as it was.
  *
+ *     const uint64_t words[2] = {0x5a, 1}; // the bits 1, 3, 4, 6 and 64
  *     uint64_t found[8], written;
- *     if (bitm_bits_positions(words, n, 100, true, 4, found, 8, &written) != BITM_OK || written != 3 ||
- *         found[0] != 4 || found[1] != 6 || found[2] != 64) return 1; */
+ *     if (bitm_bits_positions(words, 2, 100, true, 4, found, 8, &written) || written != 3 || found[0] != 4 ||
+ *         found[1] != 6 || found[2] != 64) return 1; */
 BITM_MUST_USE uint32_t bitm_bits_positions(const uint64_t *words, size_t words_len, uint64_t bits_len, bool one,
                                            uint64_t from, uint64_t *out, size_t out_len, uint64_t *written);
 
 /* Makes every bit of the words from position bits_len on 0. Returns BITM_OK always: if bits_len is 64 * words_len or
  * more, there is nothing to do.
  *
- *     uint64_t byte[1] = {UINT64_MAX};
- *     if (bitm_bits_clear_from(byte, 1, 8) != BITM_OK || byte[0] != 0xff) return 1; */
+ *     uint64_t words[1] = {UINT64_MAX};
+ *     if (bitm_bits_clear_from(words, 1, 8) || words[0] != 0xff) return 1; */
 BITM_MUST_USE uint32_t bitm_bits_clear_from(uint64_t *words, size_t words_len, uint64_t bits_len);
 
-/* Makes the bits from position from on and before position to equal to value, or flips them. BITM_NONE if from is above
- * to or to is above bits_len.
+/* Makes the bits from position `from` on and before position `to` equal to value, or flips them. BITM_NONE if `from` is
+ * above `to`, or `to` above bits_len.
  *
- *     if (bitm_bits_fill_range(byte, 1, 64, 0, 4, false) != BITM_OK || byte[0] != 0xf0 ||
- *         bitm_bits_flip_range(byte, 1, 64, 2, 6) != BITM_OK || byte[0] != 0xcc) return 1; */
+ *     uint64_t words[1] = {0xff};
+ *     if (bitm_bits_fill_range(words, 1, 64, 0, 4, false) || words[0] != 0xf0 ||
+ *         bitm_bits_flip_range(words, 1, 64, 2, 6) || words[0] != 0xcc) return 1; */
 BITM_MUST_USE uint32_t bitm_bits_fill_range(uint64_t *words, size_t words_len, uint64_t bits_len, uint64_t from,
                                             uint64_t to, bool value);
 BITM_MUST_USE uint32_t bitm_bits_flip_range(uint64_t *words, size_t words_len, uint64_t bits_len, uint64_t from,
                                             uint64_t to);
 
 /* Copies count bits, from position from_begin on, to position to_begin on. BITM_NONE if a range is not inside its
- * words. The words of to and from may not overlap.
+ * words.
  *
+ *     const uint64_t words[2] = {0x5a, 1};
  *     uint64_t copy[1] = {0};
- *     if (bitm_bits_copy_range(copy, 1, 2, words, n, 3, 4) != BITM_OK || copy[0] != 11 << 2) return 1; */
+ *     if (bitm_bits_copy_range(copy, 1, 2, words, 2, 3, 4) || copy[0] != 11 << 2) return 1; */
 BITM_MUST_USE uint32_t bitm_bits_copy_range(uint64_t *to, size_t to_len, uint64_t to_begin, const uint64_t *from,
                                             size_t from_len, uint64_t from_begin, uint64_t count);
 
 /* Whether count bits of a, from position a_begin on, equal count bits of b from position b_begin on, as 0 or 1.
  * BITM_NONE if a range is not inside its words. a and b may overlap.
  *
- *     if (bitm_bits_equal_range(copy, 1, 2, words, n, 3, 4, &value) != BITM_OK || value != 1) return 1; */
+ *     const uint64_t a[1] = {0x2c}, b[2] = {0x5a, 1};
+ *     uint64_t is_equal;
+ *     if (bitm_bits_equal_range(a, 1, 2, b, 2, 3, 4, &is_equal) || is_equal != 1) return 1; */
 BITM_MUST_USE uint32_t bitm_bits_equal_range(const uint64_t *a, size_t a_len, uint64_t a_begin, const uint64_t *b,
                                              size_t b_len, uint64_t b_begin, uint64_t count, uint64_t *out);
 
-/* Combines each word with the word of other at the same index: and, or, exclusive or, and with the complement of
- * other's. BITM_BAD_SIZE if the lengths differ. words and other may not overlap.
+/* Combines each word with the word of other at the same index: and, or, exclusive or, and with the complement of the
+ * other word. BITM_BAD_SIZE if the lengths differ.
  *
+ *     uint64_t words[1] = {0x2c};
  *     const uint64_t six[1] = {6};
- *     if (bitm_bits_or(copy, 1, six, 1) != BITM_OK || copy[0] != 0x2e ||
- *         bitm_bits_and_not(copy, 1, six, 1) != BITM_OK || copy[0] != 0x28 ||
- *         bitm_bits_xor(copy, 1, six, 1) != BITM_OK || copy[0] != 0x2e ||
- *         bitm_bits_and(copy, 1, six, 1) != BITM_OK || copy[0] != 6) return 1; */
+ *     if (bitm_bits_or(words, 1, six, 1) || words[0] != 0x2e || bitm_bits_and_not(words, 1, six, 1) ||
+ *         words[0] != 0x28 || bitm_bits_xor(words, 1, six, 1) || words[0] != 0x2e || bitm_bits_and(words, 1, six, 1) ||
+ *         words[0] != 6) return 1; */
 BITM_MUST_USE uint32_t bitm_bits_and(uint64_t *words, size_t words_len, const uint64_t *other, size_t other_len);
 BITM_MUST_USE uint32_t bitm_bits_or(uint64_t *words, size_t words_len, const uint64_t *other, size_t other_len);
 BITM_MUST_USE uint32_t bitm_bits_xor(uint64_t *words, size_t words_len, const uint64_t *other, size_t other_len);
@@ -345,8 +379,10 @@ BITM_MUST_USE uint32_t bitm_bits_and_not(uint64_t *words, size_t words_len, cons
  * such position where words has one. As 0 or 1. BITM_BAD_SIZE if either has fewer than bits_len bits. words and other
  * may overlap. Reads each word of both at most twice, up to the first that decides (evident from the code).
  *
- *     if (bitm_bits_intersects(six, 1, words, n, 64, &value) != BITM_OK || value != 1 || // both have bit 1
- *         bitm_bits_is_subset(six, 1, words, n, 64, &value) != BITM_OK || value != 0) return 1; // words lack bit 2 */
+ *     const uint64_t six[1] = {6}, words[2] = {0x5a, 1};
+ *     uint64_t answer;
+ *     if (bitm_bits_intersects(six, 1, words, 2, 64, &answer) || answer != 1 || // both have bit 1
+ *         bitm_bits_is_subset(six, 1, words, 2, 64, &answer) || answer != 0) return 1; // not bit 2 */
 BITM_MUST_USE uint32_t bitm_bits_intersects(const uint64_t *words, size_t words_len, const uint64_t *other,
                                             size_t other_len, uint64_t bits_len, uint64_t *out);
 BITM_MUST_USE uint32_t bitm_bits_is_subset(const uint64_t *words, size_t words_len, const uint64_t *other,
@@ -354,7 +390,8 @@ BITM_MUST_USE uint32_t bitm_bits_is_subset(const uint64_t *words, size_t words_l
 
 /* The position, 0 to 63, of the 1 bit of a word with the given rank. BITM_NONE if the word has no more than rank.
  *
- *     if (bitm_bits_select_in_word(0x5a, 2, &position) != BITM_OK || position != 4) return 1; */
+ *     uint64_t position;
+ *     if (bitm_bits_select_in_word(0x5a, 2, &position) || position != 4) return 1; */
 BITM_MUST_USE uint32_t bitm_bits_select_in_word(uint64_t word, uint32_t rank, uint64_t *out);
 
 /* The width that stores a number: how many binary digits it has, 0 for 0.
@@ -372,13 +409,12 @@ uint32_t bitm_bits_to_store(uint64_t value);
  *   - set: first makes each bit of the window 0 where len_mask has a 1 bit, then does as init.
  *
  *     uint8_t bytes[9] = {0x5a};
+ *     uint64_t window;
  *     uint32_t few;
- *     if (bitm_bytes_get57(bytes, 9, 3, &value) != BITM_OK || value != 11 || // from bit 3 on: 1, 1, 0, 1
- *         bitm_bytes_init57(bytes, 9, 8, 1) != BITM_OK || bytes[1] != 1 ||
- *         bitm_bytes_set57(bytes, 9, 8, 2, 3) != BITM_OK || bytes[1] != 2 ||
- *         bitm_bytes_get25(bytes, 9, 8, &few) != BITM_OK || few != 2 ||
- *         bitm_bytes_init25(bytes, 9, 8, 1) != BITM_OK || bytes[1] != 3 ||
- *         bitm_bytes_set25(bytes, 9, 8, 0, 3) != BITM_OK || bytes[1] != 0) return 1; */
+ *     if (bitm_bytes_get57(bytes, 9, 3, &window) || window != 11 || // from bit 3 on: 1, 1, 0, 1
+ *         bitm_bytes_init57(bytes, 9, 8, 1) || bytes[1] != 1 || bitm_bytes_set57(bytes, 9, 8, 2, 3) || bytes[1] != 2 ||
+ *         bitm_bytes_get25(bytes, 9, 8, &few) || few != 2 || bitm_bytes_init25(bytes, 9, 8, 1) || bytes[1] != 3 ||
+ *         bitm_bytes_set25(bytes, 9, 8, 0, 3) || bytes[1] != 0) return 1; */
 BITM_MUST_USE uint32_t bitm_bytes_get57(const uint8_t *bytes, size_t bytes_len, uint64_t first_bit, uint64_t *out);
 BITM_MUST_USE uint32_t bitm_bytes_init57(uint8_t *bytes, size_t bytes_len, uint64_t first_bit, uint64_t value);
 BITM_MUST_USE uint32_t bitm_bytes_set57(uint8_t *bytes, size_t bytes_len, uint64_t first_bit, uint64_t value,
@@ -388,21 +424,21 @@ BITM_MUST_USE uint32_t bitm_bytes_init25(uint8_t *bytes, size_t bytes_len, uint6
 BITM_MUST_USE uint32_t bitm_bytes_set25(uint8_t *bytes, size_t bytes_len, uint64_t first_bit, uint32_t value,
                                         uint32_t len_mask);
 
-/* ---- the index: words with tables */
+/* ---- the index: words with tables
+ *
+ * struct bitm_index has words, their two tables, and samples or none (struct bitm_samples, which stands before it).
+ *
+ *   - errors: BITM_BAD_SIZE if a length in the struct is not right. A query returns BITM_WRONG if the tables turn out
+ *     not to match the words. An error writes nothing.
+ *   - reads: each call names the entries and words that it reads at most, whatever the tables hold.
+ *   - overlap: memory that a call writes overlaps nothing else that it is passed, and nothing that the struct points
+ *     to. */
 
 /* Samples of the 1 bits, or of the 0 bits: one number of 32 bits for each 2^log2 of them in an upper block (2^32 bits),
  * and for each upper block the number of samples before it. log2 below 7 counts as 7, above 31 as 31. A larger one
- * takes less space and a longer search.
- *
- *     size_t most = bitm_index_samples_len(n, 12);
- *     uint32_t *samples = malloc(4 * most);
- *     uint64_t *starts = malloc(8 * m), used;
- *     if (!samples || !starts ||
- *         bitm_index_build_samples(&index, true, 12, samples, most, starts, m, &used) != BITM_OK) return 1;
- *     index.ones = (struct bitm_samples){samples, used, starts, m, 12, 0};
- *
- * samples_len is what the build wrote to used; the rest of the list is not part of the samples. Lists, lengths and log2
- * may be anything: samples shorten a search, never change an answer, and never lead to a read outside. */
+ * takes less space and a longer search. samples_len is the number that bitm_index_build_samples wrote to used; the rest
+ * of the list is not part of the samples. Lists, lengths and log2 may be anything: samples shorten a search, never
+ * change an answer, and never lead to a read outside. */
 struct bitm_samples {
     const uint32_t *samples;
     size_t samples_len;
@@ -436,9 +472,10 @@ struct bitm_index {
 size_t bitm_index_upper_len(size_t words_len);
 size_t bitm_index_lower_len(size_t words_len);
 
-/* Faults of words with tables, and of an index: see bitm_bits_fault.
+/* Faults of words with tables, and of an index: which length is wrong, or NULL (see bitm_bits_fault).
  *
- *     if (bitm_index_fault(&index) != NULL || bitm_tables_fault(n, m, k + 1) == NULL) return 1; */
+ *     struct bitm_index index = {.bits_len = 1}; // no words
+ *     if (bitm_index_fault(&index) == NULL || bitm_tables_fault(0, 0, 0) != NULL) return 1; */
 static inline const char *bitm_tables_fault(size_t words_len, size_t upper_len, size_t lower_len)
 {
     if (words_len >= (size_t)1 << 58) return "words_len is 2^58 or more";
@@ -453,70 +490,89 @@ static inline const char *bitm_index_fault(const struct bitm_index *index)
 }
 
 /* The greatest number of samples of one kind that the given number of words can have: words_len / 2^(log2 - 6), rounded
- * up. */
+ * up.
+ *
+ *     if (bitm_index_samples_len(1000, 12) != 16) return 1; */
 size_t bitm_index_samples_len(size_t words_len, uint32_t log2);
 
 /* A log2 for samples of `items` bits of one kind among bits_len, such that samples take about the same share of the
- * memory however many items there are: 7 to most, where most (below 7 it counts as 7, above 31 as 31) is for items and
- * others in equal number, or mostly items.
+ * memory however many items there are. It is 7 to most (which counts as 7 below 7, as 31 above 31), and most itself
+ * where half of the bits or more are items.
  *
  *     if (bitm_optimal_log2(1, 1000000, 13) != 7) return 1; // rare bits */
 uint32_t bitm_optimal_log2(uint64_t items, uint64_t bits_len, uint32_t most);
 
 /* Writes both tables of the words, and to ones the number of 1 bits of all the words. BITM_BAD_SIZE if words_len is
- * 2^58 or more, or a table is not as long as the calls above say. No two of words, upper, lower and ones may overlap.
- * Reads each word once. */
+ * 2^58 or more, or a table is not as long as bitm_index_upper_len and bitm_index_lower_len say. Reads each word once.
+ *
+ *     const uint64_t words[2] = {0x5a, 1}; // the bits 1, 3, 4, 6 and 64
+ *     uint64_t upper[1], lower[1], ones;
+ *     if (bitm_index_build(words, 2, upper, 1, lower, 1, &ones) || ones != 5) return 1; */
 BITM_MUST_USE uint32_t bitm_index_build(const uint64_t *words, size_t words_len, uint64_t *upper, size_t upper_len,
                                         uint64_t *lower, size_t lower_len, uint64_t *ones);
 
 /* Whether the tables (not the samples) match the words: BITM_OK, BITM_WRONG or BITM_BAD_SIZE. Reads each word at most
  * once.
  *
- *     if (bitm_index_check(&index) != BITM_OK) return 1; */
+ *     const uint64_t words[2] = {0x5a, 1};
+ *     uint64_t upper[1], lower[1], ones;
+ *     if (bitm_index_build(words, 2, upper, 1, lower, 1, &ones)) return 1;
+ *     struct bitm_index index = {words, 2, upper, 1, lower, 1, 100, {0}, {0}, {0}};
+ *     if (bitm_index_check(&index)) return 1;
+ *     lower[0]++;
+ *     if (bitm_index_check(&index) != BITM_WRONG) return 1; */
 BITM_MUST_USE uint32_t bitm_index_check(const struct bitm_index *index);
 
 /* Writes the samples of the 1 bits, or 0 bits, of all the words, for each upper block the number of samples before it,
  * and to used how many samples there are; items past these stay as they were. If the tables match the words, so do the
  * samples; else they are arbitrary numbers. BITM_BAD_SIZE also if samples_len is less than bitm_index_samples_len says
- * or starts_len is not upper_len. samples, starts and used may not overlap one another, nor what the struct points to.
- * Reads both tables once, up to two lower entries again for each sample, and at most eight words (evident from the
- * code). */
+ * or starts_len is not upper_len. Reads both tables once, up to two lower entries again for each sample, and at most
+ * eight words (evident from the code).
+ *
+ * bitm_index_check_samples says whether index->ones, or index->zeros, are the samples that bitm_index_build_samples
+ * writes, where the tables match the words: BITM_OK or BITM_WRONG; over other tables either of these.
+ *
+ *     const uint64_t words[2] = {0x5a, 1}; // the bits 1, 3, 4, 6 and 64
+ *     uint64_t upper[1], lower[1], starts[1], ones, used;
+ *     uint32_t samples[1]; // bitm_index_samples_len(2, 12) is 1
+ *     if (bitm_index_build(words, 2, upper, 1, lower, 1, &ones)) return 1;
+ *     struct bitm_index index = {words, 2, upper, 1, lower, 1, 100, {0}, {0}, {0}};
+ *     if (bitm_index_build_samples(&index, true, 12, samples, 1, starts, 1, &used)) return 1;
+ *     index.ones = (struct bitm_samples){samples, used, starts, 1, 12, 0};
+ *     if (bitm_index_check_samples(&index, true)) return 1; */
 BITM_MUST_USE uint32_t bitm_index_build_samples(const struct bitm_index *index, bool one, uint32_t log2,
                                                 uint32_t *samples, size_t samples_len, uint64_t *starts,
                                                 size_t starts_len, uint64_t *used);
-
-/* Whether index->ones, or index->zeros, are the samples that bitm_index_build_samples writes, where the tables match
- * the words: BITM_OK or BITM_WRONG; over other tables either of these. BITM_BAD_SIZE as for all.
- *
- *     if (bitm_index_check_samples(&index, true) != BITM_OK) return 1; */
 BITM_MUST_USE uint32_t bitm_index_check_samples(const struct bitm_index *index, bool one);
 
-/* How many 1 bits, or 0 bits, there are before a position; for position bits_len, of all. At most position. BITM_NONE
- * exactly if position is above bits_len; BITM_WRONG if the tables turn out not to match the words. Reads at most one
- * upper entry, one lower entry and eight words.
+/* How many 1 bits, or 0 bits, there are before a position; for position bits_len, among all. At most position.
+ * BITM_NONE exactly if position is above bits_len. Reads at most one upper entry, one lower entry and eight words.
  *
- *     if (bitm_index_rank(&index, true, 5, &value) != BITM_OK || value != 3) return 1; // bits 1, 3 and 4 */
+ * bitm_index_select answers the position of the 1 bit, or 0 bit, with the given rank. BITM_NONE if there is none. Reads
+ * at most D + 1 upper entries, where D is the number of binary digits of upper_len, 23 lower entries and eight words;
+ * with samples 28 lower entries, and 51 if the samples do not match the words.
+ *
+ *     const uint64_t words[2] = {0x5a, 1}; // the bits 1, 3, 4, 6 and 64
+ *     uint64_t upper[1], lower[1], ones, rank, position;
+ *     if (bitm_index_build(words, 2, upper, 1, lower, 1, &ones)) return 1;
+ *     struct bitm_index index = {words, 2, upper, 1, lower, 1, 100, {0}, {0}, {0}};
+ *     if (bitm_index_rank(&index, true, 5, &rank) || rank != 3 || // bits 1, 3 and 4
+ *         bitm_index_select(&index, false, 2, &position) || position != 5) return 1; // after 0 and 2 */
 BITM_MUST_USE uint32_t bitm_index_rank(const struct bitm_index *index, bool one, uint64_t position, uint64_t *out);
-
-/* The position of the 1 bit, or 0 bit, with the given rank. BITM_NONE if there is none; BITM_WRONG if the tables turn
- * out not to match the words. Reads at most D + 1 upper entries, where D is the number of binary digits of upper_len,
- * 23 lower entries and eight words; with samples 28 lower entries, and 51 if the samples do not match the words.
- *
- *     if (bitm_index_select(&index, false, 2, &position) != BITM_OK || position != 5) return 1; // after 0 and 2 */
 BITM_MUST_USE uint32_t bitm_index_select(const struct bitm_index *index, bool one, uint64_t rank, uint64_t *out);
 
-/* out[i] answers query i as the call of one query does, or is BITM_NO_ANSWER for BITM_NONE and BITM_WRONG_TABLES for
- * BITM_WRONG; counts says how many of each there are. Selections are searched side by side, so over tables that do not
- * match the words a list may find another position of the kind than the call of one query, or none where that finds
- * one. BITM_BAD_SIZE also if out_len is not the number of queries. out and counts may overlap neither each other nor
- * the queries.
+/* bitm_index_rank, and bitm_index_select, of each item of a list (struct bitm_list_counts). Selections are searched
+ * side by side, so over tables that do not match the words a list may find another position of the kind than the call
+ * of one query, or none where that call finds one.
  *
- *     const uint64_t queries[3] = {0, 4, 9};
- *     uint64_t answers[3];
+ *     const uint64_t words[2] = {0x5a, 1}, queries[3] = {0, 4, 9};
+ *     uint64_t upper[1], lower[1], ones, answers[3];
+ *     if (bitm_index_build(words, 2, upper, 1, lower, 1, &ones)) return 1;
+ *     struct bitm_index index = {words, 2, upper, 1, lower, 1, 100, {0}, {0}, {0}};
  *     struct bitm_list_counts counts;
- *     if (bitm_index_rank_list(&index, true, queries, 3, answers, 3, &counts) != BITM_OK || answers[1] != 2 ||
- *         answers[2] != 4 || bitm_index_select_list(&index, true, queries, 3, answers, 3, &counts) != BITM_OK ||
- *         answers[1] != 64 || answers[2] != BITM_NO_ANSWER || counts.missing != 1) return 1; */
+ *     if (bitm_index_rank_list(&index, true, queries, 3, answers, 3, &counts) || answers[1] != 2 ||
+ *         bitm_index_select_list(&index, true, queries, 3, answers, 3, &counts) || answers[1] != 64 ||
+ *         answers[2] != BITM_NO_ANSWER || counts.missing != 1) return 1; // there is no 1 bit with rank 9 */
 BITM_MUST_USE uint32_t bitm_index_rank_list(const struct bitm_index *index, bool one, const uint64_t *positions,
                                             size_t positions_len, uint64_t *out, size_t out_len,
                                             struct bitm_list_counts *counts);
@@ -527,47 +583,51 @@ BITM_MUST_USE uint32_t bitm_index_select_list(const struct bitm_index *index, bo
 /* bitm_bits_count and bitm_bits_positions of the words and bits_len: the tables are not read, so these answers are
  * right whatever they hold.
  *
- *     if (bitm_index_count(&index, false, &value) != BITM_OK || value != 95 ||
- *         bitm_index_positions(&index, true, 4, found, 8, &written) != BITM_OK || written != 3) return 1; */
+ *     const uint64_t words[2] = {0x5a, 1};
+ *     uint64_t upper[1], lower[1], ones, zeros, found[8], written;
+ *     if (bitm_index_build(words, 2, upper, 1, lower, 1, &ones)) return 1;
+ *     struct bitm_index index = {words, 2, upper, 1, lower, 1, 100, {0}, {0}, {0}};
+ *     if (bitm_index_count(&index, false, &zeros) || zeros != 95 ||
+ *         bitm_index_positions(&index, true, 4, found, 8, &written) || written != 3) return 1; */
 BITM_MUST_USE uint32_t bitm_index_count(const struct bitm_index *index, bool one, uint64_t *out);
 BITM_MUST_USE uint32_t bitm_index_positions(const struct bitm_index *index, bool one, uint64_t from, uint64_t *out,
                                             size_t out_len, uint64_t *written);
 
-/* The position of the first 1 bit, or 0 bit, at or after position from; of the last one at or before it, where from may
- * be past the end. BITM_NONE if there is none; BITM_WRONG if the tables turn out not to match the words. Any position
- * returned is on that side of from, whatever the tables hold. By the tables, however far it lies: reads what a rank and
- * a selection read.
+/* The position of the first 1 bit, or 0 bit, at or after position `from`; of the last one at or before it, where `from`
+ * may be past the end. BITM_NONE if there is none. Any position returned is on that side of `from`, whatever the tables
+ * hold. Reads what a rank and a selection read, however far the bit lies.
  *
- *     if (bitm_index_next(&index, true, 7, &position) != BITM_OK || position != 64 ||
- *         bitm_index_previous(&index, true, 63, &position) != BITM_OK || position != 6) return 1; */
+ *     const uint64_t words[2] = {0x5a, 1};
+ *     uint64_t upper[1], lower[1], ones, position;
+ *     if (bitm_index_build(words, 2, upper, 1, lower, 1, &ones)) return 1;
+ *     struct bitm_index index = {words, 2, upper, 1, lower, 1, 100, {0}, {0}, {0}};
+ *     if (bitm_index_next(&index, true, 7, &position) || position != 64 ||
+ *         bitm_index_previous(&index, true, 63, &position) || position != 6) return 1; */
 BITM_MUST_USE uint32_t bitm_index_next(const struct bitm_index *index, bool one, uint64_t from, uint64_t *out);
 BITM_MUST_USE uint32_t bitm_index_previous(const struct bitm_index *index, bool one, uint64_t from, uint64_t *out);
 
 /* ---- monotone integer sequences (Elias-Fano)
  *
- *     const uint64_t items[5] = {2, 3, 5, 7, 11};
- *     struct bitm_sequence_lens of;
- *     if (bitm_sequence_sizes(5, items[4], &of) != BITM_OK) return 1;
- *     uint64_t *low = malloc(8 * of.low_len), *high = malloc(8 * of.words_len), width, at, item;
- *     uint64_t *high_upper = malloc(8 * of.upper_len), *high_lower = malloc(8 * of.lower_len);
- *     if (!low || !high || !high_upper || !high_lower ||
- *         bitm_sequence_build(items, 5, low, of.low_len, high, of.words_len, high_upper, of.upper_len, high_lower,
- *                             of.lower_len, &width) != BITM_OK) return 1;
- *     struct bitm_sequence primes = {.len = 5, .width = width, .low = low, .low_len = of.low_len, .words = high,
- *                                    .words_len = of.words_len, .upper = high_upper, .upper_len = of.upper_len,
- *                                    .lower = high_lower, .lower_len = of.lower_len};
- *     if (bitm_sequence_first_at_least(&primes, 6, &at) != BITM_OK || at != 3) return 1; */
-
-/* The parts of a sequence of len numbers: the width low bits of each number in low, the high bits as 1 bits in words,
- * the two tables of these words, and their hints or none. Calls that take one return BITM_BAD_SIZE if len is 2^56 or
- * more, width is above 63, low does not have as many words as len * width bits take, words_len is 2^58 or more, a table
- * is not as long as bitm_index_upper_len and bitm_index_lower_len say, or hints_len is neither 0 nor
- * bitm_hints_len(len, words_len).
+ * The parts of a sequence of len numbers that do not fall: the width low bits of each number in low, the high bits as 1
+ * bits in words, the two tables of these words, and their hints or none. bitm_sequence_build writes the parts, without
+ * hints; a block has hints (bitm_sequence_block_build), and bitm_sequence_block_open finds them.
  *
- * Queries select in words: a number by a 1 bit, a successor by a 0 bit. Such a selection reads one hint and at most
- * nine words; where there is no hint, or the bit is not in the eight words from its hint's word on, it reads also what
- * bitm_index_select reads without samples. Cursors and calls for a list select without hints. A block has hints, and
- * bitm_sequence_block_open finds them; the parts that bitm_sequence_build writes have none. */
+ *     const uint64_t primes[5] = {2, 3, 5, 7, 11};
+ *     uint64_t low[1], words[1], upper[1], lower[1], width, index; // bitm_sequence_sizes(5, 11, ..)
+ *     if (bitm_sequence_build(primes, 5, low, 1, words, 1, upper, 1, lower, 1, &width)) return 1;
+ *     struct bitm_sequence sequence = {.len = 5, .width = width, .low = low, .low_len = 1, .words = words,
+ *                                      .words_len = 1, .upper = upper, .upper_len = 1, .lower = lower, .lower_len = 1};
+ *     if (bitm_sequence_first_at_least(&sequence, 6, &index) || index != 3) return 1; // 7
+ *
+ *   - errors: calls that take the struct return BITM_BAD_SIZE if len is 2^56 or more, width is above 63, low_len is not
+ *     bitm_bits_words_len(len * width), words_len is 2^58 or more, a table is not as long as bitm_index_upper_len and
+ *     bitm_index_lower_len say, or hints_len is neither 0 nor bitm_hints_len(len, words_len). A query returns
+ *     BITM_WRONG if the parts turn out to form no sequence. An error writes nothing, unless the call says otherwise.
+ *   - reads: queries select in words, a number by a 1 bit, a successor by a 0 bit. Such a selection reads one hint and
+ *     at most nine words; where there is no hint, or the bit is not in the eight words from its hint's word on, it
+ *     reads also what bitm_index_select reads without samples. Cursors and calls for a list select without hints.
+ *   - overlap: memory that a call writes overlaps nothing else that it is passed, and no part of a sequence.
+ *   - whatever the parts hold, an index that a query returns is below len. */
 struct bitm_sequence {
     size_t len;
     uint64_t width;
@@ -583,9 +643,10 @@ struct bitm_sequence {
     size_t hints_len;      /* 0, or bitm_hints_len(len, words_len) */
 };
 
-/* Faults of a sequence: see bitm_bits_fault.
+/* Faults of a sequence: which length is wrong, or NULL (see bitm_bits_fault).
  *
- *     if (bitm_sequence_fault(&primes) != NULL) return 1; */
+ *     struct bitm_sequence sequence = {.width = 64};
+ *     if (bitm_sequence_fault(&sequence) == NULL) return 1; // width is above 63 */
 static inline const char *bitm_sequence_fault(const struct bitm_sequence *sequence)
 {
     if (sequence->len >= (size_t)1 << 56) return "len is 2^56 or more";
@@ -610,32 +671,41 @@ struct bitm_sequence_lens {
 
 /* The lengths for len numbers, where the last number, and so the largest, is `largest` (0 if there are none).
  * BITM_BAD_SIZE if len is 2^56 or more, or len is 0 and largest is not. low and words together have at most len *
- * (width + 3) + 126 bits. */
+ * (width + 3) + 126 bits.
+ *
+ *     struct bitm_sequence_lens lens;
+ *     if (bitm_sequence_sizes(5, 11, &lens) || lens.width != 1 || lens.words_len != 1) return 1; */
 BITM_MUST_USE uint32_t bitm_sequence_sizes(size_t len, uint64_t largest, struct bitm_sequence_lens *out);
 
 /* Writes the parts of a sequence of the items, and width. BITM_BAD_SIZE if a length is not what bitm_sequence_sizes
- * says for items_len and the last item; else BITM_UNSORTED if an item is less than the one before it. None of the
- * parts, nor width, may overlap another or the items. Passes three times over the items and once over the words
- * (evident from the code). */
+ * says for items_len and the last item; else BITM_UNSORTED if an item is less than the one before it. Passes three
+ * times over the items and once over the words (evident from the code).
+ *
+ *     const uint64_t falling[2] = {3, 2};
+ *     uint64_t words[1], upper[1], lower[1], width; // bitm_sequence_sizes(2, 2, ..) says one word each, and no low
+ *     if (bitm_sequence_build(falling, 2, NULL, 0, words, 1, upper, 1, lower, 1, &width) != BITM_UNSORTED) return 1; */
 BITM_MUST_USE uint32_t bitm_sequence_build(const uint64_t *items, size_t items_len, uint64_t *low, size_t low_len,
                                            uint64_t *words, size_t words_len, uint64_t *upper, size_t upper_len,
                                            uint64_t *lower, size_t lower_len, uint64_t *width);
 
 /* Where a list of numbers stops ascending: BITM_OK with the index of the first number that is less than the number
- * before it or, if `strictly`, equal to it; BITM_NONE exactly if there is none. A caller whose numbers a call refused as
- * BITM_UNSORTED can name this one. Reads each number up to there at most twice (evident from the code).
+ * before it or, if `strictly`, equal to it; BITM_NONE exactly if there is none. A caller whose numbers a call refused
+ * as BITM_UNSORTED can name this one. Reads each number up to there at most twice (evident from the code).
  *
- *     const uint64_t fallen[4] = {2, 5, 5, 3};
- *     if (bitm_numbers_unsorted(fallen, 4, false, &value) != BITM_OK || value != 3 || // 3 is less than 5
- *         bitm_numbers_unsorted(fallen, 4, true, &value) != BITM_OK || value != 2 ||
- *         bitm_numbers_unsorted(fallen, 3, false, &value) != BITM_NONE) return 1; */
+ *     const uint64_t numbers[4] = {2, 5, 5, 3};
+ *     uint64_t index;
+ *     if (bitm_numbers_unsorted(numbers, 4, false, &index) || index != 3 || // 3 is less than 5
+ *         bitm_numbers_unsorted(numbers, 4, true, &index) || index != 2 ||
+ *         bitm_numbers_unsorted(numbers, 3, false, &index) != BITM_NONE) return 1; */
 BITM_MUST_USE uint32_t bitm_numbers_unsorted(const uint64_t *numbers, size_t numbers_len, bool strictly, uint64_t *out);
 
 /* The index of the first number above `most`: BITM_OK; BITM_NONE exactly if there is none. Reads each number up to
  * there once (evident from the code).
  *
- *     if (bitm_numbers_above(fallen, 4, 4, &value) != BITM_OK || value != 1 ||
- *         bitm_numbers_above(fallen, 4, 5, &value) != BITM_NONE) return 1; */
+ *     const uint64_t numbers[4] = {2, 5, 5, 3};
+ *     uint64_t index;
+ *     if (bitm_numbers_above(numbers, 4, 4, &index) || index != 1 ||
+ *         bitm_numbers_above(numbers, 4, 5, &index) != BITM_NONE) return 1; */
 BITM_MUST_USE uint32_t bitm_numbers_above(const uint64_t *numbers, size_t numbers_len, uint64_t most, uint64_t *out);
 
 /* Whether the parts form a sequence, as bitm_sequence_build writes them, and the hints match its words: BITM_OK,
@@ -643,73 +713,93 @@ BITM_MUST_USE uint32_t bitm_numbers_above(const uint64_t *numbers, size_t number
  * another with the same high bits, each at most twice, and the last number's, and selects by the tables for each hint
  * (evident from the code).
  *
- *     if (bitm_sequence_check(&primes) != BITM_OK) return 1; */
+ *     const uint64_t primes[5] = {2, 3, 5, 7, 11};
+ *     uint64_t block[80]; // bitm_sequence_block_size(5, 11, ..) says 80
+ *     struct bitm_sequence sequence;
+ *     if (bitm_sequence_block_build(primes, 5, block, 80) || bitm_sequence_block_open(block, 80, &sequence) ||
+ *         bitm_sequence_check(&sequence)) return 1; */
 BITM_MUST_USE uint32_t bitm_sequence_check(const struct bitm_sequence *sequence);
 
-/* The number at an index, counted from 0. BITM_NONE exactly if index is len or more; BITM_WRONG if the parts turn out
- * to form no sequence. Reads what a selection reads, and at most one fragment of low.
+/* The number at an index, counted from 0. BITM_NONE exactly if index is len or more. Reads what a selection reads, and
+ * at most one fragment of low.
  *
- *     if (bitm_sequence_get(&primes, 4, &item) != BITM_OK || item != 11) return 1; */
+ *     const uint64_t primes[5] = {2, 3, 5, 7, 11};
+ *     uint64_t block[80], number; // bitm_sequence_block_size(5, 11, ..) says 80
+ *     struct bitm_sequence sequence;
+ *     if (bitm_sequence_block_build(primes, 5, block, 80) || bitm_sequence_block_open(block, 80, &sequence) ||
+ *         bitm_sequence_get(&sequence, 4, &number) || number != 11) return 1; */
 BITM_MUST_USE uint32_t bitm_sequence_get(const struct bitm_sequence *sequence, uint64_t index, uint64_t *out);
 
 /* Successor: the least index whose number is at least value, and so how many numbers are less. BITM_NONE if every
- * number is less; BITM_WRONG if the parts turn out to form no sequence. Any index returned is below len, whatever the
- * parts hold. Reads what a selection reads, then the words in which the numbers end that share the high bits of value,
- * or, where these are many, what a second selection reads; at most 42 words in all. Reads one fragment of low for each
- * binary digit of how many these numbers are, over parts of no sequence for each digit of len.
+ * number is less. Reads what a selection reads, then the words up to the end of the numbers that share the high bits of
+ * value or, where these are many, what a second selection reads; at most 42 words in all. Reads one fragment of low for
+ * each binary digit of the count of these numbers; over parts of no sequence, for each binary digit of len.
  *
- *     if (bitm_sequence_first_at_least(&primes, 6, &at) != BITM_OK || at != 3) return 1; // 7 */
+ *     const uint64_t primes[5] = {2, 3, 5, 7, 11};
+ *     uint64_t block[80], index; // bitm_sequence_block_size(5, 11, ..) says 80
+ *     struct bitm_sequence sequence;
+ *     if (bitm_sequence_block_build(primes, 5, block, 80) || bitm_sequence_block_open(block, 80, &sequence) ||
+ *         bitm_sequence_first_at_least(&sequence, 6, &index) || index != 3 || // 7
+ *         bitm_sequence_first_at_least(&sequence, 12, &index) != BITM_NONE) return 1; */
 BITM_MUST_USE uint32_t bitm_sequence_first_at_least(const struct bitm_sequence *sequence, uint64_t value,
                                                     uint64_t *out);
 
-/* Predecessor: the greatest index whose number is at most value. BITM_NONE if every number is more; BITM_WRONG if the
- * parts turn out to form no sequence. Any index returned is below len, whatever the parts hold. Reads what
+/* Predecessor: the greatest index whose number is at most value. BITM_NONE if every number is more. Reads what
  * bitm_sequence_first_at_least reads for value + 1, and nothing if value is 2^64 - 1.
  *
- *     if (bitm_sequence_last_at_most(&primes, 6, &at) != BITM_OK || at != 2) return 1; // 5 */
-BITM_MUST_USE uint32_t bitm_sequence_last_at_most(const struct bitm_sequence *sequence, uint64_t value, uint64_t *out);
-
-/* Whether value is one of the numbers, as 0 or 1. BITM_WRONG if the parts turn out to form no sequence. Reads what
+ * bitm_sequence_contains answers whether value is one of the numbers, as 0 or 1. Reads what
  * bitm_sequence_first_at_least reads, and one fragment of low more.
  *
- *     if (bitm_sequence_contains(&primes, 7, &value) != BITM_OK || value != 1) return 1; */
+ *     const uint64_t primes[5] = {2, 3, 5, 7, 11};
+ *     uint64_t block[80], index, is_prime; // bitm_sequence_block_size(5, 11, ..) says 80
+ *     struct bitm_sequence sequence;
+ *     if (bitm_sequence_block_build(primes, 5, block, 80) || bitm_sequence_block_open(block, 80, &sequence) ||
+ *         bitm_sequence_last_at_most(&sequence, 6, &index) || index != 2 || // 5
+ *         bitm_sequence_contains(&sequence, 7, &is_prime) || is_prime != 1) return 1; */
+BITM_MUST_USE uint32_t bitm_sequence_last_at_most(const struct bitm_sequence *sequence, uint64_t value, uint64_t *out);
 BITM_MUST_USE uint32_t bitm_sequence_contains(const struct bitm_sequence *sequence, uint64_t value, uint64_t *out);
 
-/* Writes the numbers from index from on, in order, until out is full or there are no more, and to written how many; the
- * rest of out stays as it was. If the parts form no sequence, the numbers are arbitrary, and only then may there be
- * fewer than both out_len and len - from: BITM_WRONG exactly if there are. out and written may not overlap each other
- * or the parts. Reads what a selection reads, passes over the words from there on, and reads at most one fragment of
- * low for each number (evident from the code).
+/* Writes the numbers from index `from` on, in order, until out is full or there are no more, and to written how many;
+ * the rest of out stays as it was. If the parts form no sequence, the numbers are arbitrary, and only then may there be
+ * fewer than both out_len and len - `from`: BITM_WRONG exactly if there are; out and written have these then. Reads
+ * what a selection reads, passes over the words from there on, and reads at most one fragment of low for each number
+ * (evident from the code).
  *
- *     if (bitm_sequence_items(&primes, 2, found, 8, &written) != BITM_OK || written != 3 || found[0] != 5) return 1; */
+ *     const uint64_t primes[5] = {2, 3, 5, 7, 11};
+ *     uint64_t block[80], found[8], written; // bitm_sequence_block_size(5, 11, ..) says 80
+ *     struct bitm_sequence sequence;
+ *     if (bitm_sequence_block_build(primes, 5, block, 80) || bitm_sequence_block_open(block, 80, &sequence) ||
+ *         bitm_sequence_items(&sequence, 2, found, 8, &written) || written != 3 || found[0] != 5) return 1; */
 BITM_MUST_USE uint32_t bitm_sequence_items(const struct bitm_sequence *sequence, uint64_t from, uint64_t *out,
                                            size_t out_len, uint64_t *written);
 
 /* Writes the numbers at a list of indices, as bitm_sequence_get answers them, up to the first index that has none, and
- * to written how many; the rest of out stays as it was. BITM_OK exactly if all are written. Else the status says why
- * the call stopped at indices[written]: BITM_NONE exactly if that is not below len, and BITM_WRONG exactly if it is, as
- * it may be only if the parts form no sequence. BITM_BAD_SIZE, and nothing is written, also if out_len is not
- * indices_len. 1 bits are selected side by side, so if the parts form no sequence, a number may differ from the one
- * that bitm_sequence_get finds. out and written may not overlap each other, the indices or the parts.
+ * to written how many; the rest of out stays as it was. BITM_OK exactly if all are written. Else the numbers before are
+ * written, and the status says why the call stopped at indices[written]: BITM_NONE exactly if that index is not below
+ * len, and BITM_WRONG exactly if it is, which may be only if the parts form no sequence. BITM_BAD_SIZE, and nothing is
+ * written, also if out_len is not indices_len. 1 bits are selected side by side, so if the parts form no sequence, a
+ * number may differ from the one that bitm_sequence_get finds.
  *
- *     const uint64_t indices[3] = {4, 0, 5};
- *     if (bitm_sequence_get_list(&primes, indices, 2, found, 2, &written) != BITM_OK || found[0] != 11 ||
- *         found[1] != 2 || bitm_sequence_get_list(&primes, indices, 3, found, 3, &written) != BITM_NONE ||
- *         written != 2) return 1; // there is no number 5 */
+ *     const uint64_t primes[5] = {2, 3, 5, 7, 11}, indices[3] = {4, 0, 5};
+ *     uint64_t block[80], found[3], written; // bitm_sequence_block_size(5, 11, ..) says 80
+ *     struct bitm_sequence sequence;
+ *     if (bitm_sequence_block_build(primes, 5, block, 80) || bitm_sequence_block_open(block, 80, &sequence) ||
+ *         bitm_sequence_get_list(&sequence, indices, 3, found, 3, &written) != BITM_NONE || written != 2 ||
+ *         found[0] != 11 || found[1] != 2) return 1; // there is no number 5 */
 BITM_MUST_USE uint32_t bitm_sequence_get_list(const struct bitm_sequence *sequence, const uint64_t *indices,
                                               size_t indices_len, uint64_t *out, size_t out_len, uint64_t *written);
 
-/* out[i] answers values[i] as the call of one value does, or is BITM_NO_ANSWER for BITM_NONE and BITM_WRONG_TABLES for
- * BITM_WRONG; counts says how many of each there are. Over parts that form no sequence it may be another answer than
- * the call of one value gives. BITM_BAD_SIZE also if out_len is not values_len. out and counts may overlap neither each
- * other nor the values.
+/* bitm_sequence_first_at_least, bitm_sequence_last_at_most and bitm_sequence_contains of each item of a list (struct
+ * bitm_list_counts). Over parts that form no sequence an answer may differ from the answer of the call for one value.
  *
- *     const uint64_t values[3] = {6, 1, 7};
- *     if (bitm_sequence_first_at_least_list(&primes, values, 3, answers, 3, &counts) != BITM_OK || answers[0] != 3 ||
- *         bitm_sequence_last_at_most_list(&primes, values, 3, answers, 3, &counts) != BITM_OK || answers[0] != 2 ||
- *         answers[1] != BITM_NO_ANSWER || counts.missing != 1 ||
- *         bitm_sequence_contains_list(&primes, values, 3, answers, 3, &counts) != BITM_OK || answers[2] != 1)
- *         return 1; */
+ *     const uint64_t primes[5] = {2, 3, 5, 7, 11}, values[3] = {6, 1, 7};
+ *     uint64_t block[80], out[3]; // bitm_sequence_block_size(5, 11, ..) says 80
+ *     struct bitm_sequence it;
+ *     struct bitm_list_counts n;
+ *     if (bitm_sequence_block_build(primes, 5, block, 80) || bitm_sequence_block_open(block, 80, &it) ||
+ *         bitm_sequence_contains_list(&it, values, 3, out, 3, &n) || out[2] != 1 ||
+ *         bitm_sequence_first_at_least_list(&it, values, 3, out, 3, &n) || out[0] != 3 ||
+ *         bitm_sequence_last_at_most_list(&it, values, 3, out, 3, &n) || out[0] != 2 || n.missing != 1) return 1; */
 BITM_MUST_USE uint32_t bitm_sequence_first_at_least_list(const struct bitm_sequence *sequence, const uint64_t *values,
                                                          size_t values_len, uint64_t *out, size_t out_len,
                                                          struct bitm_list_counts *counts);
@@ -723,13 +813,14 @@ BITM_MUST_USE uint32_t bitm_sequence_contains_list(const struct bitm_sequence *s
 /* A walk through the numbers in order, which reads them in blocks of 64 and may be moved on to a value. It keeps a copy
  * of the struct that it walks through, and is memory of yours as any other: a walk is for one thread.
  *
- *     uint64_t sum = 0;
- *     struct bitm_sequence_walk walk = {.sequence = primes};
- *     uint32_t status = bitm_sequence_walk_from(&walk, 1, &item);
- *     for (; status == BITM_OK; status = bitm_sequence_walk_next(&walk, &item)) sum += item;
- *     if (status != BITM_NONE || sum != 3 + 5 + 7 + 11) return 1;
- *     if (bitm_sequence_walk_from(&walk, 0, &item) != BITM_OK || bitm_sequence_walk_to(&walk, 6, &item) != BITM_OK ||
- *         item != 7 || bitm_sequence_walk_index(&walk) != 3) return 1; */
+ *     const uint64_t primes[5] = {2, 3, 5, 7, 11};
+ *     uint64_t block[80], number, sum = 0; // bitm_sequence_block_size(5, 11, ..) says 80
+ *     struct bitm_sequence_walk walk;
+ *     if (bitm_sequence_block_build(primes, 5, block, 80) ||
+ *         bitm_sequence_block_open(block, 80, &walk.sequence)) return 1;
+ *     uint32_t status = bitm_sequence_walk_from(&walk, 1, &number);
+ *     for (; status == BITM_OK; status = bitm_sequence_walk_next(&walk, &number)) sum += number;
+ *     if (status != BITM_NONE || sum != 3 + 5 + 7 + 11) return 1; */
 struct bitm_sequence_walk {
     struct bitm_sequence sequence;
     uint64_t first; /* the index of numbers[0] */
@@ -745,9 +836,18 @@ static inline uint64_t bitm_sequence_walk_index(const struct bitm_sequence_walk 
 }
 
 /* Moves to the number at an index, to the next one, or to the first from here on that is at least value: never back.
- * Each writes that number. BITM_NONE if there is none: the walk is at its end then, and stays there but for an index.
- * BITM_WRONG if the parts turn out to form no sequence. A call reads what bitm_sequence_items reads for 64 numbers, or
- * nothing if the block holds the number; to a value also what bitm_sequence_first_at_least reads. */
+ * Each writes that number. BITM_NONE if there is none: the walk is at its end then, and only an index moves it from
+ * there. BITM_WRONG if the parts turn out to form no sequence; the walk may have moved then. A call reads what
+ * bitm_sequence_items reads for 64 numbers, or nothing if the block holds the number; to a value also what
+ * bitm_sequence_first_at_least reads.
+ *
+ *     const uint64_t primes[5] = {2, 3, 5, 7, 11};
+ *     uint64_t block[80], number; // bitm_sequence_block_size(5, 11, ..) says 80
+ *     struct bitm_sequence_walk walk;
+ *     if (bitm_sequence_block_build(primes, 5, block, 80) || bitm_sequence_block_open(block, 80, &walk.sequence) ||
+ *         bitm_sequence_walk_from(&walk, 0, &number) || number != 2 || bitm_sequence_walk_to(&walk, 6, &number) ||
+ *         number != 7 || bitm_sequence_walk_index(&walk) != 3 || bitm_sequence_walk_next(&walk, &number) ||
+ *         number != 11) return 1; */
 BITM_MUST_USE BITM_SELDOM static inline uint32_t bitm_sequence_walk_from(struct bitm_sequence_walk *walk,
                                                                          uint64_t index, uint64_t *out)
 {
@@ -794,18 +894,20 @@ BITM_MUST_USE static inline uint32_t bitm_sequence_walk_to(struct bitm_sequence_
 
 /* ---- cursors over sequences: what several share, and what any of them has (posting lists)
  *
- *     struct bitm_cursor lists[2] = {{.sequence = primes}, {.sequence = primes}};
- *     if (bitm_cursor_start(&lists[0]) != BITM_OK || bitm_cursor_start(&lists[1]) != BITM_OK ||
- *         bitm_cursor_next(&lists[0], 4, &item) != BITM_OK || item != 5 ||
- *         bitm_cursors_intersect(lists, 2, 0, found, 8, &written) != BITM_OK || written != 3 ||
- *         found[2] != 11) return 1;
- *     if (bitm_cursor_start(&lists[1]) != BITM_OK || bitm_cursors_union(lists, 2, 6, found, 8, &written) != BITM_OK ||
- *         written != 2 || found[0] != 7) return 1; // lists[0] is at its end */
-
-/* A position in a sequence, which moves forward only: at a number, or at the end, where index belongs to no number. You
- * give the sequence, and bitm_cursor_start the rest. A cursor keeps a copy of the struct of the sequence, and is memory
- * of yours as any other: it is for one thread. Over parts of one sequence, with a cursor that these calls alone moved,
- * the answers are right for the numbers; whatever parts and cursor hold, each call returns. */
+ * A cursor is a position in a sequence, which moves forward only: at a number, or at the end, where index belongs to no
+ * number. You give the sequence, and bitm_cursor_start the rest. A cursor keeps a copy of the struct of the sequence,
+ * and is memory of yours as any other: it is for one thread. Over parts of one sequence, with a cursor that these calls
+ * alone moved, the answers are right for the numbers; whatever parts and cursor hold, each call returns.
+ *
+ *   - errors: BITM_WRONG if the parts of a sequence turn out to form none; of a call that takes one cursor
+ *     BITM_BAD_SIZE if a length of its sequence is not right. An error writes nothing, unless the call says otherwise.
+ *   - reads: a cursor selects without hints, as bitm_index_select does without samples. A union moves each cursor at
+ *     most once for each number that is written and once more; an intersection for each number of the first sequence
+ *     and once more, so the shortest is best first. The union of a pair of sequences, and the intersection of a pair of
+ *     about the same length, read both by blocks, as bitm_sequence_items does, where there is room for many numbers and
+ *     neither cursor is at a number below `from`; then they move each cursor once.
+ *   - overlap: cursors, out and written overlap neither one another nor the parts of a sequence; cursors may share
+ *     parts. */
 struct bitm_cursor {
     struct bitm_sequence sequence;
     size_t index;    /* of the number at the cursor */
@@ -813,30 +915,49 @@ struct bitm_cursor {
     uint64_t number;
 };
 
-/* Sets a cursor to the first number of its sequence, or to the end if there is none. BITM_WRONG if the parts turn out
- * to form no sequence. Reads what three selections read, and low as bitm_sequence_first_at_least does. */
+/* Sets a cursor to the first number of its sequence, or to the end if there is none. Any error leaves the cursor as it
+ * was. Reads what three selections read, and low as bitm_sequence_first_at_least does.
+ *
+ *     const uint64_t primes[5] = {2, 3, 5, 7, 11};
+ *     uint64_t block[80]; // bitm_sequence_block_size(5, 11, ..) says 80
+ *     struct bitm_cursor cursor;
+ *     if (bitm_sequence_block_build(primes, 5, block, 80) || bitm_sequence_block_open(block, 80, &cursor.sequence) ||
+ *         bitm_cursor_start(&cursor) || cursor.number != 2) return 1; */
 BITM_MUST_USE uint32_t bitm_cursor_start(struct bitm_cursor *cursor);
 
-/* Moves a cursor to the first number from there on that is at least at_least, and writes the number; a cursor whose
- * number is stays. BITM_NONE if each is less: the cursor is at the end then, and remains there. BITM_WRONG if the parts
- * turn out to form no sequence: the cursor stays. Any number that is written is at least at_least, whatever parts and
- * cursor hold. Reads nothing if the cursor stays. If it moves by a few numbers that the word of position has, reads
- * that word, and low for these numbers. Else it reads up to 25 words and 8 fragments of low more; and also what
- * bitm_cursor_start reads, unless the number is near: one of the eight after the 0 bits to skip, which end in the eight
- * words from position on. */
+/* Moves a cursor to the first number from there on that is at least at_least, and writes the number; a cursor whose own
+ * number is at least at_least stays. BITM_NONE if each is less: the cursor is at the end then, and remains there.
+ * BITM_WRONG if the parts turn out to form no sequence: the cursor stays. Any number that is written is at least
+ * at_least, whatever parts and cursor hold. Reads nothing if the cursor stays. If it moves by a few numbers that the
+ * word of position has, reads that word, and low for these numbers. Else it reads up to 25 words and 8 fragments of low
+ * more; and also what bitm_cursor_start reads, unless the number is near: one of the eight after the 0 bits to skip,
+ * which end in the eight words from position on.
+ *
+ *     const uint64_t primes[5] = {2, 3, 5, 7, 11};
+ *     uint64_t block[80], number; // bitm_sequence_block_size(5, 11, ..) says 80
+ *     struct bitm_cursor cursor;
+ *     if (bitm_sequence_block_build(primes, 5, block, 80) || bitm_sequence_block_open(block, 80, &cursor.sequence) ||
+ *         bitm_cursor_start(&cursor) || bitm_cursor_next(&cursor, 6, &number) || number != 7 ||
+ *         bitm_cursor_next(&cursor, 12, &number) != BITM_NONE) return 1; */
 BITM_MUST_USE uint32_t bitm_cursor_next(struct bitm_cursor *cursor, uint64_t at_least, uint64_t *out);
 
-/* Writes the numbers from from on that stand in each of the sequences, or in any of them, from the cursors on: rising,
- * each once, until none is left or out is full, and to written how many; the rest of out stays as it was. If out is
- * full, a call with one more than its last number for from goes on. BITM_WRONG if a sequence has a wrong length, and
- * then no cursor moves and out stays; or if the parts of a sequence turn out wrong as they are read, and then out
- * may have some of the numbers: BITM_OK says that no move was BITM_WRONG. BITM_BAD_SIZE if there is no cursor to
- * intersect. The sequences of the cursors stay. Moves each cursor at most once for each number that is written and once
- * more; the intersection for each number of the first sequence and once more, so the shortest is best first. The union
- * of a pair of sequences, and the intersection of a pair of about the same length, read both by blocks, as
- * bitm_sequence_items does, where there is room for many numbers and neither cursor is at a number below from; then they
- * move each cursor once. The cursors, out and written may not overlap one another or the parts; cursors may share
- * parts. */
+/* Writes the numbers from `from` on that stand in each of the sequences, or in any of them, from the cursors on:
+ * rising, each once, until none is left or out is full, and to written how many; the rest of out stays as it was. If
+ * out is full, a call with one more than its last number for `from` goes on. BITM_WRONG if a sequence has a wrong
+ * length, and then no cursor moves and out stays; or if the parts of a sequence turn out wrong as they are read, and
+ * then out may have some of the numbers, and cursors may have moved: BITM_OK says that no move was BITM_WRONG.
+ * BITM_BAD_SIZE if there is no cursor to intersect. The sequences of the cursors stay.
+ *
+ *     const uint64_t primes[5] = {2, 3, 5, 7, 11}, odd[4] = {3, 5, 7, 9};
+ *     uint64_t first[80], second[80], found[8], written; // bitm_sequence_block_size says 80 of both
+ *     struct bitm_cursor two[2];
+ *     if (bitm_sequence_block_build(primes, 5, first, 80) || bitm_sequence_block_build(odd, 4, second, 80) ||
+ *         bitm_sequence_block_open(first, 80, &two[0].sequence) || bitm_cursor_start(&two[0]) ||
+ *         bitm_sequence_block_open(second, 80, &two[1].sequence) || bitm_cursor_start(&two[1]) ||
+ *         bitm_cursors_intersect(two, 2, 0, found, 8, &written) || written != 3 || found[2] != 7 || // 3, 5 and 7
+ *         bitm_cursor_start(&two[0]) || bitm_cursor_start(&two[1]) ||
+ *         bitm_cursors_union(two, 2, 6, found, 8, &written) || written != 3 ||
+ *         found[1] != 9) return 1; // 7, 9 and 11 */
 BITM_MUST_USE uint32_t bitm_cursors_intersect(struct bitm_cursor *cursors, size_t cursors_len, uint64_t from,
                                               uint64_t *out, size_t out_len, uint64_t *written);
 BITM_MUST_USE uint32_t bitm_cursors_union(struct bitm_cursor *cursors, size_t cursors_len, uint64_t from,
@@ -849,15 +970,19 @@ BITM_MUST_USE uint32_t bitm_cursors_union(struct bitm_cursor *cursors, size_t cu
  * under one index:
  *
  *     uint64_t hashes[3] = {0x243f6a8885a308d3, 0x13198a2e03707344, 0xa4093822299f31d0};
- *     uint64_t room[64], again[64], sizes[256], tables[3], levels, filled, left, number;
- *     if (bitm_hash_build(hashes, 3, 100, room, 64, again, 64, sizes, 256, &levels, &filled, &left) != BITM_OK ||
- *         left > 0) return 1; // keys are equal, or their hashes are, or there is not enough room
- *     size_t lowers = bitm_index_lower_len(filled);
- *     if (bitm_index_build(room, filled, tables, 1, tables + 1, lowers, &ones) != BITM_OK) return 1;
- *     struct bitm_hash hash = {.index = {.words = room, .words_len = filled, .upper = tables, .upper_len = 1,
- *                                        .lower = tables + 1, .lower_len = lowers, .bits_len = 64 * filled},
+ *     uint64_t words[8], again[8], sizes[8], upper[1], lower[1], levels, used, left, ones, number;
+ *     if (bitm_hash_build(hashes, 3, 100, words, 8, again, 8, sizes, 8, &levels, &used, &left) || left > 0 ||
+ *         bitm_index_build(words, used, upper, 1, lower, 1, &ones)) return 1;
+ *     struct bitm_hash hash = {.index = {.words = words, .words_len = used, .upper = upper, .upper_len = 1,
+ *                                        .lower = lower, .lower_len = 1},
  *                              .sizes = sizes, .sizes_len = levels, .keys = 3};
- *     if (bitm_hash_get(&hash, 0x13198a2e03707344, &number) != BITM_OK || number > 2) return 1; */
+ *     if (bitm_hash_get(&hash, 0x13198a2e03707344, &number) || number > 2) return 1;
+ *
+ *   - errors: calls that take the struct return BITM_BAD_SIZE if words_len is 2^58 or more, a table is not as long as
+ *     for an index, or sizes_len is above 256. A query returns BITM_WRONG where tables or sizes do not match the words,
+ *     or there are more numbers than keys. An error writes nothing, unless the call says otherwise.
+ *   - reads: a query reads what bitm_hash_get reads; a query that reads more says so.
+ *   - overlap: memory that a call writes overlaps nothing else that it is passed. */
 struct bitm_hash {
     struct bitm_index index; /* of the words of all levels; bits_len and samples are not read */
     const uint64_t *sizes;   /* the words of each level */
@@ -865,9 +990,10 @@ struct bitm_hash {
     size_t keys;
 };
 
-/* Faults of a hash: see bitm_bits_fault.
+/* Faults of a hash: which length is wrong, or NULL (see bitm_bits_fault).
  *
- *     if (bitm_hash_fault(&hash) != NULL) return 1; */
+ *     struct bitm_hash hash = {.sizes_len = 257};
+ *     if (bitm_hash_fault(&hash) == NULL) return 1; // sizes_len is above 256 */
 static inline const char *bitm_hash_fault(const struct bitm_hash *hash)
 {
     if (hash->sizes_len > 256) return "sizes_len is above 256";
@@ -885,9 +1011,10 @@ size_t bitm_hash_level_len(size_t left, uint32_t percent);
  * hold arbitrary numbers then. BITM_BAD_SIZE if ones_len is 0 or 2^58 or more, or again_len is not ones_len. Two passes
  * over the hashes.
  *
- *     uint64_t keys[3] = {0x243f6a8885a308d3, 0x13198a2e03707344, 0xa4093822299f31d0}, level[1], twice[1];
- *     if (bitm_hash_level(keys, 3, 0, level, 1, twice, 1, &left) != BITM_OK ||
- *         bitm_bits_count(level, 1, 64, true, &value) != BITM_OK || value + left != 3) return 1; // a 1 bit, or left */
+ *     uint64_t hashes[3] = {0x243f6a8885a308d3, 0x13198a2e03707344, 0xa4093822299f31d0};
+ *     uint64_t words[1], again[1], left, ones;
+ *     if (bitm_hash_level(hashes, 3, 0, words, 1, again, 1, &left) || bitm_bits_count(words, 1, 64, true, &ones) ||
+ *         ones + left != 3) return 1; // a 1 bit, or left */
 BITM_MUST_USE uint32_t bitm_hash_level(uint64_t *hashes, size_t hashes_len, uint32_t level, uint64_t *ones,
                                        size_t ones_len, uint64_t *again, size_t again_len, uint64_t *left);
 
@@ -895,27 +1022,32 @@ BITM_MUST_USE uint32_t bitm_hash_level(uint64_t *hashes, size_t hashes_len, uint
  * has, to levels how many levels there are and to used_words how many words. It ends where no hash is left, or where
  * words, again or sizes have no room for one more level; left is how many hashes have no number: 0 unless hashes are
  * equal or there was no room. The call reorders hashes; again, and words and sizes past the levels, hold arbitrary
- * numbers then. BITM_BAD_SIZE if words_len is 2^58 or more. No two of the memory may overlap. */
+ * numbers then. BITM_BAD_SIZE if words_len is 2^58 or more.
+ *
+ *     uint64_t hashes[3] = {0x243f6a8885a308d3, 0x13198a2e03707344, 0xa4093822299f31d0};
+ *     uint64_t words[8], again[8], sizes[8], levels, used, left;
+ *     if (bitm_hash_build(hashes, 3, 100, words, 8, again, 8, sizes, 8, &levels, &used, &left) || left != 0 ||
+ *         used != 1) return 1; */
 BITM_MUST_USE uint32_t bitm_hash_build(uint64_t *hashes, size_t hashes_len, uint32_t percent, uint64_t *words,
                                        size_t words_len, uint64_t *again, size_t again_len, uint64_t *sizes,
                                        size_t sizes_len, uint64_t *levels, uint64_t *used_words, uint64_t *left);
 
 /* The number of a hash: BITM_OK with a number below keys, WHATEVER tables and sizes hold; BITM_NONE where it falls on
- * no 1 bit of a level; BITM_WRONG where tables or sizes do not match the words, or there are more numbers than keys;
- * BITM_BAD_SIZE if words_len is 2^58 or more, a table is not as long as for an index, or sizes_len is above 256. Over
- * right tables, and levels of these sizes with no more 1 bits than keys, it is the number of the hash, and BITM_WRONG
- * is not returned. A hash of no key may get any number below keys. Reads at most one word a level, and what a rank
- * reads. */
-BITM_MUST_USE uint32_t bitm_hash_get(const struct bitm_hash *hash, uint64_t key_hash, uint64_t *out);
-
-/* out[i] is the number of key_hashes[i], or BITM_NO_ANSWER for BITM_NONE and BITM_WRONG_TABLES for BITM_WRONG; counts
- * says how many of each there are. BITM_BAD_SIZE also if out_len is not key_hashes_len. out and counts may overlap
- * neither each other nor the hashes. 32 hashes go from level to level side by side: for each no more is read than for
- * one alone (evident from the code).
+ * no 1 bit of a level. Over right tables, and levels of these sizes with no more 1 bits than keys, it is the number of
+ * the hash, and BITM_WRONG is not returned. A hash of no key may get any number below keys. Reads at most one word a
+ * level, and what a rank reads.
  *
- *     const uint64_t known[2] = {0xa4093822299f31d0, 0x243f6a8885a308d3};
- *     if (bitm_hash_get_list(&hash, known, 2, answers, 2, &counts) != BITM_OK || counts.missing + counts.wrong > 0 ||
- *         answers[0] > 2 || answers[1] > 2 || answers[0] == answers[1]) return 1; */
+ * bitm_hash_get_list is bitm_hash_get of each item of a list (struct bitm_list_counts). 32 hashes go from level to
+ * level side by side: for each no more is read than for one alone (evident from the code).
+ *
+ *     const uint64_t words[1] = {0x4802}, upper[1] = {0}, lower[1] = {0xc0180300000000}, sizes[1] = {1};
+ *     struct bitm_hash hash = {{words, 1, upper, 1, lower, 1, 0, {0}, {0}, {0}}, sizes, 1, 3}; // by bitm_hash_build
+ *     const uint64_t hashes[2] = {0xa4093822299f31d0, 0x243f6a8885a308d3};
+ *     uint64_t number, numbers[2];
+ *     struct bitm_list_counts counts;
+ *     if (bitm_hash_get(&hash, 0x13198a2e03707344, &number) || number != 2 ||
+ *         bitm_hash_get_list(&hash, hashes, 2, numbers, 2, &counts) || numbers[0] != 0 || numbers[1] != 1) return 1; */
+BITM_MUST_USE uint32_t bitm_hash_get(const struct bitm_hash *hash, uint64_t key_hash, uint64_t *out);
 BITM_MUST_USE uint32_t bitm_hash_get_list(const struct bitm_hash *hash, const uint64_t *key_hashes,
                                           size_t key_hashes_len, uint64_t *out, size_t out_len,
                                           struct bitm_list_counts *counts);
@@ -923,37 +1055,39 @@ BITM_MUST_USE uint32_t bitm_hash_get_list(const struct bitm_hash *hash, const ui
 /* Writes the fingerprint of each key at its number: number k of the fingerprints, of width bits each, is the lowest
  * bits of the fingerprint of the key with number k. By it bitm_hash_find answers BITM_NONE for almost all that are no
  * keys. A fingerprint is any number that you compute from the key beside its hash. Over right tables and sizes, as
- * bitm_hash_get says, a number that several keys have gets the fingerprint of the last of them, a number that none has
- * keeps its own, and BITM_WRONG says that a key has no number, or its number no place among the words; the others are
- * written. Over other tables the same holds by some number that a look-up of each key may answer. BITM_BAD_SIZE, and
- * nothing is written, as bitm_hash_get, if prints_len is 2^58 or more, width is above 64, or key_prints_len is not
- * key_hashes_len. The fingerprints may overlap nothing else.
+ * bitm_hash_get says, a number of several keys gets the fingerprint of the last of them, a number of none keeps its
+ * own, and BITM_WRONG says that a key has no number, or its number no place among the words; the others are written.
+ * Over other tables the same holds by some number that a look-up of each key may answer. BITM_BAD_SIZE, and nothing is
+ * written, as bitm_hash_get, if prints_len is 2^58 or more, width is above 64, or key_prints_len is not key_hashes_len.
  *
- *     const uint64_t three[3] = {0x243f6a8885a308d3, 0x13198a2e03707344, 0xa4093822299f31d0}, marks3[3] = {7, 11, 13};
- *     uint64_t prints[1] = {0};
- *     if (bitm_hash_set_prints(&hash, three, 3, marks3, 3, prints, 1, 8) != BITM_OK) return 1; // 8 bits for each key */
+ *     const uint64_t words[1] = {0x4802}, upper[1] = {0}, lower[1] = {0xc0180300000000}, sizes[1] = {1};
+ *     struct bitm_hash hash = {{words, 1, upper, 1, lower, 1, 0, {0}, {0}, {0}}, sizes, 1, 3}; // by bitm_hash_build
+ *     const uint64_t hashes[2] = {0x243f6a8885a308d3, 0x13198a2e03707344}, marks[2] = {7, 11};
+ *     uint64_t prints[1] = {0}; // 8 bits for each key
+ *     if (bitm_hash_set_prints(&hash, hashes, 2, marks, 2, prints, 1, 8) || prints[0] != 0xb0700) return 1; */
 BITM_MUST_USE uint32_t bitm_hash_set_prints(const struct bitm_hash *hash, const uint64_t *key_hashes,
                                             size_t key_hashes_len, const uint64_t *key_prints, size_t key_prints_len,
                                             uint64_t *prints, size_t prints_len, uint32_t width);
 
-/* The number of a key, by its hash and its fingerprint: what bitm_hash_get answers, but BITM_NONE where the fingerprint
- * at that number is not the lowest width bits of key_print, and BITM_WRONG where there is none: so of a value that is
- * no key, with a good hash, a number is found once in 2^width. BITM_BAD_SIZE as bitm_hash_get, if prints_len is 2^58 or
- * more, or width is above 64. Reads what bitm_hash_get reads, and at most two words of the fingerprints (evident from
- * the code).
+/* The number of a key, by its hash and its fingerprint: the number that bitm_hash_get answers, but BITM_NONE where the
+ * fingerprint at that number is not the lowest width bits of key_print, and BITM_WRONG where no fingerprint stands
+ * there. So a value that is no key, with a good hash, finds a number once in 2^width. BITM_BAD_SIZE as bitm_hash_get,
+ * if prints_len is 2^58 or more, or width is above 64. Reads what bitm_hash_get reads, and at most two words of the
+ * fingerprints (evident from the code).
  *
- *     if (bitm_hash_find(&hash, prints, 1, 8, three[1], 11, &number) != BITM_OK || number > 2 ||
- *         bitm_hash_find(&hash, prints, 1, 8, three[1], 12, &number) != BITM_NONE) return 1; */
+ * bitm_hash_find_list is bitm_hash_find of each pair key_hashes[i], key_prints[i] (struct bitm_list_counts).
+ *
+ *     const uint64_t words[1] = {0x4802}, upper[1] = {0}, lower[1] = {0xc0180300000000}, sizes[1] = {1};
+ *     struct bitm_hash hash = {{words, 1, upper, 1, lower, 1, 0, {0}, {0}, {0}}, sizes, 1, 3}; // by bitm_hash_build
+ *     const uint64_t hashes[2] = {0x243f6a8885a308d3, 0x13198a2e03707344}, claimed[2] = {7, 12};
+ *     const uint64_t prints[1] = {0xb0700}; // 7 of the key with number 1, and 11 of the key with number 2
+ *     uint64_t number, numbers[2];
+ *     struct bitm_list_counts counts;
+ *     if (bitm_hash_find(&hash, prints, 1, 8, hashes[1], 11, &number) || number != 2 ||
+ *         bitm_hash_find_list(&hash, prints, 1, 8, hashes, 2, claimed, 2, numbers, 2, &counts) ||
+ *         counts.missing != 1) return 1; */
 BITM_MUST_USE uint32_t bitm_hash_find(const struct bitm_hash *hash, const uint64_t *prints, size_t prints_len,
                                       uint32_t width, uint64_t key_hash, uint64_t key_print, uint64_t *out);
-
-/* out[i] is the number of the key with hash key_hashes[i] and fingerprint key_prints[i], or BITM_NO_ANSWER for
- * BITM_NONE and BITM_WRONG_TABLES for BITM_WRONG; counts says how many of each there are. BITM_BAD_SIZE also if
- * key_prints_len or out_len is not key_hashes_len. out and counts may overlap nothing else.
- *
- *     const uint64_t claimed[3] = {7, 12, 13};
- *     if (bitm_hash_find_list(&hash, prints, 1, 8, three, 3, claimed, 3, answers, 3, &counts) != BITM_OK ||
- *         counts.missing != 1 || counts.wrong != 0 || answers[1] != BITM_NO_ANSWER) return 1; */
 BITM_MUST_USE uint32_t bitm_hash_find_list(const struct bitm_hash *hash, const uint64_t *prints, size_t prints_len,
                                            uint32_t width, const uint64_t *key_hashes, size_t key_hashes_len,
                                            const uint64_t *key_prints, size_t key_prints_len, uint64_t *out,
@@ -963,33 +1097,31 @@ BITM_MUST_USE uint32_t bitm_hash_find_list(const struct bitm_hash *hash, const u
  *
  * Where each word of the levels has a seed, more of its hashes fall on a bit alone, and all takes fewer bits a key:
  * 2.26 with 64 tries at 100 per cent, seeds and tables included. A seed is a byte. Building takes more time, for each
- * seed that is tried. Queries take a hash with its seeds, and answer as those above:
+ * seed that is tried. Queries take a hash with its seeds, and answer as the calls without seeds:
  *
- *     uint64_t keyed[3] = {0x243f6a8885a308d3, 0x13198a2e03707344, 0xa4093822299f31d0}, in_order[3];
- *     uint64_t of_hash_words[64], hit_twice[64], heights[256], beside_words[3];
- *     uint8_t seeds[64];
- *     if (bitm_hash_build_seeded(keyed, 3, 100, 64, of_hash_words, 64, seeds, 64, hit_twice, 64, in_order, 3, heights,
- *                                256, &levels, &filled, &left) != BITM_OK || left > 0) return 1;
- *     lowers = bitm_index_lower_len(filled);
- *     if (bitm_index_build(of_hash_words, filled, beside_words, 1, beside_words + 1, lowers, &ones) != BITM_OK)
- *         return 1;
- *     struct bitm_seeded_hash seeded = {
- *         .hash = {.index = {.words = of_hash_words, .words_len = filled, .upper = beside_words, .upper_len = 1,
- *                            .lower = beside_words + 1, .lower_len = lowers, .bits_len = 64 * filled},
- *                  .sizes = heights, .sizes_len = levels, .keys = 3},
- *         .seeds = seeds, .seeds_len = filled};
- *     if (bitm_hash_get_seeded(&seeded, 0x13198a2e03707344, &number) != BITM_OK || number > 2) return 1;
+ *     uint64_t hashes[3] = {0x243f6a8885a308d3, 0x13198a2e03707344, 0xa4093822299f31d0}, sorted[3];
+ *     uint64_t words[8], hit[8], sizes[8], upper[1], lower[1], k, n, left, ones, number;
+ *     uint8_t seeds[8];
+ *     if (bitm_hash_build_seeded(hashes, 3, 100, 64, words, 8, seeds, 8, hit, 8, sorted, 3, sizes, 8, &k, &n, &left) ||
+ *         left > 0 || bitm_index_build(words, n, upper, 1, lower, 1, &ones)) return 1;
+ *     struct bitm_seeded_hash hash = {{{words, n, upper, 1, lower, 1, 0, {0}, {0}, {0}}, sizes, k, 3}, seeds, n};
+ *     if (bitm_hash_get_seeded(&hash, 0x13198a2e03707344, &number) || number > 2) return 1;
  *
- * A dictionary takes a hash without seeds. The block of a hash can have seeds: see bitm_hash_block_build_seeded. */
+ * A dictionary takes a hash without seeds. The block of a hash can have seeds: see bitm_hash_block_build_seeded.
+ *
+ *   - errors: as of a hash without seeds; BITM_BAD_SIZE also if seeds_len is neither 0 nor words_len.
+ *   - reads: for each level a query reads one seed too (evident from the code).
+ *   - overlap: memory that a call writes overlaps nothing else that it is passed. */
 struct bitm_seeded_hash {
     struct bitm_hash hash;
     const uint8_t *seeds; /* of the words of all levels */
     size_t seeds_len;     /* hash.index.words_len, or 0: the hash is one without seeds */
 };
 
-/* Faults of a hash with seeds: see bitm_bits_fault.
+/* Faults of a hash with seeds: which length is wrong, or NULL (see bitm_bits_fault).
  *
- *     if (bitm_seeded_hash_fault(&seeded) != NULL) return 1; */
+ *     struct bitm_seeded_hash hash = {.seeds_len = 1};
+ *     if (bitm_seeded_hash_fault(&hash) == NULL) return 1; // seeds_len is not words_len */
 static inline const char *bitm_seeded_hash_fault(const struct bitm_seeded_hash *hash)
 {
     if (hash->seeds_len && hash->seeds_len != hash->hash.index.words_len) return "seeds_len is not words_len";
@@ -1000,36 +1132,47 @@ static inline const char *bitm_seeded_hash_fault(const struct bitm_seeded_hash *
  * the first by which most of the hashes that fall in the word fall on a bit alone. again and sorted hold arbitrary
  * numbers then, and so do seeds past the levels. BITM_BAD_SIZE also if seeds_len is below words_len, or sorted_len
  * below hashes_len. Each level is four passes over the hashes that are left, and one for each seed that is tried
- * (evident from the code). */
+ * (evident from the code).
+ *
+ *     uint64_t hashes[2] = {0x243f6a8885a308d3, 0x13198a2e03707344}, sorted[2];
+ *     uint64_t words[8], hit[8], sizes[8], k, n, left;
+ *     uint8_t seeds[8];
+ *     if (bitm_hash_build_seeded(hashes, 2, 100, 64, words, 8, seeds, 8, hit, 8, sorted, 2, sizes, 8, &k, &n, &left) ||
+ *         left > 0 || n != 1) return 1; */
 BITM_MUST_USE uint32_t bitm_hash_build_seeded(uint64_t *hashes, size_t hashes_len, uint32_t percent, uint16_t tries,
                                               uint64_t *words, size_t words_len, uint8_t *seeds, size_t seeds_len,
                                               uint64_t *again, size_t again_len, uint64_t *sorted, size_t sorted_len,
                                               uint64_t *sizes, size_t sizes_len, uint64_t *levels,
                                               uint64_t *used_words, uint64_t *left);
 
-/* Writes the words of a level as bitm_hash_level, and a seed for each of them: of the first `tries`, at most 256, the
- * first by which most of the hashes that fall in the word fall on a bit alone. So a caller that builds level by level
- * can say how far it is. sorted holds arbitrary numbers then. BITM_BAD_SIZE also if seeds_len is not ones_len, or
- * sorted_len is below hashes_len. Four passes over the hashes, and one for each seed that is tried (evident from the
- * code).
+/* Writes the words of a level as bitm_hash_level, and a seed for each of them, as bitm_hash_build_seeded. So a caller
+ * that builds level by level can say how far it is. sorted holds arbitrary numbers then. BITM_BAD_SIZE also if
+ * seeds_len is not ones_len, or sorted_len is below hashes_len. Four passes over the hashes, and one for each seed that
+ * is tried (evident from the code).
  *
- *     uint64_t first_keys[3] = {0x243f6a8885a308d3, 0x13198a2e03707344, 0xa4093822299f31d0}, grouped[3];
- *     uint8_t seed_of_word[1];
- *     if (bitm_hash_level_seeded(first_keys, 3, 0, 64, level, 1, seed_of_word, 1, twice, 1, grouped, 3, &left) !=
- *             BITM_OK || bitm_bits_count(level, 1, 64, true, &value) != BITM_OK || value + left != 3) return 1; */
+ *     uint64_t hashes[3] = {0x243f6a8885a308d3, 0x13198a2e03707344, 0xa4093822299f31d0}, sorted[3];
+ *     uint64_t words[1], again[1], left, ones;
+ *     uint8_t seeds[1];
+ *     if (bitm_hash_level_seeded(hashes, 3, 0, 64, words, 1, seeds, 1, again, 1, sorted, 3, &left) ||
+ *         bitm_bits_count(words, 1, 64, true, &ones) || ones + left != 3) return 1; // a 1 bit, or left */
 BITM_MUST_USE uint32_t bitm_hash_level_seeded(uint64_t *hashes, size_t hashes_len, uint32_t level, uint16_t tries,
                                               uint64_t *ones, size_t ones_len, uint8_t *seeds, size_t seeds_len,
                                               uint64_t *again, size_t again_len, uint64_t *sorted, size_t sorted_len,
                                               uint64_t *left);
 
-/* As the calls without _seeded; BITM_BAD_SIZE exactly if these return it, or seeds_len is neither 0 nor words_len. For
- * each level one seed is read too (evident from the code).
+/* As the calls without _seeded; BITM_BAD_SIZE exactly if these return it, or seeds_len is neither 0 nor words_len.
  *
- *     if (bitm_hash_get_list_seeded(&seeded, three, 3, answers, 3, &counts) != BITM_OK || counts.missing > 0 ||
- *         bitm_hash_set_prints_seeded(&seeded, three, 3, marks3, 3, prints, 1, 8) != BITM_OK ||
- *         bitm_hash_find_seeded(&seeded, prints, 1, 8, three[1], 11, &number) != BITM_OK || number != answers[1] ||
- *         bitm_hash_find_list_seeded(&seeded, prints, 1, 8, three, 3, claimed, 3, answers, 3, &counts) != BITM_OK ||
- *         counts.missing != 1) return 1; */
+ *     const uint64_t words[1] = {0x8000840000000000}, upper[1] = {0}, lower[1] = {0xc0180300000000}, sizes[1] = {1};
+ *     const uint64_t hashes[2] = {0x243f6a8885a308d3, 0x13198a2e03707344}, marks[2] = {7, 11}, claimed[2] = {7, 12};
+ *     const uint8_t seeds[1] = {0};
+ *     const struct bitm_seeded_hash hash = {{{words, 1, upper, 1, lower, 1, 0, {0}, {0}, {0}}, sizes, 1, 3}, seeds, 1};
+ *     uint64_t prints[1] = {0}, out[2], number;
+ *     struct bitm_list_counts n;
+ *     if (bitm_hash_get_seeded(&hash, hashes[1], &number) || bitm_hash_get_list_seeded(&hash, hashes, 2, out, 2, &n) ||
+ *         out[1] != number || bitm_hash_set_prints_seeded(&hash, hashes, 2, marks, 2, prints, 1, 8) ||
+ *         bitm_hash_find_seeded(&hash, prints, 1, 8, hashes[1], 11, &number) ||
+ *         bitm_hash_find_list_seeded(&hash, prints, 1, 8, hashes, 2, claimed, 2, out, 2, &n) ||
+ *         n.missing != 1) return 1; */
 BITM_MUST_USE uint32_t bitm_hash_get_seeded(const struct bitm_seeded_hash *hash, uint64_t key_hash, uint64_t *out);
 BITM_MUST_USE uint32_t bitm_hash_get_list_seeded(const struct bitm_seeded_hash *hash, const uint64_t *key_hashes,
                                                  size_t key_hashes_len, uint64_t *out, size_t out_len,
@@ -1053,19 +1196,23 @@ BITM_MUST_USE uint32_t bitm_hash_find_list_seeded(const struct bitm_seeded_hash 
  * words, upper and lower table, low bits of a sequence, starts and samples. The lengths determine all of it. To write
  * an index, take memory of the size that bitm_stored_index_room says, and keep the first s.size bytes:
  *
+ *     const uint64_t words[2] = {0x5a, 1};
+ *     uint64_t file[64] = {0}, rank; // or mapped; bitm_stored_index_room says 512 bytes
  *     struct bitm_stored s;
- *     struct bitm_index stored;
- *     if (bitm_stored_index_room(100, 12, 0, &s) != BITM_OK) return 1;
- *     uint64_t *file = calloc(s.size / 8, 8); // or mapped
- *     if (!file || bitm_stored_write_index(words, n, 100, 12, 0, file, s.size / 8, &s) != BITM_OK ||
- *         bitm_stored_open_index(file, s.size / 8, &stored) != BITM_OK) return 1;
- *     if (bitm_index_rank(&stored, true, 100, &ones) != BITM_OK || ones != 5) return 1;
+ *     struct bitm_index index;
+ *     if (bitm_stored_index_room(100, 12, 0, &s) || s.size > sizeof file ||
+ *         bitm_stored_write_index(words, 2, 100, 12, 0, file, 64, &s) ||
+ *         bitm_stored_open_index(file, s.size / 8, &index) || bitm_index_rank(&index, true, 100, &rank) ||
+ *         rank != 5) return 1;
  *
  * What stands between the parts, at most 63 bytes each, is not written; in zeroed memory the same bits give the same
- * bytes. A part can be built in its place too.
+ * bytes. A part can be built in its place too. A header says nothing of the contents of the parts: bitm_index_check,
+ * bitm_index_check_samples and bitm_sequence_check do.
  *
- * A header says nothing of the contents of the parts: bitm_index_check, bitm_index_check_samples and
- * bitm_sequence_check do. */
+ *   - errors: each call names its statuses; an error writes nothing.
+ *   - reads: a call reads headers alone (evident from the code), but for bitm_stored_build and bitm_stored_write_index,
+ *     which read the words.
+ *   - overlap: memory that a call writes overlaps nothing else that it is passed. */
 #define BITM_STORED_INDEX 1
 #define BITM_STORED_SEQUENCE 2
 
@@ -1098,14 +1245,14 @@ struct bitm_stored {
  * a log2 of 7 to 31, or 0 and no samples. BITM_BAD_SIZE for other log2, more samples than bitm_index_samples_len says
  * for the words, or more than 2^64 - 64 bits.
  *
- *     struct bitm_stored header;
- *     if (bitm_stored_index(100, 0, 0, 0, 0, &header) != BITM_OK || header.kind != BITM_STORED_INDEX ||
- *         header.len != 100) return 1; */
+ * bitm_stored_index_room writes the same header with the greatest numbers of samples that bits_len bits can have:
+ * out->size bytes hold every index of that many bits.
+ *
+ *     struct bitm_stored header, room;
+ *     if (bitm_stored_index(100, 0, 0, 0, 0, &header) || header.kind != BITM_STORED_INDEX || header.len != 100 ||
+ *         bitm_stored_index_room(100, 12, 0, &room) || room.size != 512 || room.samples.len != 1) return 1; */
 BITM_MUST_USE uint32_t bitm_stored_index(uint64_t bits_len, uint32_t ones_log2, uint64_t ones_len, uint32_t zeros_log2,
                                          uint64_t zeros_len, struct bitm_stored *out);
-
-/* As bitm_stored_index, with the greatest numbers of samples that bits_len bits can have: out->size bytes hold every
- * index of that many bits. */
 BITM_MUST_USE uint32_t bitm_stored_index_room(uint64_t bits_len, uint32_t ones_log2, uint32_t zeros_log2,
                                               struct bitm_stored *out);
 
@@ -1113,12 +1260,13 @@ BITM_MUST_USE uint32_t bitm_stored_index_room(uint64_t bits_len, uint32_t ones_l
  * samples of 1 bits and of 0 bits, each with a log2 of 7 to 31, or 0 and none, and to out the header of such a file.
  * The samples of 0 bits begin at the first multiple of 16 after the others. BITM_BAD_SIZE if words has fewer bits, to,
  * upper, lower, starts or starts0 is not as long as bitm_stored_index_room says, samples has not room for the greatest
- * number of each kind, or for other log2. Nothing that is passed may overlap. Reads the words twice
- * (evident from the code).
+ * number of each kind, or for other log2. Reads the words twice (evident from the code).
  *
- *     uint64_t to[2], to_upper[1], to_lower[1];
- *     if (bitm_stored_build(words, n, 100, 0, 0, to, 2, to_upper, 1, to_lower, 1, NULL, 0, NULL, 0, NULL, 0,
- *                           &header) != BITM_OK || header.words.len != 2 || to[1] != 1) return 1; */
+ *     const uint64_t words[2] = {0x5a, 1};
+ *     uint64_t to[2], upper[1], lower[1];
+ *     struct bitm_stored header;
+ *     if (bitm_stored_build(words, 2, 100, 0, 0, to, 2, upper, 1, lower, 1, NULL, 0, NULL, 0, NULL, 0, &header) ||
+ *         header.words.len != 2 || to[1] != 1) return 1; */
 BITM_MUST_USE uint32_t bitm_stored_build(const uint64_t *words, size_t words_len, uint64_t bits_len, uint32_t ones_log2,
                                          uint32_t zeros_log2, uint64_t *to, size_t to_len, uint64_t *upper,
                                          size_t upper_len, uint64_t *lower, size_t lower_len, uint64_t *starts,
@@ -1127,29 +1275,33 @@ BITM_MUST_USE uint32_t bitm_stored_build(const uint64_t *words, size_t words_len
 
 /* Writes the header of a sequence of len numbers. BITM_BAD_SIZE where no sequence can have such lengths.
  *
- *     struct bitm_stored q;
- *     if (bitm_stored_sequence(5, &of, &q) != BITM_OK) return 1;
- *     uint64_t *numbers = calloc(q.size / 8, 8); // or mapped
- *     if (!numbers || bitm_sequence_build(items, 5, bitm_stored_room(numbers, q.low), q.low.len,
- *                                         bitm_stored_room(numbers, q.words), q.words.len,
- *                                         bitm_stored_room(numbers, q.upper), q.upper.len,
- *                                         bitm_stored_room(numbers, q.lower), q.lower.len, &width) != BITM_OK)
- *         return 1;
- *     memcpy(numbers, &q, sizeof q); */
+ *     const uint64_t primes[5] = {2, 3, 5, 7, 11};
+ *     uint64_t file[56] = {0}, width; // or mapped
+ *     struct bitm_sequence_lens lens;
+ *     struct bitm_stored *const q = (struct bitm_stored *)file; // the header stands first
+ *     if (bitm_sequence_sizes(5, 11, &lens) || bitm_stored_sequence(5, &lens, q) || q->size > sizeof file) return 1;
+ *     uint64_t *const low = bitm_stored_room(file, q->low), *const high = bitm_stored_room(file, q->words);
+ *     uint64_t *const upper = bitm_stored_room(file, q->upper), *const lower = bitm_stored_room(file, q->lower);
+ *     if (bitm_sequence_build(primes, 5, low, q->low.len, high, q->words.len, upper, 1, lower, 1, &width)) return 1; */
 BITM_MUST_USE uint32_t bitm_stored_sequence(uint64_t len, const struct bitm_sequence_lens *lens,
                                             struct bitm_stored *out);
 
-/* The header that file_len words begin with, as they stand in a file that was mapped or read. BITM_OK exactly if it is
- * one that the two calls above write on this machine, and the file has at least as many bytes as it says: then each
- * part lies inside these, after the one before it. BITM_WRONG else.
+/* The header that file_len words begin with, as they stand in a file that was mapped or read. BITM_OK exactly if
+ * bitm_stored_index or bitm_stored_sequence writes such a header on this machine, and the file is not shorter than the
+ * header says: then each part lies inside the file, after the part before it. BITM_WRONG else.
  *
- *     if (bitm_stored_read(numbers, q.size / 8, &header) != BITM_OK || header.kind != BITM_STORED_SEQUENCE)
- *         return 1; */
+ *     const uint64_t words[2] = {0x5a, 1};
+ *     uint64_t file[48] = {0};
+ *     struct bitm_stored s;
+ *     if (bitm_stored_write_index(words, 2, 100, 0, 0, file, 48, &s) || bitm_stored_read(file, 48, &s) ||
+ *         s.kind != BITM_STORED_INDEX || bitm_stored_read(file, 47, &s) != BITM_WRONG) return 1; // cut off */
 BITM_MUST_USE uint32_t bitm_stored_read(const uint64_t *file, size_t file_len, struct bitm_stored *out);
 
 /* The items of a part of the file: to read them, and to build them in their place. Parts begin at whole words.
  *
- *     if (bitm_stored_items(numbers, q.low) != bitm_stored_room(numbers, q.low)) return 1; */
+ *     uint64_t file[48] = {0};
+ *     const struct bitm_span part = {.at = 192, .len = 2}; // after the header
+ *     if (bitm_stored_items(file, part) != file + 24 || bitm_stored_room(file, part) != file + 24) return 1; */
 static inline const uint64_t *bitm_stored_items(const uint64_t *file, struct bitm_span part)
 {
     return file + part.at / 8;
@@ -1161,9 +1313,12 @@ static inline uint64_t *bitm_stored_room(uint64_t *file, struct bitm_span part)
 
 /* The parts of a file, where bitm_stored_read returned BITM_OK: they lie inside it. A sequence has no hints there.
  *
- *     primes = bitm_stored_sequence_of(numbers, &header);
- *     stored = bitm_stored_index_of(file, &s);
- *     if (bitm_sequence_get(&primes, 4, &item) != BITM_OK || item != 11 || stored.bits_len != 100 ||
+ *     const uint64_t words[2] = {0x5a, 1};
+ *     uint64_t file[64] = {0};
+ *     struct bitm_stored s, q;
+ *     if (bitm_stored_write_index(words, 2, 100, 12, 0, file, 64, &s) || bitm_stored_read(file, 64, &s) ||
+ *         bitm_stored_index(0, 0, 0, 0, 0, &q)) return 1;
+ *     if (bitm_stored_index_of(file, &s).bits_len != 100 || bitm_stored_sequence_of(file, &q).len != 0 ||
  *         bitm_stored_samples_of(file, s.samples, s.starts, s.ones_log2).log2 != 12) return 1; */
 static inline struct bitm_samples bitm_stored_samples_of(const uint64_t *file, struct bitm_span samples,
                                                          struct bitm_span starts, uint64_t log2)
@@ -1218,9 +1373,14 @@ static inline struct bitm_sequence bitm_stored_sequence_of(const uint64_t *file,
     return sequence;
 }
 
-/* Writes a whole file of an index of the first bits_len bits of words, and its header to s too: of the file_len words
- * of file the first s->size / 8. BITM_BAD_SIZE as bitm_stored_build, and if file_len is less than
- * bitm_stored_index_room says. file may overlap neither words nor s. */
+/* Writes a whole file of an index of the first bits_len bits of words, and its header to s too: to the first s->size /
+ * 8 of the file_len words of file. BITM_BAD_SIZE as bitm_stored_build, and if file_len is less than
+ * bitm_stored_index_room says.
+ *
+ *     const uint64_t words[2] = {0x5a, 1};
+ *     uint64_t file[48] = {0};
+ *     struct bitm_stored s;
+ *     if (bitm_stored_write_index(words, 2, 100, 0, 0, file, 48, &s) || s.size != 384) return 1; */
 BITM_MUST_USE static inline uint32_t bitm_stored_write_index(const uint64_t *words, size_t words_len, uint64_t bits_len,
                                                              uint32_t ones_log2, uint32_t zeros_log2, uint64_t *file,
                                                              size_t file_len, struct bitm_stored *s)
@@ -1246,7 +1406,14 @@ BITM_MUST_USE static inline uint32_t bitm_stored_write_index(const uint64_t *wor
     return status;
 }
 
-/* The index that file_len words hold, as bitm_stored_read and bitm_stored_index_of. BITM_WRONG also for a sequence. */
+/* The index that file_len words hold, as bitm_stored_read and bitm_stored_index_of. BITM_WRONG also for a sequence.
+ *
+ *     const uint64_t words[2] = {0x5a, 1};
+ *     uint64_t file[48] = {0}, position;
+ *     struct bitm_stored s;
+ *     struct bitm_index index;
+ *     if (bitm_stored_write_index(words, 2, 100, 0, 0, file, 48, &s) || bitm_stored_open_index(file, 48, &index) ||
+ *         bitm_index_select(&index, true, 4, &position) || position != 64) return 1; */
 BITM_MUST_USE static inline uint32_t bitm_stored_open_index(const uint64_t *file, size_t file_len,
                                                             struct bitm_index *index)
 {
@@ -1263,26 +1430,28 @@ BITM_MUST_USE static inline uint32_t bitm_stored_open_index(const uint64_t *file
  * so that shards may lie in other files or on other machines:
  *
  *     const uint64_t bits_of[2] = {1000, 700}, ones_of[2] = {480, 351};
- *     uint64_t bits_before[3], ones_before[3];
- *     if (bitm_prefix_sums(bits_of, 2, bits_before, 3) != BITM_OK ||
- *         bitm_prefix_sums(ones_of, 2, ones_before, 3) != BITM_OK) return 1;
- *     struct bitm_prefixes prefixes = {.bits = bits_before, .bits_len = 3, .ones = ones_before, .ones_len = 3};
+ *     uint64_t bits[3], ones[3];
  *     struct bitm_shard_place place;
- *     if (bitm_shards_find(&prefixes, BITM_ONES, 500, &place) != BITM_OK || place.shard != 1 || place.within != 20)
- *         return 1;
+ *     if (bitm_prefix_sums(bits_of, 2, bits, 3) || bitm_prefix_sums(ones_of, 2, ones, 3)) return 1;
+ *     struct bitm_prefixes counts = {.bits = bits, .bits_len = 3, .ones = ones, .ones_len = 3};
+ *     if (bitm_shards_find(&counts, BITM_ONES, 500, &place) || place.shard != 1 || place.within != 20) return 1;
  *
- * The position of that bit is bits_before[place.shard] + its position in the shard; the rank of a position is
- * ones_before[place.shard] + its rank in the shard. Both, and that place.within is a rank (a position) which the shard
- * has, are proved for any number of shards, empty ones too, and fewer than 2^64 bits, where the counts match the
- * shards. */
+ * The position of that bit is bits[place.shard] + its position in the shard; the rank of a position is
+ * ones[place.shard] + its rank in the shard. Both, and that place.within is a rank (a position) which the shard has,
+ * are proved for any number of shards, empty ones too, and fewer than 2^64 bits, where the counts match the shards.
+ *
+ *   - errors: BITM_BAD_SIZE if a length in the struct is not right. A query returns BITM_WRONG only where counts or
+ *     tables turn out to be wrong. An error writes nothing but room.
+ *   - reads: a query searches the counts, and makes one query of a shard, or two.
+ *   - overlap: memory that a call writes overlaps nothing else that it is passed. */
 
 /* What is numbered. */
 #define BITM_ZEROS 0     /* ranks of 0 bits */
 #define BITM_ONES 1      /* ranks of 1 bits */
 #define BITM_POSITIONS 2 /* positions */
 
-/* Prefix counts: one number more than shards, of either kind. Calls that take them return BITM_BAD_SIZE if there is
- * none, or not as many of either kind. */
+/* Prefix counts: one number more than shards, of either kind. Calls that take them return BITM_BAD_SIZE if bits_len is
+ * 0, or ones_len is not bits_len. */
 struct bitm_prefixes {
     const uint64_t *bits;
     size_t bits_len;
@@ -1307,9 +1476,12 @@ struct bitm_shards {
     uint64_t reserved[2]; /* 0: not given */
 };
 
-/* Faults of prefix counts, and of shards: see bitm_bits_fault. bitm_index_fault names the faults of one shard.
+/* Faults of prefix counts, and of shards: which length is wrong, or NULL (see bitm_bits_fault). bitm_index_fault names
+ * the faults of one shard.
  *
- *     if (bitm_prefixes_fault(&prefixes) != NULL) return 1; */
+ *     struct bitm_shards shards = {.shards_len = 1};
+ *     if (bitm_shards_fault(&shards) == NULL ||
+ *         bitm_prefixes_fault(&shards.counts) == NULL) return 1; // bits_len is 0 */
 static inline const char *bitm_prefixes_fault(const struct bitm_prefixes *counts)
 {
     if (counts->bits_len == 0) return "bits_len is 0";
@@ -1325,19 +1497,31 @@ static inline const char *bitm_shards_fault(const struct bitm_shards *shards)
 }
 
 /* Writes the sum of the numbers before each number, and at the end the sum of all. BITM_BAD_SIZE if out_len is not
- * numbers_len + 1, or the sum is 2^64 or more. numbers and out may not overlap. */
+ * numbers_len + 1, or the sum is 2^64 or more.
+ *
+ *     const uint64_t numbers[2] = {1000, 700};
+ *     uint64_t sums[3];
+ *     if (bitm_prefix_sums(numbers, 2, sums, 3) || sums[0] != 0 || sums[1] != 1000 || sums[2] != 1700) return 1; */
 BITM_MUST_USE uint32_t bitm_prefix_sums(const uint64_t *numbers, size_t numbers_len, uint64_t *out, size_t out_len);
 
-/* Whether sums are those that bitm_prefix_sums writes: BITM_OK or BITM_WRONG.
+/* Whether sums are the numbers that bitm_prefix_sums writes: BITM_OK or BITM_WRONG.
  *
- *     if (bitm_prefix_sums_check(bits_of, 2, bits_before, 3) != BITM_OK) return 1; */
+ *     const uint64_t numbers[2] = {1000, 700}, sums[3] = {0, 1000, 1700};
+ *     if (bitm_prefix_sums_check(numbers, 2, sums, 3) ||
+ *         bitm_prefix_sums_check(numbers, 2, sums, 2) != BITM_WRONG) return 1; */
 BITM_MUST_USE uint32_t bitm_prefix_sums_check(const uint64_t *numbers, size_t numbers_len, const uint64_t *sums,
                                               size_t sums_len);
 
 /* The shard that holds a position, or the bit of a kind with a rank, and the position or rank in it. BITM_NONE exactly
- * if the counts claim no more in all; BITM_WRONG only if they claim more than number before the first shard, and so
- * never if they match the shards. BITM_BAD_SIZE also if kind is none of the three. Reads a pair of counts for each
- * halving of their number, and three more (evident from the code). */
+ * if the counts claim no more than `number` in all; BITM_WRONG only if they claim more than `number` before the first
+ * shard, and so never if they match the shards. BITM_BAD_SIZE also if kind is none of the three. Reads a pair of counts
+ * for each halving of their number, and three more (evident from the code).
+ *
+ *     const uint64_t bits[3] = {0, 1000, 1700}, ones[3] = {0, 480, 831}; // of two shards, of 1000 and of 700 bits
+ *     const struct bitm_prefixes counts = {bits, 3, ones, 3};
+ *     struct bitm_shard_place place;
+ *     if (bitm_shards_find(&counts, BITM_POSITIONS, 1600, &place) || place.shard != 1 || place.within != 600 ||
+ *         bitm_shards_find(&counts, BITM_ONES, 831, &place) != BITM_NONE) return 1; */
 BITM_MUST_USE uint32_t bitm_shards_find(const struct bitm_prefixes *counts, uint32_t kind, uint64_t number,
                                         struct bitm_shard_place *out);
 
@@ -1345,42 +1529,45 @@ BITM_MUST_USE uint32_t bitm_shards_find(const struct bitm_prefixes *counts, uint
  * BITM_NONE exactly if position is above the number of all bits that the counts claim, or rank is not below the number
  * of bits of its kind. BITM_WRONG if counts or tables turn out to be wrong.
  *
- *     const struct bitm_index both[2] = {index, index};
- *     const uint64_t bits_of_each[2] = {100, 100}, ones_of_each[2] = {5, 5};
- *     struct bitm_shards shards = {.counts = prefixes, .shards = both, .shards_len = 2};
- *     if (bitm_shards_fault(&shards) != NULL || bitm_prefix_sums(bits_of_each, 2, bits_before, 3) != BITM_OK ||
- *         bitm_prefix_sums(ones_of_each, 2, ones_before, 3) != BITM_OK ||
- *         bitm_shards_rank(&shards, true, 104, &value) != BITM_OK || value != 7 ||
- *         bitm_shards_select(&shards, true, 7, &position) != BITM_OK || position != 104) return 1; */
+ *     const uint64_t words[2] = {0x5a, 1}, bits[3] = {0, 100, 200}, counts[3] = {0, 5, 10};
+ *     uint64_t upper[1], lower[1], ones, rank, position;
+ *     if (bitm_index_build(words, 2, upper, 1, lower, 1, &ones)) return 1;
+ *     const struct bitm_index index = {words, 2, upper, 1, lower, 1, 100, {0}, {0}, {0}}, twice[2] = {index, index};
+ *     const struct bitm_shards shards = {{bits, 3, counts, 3}, twice, 2, {0}};
+ *     if (bitm_shards_rank(&shards, true, 104, &rank) || rank != 7 ||
+ *         bitm_shards_select(&shards, true, 7, &position) || position != 104) return 1; */
 BITM_MUST_USE uint32_t bitm_shards_rank(const struct bitm_shards *shards, bool one, uint64_t position, uint64_t *out);
 BITM_MUST_USE uint32_t bitm_shards_select(const struct bitm_shards *shards, bool one, uint64_t rank, uint64_t *out);
 
 /* bitm_index_next and bitm_index_previous of the joined bits: a rank and a selection, which read at most two shards
- * (evident from the code).
- * Over any counts and tables, a position that is found is on the requested side of `from`, below the claimed number of
- * bits, and in some shard holds the requested bit. BITM_NONE if there is none; BITM_WRONG if counts or tables turn out
- * to be wrong.
+ * (evident from the code). Over any counts and tables, a position that is found is on the requested side of `from`,
+ * below the claimed number of bits, and in some shard holds the requested bit. BITM_NONE if there is none; BITM_WRONG
+ * if counts or tables turn out to be wrong.
  *
- *     if (bitm_shards_next(&shards, true, 105, &position) != BITM_OK || position != 106 ||
- *         bitm_shards_previous(&shards, true, 100, &position) != BITM_OK || position != 64) return 1; */
+ *     const uint64_t words[2] = {0x5a, 1}, bits[3] = {0, 100, 200}, counts[3] = {0, 5, 10};
+ *     uint64_t upper[1], lower[1], ones, position;
+ *     if (bitm_index_build(words, 2, upper, 1, lower, 1, &ones)) return 1;
+ *     const struct bitm_index index = {words, 2, upper, 1, lower, 1, 100, {0}, {0}, {0}}, twice[2] = {index, index};
+ *     const struct bitm_shards shards = {{bits, 3, counts, 3}, twice, 2, {0}};
+ *     if (bitm_shards_next(&shards, true, 105, &position) || position != 106 ||
+ *         bitm_shards_previous(&shards, true, 100, &position) || position != 64) return 1; */
 BITM_MUST_USE uint32_t bitm_shards_next(const struct bitm_shards *shards, bool one, uint64_t from, uint64_t *out);
 BITM_MUST_USE uint32_t bitm_shards_previous(const struct bitm_shards *shards, bool one, uint64_t from, uint64_t *out);
 
-/* bitm_index_rank_list and bitm_index_select_list of the joined bits: out[i] answers query i as the call of one
- * query does, or is BITM_NO_ANSWER for BITM_NONE and BITM_WRONG_TABLES for BITM_WRONG; counts says how many of each
- * there are. Over counts and tables that are wrong it may be another answer that the call of one query may give.
- * room is memory of any length, which is overwritten, and shows in time alone: with at least 3 numbers for each query,
- * one for each shard and one more, the queries are grouped by shard (evident from the code, not proved). A list of more
- * than 2^17 queries is answered fastest in parts of 2^17. BITM_BAD_SIZE also if out_len is not the number of queries,
- * or the counts claim 2^64 - 2 bits or more. out, room and counts may overlap neither each other nor what the call
- * reads.
+/* bitm_index_rank_list and bitm_index_select_list of the joined bits (struct bitm_list_counts). Over wrong counts or
+ * tables an answer may be another one that the call of one query may give. room is memory of any length, which is
+ * overwritten, and shows in time alone: with at least 3 numbers for each query, one for each shard and one more, the
+ * queries are grouped by shard (evident from the code, not proved). A list of more than 2^17 queries is answered
+ * fastest in parts of 2^17. BITM_BAD_SIZE also if the counts claim 2^64 - 2 bits or more.
  *
- *     const uint64_t ends[3] = {4, 104, 201}, ranks[3] = {0, 7, 10};
- *     uint64_t of_both[3]; // 3 * 3 + 2 + 1 numbers of room group them
- *     if (bitm_shards_rank_list(&shards, true, ends, 3, of_both, 3, room, 12, &counts) != BITM_OK || of_both[1] != 7 ||
- *         of_both[2] != BITM_NO_ANSWER || counts.missing != 1 || // there are 200 bits
- *         bitm_shards_select_list(&shards, true, ranks, 3, of_both, 3, room, 12, &counts) != BITM_OK ||
- *         of_both[0] != 1 || of_both[1] != 104 || of_both[2] != BITM_NO_ANSWER) return 1; */
+ *     const uint64_t words[2] = {0x5a, 1}, bits[3] = {0, 100, 200}, ones_before[3] = {0, 5, 10}, at[2] = {7, 201};
+ *     uint64_t upper[1], lower[1], ones, out[2], room[9]; // 3 * 2 + 2 + 1 numbers of room group them
+ *     if (bitm_index_build(words, 2, upper, 1, lower, 1, &ones)) return 1;
+ *     const struct bitm_index index = {words, 2, upper, 1, lower, 1, 100, {0}, {0}, {0}}, twice[2] = {index, index};
+ *     const struct bitm_shards shards = {{bits, 3, ones_before, 3}, twice, 2, {0}};
+ *     struct bitm_list_counts n;
+ *     if (bitm_shards_select_list(&shards, true, at, 2, out, 2, room, 9, &n) || out[0] != 104 || n.missing != 1 ||
+ *         bitm_shards_rank_list(&shards, true, at, 2, out, 2, room, 9, &n) || out[1] != BITM_NO_ANSWER) return 1; */
 BITM_MUST_USE uint32_t bitm_shards_rank_list(const struct bitm_shards *shards, bool one, const uint64_t *positions,
                                              size_t positions_len, uint64_t *out, size_t out_len, uint64_t *room,
                                              size_t room_len, struct bitm_list_counts *counts);
@@ -1390,30 +1577,28 @@ BITM_MUST_USE uint32_t bitm_shards_select_list(const struct bitm_shards *shards,
 
 /* ---- trees: each in one block of memory
  *
- * A block is one piece of memory, and also one file: it holds no pointer, and can be mapped by many processes
- * (docs/FORMAT.md). A tree of n nodes takes 2 n + 1 bits (LOUDS: Jacobson, FOCS 1989), their tables and their hints,
- * about 2.6 bits a node. Nodes are numbered level by level: the root is node 0, and the children of a node follow one
- * another, after the children of the node before it. A tree is built from the degree of each node, which is how many
- * children it has:
+ * A tree of n nodes takes 2 n + 1 bits (LOUDS: Jacobson, FOCS 1989), their tables and their hints, about 2.6 bits a
+ * node. Nodes are numbered level by level: the root is node 0, and the children of a node follow one another, after the
+ * children of the node before it. A tree is built from the degree of each node, which is how many children it has:
  *
  *     const uint64_t degrees[4] = {2, 0, 1, 0}; // the root has the children 1 and 2, and node 2 has the child 3
- *     uint64_t block_len, node;
- *     if (bitm_tree_size(4, &block_len) != BITM_OK) return 1;
- *     uint64_t *block = malloc(8 * block_len); // or a mapped file
- *     struct bitm_tree tree = {0};
- *     if (!block || bitm_tree_build(degrees, 4, block, block_len) != BITM_OK ||
- *         bitm_tree_open(block, block_len, &tree) != BITM_OK || tree.len != 4 ||
- *         bitm_tree_parent(&tree, 3, &node) != BITM_OK || node != 2) return 1;
+ *     uint64_t block[64], size, node;           // or a mapped file
+ *     struct bitm_tree tree;
+ *     if (bitm_tree_size(4, &size) || size != 64 || bitm_tree_build(degrees, 4, block, 64) ||
+ *         bitm_tree_open(block, 64, &tree) || bitm_tree_parent(&tree, 3, &node) || node != 2) return 1;
  *
- * Over any block that bitm_tree_open takes, a stale or hostile one too, a query returns within the reads that are named
- * below, a parent is less than its child, a child is less than tree.len, and a degree too. If bitm_tree_build wrote the
- * block or bitm_tree_check passes it, and it did not change afterwards, the answers agree with one tree, and no query
- * returns BITM_WRONG.
- *
- * Queries select in words: the bit of a node, and the ends of its children. Such a selection reads one hint and at most
- * nine words; where there is no hint, or the bit is not in the eight words from its hint's word on, it reads also what
- * bitm_index_select reads without samples. Calls for a list select without hints. A block that was written before there
- * were hints opens without them. */
+ *   - errors: a query returns BITM_BAD_SIZE if a length in the struct does not fit its number of nodes, and BITM_WRONG
+ *     only where the block holds no tree. An error writes nothing.
+ *   - reads: queries select in words the bit of a node, and the ends of its children. Such a selection reads one hint
+ *     and at most nine words; where there is no hint, or the bit is not in the eight words from its hint's word on, it
+ *     reads also what bitm_index_select reads without samples. Calls for a list select without hints. A block that was
+ *     written before there were hints opens without them. bitm_tree_open reads at most 80 words, however long the block
+ *     is (evident from the code), and looks at no others.
+ *   - overlap: memory that a call writes overlaps nothing else that it is passed.
+ *   - over any block that bitm_tree_open takes, a stale or hostile one too, a query returns within the reads that are
+ *     named below, a parent is less than its child, a child is less than tree.len, and a degree too. If bitm_tree_build
+ *     wrote the block or bitm_tree_check passes it, and it did not change afterwards, the answers agree with one tree,
+ *     and no query returns BITM_WRONG. */
 struct bitm_tree {
     size_t len; /* how many nodes */
     const uint64_t *words;
@@ -1426,9 +1611,10 @@ struct bitm_tree {
     size_t hints_len;      /* 0, or bitm_hints_len(len, words_len) */
 };
 
-/* Faults of a tree: see bitm_bits_fault.
+/* Faults of a tree: which length is wrong, or NULL (see bitm_bits_fault).
  *
- *     if (bitm_tree_fault(&tree) != NULL) return 1; */
+ *     struct bitm_tree tree = {.len = 1}; // no words
+ *     if (bitm_tree_fault(&tree) == NULL) return 1; */
 static inline const char *bitm_tree_fault(const struct bitm_tree *tree)
 {
     if (tree->len >= (size_t)1 << 60) return "len is 2^60 or more";
@@ -1441,97 +1627,110 @@ static inline const char *bitm_tree_fault(const struct bitm_tree *tree)
     return NULL;
 }
 
-/* How many words the block of a tree of that many nodes takes. BITM_BAD_SIZE if there are 2^60 or more. */
+/* How many words the block of a tree of `nodes` nodes takes. BITM_BAD_SIZE if there are 2^60 or more.
+ *
+ *     uint64_t size;
+ *     if (bitm_tree_size(4, &size) || size != 64) return 1; */
 BITM_MUST_USE uint32_t bitm_tree_size(size_t nodes, uint64_t *out);
 
 /* Writes the block of the tree whose nodes have these degrees. BITM_BAD_SIZE if bitm_tree_size does not take
  * degrees_len, or block_len is not the size that it gives; else BITM_WRONG if the degrees form no tree: in a tree there
  * is one child for each node but the root, and the first i nodes have at least i children, for each i from 1 to n - 1.
- * Allocates nothing, and needs no other memory. degrees and block may not overlap.
+ * Allocates nothing, and needs no other memory.
  *
- *     const uint64_t of_none[2] = {0, 1}; // node 1 would be its own parent
- *     if (bitm_tree_build(of_none, 2, block, block_len) != BITM_WRONG) return 1; */
+ *     const uint64_t degrees[4] = {2, 0, 1, 0}, none[2] = {0, 1}; // of none, node 1 would be its own parent
+ *     uint64_t block[64]; // bitm_tree_size(4, ..) says 64
+ *     if (bitm_tree_build(degrees, 4, block, 64) || bitm_tree_build(none, 2, block, 64) != BITM_WRONG) return 1; */
 BITM_MUST_USE uint32_t bitm_tree_build(const uint64_t *degrees, size_t degrees_len, uint64_t *block, size_t block_len);
 
-/* The first node at which degrees form no tree: BITM_OK with a node that is a child of no node before it, or with whose
- * children there are more nodes than degrees; BITM_NONE exactly if the degrees form a tree, or there are none. Reads
- * each degree up to there once (evident from the code).
+/* The first node at which degrees form no tree: BITM_OK with a node that is a child of no node before it, or whose
+ * children make more nodes than there are degrees; BITM_NONE exactly if the degrees form a tree, or there are none.
+ * Reads each degree up to there once (evident from the code).
  *
- *     if (bitm_tree_misfit(of_none, 2, &value) != BITM_OK || value != 1) return 1; */
+ *     const uint64_t degrees[2] = {0, 1};
+ *     uint64_t node;
+ *     if (bitm_tree_misfit(degrees, 2, &node) || node != 1) return 1; */
 BITM_MUST_USE uint32_t bitm_tree_misfit(const uint64_t *degrees, size_t degrees_len, uint64_t *out);
 
 /* Opens a block: writes the tree that queries take, which points into the block. BITM_WRONG exactly if the header or
- * the directory of the block is not right, or belongs to no tree, or block_len is not as they say. Reads at most 80
- * words, however long the block is (evident from the code); what its other words hold is not looked at.
+ * the directory of the block is not right, or belongs to no tree, or block_len is not as they say.
  *
- *     if (bitm_tree_open(block, block_len - 1, &tree) != BITM_WRONG || tree.len != 4) return 1; */
+ * bitm_tree_check says whether a block is as it was written and holds a tree: BITM_OK, or BITM_WRONG as above, if a
+ * checksum does not match its words, or if words, tables and hints form no tree. So a block in which one word was
+ * changed is refused. Three passes over the words of the block, and a selection by the tables for each hint (evident
+ * from the code).
+ *
+ *     const uint64_t degrees[4] = {2, 0, 1, 0};
+ *     uint64_t block[64]; // bitm_tree_size(4, ..) says 64
+ *     struct bitm_tree tree;
+ *     if (bitm_tree_build(degrees, 4, block, 64) || bitm_tree_open(block, 64, &tree) || tree.len != 4 ||
+ *         bitm_tree_open(block, 63, &tree) != BITM_WRONG || bitm_tree_check(block, 64)) return 1;
+ *     block[40] ^= 1;
+ *     if (bitm_tree_check(block, 64) != BITM_WRONG) return 1; */
 BITM_MUST_USE uint32_t bitm_tree_open(const uint64_t *block, size_t block_len, struct bitm_tree *tree);
-
-/* Whether a block is as it was written and holds a tree: BITM_OK, or BITM_WRONG as bitm_tree_open, if a checksum does
- * not match its words, or if words, tables and hints form no tree. So a block in which one word was changed is refused.
- * Three passes over the words of the block, and a selection by the tables for each hint (evident from the code).
- *
- *     block[40] ^= 1;
- *     if (bitm_tree_check(block, block_len) != BITM_WRONG) return 1;
- *     block[40] ^= 1;
- *     if (bitm_tree_check(block, block_len) != BITM_OK) return 1; */
 BITM_MUST_USE uint32_t bitm_tree_check(const uint64_t *block, size_t block_len);
 
-/* Each of these calls returns BITM_BAD_SIZE if a length in *tree does not fit its number of nodes, and BITM_WRONG only
- * where the block holds no tree.
+/* The parent of a node. BITM_NONE exactly at the root and if there is no such node. Reads what one selection reads.
  *
- * The parent of a node. BITM_NONE exactly at the root and if there is no such node. Reads what one selection does. */
-BITM_MUST_USE uint32_t bitm_tree_parent(const struct bitm_tree *tree, size_t node, uint64_t *out);
-
-/* Child k of a node, counted from 0. BITM_NONE exactly if the node has no more than k children, or there is no such
- * node. Reads what one selection does and two words if k is below 64, and what two selections do otherwise.
+ * bitm_tree_child answers child k of a node, counted from 0. BITM_NONE exactly if the node has no more than k children,
+ * or there is no such node. Reads what one selection reads and two words if k is below 64, and what two selections read
+ * otherwise.
  *
- *     if (bitm_tree_child(&tree, 0, 1, &node) != BITM_OK || node != 2 ||
+ *     const uint64_t degrees[4] = {2, 0, 1, 0}; // the root has the children 1 and 2, and node 2 has the child 3
+ *     uint64_t block[64], node;                 // bitm_tree_size(4, ..) says 64
+ *     struct bitm_tree tree;
+ *     if (bitm_tree_build(degrees, 4, block, 64) || bitm_tree_open(block, 64, &tree) ||
+ *         bitm_tree_parent(&tree, 3, &node) || node != 2 || bitm_tree_parent(&tree, 0, &node) != BITM_NONE ||
+ *         bitm_tree_child(&tree, 0, 1, &node) || node != 2 ||
  *         bitm_tree_child(&tree, 0, 2, &node) != BITM_NONE) return 1; */
+BITM_MUST_USE uint32_t bitm_tree_parent(const struct bitm_tree *tree, size_t node, uint64_t *out);
 BITM_MUST_USE uint32_t bitm_tree_child(const struct bitm_tree *tree, size_t node, size_t k, uint64_t *out);
 
-/* How many children a node has. BITM_NONE exactly if there is no such node. Reads what one selection does and two
- * words, and what a second selection does only if the end of the children is not in these: if there are 64 or more.
+/* How many children a node has. BITM_NONE exactly if there is no such node. Reads what one selection reads and two
+ * words, and what a second selection reads only if the end of the children is not in these: if there are 64 or more.
  *
- *     if (bitm_tree_degree(&tree, 0, &value) != BITM_OK || value != 2) return 1; */
+ * bitm_tree_is_leaf answers whether a node has no children, as 0 or 1. BITM_NONE exactly if there is no such node.
+ * Reads what one selection reads, and one word.
+ *
+ *     const uint64_t degrees[4] = {2, 0, 1, 0}; // the root has the children 1 and 2, and node 2 has the child 3
+ *     uint64_t block[64], degree, is_leaf; // bitm_tree_size(4, ..) says 64
+ *     struct bitm_tree tree;
+ *     if (bitm_tree_build(degrees, 4, block, 64) || bitm_tree_open(block, 64, &tree) ||
+ *         bitm_tree_degree(&tree, 0, &degree) || degree != 2 || bitm_tree_is_leaf(&tree, 3, &is_leaf) ||
+ *         is_leaf != 1) return 1; */
 BITM_MUST_USE uint32_t bitm_tree_degree(const struct bitm_tree *tree, size_t node, uint64_t *out);
-
-/* Whether a node has no children, as 0 or 1. BITM_NONE exactly if there is no such node. Reads what one selection does,
- * and one word.
- *
- *     if (bitm_tree_is_leaf(&tree, 3, &value) != BITM_OK || value != 1) return 1; */
 BITM_MUST_USE uint32_t bitm_tree_is_leaf(const struct bitm_tree *tree, size_t node, uint64_t *out);
 
 /* The next and the previous child of a node's parent: whatever the block holds, the node after it and the node before
  * it. BITM_NONE exactly at the last and the first child, at the root, and if there is no such node. Each reads what one
- * selection does, and one word.
+ * selection reads, and one word.
  *
- *     if (bitm_tree_next_sibling(&tree, 1, &node) != BITM_OK || node != 2 ||
- *         bitm_tree_next_sibling(&tree, 2, &node) != BITM_NONE ||
- *         bitm_tree_previous_sibling(&tree, 2, &node) != BITM_OK || node != 1) return 1; */
+ * bitm_tree_child_rank answers which child of its parent a node is, counted from 0: bitm_tree_child of the parent and
+ * this number is the node. BITM_NONE exactly at the root and if there is no such node. Reads what two selections read.
+ *
+ *     const uint64_t degrees[4] = {2, 0, 1, 0}; // the root has the children 1 and 2, and node 2 has the child 3
+ *     uint64_t block[64], node, rank;           // bitm_tree_size(4, ..) says 64
+ *     struct bitm_tree tree;
+ *     if (bitm_tree_build(degrees, 4, block, 64) || bitm_tree_open(block, 64, &tree) ||
+ *         bitm_tree_next_sibling(&tree, 1, &node) || node != 2 ||
+ *         bitm_tree_previous_sibling(&tree, 1, &node) != BITM_NONE || bitm_tree_child_rank(&tree, 2, &rank) ||
+ *         rank != 1) return 1; */
 BITM_MUST_USE uint32_t bitm_tree_next_sibling(const struct bitm_tree *tree, size_t node, uint64_t *out);
 BITM_MUST_USE uint32_t bitm_tree_previous_sibling(const struct bitm_tree *tree, size_t node, uint64_t *out);
-
-/* Which child of its parent a node is, counted from 0: bitm_tree_child of the parent and this number is the node.
- * BITM_NONE exactly at the root and if there is no such node. Reads what two selections do.
- *
- *     if (bitm_tree_child_rank(&tree, 2, &value) != BITM_OK || value != 1) return 1; */
 BITM_MUST_USE uint32_t bitm_tree_child_rank(const struct bitm_tree *tree, size_t node, uint64_t *out);
 
-/* bitm_tree_parent, bitm_tree_degree and bitm_tree_child of each node of a list, the last with child ks[i] of nodes[i]:
- * out[i] is the answer, or BITM_NO_ANSWER for BITM_NONE and BITM_WRONG_TABLES for BITM_WRONG; counts says how many of
- * each there are. BITM_BAD_SIZE also if out_len or ks_len is not nodes_len. Bits of nodes are selected side by side, so
- * over words that hold no tree an answer may differ from the answer of the call for one node. out and counts may
- * overlap neither each other nor what the call reads.
+/* bitm_tree_parent, bitm_tree_degree and bitm_tree_child of each node of a list, the last with child ks[i] of nodes[i]
+ * (struct bitm_list_counts). Bits of nodes are selected side by side, so over words that hold no tree an answer may
+ * differ from the answer of the call for one node.
  *
- *     const uint64_t nodes[3] = {0, 3, 4}, ks[3] = {1, 0, 0};
- *     uint64_t of_each[3];
- *     struct bitm_list_counts of_codes;
- *     if (bitm_tree_parent_list(&tree, nodes, 3, of_each, 3, &of_codes) != BITM_OK || of_each[1] != 2 ||
- *         of_each[0] != BITM_NO_ANSWER || of_codes.missing != 2 || // the root, and no node
- *         bitm_tree_degree_list(&tree, nodes, 3, of_each, 3, &of_codes) != BITM_OK || of_each[0] != 2 ||
- *         bitm_tree_child_list(&tree, nodes, 3, ks, 3, of_each, 3, &of_codes) != BITM_OK || of_each[0] != 2) return 1;
- *     free(block); */
+ *     const uint64_t degrees[4] = {2, 0, 1, 0}, nodes[3] = {0, 3, 4}, ks[3] = {1, 0, 0};
+ *     uint64_t block[64], out[3]; // bitm_tree_size(4, ..) says 64
+ *     struct bitm_tree tree;
+ *     struct bitm_list_counts n;
+ *     if (bitm_tree_build(degrees, 4, block, 64) || bitm_tree_open(block, 64, &tree) ||
+ *         bitm_tree_child_list(&tree, nodes, 3, ks, 3, out, 3, &n) || out[0] != 2 ||
+ *         bitm_tree_degree_list(&tree, nodes, 3, out, 3, &n) || out[0] != 2 ||
+ *         bitm_tree_parent_list(&tree, nodes, 3, out, 3, &n) || out[1] != 2 || n.missing != 2) return 1; // 0 and 4 */
 BITM_MUST_USE uint32_t bitm_tree_parent_list(const struct bitm_tree *tree, const uint64_t *nodes, size_t nodes_len,
                                              uint64_t *out, size_t out_len, struct bitm_list_counts *counts);
 BITM_MUST_USE uint32_t bitm_tree_degree_list(const struct bitm_tree *tree, const uint64_t *nodes, size_t nodes_len,
@@ -1545,27 +1744,28 @@ BITM_MUST_USE uint32_t bitm_tree_child_list(const struct bitm_tree *tree, const 
  * A trie is a tree in which each node but the root has a label, and the labels of the children of a node rise. A word,
  * a list of labels, leads from the root to at most one node. Labels are numbers of `width` bits each, 1 to 63: bytes,
  * say. Ends are a bit for each node, lowest bit first, which says whether a word ends there; a trie may have none. A
- * node takes about 2.6 bits, its label and its end. A block is written and opened like a tree's; labels[0] is the label
- * of node 1, since the root has none:
+ * node takes about 2.6 bits, its label and its end. labels[0] is the label of node 1, since the root has none. The
+ * calls of a tree take trie.tree: parents, children by their number, degrees.
  *
- *     const uint64_t children[4] = {2, 0, 1, 0}, node_labels[3] = {'a', 'b', 'e'}, node_ends[1] = {14}; // a, b and be
- *     uint64_t trie_len, matched, word[4];
- *     if (bitm_trie_size(4, 8, true, &trie_len) != BITM_OK) return 1; // labels are bytes
- *     uint64_t *of_words = malloc(8 * trie_len); // or a mapped file
- *     struct bitm_trie trie = {0};
- *     if (!of_words || bitm_trie_build(children, 4, node_labels, 3, 8, node_ends, 1, of_words, trie_len) != BITM_OK ||
- *         bitm_trie_open(of_words, trie_len, &trie) != BITM_OK ||
- *         bitm_trie_find_bytes(&trie, (const uint8_t *)"be", 2, &node) != BITM_OK || node != 3) return 1;
+ *     const uint64_t degrees[4] = {2, 0, 1, 0}, labels[3] = {'a', 'b', 'e'}, ends[1] = {14}; // a, b and be
+ *     uint64_t block[88], size, node;                                                        // or a mapped file
+ *     struct bitm_trie trie;
+ *     if (bitm_trie_size(4, 8, true, &size) || size != 88 || // labels are bytes
+ *         bitm_trie_build(degrees, 4, labels, 3, 8, ends, 1, block, 88) || bitm_trie_open(block, 88, &trie) ||
+ *         bitm_trie_find_bytes(&trie, (const uint8_t *)"be", 2, &node) || node != 3 ||
+ *         bitm_tree_parent(&trie.tree, 3, &node) || node != 2) return 1;
  *
- * The calls of a tree take trie.tree: parents, children by their number, degrees.
- *
- *     if (bitm_tree_parent(&trie.tree, 3, &node) != BITM_OK || node != 2) return 1;
- *
- * Over any block that bitm_trie_open takes, a stale or hostile one too, a query returns within the reads that are named
- * below, a node that is found is less than trie.tree.len, and a child more than its node; a label has no more than
- * trie.width bits, and the word of a node no more labels than the number of the node. If bitm_trie_build wrote the
- * block or bitm_trie_check passes it, and it did not change afterwards, the answers agree with one trie, and no query
- * returns BITM_WRONG. */
+ *   - errors: a query returns BITM_BAD_SIZE if a length in the struct does not fit its number of nodes and its width,
+ *     and BITM_WRONG only where the block holds no trie. An error writes nothing, unless the call says otherwise.
+ *   - reads: a query selects in the words of the tree, as the section on trees says, and reads labels; each call says
+ *     how many. bitm_trie_open reads at most 80 words, however long the block is (evident from the code), and looks at
+ *     no others.
+ *   - overlap: memory that a call writes overlaps nothing else that it is passed.
+ *   - over any block that bitm_trie_open takes, a stale or hostile one too, a query returns within the reads that are
+ *     named below, a node that is found is less than trie.tree.len, and a child more than its node; a label has no more
+ *     than trie.width bits, and the word of a node no more labels than the number of the node. If bitm_trie_build wrote
+ *     the block or bitm_trie_check passes it, and it did not change afterwards, the answers agree with one trie, and no
+ *     query returns BITM_WRONG. */
 struct bitm_trie {
     struct bitm_tree tree; /* the nodes */
     uint64_t width;        /* how many bits a label has */
@@ -1576,9 +1776,10 @@ struct bitm_trie {
     uint64_t reserved[2]; /* 0: not read */
 };
 
-/* Faults of a trie: see bitm_bits_fault.
+/* Faults of a trie: which length is wrong, or NULL (see bitm_bits_fault).
  *
- *     if (bitm_trie_fault(&trie) != NULL) return 1; */
+ *     struct bitm_trie trie = {.width = 64};
+ *     if (bitm_trie_fault(&trie) == NULL) return 1; // width is not 1 to 63 */
 static inline const char *bitm_trie_fault(const struct bitm_trie *trie)
 {
     const size_t nodes = trie->tree.len, labels = nodes > 0 ? nodes - 1 : 0;
@@ -1591,120 +1792,126 @@ static inline const char *bitm_trie_fault(const struct bitm_trie *trie)
     return bitm_tree_fault(&trie->tree);
 }
 
-/* How many words the block of a trie of that many nodes takes, whose labels have `width` bits, with a bit for each
- * node or without. BITM_BAD_SIZE if there are 2^57 nodes or more, or width is not 1 to 63. */
+/* How many words the block of a trie of `nodes` nodes takes, whose labels have `width` bits, with ends or without.
+ * BITM_BAD_SIZE if there are 2^57 nodes or more, or width is not 1 to 63.
+ *
+ *     uint64_t size;
+ *     if (bitm_trie_size(4, 8, true, &size) || size != 88) return 1; */
 BITM_MUST_USE uint32_t bitm_trie_size(size_t nodes, uint32_t width, bool has_ends, uint64_t *out);
 
 /* Writes the block of the trie of these degrees and labels. ends are no words, or ceil(degrees_len / 64); they are
  * copied as they are. BITM_BAD_SIZE if bitm_trie_size does not take degrees_len and width, labels_len is not
  * degrees_len - 1 (0 if there are no degrees), ends_len is neither of these, or block_len is not what bitm_trie_size
  * says; else BITM_WRONG if the degrees form no tree (bitm_tree_build), a label has more than `width` bits, or the
- * labels of the children of a node do not rise. Allocates nothing, and needs no other memory. block may overlap nothing
- * that is read. Three passes over degrees and labels, four over the block, and a selection for each hint (evident from
- * the code).
+ * labels of the children of a node do not rise. Allocates nothing, and needs no other memory. Three passes over degrees
+ * and labels, four over the block, and a selection for each hint (evident from the code).
  *
- *     const uint64_t of_fall[3] = {'b', 'a', 'e'};
- *     if (bitm_trie_build(children, 4, of_fall, 3, 8, node_ends, 1, of_words, trie_len) != BITM_WRONG) return 1; */
+ *     const uint64_t degrees[4] = {2, 0, 1, 0}, labels[3] = {'a', 'b', 'e'}, falling[3] = {'b', 'a', 'e'};
+ *     const uint64_t ends[1] = {14}; // nodes 1, 2 and 3: a, b and be
+ *     uint64_t block[88]; // bitm_trie_size(4, 8, true, ..) says 88
+ *     if (bitm_trie_build(degrees, 4, labels, 3, 8, ends, 1, block, 88) ||
+ *         bitm_trie_build(degrees, 4, falling, 3, 8, ends, 1, block, 88) != BITM_WRONG) return 1; */
 BITM_MUST_USE uint32_t bitm_trie_build(const uint64_t *degrees, size_t degrees_len, const uint64_t *labels,
                                        size_t labels_len, uint32_t width, const uint64_t *ends, size_t ends_len,
                                        uint64_t *block, size_t block_len);
 
-/* How many nodes the trie of sorted words has, whose labels are bytes: the root, and one for each byte that a word does
- * not share with the word before it, from their first on. The words stand one after another in bytes: starts says where
- * each begins, and at last where the last one ends. They rise in the order of a dictionary, by their bytes, a word
- * before a longer one that it begins, and none is twice there; the empty word may be one. BITM_BAD_SIZE exactly if
- * there are no starts, one is less than the one before it, or the last one is more than bytes_len; else BITM_UNSORTED
- * exactly if a word does not stand after the one before it. Three passes over the starts, and two over the bytes
- * (evident from the code).
+/* How many nodes the trie of sorted words has, whose labels are bytes: the root, and one for each byte of a word after
+ * the bytes in which it begins like the word before it. The words stand one after another in bytes: starts says where
+ * each begins, and at last where the last one ends. They rise by their bytes, as in a dictionary: a word stands before
+ * a longer one that begins with it, and no word stands twice; the empty word may be one. BITM_BAD_SIZE exactly if there
+ * are no starts, one is less than the one before it, or the last one is more than bytes_len; else BITM_UNSORTED exactly
+ * if a word does not stand after the one before it. Three passes over the starts, and two over the bytes (evident from
+ * the code).
  *
- *     const uint8_t *letters_of = (const uint8_t *)"aabeb"; // a, abe and b
- *     const uint64_t starts_of[4] = {0, 1, 4, 5};
- *     if (bitm_trie_nodes_of_words(letters_of, 5, starts_of, 4, &value) != BITM_OK || value != 5 ||
- *         bitm_trie_nodes_of_words(letters_of, 5, starts_of + 1, 2, &value) != BITM_OK || value != 4 ||
- *         bitm_trie_nodes_of_words(letters_of, 4, starts_of, 4, &value) != BITM_BAD_SIZE) return 1; */
+ *     const uint8_t *const bytes = (const uint8_t *)"aabeb";
+ *     const uint64_t starts[4] = {0, 1, 4, 5}; // a, abe and b
+ *     uint64_t nodes;
+ *     if (bitm_trie_nodes_of_words(bytes, 5, starts, 4, &nodes) || nodes != 5 ||
+ *         bitm_trie_nodes_of_words(bytes, 4, starts, 4, &nodes) != BITM_BAD_SIZE) return 1; */
 BITM_MUST_USE uint32_t bitm_trie_nodes_of_words(const uint8_t *bytes, size_t bytes_len, const uint64_t *starts,
                                                 size_t starts_len, uint64_t *out);
 
 /* The first word that does not stand after the word before it: BITM_OK with its number; BITM_NONE exactly if the words
- * are sorted; BITM_BAD_SIZE as bitm_trie_nodes_of_words. Two passes over the starts and one over the bytes (evident from
- * the code).
+ * are sorted; BITM_BAD_SIZE as bitm_trie_nodes_of_words. Two passes over the starts and one over the bytes (evident
+ * from the code).
  *
  *     const uint64_t swapped[4] = {1, 4, 4, 5}; // abe, the empty word and b
- *     if (bitm_trie_unsorted_word(letters_of, 5, swapped, 4, &value) != BITM_OK || value != 1 ||
- *         bitm_trie_unsorted_word(letters_of, 5, starts_of, 4, &value) != BITM_NONE) return 1; */
+ *     uint64_t word;
+ *     if (bitm_trie_unsorted_word((const uint8_t *)"aabeb", 5, swapped, 4, &word) || word != 1) return 1; */
 BITM_MUST_USE uint32_t bitm_trie_unsorted_word(const uint8_t *bytes, size_t bytes_len, const uint64_t *starts,
                                                size_t starts_len, uint64_t *out);
 
 /* Writes the block of the trie of sorted words, which are given as to bitm_trie_nodes_of_words, with labels of 8 bits
  * and ends: bitm_trie_find_bytes of a word finds a node, and bitm_trie_is_end says that a word ends there, exactly if
- * it is one of them. Let n be the number of nodes: one, and one for each byte that a word does not share with the word
- * before it, also where words do not rise. BITM_BAD_SIZE if bitm_trie_nodes_of_words returns it, if scratch_len is not
- * 3 n - 2 + ceil(n / 64), or if bitm_trie_size(n, 8, true, ..) does not give block_len; else BITM_UNSORTED if a word
- * does not stand after the one before it. What scratch holds is overwritten. Allocates nothing. scratch and block may
- * overlap neither each other nor what is read. Five passes over the starts, four over the bytes, and the passes of
- * bitm_trie_build (evident from the code).
+ * it is one of them. Let n be the number of nodes: as bitm_trie_nodes_of_words counts them, also where words do not
+ * rise. BITM_BAD_SIZE if bitm_trie_nodes_of_words returns it, if scratch_len is not 3 n - 2 + ceil(n / 64), or if
+ * bitm_trie_size(n, 8, true, ..) does not give block_len; else BITM_UNSORTED if a word does not stand after the one
+ * before it. Scratch is overwritten, whatever the status. Allocates nothing. Five passes over the starts, four over the
+ * bytes, and the passes of bitm_trie_build (evident from the code).
  *
- *     uint64_t parts_of[14], grown_len;
- *     if (bitm_trie_size(5, 8, true, &grown_len) != BITM_OK) return 1;
- *     uint64_t *grown = malloc(8 * grown_len);
- *     struct bitm_trie of_grown = {0};
- *     if (!grown ||
- *         bitm_trie_build_words(letters_of, 5, starts_of, 4, parts_of, 14, grown, grown_len) != BITM_OK ||
- *         bitm_trie_open(grown, grown_len, &of_grown) != BITM_OK ||
- *         bitm_trie_find_bytes(&of_grown, (const uint8_t *)"abe", 3, &node) != BITM_OK || node != 4 ||
- *         bitm_trie_is_end(&of_grown, node, &value) != BITM_OK || value != 1 ||
- *         bitm_trie_find_bytes(&of_grown, (const uint8_t *)"ab", 2, &node) != BITM_OK || node != 3 ||
- *         bitm_trie_is_end(&of_grown, node, &value) != BITM_OK || value != 0) return 1;
- *     free(grown); */
+ *     const uint64_t starts[4] = {0, 1, 4, 5}; // a, abe and b: 5 nodes, which bitm_trie_nodes_of_words says
+ *     uint64_t scratch[14], block[88], node, is_end; // bitm_trie_size(5, 8, true, ..) says 88
+ *     struct bitm_trie trie;
+ *     if (bitm_trie_build_words((const uint8_t *)"aabeb", 5, starts, 4, scratch, 14, block, 88) ||
+ *         bitm_trie_open(block, 88, &trie) || bitm_trie_find_bytes(&trie, (const uint8_t *)"abe", 3, &node) ||
+ *         node != 4 || bitm_trie_is_end(&trie, node, &is_end) || is_end != 1) return 1; */
 BITM_MUST_USE uint32_t bitm_trie_build_words(const uint8_t *bytes, size_t bytes_len, const uint64_t *starts,
                                              size_t starts_len, uint64_t *scratch, size_t scratch_len, uint64_t *block,
                                              size_t block_len);
 
 /* Opens a block: writes the trie that queries take, which points into the block. BITM_WRONG exactly if the header or
- * the directory of the block is not right, or belongs to no trie, or block_len is not as they say. Reads at most 80
- * words, however long the block is (evident from the code); what its other words hold is not looked at.
+ * the directory of the block is not right, or belongs to no trie, or block_len is not as they say.
  *
- *     if (bitm_trie_open(of_words, trie_len - 1, &trie) != BITM_WRONG || trie.tree.len != 4) return 1; */
+ * bitm_trie_check says whether a block is as it was written and holds a trie: BITM_OK, or BITM_WRONG as above, if a
+ * checksum does not match its words, if words, tables and hints form no tree, or if the labels of the children of a
+ * node do not rise. So a block in which one word was changed is refused. Four passes over the words of the block, and a
+ * selection by the tables for each hint (evident from the code).
+ *
+ *     const uint64_t degrees[4] = {2, 0, 1, 0}, labels[3] = {'a', 'b', 'e'}, ends[1] = {14}; // a, b and be
+ *     uint64_t block[88]; // bitm_trie_size(4, 8, true, ..) says 88
+ *     struct bitm_trie trie;
+ *     if (bitm_trie_build(degrees, 4, labels, 3, 8, ends, 1, block, 88) || bitm_trie_open(block, 88, &trie) ||
+ *         bitm_trie_open(block, 87, &trie) != BITM_WRONG || bitm_trie_check(block, 88)) return 1;
+ *     block[40] ^= 1;
+ *     if (bitm_trie_check(block, 88) != BITM_WRONG) return 1; */
 BITM_MUST_USE uint32_t bitm_trie_open(const uint64_t *block, size_t block_len, struct bitm_trie *trie);
-
-/* Whether a block is as it was written and holds a trie: BITM_OK, or BITM_WRONG as bitm_trie_open, if a checksum does
- * not match its words, if words, tables and hints form no tree, or if the labels of the children of a node do not rise.
- * So a block in which one word was changed is refused. Four passes over the words of the block, and a selection by the
- * tables for each hint (evident from the code).
- *
- *     of_words[40] ^= 1;
- *     if (bitm_trie_check(of_words, trie_len) != BITM_WRONG) return 1;
- *     of_words[40] ^= 1;
- *     if (bitm_trie_check(of_words, trie_len) != BITM_OK) return 1; */
 BITM_MUST_USE uint32_t bitm_trie_check(const uint64_t *block, size_t block_len);
 
-/* Each of these calls returns BITM_BAD_SIZE if a length in *trie does not fit its number of nodes and its width, and
- * BITM_WRONG only where the block holds no trie.
- *
- * The label of a node. BITM_NONE exactly at the root and if there is no such node. Reads at most two words (evident
+/* The label of a node. BITM_NONE exactly at the root and if there is no such node. Reads at most two words (evident
  * from the code).
  *
- *     if (bitm_trie_label(&trie, 2, &value) != BITM_OK || value != 'b') return 1; */
-BITM_MUST_USE uint32_t bitm_trie_label(const struct bitm_trie *trie, size_t node, uint64_t *out);
-
-/* Whether a word ends at a node, as 0 or 1. BITM_NONE exactly if there is no such node, or the trie has no ends.
- * Reads at most one word (evident from the code).
+ * bitm_trie_is_end answers whether a word ends at a node, as 0 or 1. BITM_NONE exactly if there is no such node, or the
+ * trie has no ends. Reads at most one word (evident from the code).
  *
- *     if (bitm_trie_is_end(&trie, 3, &value) != BITM_OK || value != 1) return 1; */
+ *     const uint64_t degrees[4] = {2, 0, 1, 0}, labels[3] = {'a', 'b', 'e'}, ends[1] = {14}; // a, b and be
+ *     uint64_t block[88], label, is_end; // bitm_trie_size(4, 8, true, ..) says 88
+ *     struct bitm_trie trie;
+ *     if (bitm_trie_build(degrees, 4, labels, 3, 8, ends, 1, block, 88) || bitm_trie_open(block, 88, &trie) ||
+ *         bitm_trie_label(&trie, 2, &label) || label != 'b' || bitm_trie_is_end(&trie, 3, &is_end) ||
+ *         is_end != 1) return 1; */
+BITM_MUST_USE uint32_t bitm_trie_label(const struct bitm_trie *trie, size_t node, uint64_t *out);
 BITM_MUST_USE uint32_t bitm_trie_is_end(const struct bitm_trie *trie, size_t node, uint64_t *out);
 
 /* The child of a node with the given label. BITM_NONE exactly if none has it, or there is no such node. Reads what
- * bitm_tree_degree does, and a label for each binary digit of the number of nodes, and one.
+ * bitm_tree_degree reads, and a label for each binary digit of the number of nodes, and one.
  *
- *     if (bitm_trie_child(&trie, 0, 'b', &node) != BITM_OK || node != 2 ||
+ *     const uint64_t degrees[4] = {2, 0, 1, 0}, labels[3] = {'a', 'b', 'e'}, ends[1] = {14}; // a, b and be
+ *     uint64_t block[88], node; // bitm_trie_size(4, 8, true, ..) says 88
+ *     struct bitm_trie trie;
+ *     if (bitm_trie_build(degrees, 4, labels, 3, 8, ends, 1, block, 88) || bitm_trie_open(block, 88, &trie) ||
+ *         bitm_trie_child(&trie, 0, 'b', &node) || node != 2 ||
  *         bitm_trie_child(&trie, 0, 'e', &node) != BITM_NONE) return 1; */
 BITM_MUST_USE uint32_t bitm_trie_child(const struct bitm_trie *trie, size_t node, uint64_t label, uint64_t *out);
 
 /* The node to which a word leads from the root, label by label: the root for an empty one. Whether a word of the set
- * ends there, bitm_trie_is_end says. A call over bytes takes each byte as a label. BITM_NONE exactly if the word
- * leads to no node. Each reads for each label of the word at most what bitm_trie_child does.
+ * ends there, bitm_trie_is_end says. A call over bytes takes each byte as a label. BITM_NONE exactly if the word leads
+ * to no node. Each reads for each label of the word at most what bitm_trie_child reads.
  *
- *     if (bitm_trie_find(&trie, node_labels, 1, &node) != BITM_OK || node != 1 ||
+ *     const uint64_t degrees[4] = {2, 0, 1, 0}, labels[3] = {'a', 'b', 'e'}, ends[1] = {14}, be[2] = {'b', 'e'};
+ *     uint64_t block[88], node; // bitm_trie_size(4, 8, true, ..) says 88
+ *     struct bitm_trie trie;
+ *     if (bitm_trie_build(degrees, 4, labels, 3, 8, ends, 1, block, 88) || bitm_trie_open(block, 88, &trie) ||
+ *         bitm_trie_find(&trie, be, 2, &node) || node != 3 ||
  *         bitm_trie_find_bytes(&trie, (const uint8_t *)"ab", 2, &node) != BITM_NONE) return 1; */
 BITM_MUST_USE uint32_t bitm_trie_find(const struct bitm_trie *trie, const uint64_t *word, size_t word_len,
                                       uint64_t *out);
@@ -1713,26 +1920,31 @@ BITM_MUST_USE uint32_t bitm_trie_find_bytes(const struct bitm_trie *trie, const 
 
 /* The deepest node to which a beginning of a word leads from the root, and how many labels lead there: word_len where
  * the word leads to a node. No longer beginning of the word leads to one. So the longest word of the set with which a
- * text begins ends at that node, or at the first node above it that is an end. BITM_NONE exactly if there are no
- * nodes, as in no trie that was built. Each reads for each label of the word at most what bitm_trie_child does.
+ * text begins ends at that node, or at the first node above it that is an end. BITM_NONE exactly if there are no nodes:
+ * a trie that was built has some. Each reads for each label of the word at most what bitm_trie_child reads.
  *
- *     const uint64_t bee[3] = {'b', 'e', 'e'};
- *     if (bitm_trie_longest(&trie, bee, 3, &node, &matched) != BITM_OK || node != 3 || matched != 2 ||
- *         bitm_trie_longest_bytes(&trie, (const uint8_t *)"bee", 3, &node, &matched) != BITM_OK || node != 3 ||
- *         matched != 2) return 1; */
+ *     const uint64_t degrees[4] = {2, 0, 1, 0}, labels[3] = {'a', 'b', 'e'}, ends[1] = {14}, bee[3] = {'b', 'e', 'e'};
+ *     uint64_t block[88], node, matched; // bitm_trie_size(4, 8, true, ..) says 88
+ *     struct bitm_trie trie;
+ *     if (bitm_trie_build(degrees, 4, labels, 3, 8, ends, 1, block, 88) || bitm_trie_open(block, 88, &trie) ||
+ *         bitm_trie_longest(&trie, bee, 3, &node, &matched) || node != 3 || matched != 2 ||
+ *         bitm_trie_longest_bytes(&trie, (const uint8_t *)"at", 2, &node, &matched) || node != 1 ||
+ *         matched != 1) return 1; */
 BITM_MUST_USE uint32_t bitm_trie_longest(const struct bitm_trie *trie, const uint64_t *word, size_t word_len,
                                          uint64_t *node, uint64_t *matched);
 BITM_MUST_USE uint32_t bitm_trie_longest_bytes(const struct bitm_trie *trie, const uint8_t *word, size_t word_len,
                                                uint64_t *node, uint64_t *matched);
 
-/* How many labels the word has that leads from the root to a node. If they are no more than out_len, they are the
- * last items of out then, and the items before them stay as they are; else out holds no word. BITM_NONE exactly if
- * there is no such node; where it is BITM_WRONG, out may have changed. Reads for each label of the word what one
- * selection does, and that label.
+/* How many labels the word has that leads from the root to a node. If they are no more than out_len, they are the last
+ * items of out then, and the items before them stay as they are; else out holds no word. BITM_NONE exactly if there is
+ * no such node; where it is BITM_WRONG, out may have changed. Reads for each label of the word what one selection
+ * reads, and that label.
  *
- *     if (bitm_trie_word(&trie, 3, word, 4, &matched) != BITM_OK || matched != 2 || word[2] != 'b' || word[3] != 'e')
- *         return 1;
- *     free(of_words); */
+ *     const uint64_t degrees[4] = {2, 0, 1, 0}, labels[3] = {'a', 'b', 'e'}, ends[1] = {14}; // a, b and be
+ *     uint64_t block[88], word[4], len; // bitm_trie_size(4, 8, true, ..) says 88
+ *     struct bitm_trie trie;
+ *     if (bitm_trie_build(degrees, 4, labels, 3, 8, ends, 1, block, 88) || bitm_trie_open(block, 88, &trie) ||
+ *         bitm_trie_word(&trie, 3, word, 4, &len) || len != 2 || word[2] != 'b' || word[3] != 'e') return 1; */
 BITM_MUST_USE uint32_t bitm_trie_word(const struct bitm_trie *trie, size_t node, uint64_t *out, size_t out_len,
                                       uint64_t *word_len);
 
@@ -1741,22 +1953,26 @@ BITM_MUST_USE uint32_t bitm_trie_word(const struct bitm_trie *trie, size_t node,
  * A wavelet matrix (Claude, Navarro and Ordonez, Information Systems 47, 2015) holds n numbers of at most `width` bits
  * each in about 1.03 * width bits a number, and answers where and how often a number is in the list, and which numbers
  * of a range are the least. With quarters it takes about 1.16 * width bits, and most queries read fewer words (evident
- * from the code, where a query does not say how many). A block of numbers is written and opened like a tree's:
+ * from the code, where a query does not say how many). With hints, which take a quarter of the bits of all numbers
+ * besides, bitm_matrix_select reads fewer words.
  *
- *     const uint64_t any_order[6] = {3, 1, 4, 1, 5, 1};
- *     uint64_t matrix_len, scratch[12]; // two words for each number
- *     if (bitm_matrix_size(6, 3, false, &matrix_len) != BITM_OK) return 1;
- *     uint64_t *of_numbers = malloc(8 * matrix_len); // or a mapped file
- *     struct bitm_matrix matrix = {0};
- *     if (!of_numbers ||
- *         bitm_matrix_build(any_order, 6, 3, false, scratch, 12, of_numbers, matrix_len) != BITM_OK ||
- *         bitm_matrix_open(of_numbers, matrix_len, &matrix) != BITM_OK || matrix.len != 6 ||
- *         bitm_matrix_rank(&matrix, 1, 4, &value) != BITM_OK || value != 2) return 1; // 1 is among 3, 1, 4, 1 twice
+ *     const uint64_t list[6] = {3, 1, 4, 1, 5, 1};
+ *     uint64_t room[12], block[80], size, rank; // two words for each number; or a mapped file
+ *     struct bitm_matrix matrix;
+ *     if (bitm_matrix_size(6, 3, false, false, &size) || size != 80 ||
+ *         bitm_matrix_build(list, 6, 3, false, false, room, 12, block, 80) || bitm_matrix_open(block, 80, &matrix) ||
+ *         bitm_matrix_rank(&matrix, 1, 4, &rank) || rank != 2) return 1; // 1 is among 3, 1, 4, 1 twice
  *
- * Over any block that bitm_matrix_open takes, a stale or hostile one too, a query returns within the reads that are
- * named below, a number has no more than matrix.width bits, a count is at most the number of items asked about, and an
- * index that is found is less than matrix.len. If bitm_matrix_build wrote the block or bitm_matrix_check passes it, and
- * it did not change afterwards, the answers agree with one list of numbers, and no query returns BITM_WRONG. */
+ *   - errors: a query returns BITM_BAD_SIZE if a length in the struct does not fit its numbers and their width, and
+ *     BITM_WRONG only where the block holds no matrix. An error writes nothing, unless the call says otherwise.
+ *   - reads: a query makes ranks in the words for each bit of the width, and names their reads. bitm_matrix_open reads
+ *     at most 80 words, however long the block is (evident from the code), and looks at no others.
+ *   - overlap: memory that a call writes overlaps nothing else that it is passed.
+ *   - over any block that bitm_matrix_open takes, a stale or hostile one too, a query returns within the reads that are
+ *     named below, a number has no more than matrix.width bits, a count is at most the number of items asked about, and
+ *     an index that is found is less than matrix.len. If bitm_matrix_build wrote the block or bitm_matrix_check passes
+ *     it, and it did not change afterwards, the answers agree with one list of numbers, and no query returns
+ *     BITM_WRONG. */
 struct bitm_matrix {
     size_t len;     /* how many numbers */
     uint64_t width; /* how many bits each has at most */
@@ -1772,11 +1988,14 @@ struct bitm_matrix {
     size_t zeros_len;
     const uint64_t *quarters; /* counts of 1 bits for every eight words, none of a compact block */
     size_t quarters_len;
+    const uint64_t *hints; /* positions of each 128th 1 bit and 0 bit of the words; NULL: none */
+    size_t hints_len;      /* 0, or bitm_hints_room(words_len) */
 };
 
-/* Faults of a matrix: see bitm_bits_fault.
+/* Faults of a matrix: which length is wrong, or NULL (see bitm_bits_fault).
  *
- *     if (bitm_matrix_fault(&matrix) != NULL) return 1; */
+ *     struct bitm_matrix matrix = {.width = 65};
+ *     if (bitm_matrix_fault(&matrix) == NULL) return 1; // width is not 1 to 64 */
 static inline const char *bitm_matrix_fault(const struct bitm_matrix *matrix)
 {
     if (matrix->width < 1 || matrix->width > 64) return "width is not 1 to 64";
@@ -1787,116 +2006,141 @@ static inline const char *bitm_matrix_fault(const struct bitm_matrix *matrix)
     if (matrix->zeros_len != matrix->width) return "zeros_len is not width";
     if (matrix->quarters_len != 0 && matrix->quarters_len != matrix->words_len / 8 + (matrix->words_len % 8 != 0))
         return "quarters_len is neither 0 nor words_len / 8, rounded up";
+    if (matrix->hints_len != 0 && matrix->hints_len != bitm_hints_room(matrix->words_len))
+        return "hints_len is neither 0 nor bitm_hints_room(words_len)";
     return bitm_tables_fault(matrix->words_len, matrix->upper_len, matrix->lower_len);
 }
 
-/* How many words the block of `len` numbers of `width` bits takes, with quarters or without. BITM_BAD_SIZE if width is
- * not 1 to 64, or len * width is 2^63 or more. */
-BITM_MUST_USE uint32_t bitm_matrix_size(size_t len, uint32_t width, bool quarters, uint64_t *out);
-
-/* Writes the block of these numbers of `width` bits, with quarters or without. BITM_BAD_SIZE if bitm_matrix_size does
- * not take numbers_len and width, block_len is not the size that it gives, or scratch_len is not 2 * numbers_len; else
- * BITM_WRONG if a number has more bits than the width. What scratch holds is overwritten. Allocates nothing. Numbers,
- * scratch and block may not overlap one another. For each bit of the width two passes over the numbers, then three over
- * the block, and with quarters a fourth (evident from the code).
+/* How many words the block of `len` numbers of `width` bits takes, with quarters or without, and with hints or without.
+ * BITM_BAD_SIZE if width is not 1 to 64, or len * width is 2^63 or more.
  *
- *     // 4 has 3 bits:
- *     if (bitm_matrix_build(any_order, 6, 2, false, scratch, 12, of_numbers, matrix_len) != BITM_WRONG) return 1; */
+ *     uint64_t size;
+ *     if (bitm_matrix_size(6, 3, false, false, &size) || size != 80) return 1; */
+BITM_MUST_USE uint32_t bitm_matrix_size(size_t len, uint32_t width, bool quarters, bool hints, uint64_t *out);
+
+/* Writes the block of these numbers of `width` bits, with quarters or without, and with hints or without. BITM_BAD_SIZE
+ * if bitm_matrix_size does not take numbers_len and width, block_len is not the size that it gives, or scratch_len is
+ * not 2 * numbers_len; else BITM_WRONG if a number has more bits than the width. BITM_OK overwrites scratch. Allocates
+ * nothing. For each bit of the width two passes over the numbers, then three over the block, with quarters a fourth,
+ * and a selection by the tables for each hint (evident from the code).
+ *
+ *     const uint64_t list[6] = {3, 1, 4, 1, 5, 1};
+ *     uint64_t room[12], block[80]; // bitm_matrix_size says 80
+ *     if (bitm_matrix_build(list, 6, 3, false, false, room, 12, block, 80) ||
+ *         bitm_matrix_build(list, 6, 2, false, false, room, 12, block, 80) != BITM_WRONG) return 1; // 4 has 3 bits */
 BITM_MUST_USE uint32_t bitm_matrix_build(const uint64_t *numbers, size_t numbers_len, uint32_t width, bool quarters,
-                                         uint64_t *scratch, size_t scratch_len, uint64_t *block, size_t block_len);
+                                         bool hints, uint64_t *scratch, size_t scratch_len, uint64_t *block,
+                                         size_t block_len);
 
 /* Writes one level of the block of a matrix, for a caller that builds level by level, to say how far it is: levels 0 to
  * width - 1 of the numbers and then bitm_matrix_seal write their block, as bitm_matrix_build does. The call reads bit
- * width - 1 - depth of each number, and sorts the numbers by that bit, without changing the order of those with the
+ * width - 1 - depth of each number, and sorts the numbers by that bit, without changing the order of numbers with the
  * same bit: the next level takes them so. Higher bits are not read: bitm_numbers_above finds a number that has more
  * than width bits. BITM_BAD_SIZE if bitm_matrix_size does not take numbers_len and width, block_len is not the size
- * that it gives, scratch_len is not numbers_len, or depth is not below width. What scratch holds is overwritten.
- * Numbers, scratch and block may not overlap one another. Two passes over the numbers, and at level 0 one over the
- * words of the block's bits (evident from the code).
+ * that it gives, scratch_len is not numbers_len, or depth is not below width. BITM_OK overwrites scratch. Two passes
+ * over the numbers, and at level 0 one over the words of the block's bits (evident from the code).
  *
- *     uint64_t by_levels[6] = {2, 3, 0, 1, 1, 3}, half[6];
- *     uint64_t *built = malloc(8 * matrix_len);
- *     if (!built ||
- *         bitm_matrix_write_level(by_levels, 6, 2, false, 0, half, 6, built, matrix_len) != BITM_OK ||
- *         bitm_matrix_write_level(by_levels, 6, 2, false, 1, half, 6, built, matrix_len) != BITM_OK ||
- *         bitm_matrix_seal(6, 2, false, built, matrix_len) != BITM_OK ||
- *         bitm_matrix_check(built, matrix_len) != BITM_OK) return 1;
- *     free(built); */
+ *     uint64_t list[6] = {2, 3, 0, 1, 1, 3}, room[6], block[80];
+ *     if (bitm_matrix_write_level(list, 6, 2, false, false, 0, room, 6, block, 80) ||
+ *         bitm_matrix_write_level(list, 6, 2, false, false, 1, room, 6, block, 80) ||
+ *         bitm_matrix_seal(6, 2, false, false, block, 80) || bitm_matrix_check(block, 80)) return 1; */
 BITM_MUST_USE uint32_t bitm_matrix_write_level(uint64_t *numbers, size_t numbers_len, uint32_t width, bool quarters,
-                                               uint32_t depth, uint64_t *scratch, size_t scratch_len, uint64_t *block,
-                                               size_t block_len);
+                                               bool hints, uint32_t depth, uint64_t *scratch, size_t scratch_len,
+                                               uint64_t *block, size_t block_len);
 
-/* Completes the block whose levels bitm_matrix_write_level wrote: tables, header and directory. BITM_BAD_SIZE if
- * bitm_matrix_size does not take len and width, or block_len is not the size that it gives. Three passes over the
- * block, and with quarters a fourth (evident from the code). */
-BITM_MUST_USE uint32_t bitm_matrix_seal(size_t len, uint32_t width, bool quarters, uint64_t *block, size_t block_len);
+/* Completes the block whose levels bitm_matrix_write_level wrote, with the same quarters and hints: tables, header and
+ * directory. BITM_BAD_SIZE if bitm_matrix_size does not take len and width, or block_len is not the size that it gives.
+ * Three passes over the block, with quarters a fourth, and a selection by the tables for each hint (evident from the
+ * code).
+ *
+ *     uint64_t list[6] = {1, 0, 0, 1, 1, 0}, room[6], block[80];
+ *     if (bitm_matrix_write_level(list, 6, 1, false, false, 0, room, 6, block, 80) ||
+ *         bitm_matrix_seal(6, 1, false, false, block, 80) || bitm_matrix_check(block, 80)) return 1; */
+BITM_MUST_USE uint32_t bitm_matrix_seal(size_t len, uint32_t width, bool quarters, bool hints, uint64_t *block,
+                                        size_t block_len);
 
 /* Opens a block: writes the matrix that queries take, which points into the block. BITM_WRONG exactly if the header or
- * the directory of the block is not right, or belongs to no matrix, or block_len is not as they say. Reads at most 80
- * words, however long the block is (evident from the code); what its other words hold is not looked at.
+ * the directory of the block is not right, or belongs to no matrix, or block_len is not as they say.
  *
- *     if (bitm_matrix_open(of_numbers, matrix_len - 1, &matrix) != BITM_WRONG || matrix.len != 6) return 1; */
+ * bitm_matrix_check says whether a block is as it was written and holds a matrix: BITM_OK, or BITM_WRONG as above, if a
+ * checksum does not match its words, or if words, tables and hints form no matrix. So a block in which one word was
+ * changed is refused. Two passes over the block, with quarters two ranks for every two words, and a selection by the
+ * tables for each hint (evident from the code).
+ *
+ *     const uint64_t list[6] = {3, 1, 4, 1, 5, 1};
+ *     uint64_t room[12], block[80]; // bitm_matrix_size says 80
+ *     struct bitm_matrix matrix;
+ *     if (bitm_matrix_build(list, 6, 3, false, false, room, 12, block, 80) || bitm_matrix_open(block, 80, &matrix) ||
+ *         bitm_matrix_open(block, 79, &matrix) != BITM_WRONG || bitm_matrix_check(block, 80)) return 1;
+ *     block[40] ^= 1;
+ *     if (bitm_matrix_check(block, 80) != BITM_WRONG) return 1; */
 BITM_MUST_USE uint32_t bitm_matrix_open(const uint64_t *block, size_t block_len, struct bitm_matrix *matrix);
-
-/* Whether a block is as it was written and holds a matrix: BITM_OK, or BITM_WRONG as bitm_matrix_open, if a checksum
- * does not match its words, or if words and tables form no matrix. So a block in which one word was changed is refused.
- * Two passes over the block, and with quarters two ranks for every two words (evident from the code).
- *
- *     of_numbers[40] ^= 1;
- *     if (bitm_matrix_check(of_numbers, matrix_len) != BITM_WRONG) return 1;
- *     of_numbers[40] ^= 1;
- *     if (bitm_matrix_check(of_numbers, matrix_len) != BITM_OK) return 1; */
 BITM_MUST_USE uint32_t bitm_matrix_check(const uint64_t *block, size_t block_len);
 
-/* Each of these calls returns BITM_BAD_SIZE if a length in *matrix does not fit its numbers and their width, and
- * BITM_WRONG only where the block holds no matrix.
- *
- * The number at an index. BITM_NONE exactly if index is len or more. Reads for each bit of the width at most one upper
+/* The number at an index. BITM_NONE exactly if index is len or more. Reads for each bit of the width at most one upper
  * entry, one lower entry and eight words; with quarters no lower entry and two words, and one number of the quarters
  * (evident from the code).
  *
- *     if (bitm_matrix_get(&matrix, 4, &value) != BITM_OK || value != 5) return 1; */
+ *     const uint64_t list[6] = {3, 1, 4, 1, 5, 1};
+ *     uint64_t room[12], block[80], number; // bitm_matrix_size says 80
+ *     struct bitm_matrix matrix;
+ *     if (bitm_matrix_build(list, 6, 3, false, false, room, 12, block, 80) || bitm_matrix_open(block, 80, &matrix) ||
+ *         bitm_matrix_get(&matrix, 4, &number) || number != 5) return 1; */
 BITM_MUST_USE uint32_t bitm_matrix_get(const struct bitm_matrix *matrix, size_t index, uint64_t *out);
 
 /* How many of the numbers before an index are this one: for index len, of all. At most index. BITM_NONE exactly if
  * index is above len. Reads for each bit of the width at most two upper entries, two lower entries and 16 words; with
  * quarters no lower entries and four words, and two numbers of the quarters (evident from the code).
  *
- *     if (bitm_matrix_rank(&matrix, 1, 6, &value) != BITM_OK || value != 3) return 1; */
+ *     const uint64_t list[6] = {3, 1, 4, 1, 5, 1};
+ *     uint64_t room[12], block[80], rank; // bitm_matrix_size says 80
+ *     struct bitm_matrix matrix;
+ *     if (bitm_matrix_build(list, 6, 3, false, false, room, 12, block, 80) || bitm_matrix_open(block, 80, &matrix) ||
+ *         bitm_matrix_rank(&matrix, 1, 6, &rank) || rank != 3) return 1; */
 BITM_MUST_USE uint32_t bitm_matrix_rank(const struct bitm_matrix *matrix, uint64_t number, size_t index, uint64_t *out);
 
 /* The index of this number with exactly `rank` such numbers before it. BITM_NONE if there are no more than rank; over a
  * block that holds no matrix it may be the answer for any number. Reads what bitm_matrix_rank does, and for each bit of
- * the width what bitm_index_select reads without samples.
+ * the width what bitm_index_select reads without samples; with hints mostly one hint and at most nine words, and the
+ * rest only where the bit is not in the eight words from its hint's word on. bitm_matrix_select_list goes without
+ * hints.
  *
- *     if (bitm_matrix_select(&matrix, 1, 2, &value) != BITM_OK || value != 5 ||
- *         bitm_matrix_select(&matrix, 1, 3, &value) != BITM_NONE) return 1; */
+ *     const uint64_t list[6] = {3, 1, 4, 1, 5, 1};
+ *     uint64_t room[12], block[80], index; // bitm_matrix_size says 80
+ *     struct bitm_matrix matrix;
+ *     if (bitm_matrix_build(list, 6, 3, false, false, room, 12, block, 80) || bitm_matrix_open(block, 80, &matrix) ||
+ *         bitm_matrix_select(&matrix, 1, 2, &index) || index != 5 ||
+ *         bitm_matrix_select(&matrix, 1, 3, &index) != BITM_NONE) return 1; */
 BITM_MUST_USE uint32_t bitm_matrix_select(const struct bitm_matrix *matrix, uint64_t number, size_t rank,
                                           uint64_t *out);
 
 /* Writes the numbers at a list of indices, as bitm_matrix_get answers them, up to the first index that has none, and to
- * written how many; the rest of out stays as it was. BITM_OK exactly if all are written. Else the status says why the
- * call stopped at indices[written]: BITM_NONE exactly if that is not below len, and BITM_WRONG exactly if it is, as it
- * may be only if the block holds no matrix. BITM_BAD_SIZE, and nothing is written, also if out_len is not indices_len.
- * out and written may not overlap each other or what the call reads. 32 of them go from level to level together, so
- * that they wait for memory side by side (evident from the code).
+ * written how many; the rest of out stays as it was. BITM_OK exactly if all are written. Else the numbers before are
+ * written, and the status says why the call stopped at indices[written]: BITM_NONE exactly if that index is not below
+ * len, and BITM_WRONG exactly if it is, which may be only if the block holds no matrix. BITM_BAD_SIZE, and nothing is
+ * written, also if out_len is not indices_len. 32 of them go from level to level together, so that they wait for memory
+ * side by side (evident from the code).
  *
- *     const uint64_t at_each[3] = {4, 0, 6};
- *     if (bitm_matrix_get_list(&matrix, at_each, 3, of_each, 3, &written) != BITM_NONE || written != 2 ||
- *         of_each[0] != 5 || of_each[1] != 3) return 1; // there is no number 6 */
+ *     const uint64_t list[6] = {3, 1, 4, 1, 5, 1}, indices[3] = {4, 0, 6};
+ *     uint64_t room[12], block[80], out[3], written; // bitm_matrix_size says 80
+ *     struct bitm_matrix matrix;
+ *     if (bitm_matrix_build(list, 6, 3, false, false, room, 12, block, 80) || bitm_matrix_open(block, 80, &matrix) ||
+ *         bitm_matrix_get_list(&matrix, indices, 3, out, 3, &written) != BITM_NONE || written != 2 ||
+ *         out[0] != 5) return 1; */
 BITM_MUST_USE uint32_t bitm_matrix_get_list(const struct bitm_matrix *matrix, const uint64_t *indices,
                                             size_t indices_len, uint64_t *out, size_t out_len, uint64_t *written);
 
-/* bitm_matrix_rank of each numbers[i] before indices[i], and bitm_matrix_select of each numbers[i] with ranks[i]:
- * out[i] is the answer, or BITM_NO_ANSWER for BITM_NONE and BITM_WRONG_TABLES for BITM_WRONG; counts says how many of
- * each there are. BITM_BAD_SIZE also if out_len, or indices_len or ranks_len, is not numbers_len. out and counts may
- * overlap neither each other nor what the call reads. 32 ranks go from level to level together (evident from the code).
+/* bitm_matrix_rank of each numbers[i] before indices[i], and bitm_matrix_select of each numbers[i] with ranks[i]
+ * (struct bitm_list_counts). 32 ranks go from level to level together (evident from the code).
  *
- *     const uint64_t asked[3] = {1, 5, 2}, before[3] = {4, 6, 7}, its[3] = {2, 0, 0};
- *     if (bitm_matrix_rank_list(&matrix, asked, 3, before, 3, of_each, 3, &of_codes) != BITM_OK || of_each[0] != 2 ||
- *         of_each[1] != 1 || of_each[2] != BITM_NO_ANSWER || of_codes.missing != 1 || // there are no 7 numbers
- *         bitm_matrix_select_list(&matrix, asked, 3, its, 3, of_each, 3, &of_codes) != BITM_OK || of_each[0] != 5 ||
- *         of_each[1] != 4 || of_each[2] != BITM_NO_ANSWER) return 1; // and no 2 */
+ *     const uint64_t list[6] = {3, 1, 4, 1, 5, 1}, each[3] = {1, 5, 2}, indices[3] = {4, 6, 7}, ranks[3] = {2};
+ *     uint64_t room[12], block[80], out[3]; // bitm_matrix_size says 80
+ *     struct bitm_matrix matrix;
+ *     struct bitm_list_counts counts;
+ *     if (bitm_matrix_build(list, 6, 3, false, false, room, 12, block, 80) || bitm_matrix_open(block, 80, &matrix) ||
+ *         bitm_matrix_select_list(&matrix, each, 3, ranks, 3, out, 3, &counts) || out[0] != 5 || out[1] != 4 ||
+ *         bitm_matrix_rank_list(&matrix, each, 3, indices, 3, out, 3, &counts) || out[0] != 2 ||
+ *         out[2] != BITM_NO_ANSWER || counts.missing != 1) return 1; // there are no 7 list */
 BITM_MUST_USE uint32_t bitm_matrix_rank_list(const struct bitm_matrix *matrix, const uint64_t *numbers,
                                              size_t numbers_len, const uint64_t *indices, size_t indices_len,
                                              uint64_t *out, size_t out_len, struct bitm_list_counts *counts);
@@ -1910,187 +2154,205 @@ BITM_MUST_USE uint32_t bitm_matrix_select_list(const struct bitm_matrix *matrix,
  * How many numbers of a range are less than bound: at most end - start. BITM_NONE exactly if there is no such range.
  * Reads for each bit of the width at most two upper entries, two lower entries and 16 words.
  *
- *     if (bitm_matrix_count_less(&matrix, 1, 5, 4, &value) != BITM_OK || value != 2) return 1; // of 1, 4, 1, 5 */
+ *     const uint64_t list[6] = {3, 1, 4, 1, 5, 1};
+ *     uint64_t room[12], block[80], count; // bitm_matrix_size says 80
+ *     struct bitm_matrix matrix;
+ *     if (bitm_matrix_build(list, 6, 3, false, false, room, 12, block, 80) || bitm_matrix_open(block, 80, &matrix) ||
+ *         bitm_matrix_count_less(&matrix, 1, 5, 4, &count) || count != 2) return 1; // of 1, 4, 1, 5 */
 BITM_MUST_USE uint32_t bitm_matrix_count_less(const struct bitm_matrix *matrix, size_t start, size_t end,
                                               uint64_t bound, uint64_t *out);
 
-/* The number of a range that would stand at index k if the range were sorted: the least one for k = 0, the median for
- * k = (end - start) / 2. BITM_NONE exactly if there is no such range, or k is not less than end - start. Reads what
+/* The number of a range that would stand at index k if the range were sorted: the least one for k = 0, the median for k
+ * = (end - start) / 2. BITM_NONE exactly if there is no such range, or k is not less than end - start. Reads what
  * bitm_matrix_count_less does.
  *
- *     if (bitm_matrix_quantile(&matrix, 1, 5, 2, &value) != BITM_OK || value != 4) return 1; // of 1, 1, 4, 5 */
+ *     const uint64_t list[6] = {3, 1, 4, 1, 5, 1};
+ *     uint64_t room[12], block[80], number; // bitm_matrix_size says 80
+ *     struct bitm_matrix matrix;
+ *     if (bitm_matrix_build(list, 6, 3, false, false, room, 12, block, 80) || bitm_matrix_open(block, 80, &matrix) ||
+ *         bitm_matrix_quantile(&matrix, 1, 5, 2, &number) || number != 4) return 1; // of 1, 1, 4, 5 */
 BITM_MUST_USE uint32_t bitm_matrix_quantile(const struct bitm_matrix *matrix, size_t start, size_t end, size_t k,
                                             uint64_t *out);
 
 /* The least number of a range that is at least bound; the greatest that is less than bound. BITM_NONE if there is none.
  * Each reads at most twice what bitm_matrix_count_less does.
  *
- *     if (bitm_matrix_next_value(&matrix, 1, 5, 2, &value) != BITM_OK || value != 4 ||
- *         bitm_matrix_previous_value(&matrix, 1, 5, 4, &value) != BITM_OK || value != 1) return 1; */
+ *     const uint64_t list[6] = {3, 1, 4, 1, 5, 1};
+ *     uint64_t room[12], block[80], number; // bitm_matrix_size says 80
+ *     struct bitm_matrix matrix;
+ *     if (bitm_matrix_build(list, 6, 3, false, false, room, 12, block, 80) || bitm_matrix_open(block, 80, &matrix) ||
+ *         bitm_matrix_next_value(&matrix, 1, 5, 2, &number) || number != 4 ||
+ *         bitm_matrix_previous_value(&matrix, 1, 5, 4, &number) || number != 1) return 1; */
 BITM_MUST_USE uint32_t bitm_matrix_next_value(const struct bitm_matrix *matrix, size_t start, size_t end,
                                               uint64_t bound, uint64_t *out);
 BITM_MUST_USE uint32_t bitm_matrix_previous_value(const struct bitm_matrix *matrix, size_t start, size_t end,
                                                   uint64_t bound, uint64_t *out);
 
 /* The distinct numbers of a range that are at least `from`, rising, each in numbers and how often the range has it in
- * counts: as many as there is room for; *written is how many these are. So go on at the last number and 1. BITM_NONE
- * exactly if there is no such range; BITM_BAD_SIZE also if counts_len is not numbers_len. Whatever the block holds, the
- * numbers rise from `from` on, a count is at least 1 and at most end - start, and the items after them stay as they
- * were; only where BITM_WRONG is returned, items may have been written. numbers, counts and written may not overlap one
- * another or what the call reads. Reads what bitm_matrix_count_less reads, and as much for each number that is written
- * (evident from the code).
+ * counts, until these are full or there are no more; *written is how many these are. So go on at the last number and 1.
+ * BITM_NONE exactly if there is no such range; BITM_BAD_SIZE also if counts_len is not numbers_len. Whatever the block
+ * holds, the numbers rise from `from` on, a count is at least 1 and at most end - start, and the items after them stay
+ * as they were; only where BITM_WRONG is returned, items may have been written. Reads what bitm_matrix_count_less
+ * reads, and the same for each number that is written (evident from the code).
  *
- *     uint64_t kinds[4], of_kinds[4];
- *     if (bitm_matrix_distinct(&matrix, 1, 5, 2, kinds, 4, of_kinds, 4, &written) != BITM_OK || written != 2 ||
- *         kinds[0] != 4 || of_kinds[0] != 1 || kinds[1] != 5) return 1; // of 1, 4, 1, 5 those from 2 on */
+ *     const uint64_t list[6] = {3, 1, 4, 1, 5, 1};
+ *     uint64_t room[12], block[80], kinds[4], times[4], written; // bitm_matrix_size says 80
+ *     struct bitm_matrix matrix;
+ *     if (bitm_matrix_build(list, 6, 3, false, false, room, 12, block, 80) || bitm_matrix_open(block, 80, &matrix) ||
+ *         bitm_matrix_distinct(&matrix, 1, 5, 0, kinds, 4, times, 4, &written) || written != 3 || // of 1, 4, 1, 5
+ *         kinds[0] != 1 || times[0] != 2 || kinds[1] != 4 || kinds[2] != 5) return 1; */
 BITM_MUST_USE uint32_t bitm_matrix_distinct(const struct bitm_matrix *matrix, size_t start, size_t end, uint64_t from,
                                             uint64_t *numbers, size_t numbers_len, uint64_t *counts, size_t counts_len,
                                             uint64_t *written);
 
-/* The most frequent numbers of a range: the most frequent first, and of equally frequent ones the least; as many as
- * there is room for, or all; *written is how many these are. Statuses, overlaps and what is promised of any block as
+/* The most frequent numbers of a range: the most frequent first, and of equally frequent ones the least, until numbers
+ * is full or there are no more; *written is how many these are. Statuses and what is promised of any block as
  * bitm_matrix_distinct, but for the order. For each distinct number of the range, and at most for each of its numbers
  * whatever the block holds, reads what bitm_matrix_count_less reads. The numbers are kept in a heap: with room for k of
- * them each takes at most log2(k) steps, and to sort them in the end twice as many (evident from the code).
+ * them each takes at most log2(k) steps, and at most 2 * log2(k) to be sorted in the end (evident from the code).
  *
- *     if (bitm_matrix_top(&matrix, 0, 6, kinds, 2, of_kinds, 2, &written) != BITM_OK || written != 2 ||
- *         kinds[0] != 1 || of_kinds[0] != 3 || kinds[1] != 3) return 1; // 1 three times; 3, 4 and 5 once */
+ *     const uint64_t list[6] = {3, 1, 4, 1, 5, 1};
+ *     uint64_t room[12], block[80], kinds[2], times[2], written; // bitm_matrix_size says 80
+ *     struct bitm_matrix matrix;
+ *     if (bitm_matrix_build(list, 6, 3, false, false, room, 12, block, 80) || bitm_matrix_open(block, 80, &matrix) ||
+ *         bitm_matrix_top(&matrix, 0, 6, kinds, 2, times, 2, &written) || written != 2 || kinds[0] != 1 ||
+ *         times[0] != 3 || kinds[1] != 3) return 1; // 1 three times; 3, 4 and 5 once */
 BITM_MUST_USE uint32_t bitm_matrix_top(const struct bitm_matrix *matrix, size_t start, size_t end, uint64_t *numbers,
                                        size_t numbers_len, uint64_t *counts, size_t counts_len, uint64_t *written);
 
-/* The numbers that are in both ranges and at least `from`, each once, rising: as many as there is room for; *written is
- * how many these are. So go on at the last number and 1. BITM_NONE exactly if there is no such range. Whatever the
- * block holds, the numbers rise from `from` on, and the items after them stay as they were; only where BITM_WRONG is
- * returned, items may have been written. numbers and written may not overlap each other or what the call reads. Makes
- * at most first_end - first_start queries as bitm_matrix_next_value of either range, whatever the block holds (evident
- * from the code): so give the shorter range first.
+/* The numbers that are in both ranges and at least `from`, each once, rising, until numbers is full or there are no
+ * more; *written is how many these are. So go on at the last number and 1. BITM_NONE exactly if there is no such range.
+ * Whatever the block holds, the numbers rise from `from` on, and the items after them stay as they were; only where
+ * BITM_WRONG is returned, items may have been written. Makes at most first_end - first_start queries as
+ * bitm_matrix_next_value of either range, whatever the block holds (evident from the code): so give the shorter range
+ * first.
  *
- *     if (bitm_matrix_intersect(&matrix, 0, 3, 3, 6, 0, kinds, 4, &written) != BITM_OK || written != 1 ||
- *         kinds[0] != 1) return 1; // 3, 1, 4 and 1, 5, 1 share 1
- *     free(of_numbers); */
+ *     const uint64_t list[6] = {3, 1, 4, 1, 5, 1};
+ *     uint64_t room[12], block[80], shared[4], written; // bitm_matrix_size says 80
+ *     struct bitm_matrix matrix;
+ *     if (bitm_matrix_build(list, 6, 3, false, false, room, 12, block, 80) || bitm_matrix_open(block, 80, &matrix) ||
+ *         bitm_matrix_intersect(&matrix, 0, 3, 3, 6, 0, shared, 4, &written) || written != 1 ||
+ *         shared[0] != 1) return 1; */
 BITM_MUST_USE uint32_t bitm_matrix_intersect(const struct bitm_matrix *matrix, size_t first_start, size_t first_end,
                                              size_t second_start, size_t second_end, uint64_t from, uint64_t *numbers,
                                              size_t numbers_len, uint64_t *written);
 
 /* ---- an index, and a sequence, in one block of memory
  *
- * A block like a tree's, from which struct bitm_index is opened without samples, or struct bitm_sequence: every
- * bitm_index_ or bitm_sequence_ call then works over a mapped file. bitm_index_build_samples adds samples to an index
- * that was opened, in memory of yours, or to be kept in its block ("sections of your own", below).
+ * A block from which struct bitm_index is opened without samples, or struct bitm_sequence: every bitm_index_ or
+ * bitm_sequence_ call then works over a mapped file. bitm_index_build_samples adds samples to an index that was opened,
+ * in memory of yours, or to be kept in its block ("sections of your own", below).
  *
- *     uint64_t block_words;
- *     if (bitm_index_block_size(100, &block_words) != BITM_OK) return 1;
- *     uint64_t *of_bits = malloc(8 * block_words); // or a mapped file
- *     struct bitm_index from_block = {0};
- *     if (!of_bits || bitm_index_block_build(words, n, 100, of_bits, block_words) != BITM_OK ||
- *         bitm_index_block_check(of_bits, block_words) != BITM_OK ||
- *         bitm_index_block_open(of_bits, block_words, &from_block) != BITM_OK ||
- *         bitm_index_select(&from_block, true, 4, &position) != BITM_OK || position != 64) return 1;
- *     free(of_bits); */
+ *   - errors: an error writes nothing.
+ *   - reads: opening reads at most 80 words, however long the block is (evident from the code), and looks at no others.
+ *   - overlap: memory that a call writes overlaps nothing else that it is passed. */
 
-/* How many words the block of that many bits takes. BITM_BAD_SIZE if bits_len is above 2^64 - 64. */
+/* How many words the block of bits_len bits takes. BITM_BAD_SIZE if bits_len is above 2^64 - 64.
+ *
+ *     uint64_t size;
+ *     if (bitm_index_block_size(100, &size) || size != 56) return 1; */
 BITM_MUST_USE uint32_t bitm_index_block_size(uint64_t bits_len, uint64_t *out);
 
 /* Writes the block of the first bits_len bits of the words. BITM_BAD_SIZE if bitm_index_block_size does not take
- * bits_len, it is above 64 * words_len, or block_len is not what that call says. words and block may not overlap. Two
- * passes over the words and one over the block (evident from the code). */
+ * bits_len, it is above 64 * words_len, or block_len is not what that call says. Two passes over the words and one over
+ * the block (evident from the code).
+ *
+ *     const uint64_t words[2] = {0x5a, 1};
+ *     uint64_t block[56]; // or a mapped file; bitm_index_block_size(100, ..)
+ *     if (bitm_index_block_build(words, 2, 100, block, 56) || bitm_index_block_check(block, 56)) return 1; */
 BITM_MUST_USE uint32_t bitm_index_block_build(const uint64_t *words, size_t words_len, uint64_t bits_len,
                                               uint64_t *block, size_t block_len);
 
 /* Opens a block: writes the index that queries take, which points into the block. BITM_WRONG exactly if the header or
- * the directory of the block is not right, or belongs to no bits, or block_len is not as they say. Reads at most 80
- * words, however long the block is (evident from the code); what its other words hold is not looked at. */
+ * the directory of the block is not right, or belongs to no bits, or block_len is not as they say.
+ *
+ * bitm_index_block_check says whether a block is as it was written and holds bits with their tables: BITM_OK, or
+ * BITM_WRONG as above, if a checksum does not match its words, or if the tables do not match the words. Two passes over
+ * the block (evident from the code).
+ *
+ *     const uint64_t words[2] = {0x5a, 1}; // the bits 1, 3, 4, 6 and 64
+ *     uint64_t block[56], position; // bitm_index_block_size(100, ..) says 56
+ *     struct bitm_index index;
+ *     if (bitm_index_block_build(words, 2, 100, block, 56) || bitm_index_block_open(block, 56, &index) ||
+ *         bitm_index_select(&index, true, 4, &position) || position != 64 ||
+ *         bitm_index_block_check(block, 56)) return 1;
+ *     block[40] ^= 1;
+ *     if (bitm_index_block_check(block, 56) != BITM_WRONG) return 1; */
 BITM_MUST_USE uint32_t bitm_index_block_open(const uint64_t *block, size_t block_len, struct bitm_index *index);
-
-/* Whether a block is as it was written and holds bits with their tables: BITM_OK, or BITM_WRONG as
- * bitm_index_block_open, if a checksum does not match its words, or if the tables do not match the words. Two passes
- * over the block (evident from the code). */
 BITM_MUST_USE uint32_t bitm_index_block_check(const uint64_t *block, size_t block_len);
 
 /* How many words the block of len numbers takes, where the last number, and so the largest, is `largest` (0 if there
  * are none). BITM_BAD_SIZE as bitm_sequence_sizes.
  *
- *     if (bitm_sequence_block_size(5, 11, &block_words) != BITM_OK) return 1;
- *     uint64_t *of_items = malloc(8 * block_words); // or a mapped file
- *     struct bitm_sequence in_block = {0};
- *     if (!of_items || bitm_sequence_block_build(items, 5, of_items, block_words) != BITM_OK ||
- *         bitm_sequence_block_check(of_items, block_words) != BITM_OK ||
- *         bitm_sequence_block_open(of_items, block_words, &in_block) != BITM_OK ||
- *         bitm_sequence_first_at_least(&in_block, 6, &at) != BITM_OK || at != 3) return 1;
- *     free(of_items); */
+ *     uint64_t size;
+ *     if (bitm_sequence_block_size(5, 11, &size) || size != 80) return 1; */
 BITM_MUST_USE uint32_t bitm_sequence_block_size(size_t len, uint64_t largest, uint64_t *out);
 
 /* Writes the block of a sequence of the items. BITM_BAD_SIZE if there are 2^56 or more, or block_len is not what
  * bitm_sequence_block_size says for items_len and the last item; else BITM_UNSORTED if an item is less than the one
- * before it. items and block may not overlap. Four passes over the items, three over the block, and a selection for
- * each hint (evident from the code). */
+ * before it. Four passes over the items, three over the block, and a selection for each hint (evident from the code).
+ *
+ *     const uint64_t primes[5] = {2, 3, 5, 7, 11}, falling[2] = {7, 5};
+ *     uint64_t block[80]; // or a mapped file
+ *     if (bitm_sequence_block_build(primes, 5, block, 80) || bitm_sequence_block_check(block, 80) ||
+ *         bitm_sequence_block_build(falling, 2, block, 80) != BITM_UNSORTED) return 1; */
 BITM_MUST_USE uint32_t bitm_sequence_block_build(const uint64_t *items, size_t items_len, uint64_t *block,
                                                  size_t block_len);
 
 /* Opens a block: writes the sequence that queries take, which points into the block, with its hints; without them if
  * the block was written before there were hints. BITM_WRONG exactly if the header or the directory of the block is not
- * right, or belongs to no sequence, or block_len is not as they say. Reads at most 80 words, however long the block is
- * (evident from the code); what its other words hold is not looked at. */
+ * right, or belongs to no sequence, or block_len is not as they say.
+ *
+ * bitm_sequence_block_check says whether a block is as it was written and holds a sequence: BITM_OK, or BITM_WRONG as
+ * above, if a checksum does not match its words, or if parts and hints form no sequence. Three passes over the words of
+ * the block, and a selection by the tables for each hint (evident from the code).
+ *
+ *     const uint64_t primes[5] = {2, 3, 5, 7, 11};
+ *     uint64_t block[80], index; // bitm_sequence_block_size(5, 11, ..) says 80
+ *     struct bitm_sequence sequence;
+ *     if (bitm_sequence_block_build(primes, 5, block, 80) || bitm_sequence_block_open(block, 80, &sequence) ||
+ *         bitm_sequence_first_at_least(&sequence, 6, &index) || index != 3 ||
+ *         bitm_sequence_block_check(block, 80)) return 1;
+ *     block[40] ^= 1;
+ *     if (bitm_sequence_block_check(block, 80) != BITM_WRONG) return 1; */
 BITM_MUST_USE uint32_t bitm_sequence_block_open(const uint64_t *block, size_t block_len,
                                                 struct bitm_sequence *sequence);
-
-/* Whether a block is as it was written and holds a sequence: BITM_OK, or BITM_WRONG as bitm_sequence_block_open, if a
- * checksum does not match its words, or if parts and hints form no sequence. Three passes over the words of the block,
- * and a selection by the tables for each hint (evident from the code). */
 BITM_MUST_USE uint32_t bitm_sequence_block_check(const uint64_t *block, size_t block_len);
 
 /* ---- sections of your own: notes, samples and the like, in a block of any kind
  *
  * A block may have sections of yours after the sections of its kind: of a role from 65536 on, whose items are bytes,
  * eight in a word. Readers of the kind skip them, so a block of any kind opens as before. A block has at most 16
- * sections; docs/FORMAT.md says which roles the kinds have, what they mean, and when a section of role 5, 6 or 22 is
- * the kind's.
+ * sections; docs/FORMAT.md says which roles the kinds have, their meaning, and when a section of role 5, 6 or 22 is the
+ * kind's.
  *
- *     uint64_t plain_words, noted_words;
- *     if (bitm_sequence_block_size(5, 11, &plain_words) != BITM_OK) return 1;
- *     uint64_t *plain_block = malloc(8 * plain_words);
- *     if (!plain_block || bitm_sequence_block_build(items, 5, plain_block, plain_words) != BITM_OK) return 1;
- *     const char note[16] = "primes below 13"; // 15 bytes, and a 0 byte up to the end of the last word
- *     uint64_t note_in_words[2];
- *     memcpy(note_in_words, note, 16);
- *     if (bitm_block_extended_size(plain_block, plain_words, 65536, 15, &noted_words) != BITM_OK) return 1;
- *     uint64_t *noted_block = malloc(8 * noted_words); // or a mapped file
- *     struct bitm_section its_note = {0};
- *     if (!noted_block ||
- *         bitm_block_extend(plain_block, plain_words, 65536, 15, note_in_words, 2, noted_block, noted_words) != BITM_OK ||
- *         bitm_sequence_block_check(noted_block, noted_words) != BITM_OK ||
- *         bitm_block_section(noted_block, noted_words, 5, &its_note) != BITM_OK || its_note.role != 65536 ||
- *         its_note.count != 15 || memcmp(its_note.words, "primes below 13", 15) != 0) return 1;
+ *     const uint64_t primes[5] = {2, 3, 5, 7, 11}, note[1] = {20261201}; // eight bytes: a date, say
+ *     uint64_t block[80], noted[88], size;                               // or mapped files
+ *     struct bitm_section section;
+ *     if (bitm_sequence_block_build(primes, 5, block, 80) || bitm_block_extended_size(block, 80, 65536, 8, &size) ||
+ *         size != 88 || bitm_block_extend(block, 80, 65536, 8, note, 1, noted, 88) ||
+ *         bitm_sequence_block_check(noted, 88) || bitm_block_section(noted, 88, 5, &section) ||
+ *         section.role != 65536 || section.count != 8 || section.words[0] != 20261201) return 1;
  *
  * SAMPLES of an index are kept so too: the samples of 1 bits have role 7, the samples of 0 bits role 8, two in a word.
  * As long as words_len is at most 2^26 there is one upper block, and its start is 0; the starts of more of them may be
  * a section of your own. Over 100 bits samples gain nothing; this shows how they are kept.
  *
- *     uint64_t index_words, sampled_words, kept_start[1], kept_len, kept_in_words[1];
- *     if (bitm_index_block_size(100, &index_words) != BITM_OK) return 1;
- *     uint64_t *index_block = malloc(8 * index_words);
- *     struct bitm_index to_sample = {0}, with_samples = {0};
- *     uint32_t kept_samples[2] = {0, 0}; // room for bitm_index_samples_len(2, 7) samples, in whole words
- *     if (!index_block || bitm_index_block_build(words, n, 100, index_block, index_words) != BITM_OK ||
- *         bitm_index_block_open(index_block, index_words, &to_sample) != BITM_OK || to_sample.words_len != 2 ||
- *         bitm_index_build_samples(&to_sample, true, 7, kept_samples, 1, kept_start, 1, &kept_len) != BITM_OK ||
- *         bitm_block_extended_size(index_block, index_words, 7, kept_len, &sampled_words) != BITM_OK) return 1;
- *     memcpy(kept_in_words, kept_samples, 8);
- *     uint64_t *sampled_block = malloc(8 * sampled_words);
- *     struct bitm_section its_samples = {0};
- *     if (!sampled_block ||
- *         bitm_block_extend(index_block, index_words, 7, kept_len, kept_in_words, (kept_len + 1) / 2, sampled_block,
- *                           sampled_words) != BITM_OK ||
- *         bitm_index_block_open(sampled_block, sampled_words, &with_samples) != BITM_OK ||
- *         bitm_block_section(sampled_block, sampled_words, 3, &its_samples) != BITM_OK) return 1;
- *     const uint64_t zero_start[1] = {0};
- *     with_samples.ones =
- *         (struct bitm_samples){(const uint32_t *)its_samples.words, its_samples.count, zero_start, 1, 7, 0};
- *     if (bitm_index_select(&with_samples, true, 4, &position) != BITM_OK || position != 64) return 1;
- *     free(plain_block);
- *     free(noted_block);
- *     free(index_block);
- *     free(sampled_block); */
+ *     const uint64_t words[2] = {0x5a, 1};
+ *     uint64_t block[56], sampled[64], starts[1], used, kept[1], position;
+ *     uint32_t samples[1]; // bitm_index_samples_len(2, 7) is 1
+ *     struct bitm_index index;
+ *     struct bitm_section section;
+ *     if (bitm_index_block_build(words, 2, 100, block, 56) || bitm_index_block_open(block, 56, &index) ||
+ *         bitm_index_build_samples(&index, true, 7, samples, 1, starts, 1, &used) || used != 1) return 1;
+ *     kept[0] = samples[0]; // one sample, in the lower half of a word
+ *     if (bitm_block_extend(block, 56, 7, used, kept, 1, sampled, 64) || bitm_index_block_open(sampled, 64, &index) ||
+ *         bitm_block_section(sampled, 64, 3, &section)) return 1;
+ *     index.ones = (struct bitm_samples){(const uint32_t *)section.words, section.count, starts, 1, 7, 0};
+ *     if (bitm_index_select(&index, true, 4, &position) || position != 64) return 1;
+ *
+ *   - errors: an error writes nothing.
+ *   - overlap: memory that a call writes overlaps nothing else that it is passed. */
 struct bitm_section {
     uint64_t role;  /* what the items are */
     uint64_t count; /* how many items there are */
@@ -2099,26 +2361,43 @@ struct bitm_section {
 };
 
 /* How many words a block takes with one section more, of `count` items of a role: four bytes each for the roles 7 and
- * 8, one each for role 15 and those from 65536 on, eight each for all others. BITM_WRONG exactly if header or directory
- * of the block are not right, or block_len is not as they say; else BITM_BAD_SIZE exactly if it has 16 sections
- * already, count is 2^58 or more, or there would be 2^60 words or more. Reads at most 160 words (evident from the
- * code). */
+ * 8, one each for role 15 and the roles from 65536 on, eight each for all others. BITM_WRONG exactly if the header or
+ * the directory of the block is not right, or block_len is not as they say; else BITM_BAD_SIZE exactly if it has 16
+ * sections already, count is 2^58 or more, or there would be 2^60 words or more. Reads at most 160 words (evident from
+ * the code).
+ *
+ *     const uint64_t primes[5] = {2, 3, 5, 7, 11};
+ *     uint64_t block[80], size; // bitm_sequence_block_size(5, 11, ..) says 80
+ *     if (bitm_sequence_block_build(primes, 5, block, 80) || bitm_block_extended_size(block, 80, 65536, 8, &size) ||
+ *         size != 88) return 1; */
 BITM_MUST_USE uint32_t bitm_block_extended_size(const uint64_t *block, size_t block_len, uint64_t role, uint64_t count,
                                                 uint64_t *out);
 
 /* Writes to `to` a copy of the block with one section more, after its own: the same numbers, the same words in each
  * section, these words in the new one, and all checksums right. Where the items do not fill the last word, its other
  * bytes have to be 0 if equal sections are to make equal blocks. BITM_WRONG exactly if the block is none, or all
- * lengths are right and a section of it does not have its checksum: what was spoiled gets no right one. Else
- * BITM_BAD_SIZE exactly if bitm_block_extended_size returns it, words_len is not what the items take, or to_len is not
- * what that call writes. to may not overlap the block or the words. Two passes over the block, one over the words, and
- * two over what is written (evident from the code). */
+ * lengths are right and a section of it does not have its checksum: so a section that was spoiled gets no right
+ * checksum. Else BITM_BAD_SIZE exactly if bitm_block_extended_size returns it, words_len is not the number of words
+ * that the items take, or to_len is not the size that it gives. Two passes over the block, one over the words, and two
+ * over the new block (evident from the code).
+ *
+ *     const uint64_t primes[5] = {2, 3, 5, 7, 11}, note[1] = {20261201}; // eight bytes: a date, say
+ *     uint64_t block[80], noted[88]; // bitm_block_extended_size(block, 80, 65536, 8, ..) says 88
+ *     if (bitm_sequence_block_build(primes, 5, block, 80) ||
+ *         bitm_block_extend(block, 80, 65536, 8, note, 1, noted, 88) ||
+ *         bitm_sequence_block_check(noted, 88)) return 1; */
 BITM_MUST_USE uint32_t bitm_block_extend(const uint64_t *block, size_t block_len, uint64_t role, uint64_t count,
                                          const uint64_t *words, size_t words_len, uint64_t *to, size_t to_len);
 
 /* Section i of a block, counted from 0: its role, how many items it has, and where its words lie in the block.
  * BITM_WRONG as bitm_block_extended_size; BITM_NONE exactly if the block has no more than i sections. Reads at most 80
- * words (evident from the code); what the words of the section hold is not looked at. */
+ * words (evident from the code); what the words of the section hold is not looked at.
+ *
+ *     const uint64_t primes[5] = {2, 3, 5, 7, 11};
+ *     uint64_t block[80]; // bitm_sequence_block_size(5, 11, ..) says 80
+ *     struct bitm_section section;
+ *     if (bitm_sequence_block_build(primes, 5, block, 80) || bitm_block_section(block, 80, 0, &section) ||
+ *         section.words_len != 1 || bitm_block_section(block, 80, 5, &section) != BITM_NONE) return 1; */
 BITM_MUST_USE uint32_t bitm_block_section(const uint64_t *block, size_t block_len, size_t i,
                                           struct bitm_section *section);
 
@@ -2127,123 +2406,137 @@ BITM_MUST_USE uint32_t bitm_block_section(const uint64_t *block, size_t block_le
  * differ in one word have different checksums. Whether the sections hold a structure is for the check of its kind to
  * say. One pass over the block (evident from the code).
  *
- *     uint64_t unsealed[24] = {0};
- *     if (bitm_block_check(unsealed, 24) != BITM_WRONG) return 1; */
+ *     const uint64_t no_block[24] = {0};
+ *     if (bitm_block_check(no_block, 24) != BITM_WRONG) return 1; */
 BITM_MUST_USE uint32_t bitm_block_check(const uint64_t *block, size_t block_len);
 
 /* ---- sparse bits: in one block of memory
  *
  * Where only m of n bits are 1 bits, the positions of the 1 bits are kept, as a monotone sequence (Okanohara and
  * Sadakane, ALENEX 2007): about 2.6 + log2(n / m) bits for each 1 bit, however many 0 bits there are. The queries and
- * their answers are the same as of an index; bitm_index_ calls are faster, and take space for each bit. A block is
- * written and opened like a sequence's, with its hints, and a selection reads what it reads in a sequence (struct
- * bitm_sequence):
+ * their answers are the same as of an index; bitm_index_ calls are faster, and take space for each bit.
  *
- *     const uint64_t where[4] = {3, 100, 101, 4000};
- *     uint64_t sparse_len;
- *     if (bitm_sparse_size(4, 4000, &sparse_len) != BITM_OK) return 1; // four 1 bits, the last of them at 4000
- *     uint64_t *of_few = malloc(8 * sparse_len); // or a mapped file
- *     struct bitm_sparse sparse = {0};
- *     if (!of_few || bitm_sparse_build(where, 4, 5000, of_few, sparse_len) != BITM_OK ||
- *         bitm_sparse_open(of_few, sparse_len, &sparse) != BITM_OK || sparse.bits_len != 5000 ||
- *         bitm_sparse_rank(&sparse, true, 101, &value) != BITM_OK || value != 2) return 1; // bits 3 and 100
+ *     const uint64_t ones[4] = {3, 100, 101, 4000};
+ *     uint64_t block[80], size, rank; // or a mapped file
+ *     struct bitm_sparse sparse;
+ *     if (bitm_sparse_size(4, 4000, &size) || size != 80 || // four 1 bits, the last of them at 4000
+ *         bitm_sparse_build(ones, 4, 5000, block, 80) || bitm_sparse_open(block, 80, &sparse) ||
+ *         bitm_sparse_rank(&sparse, true, 101, &rank) || rank != 2) return 1; // bits 3 and 100
  *
- * Over any block that bitm_sparse_open takes, a stale or hostile one too, a query returns, a rank is at most its
- * position, and a position that is found is less than sparse.bits_len. If bitm_sparse_build wrote the block or
- * bitm_sparse_check passes it, and it did not change afterwards, the answers are what counting gives, and no query
- * returns BITM_WRONG. */
+ *   - errors: a query returns BITM_BAD_SIZE if a length in sparse->positions is not right (struct bitm_sequence), and
+ *     BITM_WRONG only where the block holds no sparse bits. An error writes nothing.
+ *   - reads: a query reads the sequence of positions, with its hints, as the call of a sequence that it names.
+ *     bitm_sparse_open reads at most 80 words, however long the block is (evident from the code), and looks at no
+ *     others.
+ *   - overlap: memory that a call writes overlaps nothing else that it is passed.
+ *   - over any block that bitm_sparse_open takes, a stale or hostile one too, a query returns, a rank is at most its
+ *     position, and a position that is found is less than sparse.bits_len. If bitm_sparse_build wrote the block or
+ *     bitm_sparse_check passes it, and it did not change afterwards, the answers are what counting gives, and no query
+ *     returns BITM_WRONG. */
 struct bitm_sparse {
     struct bitm_sequence positions; /* of the 1 bits */
     uint64_t bits_len;              /* how many bits there are */
     uint64_t reserved[2];           /* 0: not read */
 };
 
-/* Faults of sparse bits: see bitm_bits_fault.
+/* Faults of sparse bits: which length is wrong, or NULL (see bitm_bits_fault).
  *
- *     if (bitm_sparse_fault(&sparse) != NULL) return 1; */
+ *     struct bitm_sparse sparse = {.positions = {.width = 64}};
+ *     if (bitm_sparse_fault(&sparse) == NULL) return 1; // width is above 63 */
 static inline const char *bitm_sparse_fault(const struct bitm_sparse *sparse)
 {
     return bitm_sequence_fault(&sparse->positions);
 }
 
-/* How many words the block of that many 1 bits takes, where the last 1 bit is at position `last` (0 if there are none).
- * BITM_BAD_SIZE as bitm_sequence_sizes. */
+/* How many words the block of `ones` 1 bits takes, where the last 1 bit is at position `last` (0 if there are none).
+ * BITM_BAD_SIZE as bitm_sequence_sizes.
+ *
+ *     uint64_t size;
+ *     if (bitm_sparse_size(4, 4000, &size) || size != 80) return 1; */
 BITM_MUST_USE uint32_t bitm_sparse_size(size_t ones, uint64_t last, uint64_t *out);
 
 /* Writes the block of bits_len bits, with 1 bits at the given positions alone. BITM_BAD_SIZE if there are 2^56
  * positions or more, or block_len is not what bitm_sparse_size says for positions_len and the last position; else
  * BITM_UNSORTED if a position is not greater than the one before it; else BITM_WRONG if one is not less than bits_len.
- * positions and block may not overlap. Six passes over the positions, three over the block, and a selection for each
- * hint (evident from the code).
+ * Six passes over the positions, three over the block, and a selection for each hint (evident from the code).
  *
- *     const uint64_t no_rise[4] = {3, 3, 100, 4000};
- *     if (bitm_sparse_build(no_rise, 4, 5000, of_few, sparse_len) != BITM_UNSORTED ||
- *         bitm_sparse_build(where, 4, 4000, of_few, sparse_len) != BITM_WRONG) return 1; // bits 0 to 3999 */
+ *     const uint64_t ones[4] = {3, 100, 101, 4000}, twice[4] = {3, 3, 100, 4000};
+ *     uint64_t block[80]; // bitm_sparse_size(4, 4000, ..) says 80
+ *     if (bitm_sparse_build(ones, 4, 5000, block, 80) ||
+ *         bitm_sparse_build(twice, 4, 5000, block, 80) != BITM_UNSORTED ||
+ *         bitm_sparse_build(ones, 4, 4000, block, 80) != BITM_WRONG) return 1; // bits 0 to 3999 */
 BITM_MUST_USE uint32_t bitm_sparse_build(const uint64_t *positions, size_t positions_len, uint64_t bits_len,
                                          uint64_t *block, size_t block_len);
 
-/* Opens a block: writes the bits that queries take, which point into the block. BITM_WRONG exactly if the header or
- * the directory of the block is not right, or belongs to no sparse bits, or block_len is not as they say. Reads at
- * most 80 words, however long the block is (evident from the code); what its other words hold is not looked at.
+/* Opens a block: writes the bits that queries take, which point into the block. BITM_WRONG exactly if the header or the
+ * directory of the block is not right, or belongs to no sparse bits, or block_len is not as they say.
  *
- *     if (bitm_sparse_open(of_few, sparse_len - 1, &sparse) != BITM_WRONG || sparse.bits_len != 5000) return 1; */
+ * bitm_sparse_check says whether a block is as it was written and holds sparse bits: BITM_OK, or BITM_WRONG as above,
+ * if a checksum does not match its words, if parts and hints form no sequence, or if its numbers are not positions of 1
+ * bits. So a block in which one word was changed is refused. Five passes over the block, one selection, and another by
+ * the tables for each hint (evident from the code).
+ *
+ *     const uint64_t ones[4] = {3, 100, 101, 4000};
+ *     uint64_t block[80]; // bitm_sparse_size(4, 4000, ..) says 80
+ *     struct bitm_sparse sparse;
+ *     if (bitm_sparse_build(ones, 4, 5000, block, 80) || bitm_sparse_open(block, 80, &sparse) ||
+ *         bitm_sparse_open(block, 79, &sparse) != BITM_WRONG || bitm_sparse_check(block, 80)) return 1;
+ *     block[40] ^= 1;
+ *     if (bitm_sparse_check(block, 80) != BITM_WRONG) return 1; */
 BITM_MUST_USE uint32_t bitm_sparse_open(const uint64_t *block, size_t block_len, struct bitm_sparse *sparse);
-
-/* Whether a block is as it was written and holds sparse bits: BITM_OK, or BITM_WRONG as bitm_sparse_open, if a checksum
- * does not match its words, if parts and hints form no sequence, or if its numbers are not positions of 1 bits. So a
- * block in which one word was changed is refused. Five passes over the block, one selection, and another by the tables
- * for each hint (evident from the code).
- *
- *     of_few[40] ^= 1;
- *     if (bitm_sparse_check(of_few, sparse_len) != BITM_WRONG) return 1;
- *     of_few[40] ^= 1;
- *     if (bitm_sparse_check(of_few, sparse_len) != BITM_OK) return 1; */
 BITM_MUST_USE uint32_t bitm_sparse_check(const uint64_t *block, size_t block_len);
 
-/* Each of these calls returns BITM_BAD_SIZE if a length in sparse->positions is not right (struct bitm_sequence), and
- * BITM_WRONG only where the block holds no sparse bits.
- *
- * The bit at a position, as 0 or 1. BITM_NONE exactly if position is bits_len or more. Reads what
+/* The bit at a position, as 0 or 1. BITM_NONE exactly if position is bits_len or more. Reads what
  * bitm_sequence_contains reads of the positions.
  *
- *     if (bitm_sparse_get(&sparse, 100, &value) != BITM_OK || value != 1) return 1; */
+ *     const uint64_t ones[4] = {3, 100, 101, 4000};
+ *     uint64_t block[80], bit; // bitm_sparse_size(4, 4000, ..) says 80
+ *     struct bitm_sparse sparse;
+ *     if (bitm_sparse_build(ones, 4, 5000, block, 80) || bitm_sparse_open(block, 80, &sparse) ||
+ *         bitm_sparse_get(&sparse, 100, &bit) || bit != 1) return 1; */
 BITM_MUST_USE uint32_t bitm_sparse_get(const struct bitm_sparse *sparse, uint64_t position, uint64_t *out);
 
-/* How many 1 bits, or 0 bits, there are before a position; for position bits_len, of all. At most position. BITM_NONE
- * exactly if position is above bits_len. Reads what bitm_sequence_first_at_least reads of the positions.
+/* How many 1 bits, or 0 bits, there are before a position; for position bits_len, among all. At most position.
+ * BITM_NONE exactly if position is above bits_len. Reads what bitm_sequence_first_at_least reads of the positions.
  *
- *     if (bitm_sparse_rank(&sparse, false, 101, &value) != BITM_OK || value != 99) return 1; */
+ * bitm_sparse_select answers the position of the 1 bit, or 0 bit, with the given rank. BITM_NONE if there is none.
+ * Reads for a 1 bit what bitm_sequence_get reads of the positions, for a 0 bit the same for each binary digit of how
+ * many 1 bits there are (evident from the code).
+ *
+ *     const uint64_t ones[4] = {3, 100, 101, 4000};
+ *     uint64_t block[80], rank, position; // bitm_sparse_size(4, 4000, ..) says 80
+ *     struct bitm_sparse sparse;
+ *     if (bitm_sparse_build(ones, 4, 5000, block, 80) || bitm_sparse_open(block, 80, &sparse) ||
+ *         bitm_sparse_rank(&sparse, false, 101, &rank) || rank != 99 ||
+ *         bitm_sparse_select(&sparse, true, 3, &position) || position != 4000 ||
+ *         bitm_sparse_select(&sparse, false, 3, &position) || position != 4) return 1; // after 0 to 2 */
 BITM_MUST_USE uint32_t bitm_sparse_rank(const struct bitm_sparse *sparse, bool one, uint64_t position, uint64_t *out);
-
-/* The position of the 1 bit, or 0 bit, with the given rank. BITM_NONE if there is none. Reads for a 1 bit what
- * bitm_sequence_get reads of the positions, for a 0 bit that for each binary digit of how many 1 bits there are
- * (evident from the code).
- *
- *     if (bitm_sparse_select(&sparse, true, 3, &position) != BITM_OK || position != 4000 ||
- *         bitm_sparse_select(&sparse, false, 3, &position) != BITM_OK || position != 4) return 1; // after 0 to 2 */
 BITM_MUST_USE uint32_t bitm_sparse_select(const struct bitm_sparse *sparse, bool one, uint64_t rank, uint64_t *out);
 
-/* The position of the first 1 bit, or 0 bit, at or after position from; of the last one at or before it, where from may
- * be past the end. BITM_NONE if there is none. Any position returned is on that side of from, whatever the block holds.
- * Reads what a rank and a selection read.
+/* The position of the first 1 bit, or 0 bit, at or after position `from`; of the last one at or before it, where `from`
+ * may be past the end. BITM_NONE if there is none. Any position returned is on that side of `from`, whatever the block
+ * holds. Reads what a rank and a selection read.
  *
- *     if (bitm_sparse_next(&sparse, true, 102, &position) != BITM_OK || position != 4000 ||
- *         bitm_sparse_previous(&sparse, false, 101, &position) != BITM_OK || position != 99) return 1; */
+ *     const uint64_t ones[4] = {3, 100, 101, 4000};
+ *     uint64_t block[80], position; // bitm_sparse_size(4, 4000, ..) says 80
+ *     struct bitm_sparse sparse;
+ *     if (bitm_sparse_build(ones, 4, 5000, block, 80) || bitm_sparse_open(block, 80, &sparse) ||
+ *         bitm_sparse_next(&sparse, true, 102, &position) || position != 4000 ||
+ *         bitm_sparse_previous(&sparse, false, 101, &position) || position != 99) return 1; */
 BITM_MUST_USE uint32_t bitm_sparse_next(const struct bitm_sparse *sparse, bool one, uint64_t from, uint64_t *out);
 BITM_MUST_USE uint32_t bitm_sparse_previous(const struct bitm_sparse *sparse, bool one, uint64_t from, uint64_t *out);
 
-/* bitm_sparse_get, bitm_sparse_rank and bitm_sparse_select of each item of a list: out[i] is the answer, or
- * BITM_NO_ANSWER for BITM_NONE and BITM_WRONG_TABLES for BITM_WRONG; counts says how many of each there are.
- * BITM_BAD_SIZE also if out_len is not the number of queries, or if bits_len is 2^64 - 2 or more, where an answer could
- * be a code. out and counts may overlap neither each other nor what the call reads.
+/* bitm_sparse_get, bitm_sparse_rank and bitm_sparse_select of each item of a list (struct bitm_list_counts).
+ * BITM_BAD_SIZE also if bits_len is 2^64 - 2 or more, where an answer could be a code.
  *
- *     const uint64_t each[3] = {3, 101, 5001};
- *     if (bitm_sparse_get_list(&sparse, each, 3, answers, 3, &counts) != BITM_OK || answers[0] != 1 ||
- *         answers[2] != BITM_NO_ANSWER || counts.missing != 1 ||
- *         bitm_sparse_rank_list(&sparse, true, each, 3, answers, 3, &counts) != BITM_OK || answers[1] != 2 ||
- *         bitm_sparse_select_list(&sparse, false, each, 3, answers, 3, &counts) != BITM_OK || answers[0] != 4 ||
- *         answers[1] != 104) return 1;
- *     free(of_few); */
+ *     const uint64_t ones[4] = {3, 100, 101, 4000}, each[3] = {3, 101, 5001};
+ *     uint64_t block[80], out[3]; // bitm_sparse_size(4, 4000, ..) says 80
+ *     struct bitm_sparse sparse;
+ *     struct bitm_list_counts n;
+ *     if (bitm_sparse_build(ones, 4, 5000, block, 80) || bitm_sparse_open(block, 80, &sparse) ||
+ *         bitm_sparse_rank_list(&sparse, true, each, 3, out, 3, &n) || out[1] != 2 ||
+ *         bitm_sparse_select_list(&sparse, false, each, 3, out, 3, &n) || out[1] != 104 ||
+ *         bitm_sparse_get_list(&sparse, each, 3, out, 3, &n) || out[0] != 1 || out[2] != BITM_NO_ANSWER) return 1; */
 BITM_MUST_USE uint32_t bitm_sparse_get_list(const struct bitm_sparse *sparse, const uint64_t *positions,
                                             size_t positions_len, uint64_t *out, size_t out_len,
                                             struct bitm_list_counts *counts);
@@ -2257,163 +2550,170 @@ BITM_MUST_USE uint32_t bitm_sparse_select_list(const struct bitm_sparse *sparse,
 /* ---- dictionaries: in one block of memory
  *
  * A dictionary of numbers is a minimal perfect hash of them, its keys, and the keys themselves, each at its number: so
- * what is no key has no number. A key takes about 67 bits. Its hash is its sum with a seed, modulo 2^64, so no two keys
- * have one hash. A dictionary is made of a hash, in memory of yours, and written into a block:
+ * a number that is no key has no number of its own. A key takes about 67 bits. Its hash is its sum with a seed, modulo
+ * 2^64, so no two keys have one hash. A dictionary is made of a hash, in memory of yours, and written into a block:
  *
- *     const uint64_t squares[3] = {4, 9, 49}, with_seed = 7; // take another seed if hashes are left
- *     uint64_t sums[3], of_levels[64], marks[64], widths[256], height, taken, lost, tables_of[3], placed[3], len_of;
- *     for (int i = 0; i < 3; i++) sums[i] = squares[i] + with_seed;
- *     if (bitm_hash_build(sums, 3, 100, of_levels, 64, marks, 64, widths, 256, &height, &taken, &lost) != BITM_OK ||
- *         lost > 0) return 1;
- *     size_t lower_of = bitm_index_lower_len(taken);
- *     if (bitm_index_build(of_levels, taken, tables_of, 1, tables_of + 1, lower_of, &ones) != BITM_OK) return 1;
- *     struct bitm_dictionary made = {
- *         .hash = {.index = {.words = of_levels, .words_len = taken, .upper = tables_of, .upper_len = 1,
- *                            .lower = tables_of + 1, .lower_len = lower_of, .bits_len = 64 * taken},
- *                  .sizes = widths, .sizes_len = height, .keys = 3},
- *         .keys = placed, .keys_len = 3, .seed = with_seed};
+ *     const uint64_t squares[3] = {4, 9, 49}, seed = 7; // take another seed if hashes are left
+ *     uint64_t sums[3] = {4 + 7, 9 + 7, 49 + 7}, words[8], again[8], sizes[8], upper[1], lower[1], keys[3], block[80];
+ *     uint64_t levels, used, left, ones, number; // bitm_dictionary_size(1, 1, 3, ..) says 80 words
+ *     if (bitm_hash_build(sums, 3, 100, words, 8, again, 8, sizes, 8, &levels, &used, &left) || left > 0 ||
+ *         bitm_index_build(words, used, upper, 1, lower, 1, &ones)) return 1;
+ *     struct bitm_hash hash = {{words, used, upper, 1, lower, 1, 0, {0}, {0}, {0}}, sizes, levels, 3};
  *     for (int i = 0; i < 3; i++) {
- *         if (bitm_hash_get(&made.hash, squares[i] + with_seed, &number) != BITM_OK) return 1;
- *         placed[number] = squares[i]; // each key at its number
+ *         if (bitm_hash_get(&hash, squares[i] + seed, &number)) return 1;
+ *         keys[number] = squares[i]; // each key at its number
  *     }
- *     if (bitm_dictionary_size(taken, height, 3, &len_of) != BITM_OK) return 1;
- *     uint64_t *of_squares = malloc(8 * len_of); // or a mapped file
- *     struct bitm_dictionary dictionary = {0};
- *     if (!of_squares || bitm_dictionary_build(&made, of_squares, len_of) != BITM_OK ||
- *         bitm_dictionary_open(of_squares, len_of, &dictionary) != BITM_OK ||
- *         bitm_dictionary_find(&dictionary, 49, &number) != BITM_OK || dictionary.keys[number] != 49 ||
- *         bitm_dictionary_find(&dictionary, 50, &number) != BITM_NONE) return 1;
+ *     struct bitm_dictionary made = {.hash = hash, .keys = keys, .keys_len = 3, .seed = seed}, dictionary;
+ *     if (bitm_dictionary_build(&made, block, 80) || bitm_dictionary_open(block, 80, &dictionary) ||
+ *         bitm_dictionary_find(&dictionary, 49, &number) || dictionary.keys[number] != 49) return 1;
  *
- * Over any block that bitm_dictionary_open takes, a stale or hostile one too, a query returns, and the key stands at
- * the number that is found: dictionary.keys[number]. If bitm_dictionary_build wrote the block or bitm_dictionary_check
- * passes it, and it did not change afterwards, what is BITM_NONE is none of the keys, and no query returns BITM_WRONG.
- * The same holds for the parts that the block is made of. */
+ *   - errors: a query returns BITM_BAD_SIZE exactly if bitm_dictionary_fault names a fault, and BITM_WRONG only where
+ *     the parts form no dictionary. An error writes nothing.
+ *   - reads: a query reads what bitm_hash_get reads, and at most one key (evident from the code). bitm_dictionary_open
+ *     reads at most 80 words, however long the block is (evident from the code), and looks at no others.
+ *   - overlap: memory that a call writes overlaps nothing else that it is passed.
+ *   - over any block that bitm_dictionary_open takes, a stale or hostile one too, a query returns, and the key stands
+ *     at the number that is found: dictionary.keys[number]. If bitm_dictionary_build wrote the block or
+ *     bitm_dictionary_check passes it, and it did not change afterwards, a number that is not found is none of the
+ *     keys, and no query returns BITM_WRONG. The same holds for the parts that the block is made of. */
 struct bitm_dictionary {
     struct bitm_hash hash; /* of the sums of each key and the seed */
-    const uint64_t *keys;  /* in the order of their numbers: as many as hash.keys */
+    const uint64_t *keys;  /* in the order of their numbers: hash.keys of them */
     size_t keys_len;
     uint64_t seed;         /* what is added to each key */
     uint64_t reserved[2];  /* 0: not read */
 };
 
-/* Faults of a dictionary: see bitm_bits_fault.
+/* Faults of a dictionary: which length is wrong, or NULL (see bitm_bits_fault).
  *
- *     if (bitm_dictionary_fault(&dictionary) != NULL) return 1; */
+ *     struct bitm_dictionary dictionary = {.keys_len = 1};
+ *     if (bitm_dictionary_fault(&dictionary) == NULL) return 1; // keys_len is not hash.keys */
 static inline const char *bitm_dictionary_fault(const struct bitm_dictionary *dictionary)
 {
     if (dictionary->keys_len != dictionary->hash.keys) return "keys_len is not hash.keys";
     return bitm_hash_fault(&dictionary->hash);
 }
 
-/* How many words the block of that many keys takes, the levels of whose hash have that many words together.
- * BITM_BAD_SIZE if there are 2^58 words or keys or more, or more than 256 levels. */
+/* How many words the block of `keys` keys takes, with a hash whose `levels` levels have `words` words together.
+ * BITM_BAD_SIZE if there are 2^58 words or keys or more, or more than 256 levels.
+ *
+ *     uint64_t size;
+ *     if (bitm_dictionary_size(1, 1, 3, &size) || size != 80) return 1; */
 BITM_MUST_USE uint32_t bitm_dictionary_size(size_t words, size_t levels, size_t keys, uint64_t *out);
 
 /* Writes the block of a dictionary. BITM_BAD_SIZE if bitm_dictionary_fault names a fault, there are 2^58 keys or more,
  * or block_len is not what bitm_dictionary_size says; else BITM_WRONG if the tables do not match the words, the sizes
- * are not the sizes of levels with a 1 bit for each key, or a key does not stand at its number. The block may overlap
- * none of the parts. Four passes over the words of the levels, two look-ups for each key, and one pass over the block
- * (evident from the code).
+ * are not the sizes of levels with a 1 bit for each key, or a key does not stand at its number. Four passes over the
+ * words of the levels, two look-ups for each key, and one pass over the block (evident from the code).
  *
- *     placed[0]++; // 5, 10 or 50
- *     if (bitm_dictionary_build(&made, of_squares, len_of) != BITM_WRONG) return 1; */
+ *     const uint64_t words[1] = {0x8000900000}, upper[1] = {0}, lower[1] = {0xc0180300000000}, sizes[1] = {1};
+ *     uint64_t keys[3] = {4, 9, 49}, block[80]; // words and tables are of a hash of 4 + 7, 9 + 7 and 49 + 7
+ *     const struct bitm_hash hash = {{words, 1, upper, 1, lower, 1, 0, {0}, {0}, {0}}, sizes, 1, 3};
+ *     const struct bitm_dictionary dictionary = {hash, keys, 3, 7, {0}};
+ *     if (bitm_dictionary_build(&dictionary, block, 80)) return 1;
+ *     keys[0]++;
+ *     if (bitm_dictionary_build(&dictionary, block, 80) != BITM_WRONG) return 1; // 5 does not stand at its number */
 BITM_MUST_USE uint32_t bitm_dictionary_build(const struct bitm_dictionary *dictionary, uint64_t *block,
                                              size_t block_len);
 
 /* Opens a block: writes the dictionary that queries take, which points into the block. BITM_WRONG exactly if
- * bitm_hash_block_open returns it, or no fifth section of the block has as many keys as the header says. Reads at most
- * 80 words, however long the block is (evident from the code); what its other words hold is not looked at.
+ * bitm_hash_block_open returns it, or the block has no fifth section with the number of keys that the header says.
  *
- *     if (bitm_dictionary_open(of_squares, len_of - 1, &dictionary) != BITM_WRONG) return 1; */
+ * bitm_dictionary_check says whether a block is as it was written and holds a dictionary: BITM_OK, or BITM_WRONG as
+ * above, if a checksum does not match its words, if the parts form no hash, or if a key does not stand at its number.
+ * So a block in which one word was changed is refused. Two passes over the words of the block, and one look-up for each
+ * key (evident from the code).
+ *
+ *     const uint64_t words[1] = {0x8000900000}, upper[1] = {0}, lower[1] = {0xc0180300000000}, sizes[1] = {1};
+ *     const uint64_t keys[3] = {4, 9, 49}; // words and tables are of a hash of 4 + 7, 9 + 7 and 49 + 7
+ *     const struct bitm_hash hash = {{words, 1, upper, 1, lower, 1, 0, {0}, {0}, {0}}, sizes, 1, 3};
+ *     const struct bitm_dictionary made = {hash, keys, 3, 7, {0}};
+ *     uint64_t block[80]; // bitm_dictionary_size(1, 1, 3, ..) says 80
+ *     struct bitm_dictionary dictionary;
+ *     if (bitm_dictionary_build(&made, block, 80) || bitm_dictionary_open(block, 80, &dictionary) ||
+ *         bitm_dictionary_open(block, 79, &dictionary) != BITM_WRONG || bitm_dictionary_check(block, 80)) return 1; */
 BITM_MUST_USE uint32_t bitm_dictionary_open(const uint64_t *block, size_t block_len,
                                             struct bitm_dictionary *dictionary);
-
-/* Whether a block is as it was written and holds a dictionary: BITM_OK, or BITM_WRONG as bitm_dictionary_open, if a
- * checksum does not match its words, if the parts form no hash, or if a key does not stand at its number. So a block in
- * which one word was changed is refused. Two passes over the words of the block, and one look-up for each key (evident
- * from the code).
- *
- *     of_squares[40] ^= 1;
- *     if (bitm_dictionary_check(of_squares, len_of) != BITM_WRONG) return 1;
- *     of_squares[40] ^= 1;
- *     if (bitm_dictionary_check(of_squares, len_of) != BITM_OK) return 1; */
 BITM_MUST_USE uint32_t bitm_dictionary_check(const uint64_t *block, size_t block_len);
 
-/* The number of a key: BITM_OK with where it stands in dictionary->keys, WHATEVER tables, sizes and keys hold;
- * BITM_NONE if it is no key; BITM_WRONG only where the parts form no dictionary; BITM_BAD_SIZE exactly if
- * bitm_dictionary_fault names a fault. Reads what bitm_hash_get reads, and at most one key (evident from the code).
+/* The number of a key: BITM_OK with its index in dictionary->keys, WHATEVER tables, sizes and keys hold; BITM_NONE if
+ * it is no key.
  *
- *     if (bitm_dictionary_find(&dictionary, 4, &number) != BITM_OK || number > 2) return 1; */
+ * bitm_dictionary_find_list is bitm_dictionary_find of each item of a list (struct bitm_list_counts).
+ *
+ *     const uint64_t words[1] = {0x8000900000}, upper[1] = {0}, lower[1] = {0xc0180300000000}, sizes[1] = {1};
+ *     const uint64_t keys[3] = {4, 9, 49}; // words and tables are of a hash of 4 + 7, 9 + 7 and 49 + 7
+ *     const struct bitm_hash hash = {{words, 1, upper, 1, lower, 1, 0, {0}, {0}, {0}}, sizes, 1, 3};
+ *     const struct bitm_dictionary dictionary = {hash, keys, 3, 7, {0}};
+ *     uint64_t number, numbers[3];
+ *     struct bitm_list_counts counts;
+ *     if (bitm_dictionary_find(&dictionary, 9, &number) || number != 1 ||
+ *         bitm_dictionary_find(&dictionary, 50, &number) != BITM_NONE ||
+ *         bitm_dictionary_find_list(&dictionary, keys, 3, numbers, 3, &counts) || numbers[2] != 2) return 1; */
 BITM_MUST_USE uint32_t bitm_dictionary_find(const struct bitm_dictionary *dictionary, uint64_t key, uint64_t *out);
-
-/* out[i] is the number of keys[i], or BITM_NO_ANSWER for BITM_NONE and BITM_WRONG_TABLES for BITM_WRONG; counts says
- * how many of each there are. BITM_BAD_SIZE also if out_len is not keys_len. out and counts may overlap neither each
- * other nor what the call reads.
- *
- *     if (bitm_dictionary_find_list(&dictionary, squares, 3, answers, 3, &counts) != BITM_OK || counts.missing > 0 ||
- *         dictionary.keys[answers[1]] != 9) return 1;
- *     free(of_squares); */
 BITM_MUST_USE uint32_t bitm_dictionary_find_list(const struct bitm_dictionary *dictionary, const uint64_t *keys,
                                                  size_t keys_len, uint64_t *out, size_t out_len,
                                                  struct bitm_list_counts *counts);
 
-/* ---- hashes in blocks, without the keys */
-
-/* How many words the block of a hash takes, whose levels have that many words together. BITM_BAD_SIZE if there are 2^58
- * words or more, or more than 256 levels.
+/* ---- hashes in blocks, without the keys
  *
- *     uint64_t hash_len, hash_seed;
- *     if (bitm_hash_block_size(taken, height, &hash_len) != BITM_OK) return 1;
- *     uint64_t *of_hash = malloc(8 * hash_len); // or a mapped file
- *     struct bitm_hash hash_in_block = {0};
- *     if (!of_hash || bitm_hash_block_build(of_levels, taken, widths, height, 7, of_hash, hash_len) != BITM_OK ||
- *         bitm_hash_block_check(of_hash, hash_len) != BITM_OK ||
- *         bitm_hash_block_open(of_hash, hash_len, &hash_in_block, &hash_seed) != BITM_OK || hash_seed != 7 ||
- *         bitm_hash_get(&hash_in_block, 9 + hash_seed, &value) != BITM_OK || value > 2) return 1;
- *     free(of_hash); */
+ * The block of a struct bitm_hash, or of a struct bitm_seeded_hash, for keys that stand elsewhere.
+ *
+ *   - errors: an error writes nothing.
+ *   - reads: opening reads at most 80 words, however long the block is (evident from the code), and looks at no others.
+ *   - overlap: memory that a call writes overlaps nothing else that it is passed. */
+
+/* How many words the block of a hash takes, whose `levels` levels have `words` words together. BITM_BAD_SIZE if there
+ * are 2^58 words or more, or more than 256 levels.
+ *
+ *     uint64_t size;
+ *     if (bitm_hash_block_size(1, 1, &size) || size != 64) return 1; */
 BITM_MUST_USE uint32_t bitm_hash_block_size(size_t words, size_t levels, uint64_t *out);
 
-/* Writes the block of the hash whose levels have these words and sizes, as bitm_hash_build writes them: it has as many
- * keys as there are 1 bits. seed is yours, that by which you hashed the keys, say: it is kept. BITM_BAD_SIZE if
+/* Writes the block of the hash whose levels have these words and sizes, as bitm_hash_build writes them: it has a key
+ * for each 1 bit. seed is yours, the one by which you hashed the keys, say: it is kept. BITM_BAD_SIZE if
  * bitm_hash_block_size does not take the lengths, a level has no word, the levels have not words_len words together, or
- * block_len is not what that call says. No two of the memory may overlap. Two passes over the words and one over the
- * block (evident from the code). */
+ * block_len is not what that call says. Two passes over the words and one over the block (evident from the code).
+ *
+ *     const uint64_t words[1] = {0x4802}, sizes[1] = {1}; // by bitm_hash_build of three hashes
+ *     uint64_t block[64];                                 // or a mapped file
+ *     if (bitm_hash_block_build(words, 1, sizes, 1, 7, block, 64)) return 1; */
 BITM_MUST_USE uint32_t bitm_hash_block_build(const uint64_t *words, size_t words_len, const uint64_t *sizes,
                                              size_t sizes_len, uint64_t seed, uint64_t *block, size_t block_len);
 
 /* Opens a block, a dictionary's too: writes the hash that bitm_hash_get takes, which points into the block, and its
  * seed. BITM_WRONG exactly if the header or the directory of the block is not right, or belongs to no hash without
- * seeds, or block_len is not as they say. Reads at most 80 words, however long the block is (evident from the code);
- * what its other words hold is not looked at. */
+ * seeds, or block_len is not as they say.
+ *
+ * bitm_hash_block_check says whether a block is as it was written and holds a hash: BITM_OK, or BITM_WRONG as above, if
+ * a checksum does not match its words, if the tables do not match the words, or if the sizes are not the sizes of
+ * levels. Two passes over the words of the block (evident from the code).
+ *
+ *     const uint64_t words[1] = {0x4802}, sizes[1] = {1}; // by bitm_hash_build of three hashes
+ *     uint64_t block[64], seed, number; // bitm_hash_block_size(1, 1, ..) says 64
+ *     struct bitm_hash hash;
+ *     if (bitm_hash_block_build(words, 1, sizes, 1, 7, block, 64) || bitm_hash_block_open(block, 64, &hash, &seed) ||
+ *         seed != 7 || bitm_hash_get(&hash, 0x13198a2e03707344, &number) || bitm_hash_block_check(block, 64)) return 1;
+ *     block[40] ^= 1;
+ *     if (bitm_hash_block_check(block, 64) != BITM_WRONG) return 1; */
 BITM_MUST_USE uint32_t bitm_hash_block_open(const uint64_t *block, size_t block_len, struct bitm_hash *hash,
                                             uint64_t *seed);
-
-/* Whether a block is as it was written and holds a hash: BITM_OK, or BITM_WRONG as bitm_hash_block_open, if a checksum
- * does not match its words, if the tables do not match the words, or if the sizes are not the sizes of levels. Two
- * passes over the words of the block (evident from the code). */
 BITM_MUST_USE uint32_t bitm_hash_block_check(const uint64_t *block, size_t block_len);
 
-/* The same four calls for a hash with a seed for each word. Each block of it is refused by those above, and each block
- * of a hash without seeds by these, since the other placing would give other numbers:
+/* The same four calls for a hash with a seed for each word. The calls without _seeded refuse each block of it, and
+ * these each block of a hash without seeds, since the other placing would give other numbers.
  *
- *     uint64_t seeded_len;
- *     if (bitm_hash_block_size_seeded(filled, levels, &seeded_len) != BITM_OK) return 1;
- *     uint64_t *of_seeded = malloc(8 * seeded_len); // or a mapped file
- *     struct bitm_seeded_hash in_seeded = {.seeds = NULL};
- *     if (!of_seeded || bitm_hash_block_build_seeded(of_hash_words, filled, seeds, filled, heights, levels, 9, of_seeded,
- *                                                    seeded_len) != BITM_OK ||
- *         bitm_hash_block_check_seeded(of_seeded, seeded_len) != BITM_OK ||
- *         bitm_hash_block_open_seeded(of_seeded, seeded_len, &in_seeded, &hash_seed) != BITM_OK || hash_seed != 9 ||
- *         bitm_hash_block_open_seeded_bytes(of_seeded, seeded_len, (const uint8_t *)of_seeded, 8 * seeded_len, &in_seeded,
- *                                           &hash_seed) != BITM_OK ||
- *         bitm_hash_block_open(of_seeded, seeded_len, &hash_in_block, &hash_seed) != BITM_WRONG ||
- *         bitm_hash_get_seeded(&in_seeded, 0x13198a2e03707344, &value) != BITM_OK ||
- *         bitm_hash_get_seeded(&seeded, 0x13198a2e03707344, &number) != BITM_OK || value != number) return 1;
- *     free(of_seeded); */
+ *     uint64_t size;
+ *     if (bitm_hash_block_size_seeded(1, 1, &size) || size != 80) return 1; */
 BITM_MUST_USE uint32_t bitm_hash_block_size_seeded(size_t words, size_t levels, uint64_t *out);
 
 /* Writes the block of the hash whose levels have these words, seeds and sizes, as bitm_hash_build_seeded writes them.
- * BITM_BAD_SIZE also if seeds_len is not words_len. All else is as of bitm_hash_block_build. */
+ * BITM_BAD_SIZE also if seeds_len is not words_len. All else is as of bitm_hash_block_build.
+ *
+ *     const uint64_t words[1] = {0x8000840000000000}, sizes[1] = {1}; // by bitm_hash_build_seeded of three hashes
+ *     const uint8_t seeds[1] = {0};
+ *     uint64_t block[80]; // or a mapped file
+ *     if (bitm_hash_block_build_seeded(words, 1, seeds, 1, sizes, 1, 7, block, 80)) return 1; */
 BITM_MUST_USE uint32_t bitm_hash_block_build_seeded(const uint64_t *words, size_t words_len, const uint8_t *seeds,
                                                     size_t seeds_len, const uint64_t *sizes, size_t sizes_len,
                                                     uint64_t seed, uint64_t *block, size_t block_len);
@@ -2422,13 +2722,28 @@ BITM_MUST_USE uint32_t bitm_hash_block_build_seeded(const uint64_t *words, size_
  * whose parts point into the block and whose seeds point into the bytes, and its seed. BITM_WRONG exactly if the header
  * or the directory of the block is not right, or belongs to no hash with seeds, or block_len is not as they say; else
  * BITM_BAD_SIZE exactly if bytes_len is not 8 * block_len. Where the bytes are the block's, the seeds are the ones that
- * were built. Reads at most 80 words, however long the block is (evident from the code); what its other words hold is
- * not looked at. */
+ * were built.
+ *
+ *     const uint64_t words[1] = {0x8000840000000000}, sizes[1] = {1}; // by bitm_hash_build_seeded of three hashes
+ *     const uint8_t seeds[1] = {0};
+ *     uint64_t block[80], seed; // bitm_hash_block_size_seeded(1, 1, ..) says 80
+ *     struct bitm_seeded_hash hash;
+ *     if (bitm_hash_block_build_seeded(words, 1, seeds, 1, sizes, 1, 7, block, 80) ||
+ *         bitm_hash_block_open_seeded_bytes(block, 80, (const uint8_t *)block, 640, &hash, &seed) ||
+ *         seed != 7) return 1; */
 BITM_MUST_USE uint32_t bitm_hash_block_open_seeded_bytes(const uint64_t *block, size_t block_len, const uint8_t *bytes,
                                                          size_t bytes_len, struct bitm_seeded_hash *hash,
                                                          uint64_t *seed);
 
-/* The same, where the seeds too are taken from the block: it never returns BITM_BAD_SIZE. */
+/* The same, where the seeds too are taken from the block: it never returns BITM_BAD_SIZE.
+ *
+ *     const uint64_t words[1] = {0x8000840000000000}, sizes[1] = {1}; // by bitm_hash_build_seeded of three hashes
+ *     const uint8_t seeds[1] = {0};
+ *     uint64_t block[80], seed, number; // bitm_hash_block_size_seeded(1, 1, ..) says 80
+ *     struct bitm_seeded_hash hash;
+ *     if (bitm_hash_block_build_seeded(words, 1, seeds, 1, sizes, 1, 7, block, 80) ||
+ *         bitm_hash_block_open_seeded(block, 80, &hash, &seed) ||
+ *         bitm_hash_get_seeded(&hash, 0x13198a2e03707344, &number) || number > 2) return 1; */
 BITM_MUST_USE static inline uint32_t bitm_hash_block_open_seeded(const uint64_t *block, size_t block_len,
                                                                  struct bitm_seeded_hash *hash, uint64_t *seed)
 {
@@ -2438,40 +2753,42 @@ BITM_MUST_USE static inline uint32_t bitm_hash_block_open_seeded(const uint64_t 
 /* Whether a block is as it was written and holds a hash with seeds: BITM_OK, or BITM_WRONG as
  * bitm_hash_block_open_seeded, if a checksum does not match its words, if the tables do not match the words, or if the
  * sizes are not the sizes of levels. Any seeds are right. Two passes over the words of the block (evident from the
- * code). */
+ * code).
+ *
+ *     const uint64_t words[1] = {0x8000840000000000}, sizes[1] = {1}; // by bitm_hash_build_seeded of three hashes
+ *     const uint8_t seeds[1] = {0};
+ *     uint64_t block[80]; // bitm_hash_block_size_seeded(1, 1, ..) says 80
+ *     if (bitm_hash_block_build_seeded(words, 1, seeds, 1, sizes, 1, 7, block, 80) ||
+ *         bitm_hash_block_check_seeded(block, 80) || bitm_hash_block_check(block, 80) != BITM_WRONG) return 1; */
 BITM_MUST_USE uint32_t bitm_hash_block_check_seeded(const uint64_t *block, size_t block_len);
 
 /* ---- strings: in one block of memory
  *
  * A dictionary of strings of bytes is the block of a minimal perfect hash of their hashes, and the strings themselves,
- * one after another in the order of their numbers: so what is none of the strings has no number. The hash of a string
- * is SipHash-1-3 with a seed of 64 bits as its key, so that whether two strings have one hash depends on the whole
- * seed. Who knows the seed can search for such strings: where others choose the strings, draw the seed at random and
- * keep it to yourself. Strings are passed one after another, with where each of them ends:
+ * one after another in the order of their numbers: so a string that is none of these has no number. The hash of a
+ * string is SipHash-1-3 with a seed of 64 bits as its key, so that whether two strings have one hash depends on the
+ * whole seed. Who knows the seed can search for such strings: where others choose the strings, draw the seed at random
+ * and keep it to yourself. Strings are passed one after another, with where each of them ends:
  *
- *     const uint8_t *spelled = (const uint8_t *)"adabobeve";
- *     const uint64_t ends_of[3] = {3, 6, 9}, seed_of = 7; // take another seed if hashes are left or build refuses
- *     uint64_t codes[3], letters_begin, letters_len, len_of_names;
- *     if (bitm_strings_hashes(spelled, 9, ends_of, 3, seed_of, codes, 3) != BITM_OK ||
- *         bitm_hash_build(codes, 3, 100, of_levels, 64, marks, 64, widths, 256, &height, &taken, &lost) != BITM_OK ||
- *         lost > 0) return 1;
- *     lower_of = bitm_index_lower_len(taken);
- *     if (bitm_index_build(of_levels, taken, tables_of, 1, tables_of + 1, lower_of, &ones) != BITM_OK) return 1;
- *     struct bitm_hash of_sums = {.index = {.words = of_levels, .words_len = taken, .upper = tables_of, .upper_len = 1,
- *                                            .lower = tables_of + 1, .lower_len = lower_of, .bits_len = 64 * taken},
- *                                  .sizes = widths, .sizes_len = height, .keys = 3};
- *     if (bitm_strings_size(taken, height, 3, 9, &len_of_names) != BITM_OK) return 1;
- *     uint64_t *of_names = malloc(8 * len_of_names); // or a mapped file
- *     struct bitm_strings names = {0};
- *     if (!of_names ||
- *         bitm_strings_build(&of_sums, seed_of, spelled, 9, ends_of, 3, of_names, len_of_names) != BITM_OK ||
- *         bitm_strings_open(of_names, len_of_names, &names) != BITM_OK ||
- *         bitm_strings_find(&names, (const uint8_t *)"bob", 3, &number) != BITM_OK || number > 2 ||
- *         bitm_strings_find(&names, (const uint8_t *)"bo", 2, &value) != BITM_NONE) return 1;
+ *     const uint8_t *const bytes = (const uint8_t *)"adabobeve";
+ *     const uint64_t ends[3] = {3, 6, 9}, seed = 7; // take another seed if hashes are left or build refuses
+ *     uint64_t hashes[3], words[8], again[8], sizes[8], upper[1], lower[1], block[112], k, n, left, ones, number;
+ *     if (bitm_strings_hashes(bytes, 9, ends, 3, seed, hashes, 3) ||
+ *         bitm_hash_build(hashes, 3, 100, words, 8, again, 8, sizes, 8, &k, &n, &left) || left > 0 ||
+ *         bitm_index_build(words, n, upper, 1, lower, 1, &ones)) return 1;
+ *     struct bitm_hash hash = {{words, n, upper, 1, lower, 1, 0, {0}, {0}, {0}}, sizes, k, 3};
+ *     struct bitm_strings strings; // bitm_strings_size(1, 1, 3, 9, ..) says 112 words
+ *     if (bitm_strings_build(&hash, seed, bytes, 9, ends, 3, block, 112) || bitm_strings_open(block, 112, &strings) ||
+ *         bitm_strings_find(&strings, (const uint8_t *)"bob", 3, &number) || number > 2) return 1;
  *
- * Over any block that bitm_strings_open takes, a stale or hostile one too, a query returns, and the string stands at
- * the number that is found. If bitm_strings_build wrote the block or bitm_strings_check passes it, and it did not
- * change afterwards, what is BITM_NONE is none of the strings, and no query returns BITM_WRONG. */
+ *   - errors: a query returns BITM_BAD_SIZE exactly if bitm_strings_fault names a fault, and BITM_WRONG only where the
+ *     parts hold no strings. An error writes nothing, but for the block of bitm_strings_build.
+ *   - reads: bitm_strings_open reads at most 160 words, however long the block is (evident from the code), and looks at
+ *     no others.
+ *   - overlap: memory that a call writes overlaps nothing else that it is passed.
+ *   - over any block that bitm_strings_open takes, a stale or hostile one too, a query returns, and the string stands
+ *     at the number that is found. If bitm_strings_build wrote the block or bitm_strings_check passes it, and it did
+ *     not change afterwards, a string that is not found is none of the strings, and no query returns BITM_WRONG. */
 struct bitm_strings {
     struct bitm_hash hash;  /* of the hash of each string */
     const uint64_t *starts; /* where the string of each number begins, and where the last one ends: hash.keys + 1 */
@@ -2483,9 +2800,10 @@ struct bitm_strings {
     uint64_t reserved[1];   /* 0: not read */
 };
 
-/* Faults of strings: see bitm_bits_fault.
+/* Faults of strings: which length is wrong, or NULL (see bitm_bits_fault).
  *
- *     if (bitm_strings_fault(&names) != NULL) return 1; */
+ *     struct bitm_strings strings = {.starts_len = 0};
+ *     if (bitm_strings_fault(&strings) == NULL) return 1; // starts_len is not hash.keys + 1 */
 static inline const char *bitm_strings_fault(const struct bitm_strings *strings)
 {
     if (strings->starts_len == 0 || strings->starts_len - 1 != strings->hash.keys) return "starts_len is not hash.keys + 1";
@@ -2497,57 +2815,75 @@ static inline const char *bitm_strings_fault(const struct bitm_strings *strings)
 /* The hash of a string by a seed: BITM_OK. It is SipHash-1-3 with the key (seed, 0) of the bytes of the string. Reads
  * each byte once (evident from the code).
  *
- *     if (bitm_strings_hash((const uint8_t *)"foobar", 6, 0, &value) != BITM_OK || value != 0x7738ae0a5df09b34) return 1; */
+ *     uint64_t hash;
+ *     if (bitm_strings_hash((const uint8_t *)"foobar", 6, 0, &hash) || hash != 0x7738ae0a5df09b34) return 1; */
 BITM_MUST_USE uint32_t bitm_strings_hash(const uint8_t *string, size_t string_len, uint64_t seed, uint64_t *out);
 
 /* The hash and the fingerprint of a key of a perfect hash, as the packages for C++, Rust, Python and JavaScript hash
  * theirs, so that each reads the files of the others: BITM_OK. The hash is SipHash-1-3 with the key (seed, kind) of the
  * bytes: kind 1 is text in UTF-8, kind 2 bytes, kind 3 a whole number of 64 bits with its sign as eight bytes, the
- * lowest first, and kind 4 a larger one, as few bytes as it and its sign take. The fingerprint is the hash x mixed: x =
- * (x ^ x >> 33) * 0xff51afd7ed558ccd, x = (x ^ x >> 33) * 0xc4ceb9fe1a85ec53, and x ^ x >> 33. hash and print may
- * overlap neither each other nor the key. Reads each byte once (evident from the code).
+ * lowest first, and kind 4 a larger one, in the fewest bytes that hold it and its sign. The fingerprint is the hash x
+ * mixed: x = (x ^ x >> 33) * 0xff51afd7ed558ccd, x = (x ^ x >> 33) * 0xc4ceb9fe1a85ec53, and x ^ x >> 33. Reads each
+ * byte once (evident from the code).
  *
- *     uint64_t key_print;
- *     if (bitm_key_hash((const uint8_t *)"foobar", 6, 0, 0, &value, &key_print) != BITM_OK ||
- *         value != 0x7738ae0a5df09b34) return 1; // kind 0: the hash of a string by seed 0 */
+ *     uint64_t hash, print;
+ *     if (bitm_key_hash((const uint8_t *)"foobar", 6, 0, 0, &hash, &print) || hash != 0x7738ae0a5df09b34) return 1; */
 BITM_MUST_USE uint32_t bitm_key_hash(const uint8_t *key, size_t key_len, uint64_t seed, uint64_t kind, uint64_t *hash,
                                      uint64_t *print);
 
-/* out[i] is the hash of string i, of those that stand one after another in bytes, string i up to ends[i].
+/* out[i] is the hash of string i, where the strings stand one after another in bytes, string i up to ends[i].
  * BITM_BAD_SIZE if an end is less than the one before it, the last one is not bytes_len (0 if there are none), or
- * out_len is not ends_len. out may overlap nothing that is read.
+ * out_len is not ends_len.
  *
- *     if (bitm_strings_hashes(spelled, 8, ends_of, 3, seed_of, codes, 3) != BITM_BAD_SIZE) return 1; */
+ *     const uint8_t *const bytes = (const uint8_t *)"adabobeve";
+ *     const uint64_t ends[3] = {3, 6, 9};
+ *     uint64_t hashes[3];
+ *     if (bitm_strings_hashes(bytes, 9, ends, 3, 7, hashes, 3) ||
+ *         bitm_strings_hashes(bytes, 8, ends, 3, 7, hashes, 3) != BITM_BAD_SIZE) return 1; */
 BITM_MUST_USE uint32_t bitm_strings_hashes(const uint8_t *bytes, size_t bytes_len, const uint64_t *ends, size_t ends_len,
                                            uint64_t seed, uint64_t *out, size_t out_len);
 
-/* How many words the block of that many strings takes, which have that many bytes together, and the levels of whose
- * hash have that many words together. BITM_BAD_SIZE if there are 2^57 words or strings or more, more than 256 levels,
- * or 2^60 bytes or more. */
+/* How many words the block of `strings` strings takes, which have `bytes` bytes together, with a hash whose `levels`
+ * levels have `words` words together. BITM_BAD_SIZE if there are 2^57 words or strings or more, more than 256 levels,
+ * or 2^60 bytes or more.
+ *
+ *     uint64_t size;
+ *     if (bitm_strings_size(1, 1, 3, 9, &size) || size != 112) return 1; */
 BITM_MUST_USE uint32_t bitm_strings_size(size_t words, size_t levels, size_t strings, size_t bytes, uint64_t *out);
 
 /* Writes the block of the strings that stand one after another in bytes, string i up to ends[i], by a hash of their
- * hashes, as bitm_hash_build makes it of what bitm_strings_hashes writes: a block of kind 12. BITM_BAD_SIZE if
- * bitm_hash_fault names a fault, the ends are not as that call takes them, or block_len is not what bitm_strings_size
- * says; else BITM_WRONG if the parts form no hash, or it does not give each string a number of its own: two strings are
- * equal, or have one hash, which they may not have with another seed. The block may hold anything after BITM_WRONG. It
- * may overlap nothing that is read. Three passes over the words of the levels, two over the bytes, one over the block,
- * and a look-up for each string (evident from the code).
+ * hashes, as bitm_hash_build makes it of the numbers that bitm_strings_hashes writes: a block of kind 12. BITM_BAD_SIZE
+ * if bitm_hash_fault names a fault, the ends are not as that call takes them, or block_len is not what
+ * bitm_strings_size says; else BITM_WRONG if the parts form no hash, or it does not give each string a number of its
+ * own: two strings are equal, or have one hash, which they may not have with another seed. The block may hold anything
+ * after BITM_WRONG. Three passes over the words of the levels, two over the bytes, one over the block, and a look-up
+ * for each string (evident from the code).
  *
- *     if (bitm_strings_build(&of_sums, seed_of, (const uint8_t *)"adabobada", 9, ends_of, 3, of_names, len_of_names) !=
- *             BITM_WRONG ||
- *         bitm_strings_build(&of_sums, seed_of, spelled, 9, ends_of, 3, of_names, len_of_names) != BITM_OK) return 1; */
+ *     const uint64_t words[1] = {0x2000004000004000}, upper[1] = {0}, lower[1] = {0xc0180300000000}, sizes[1] = {1};
+ *     const struct bitm_hash hash = {{words, 1, upper, 1, lower, 1, 0, {0}, {0}, {0}}, sizes, 1, 3}; // seed 7
+ *     const uint64_t ends[3] = {3, 6, 9};
+ *     uint64_t block[112]; // bitm_strings_size(1, 1, 3, 9, ..) says 112
+ *     const uint8_t *const names = (const uint8_t *)"adabobeve", *const equal = (const uint8_t *)"adabobada";
+ *     if (bitm_strings_build(&hash, 7, names, 9, ends, 3, block, 112) ||
+ *         bitm_strings_build(&hash, 7, equal, 9, ends, 3, block, 112) != BITM_WRONG) return 1; */
 BITM_MUST_USE uint32_t bitm_strings_build(const struct bitm_hash *hash, uint64_t seed, const uint8_t *bytes,
                                           size_t bytes_len, const uint64_t *ends, size_t ends_len, uint64_t *block,
                                           size_t block_len);
 
 /* Opens a block: writes the strings that queries take, which point into the block. A block of kind 10, whose strings
- * are hashed by FNV-1a, is opened, checked and queried as one of kind 12 is; no call writes it. BITM_WRONG exactly if
- * the header or the directory of the block is not right, or belongs to no strings, the first section is not the block
- * of a hash of as many keys as the header says, there is not a start more, or block_len is not as they say. Reads at
- * most 160 words, however long the block is (evident from the code); what its other words hold is not looked at.
+ * are hashed by FNV-1a, is opened, checked and queried like a block of kind 12; no call writes it. BITM_WRONG exactly
+ * if the header or the directory of the block is not right, or belongs to no strings, the first section is not the
+ * block of a hash with the number of keys that the header says, there is not one start more than keys, or block_len is
+ * not as they say.
  *
- *     if (bitm_strings_open(of_names, len_of_names - 1, &names) != BITM_WRONG) return 1; */
+ *     const uint64_t words[1] = {0x2000004000004000}, upper[1] = {0}, lower[1] = {0xc0180300000000}, sizes[1] = {1};
+ *     const struct bitm_hash hash = {{words, 1, upper, 1, lower, 1, 0, {0}, {0}, {0}}, sizes, 1, 3}; // seed 7
+ *     const uint64_t ends[3] = {3, 6, 9};
+ *     uint64_t block[112]; // bitm_strings_size(1, 1, 3, 9, ..) says 112
+ *     struct bitm_strings strings;
+ *     if (bitm_strings_build(&hash, 7, (const uint8_t *)"adabobeve", 9, ends, 3, block, 112) ||
+ *         bitm_strings_open(block, 112, &strings) ||
+ *         bitm_strings_open(block, 111, &strings) != BITM_WRONG) return 1; */
 BITM_MUST_USE uint32_t bitm_strings_open(const uint64_t *block, size_t block_len, struct bitm_strings *strings);
 
 /* Whether a block is as it was written and holds strings: BITM_OK, or BITM_WRONG as bitm_strings_open, if a checksum
@@ -2555,39 +2891,52 @@ BITM_MUST_USE uint32_t bitm_strings_open(const uint64_t *block, size_t block_len
  * one after another, or if a byte after the last one is not 0. So a block in which one word was changed is refused. Two
  * passes over the words of the block, one more over the bytes, and one look-up for each string (evident from the code).
  *
- *     of_names[32] ^= 1;
- *     if (bitm_strings_check(of_names, len_of_names) != BITM_WRONG) return 1;
- *     of_names[32] ^= 1;
- *     if (bitm_strings_check(of_names, len_of_names) != BITM_OK) return 1; */
+ *     const uint64_t words[1] = {0x2000004000004000}, upper[1] = {0}, lower[1] = {0xc0180300000000}, sizes[1] = {1};
+ *     const struct bitm_hash hash = {{words, 1, upper, 1, lower, 1, 0, {0}, {0}, {0}}, sizes, 1, 3}; // seed 7
+ *     const uint64_t ends[3] = {3, 6, 9};
+ *     uint64_t block[112]; // bitm_strings_size(1, 1, 3, 9, ..) says 112
+ *     if (bitm_strings_build(&hash, 7, (const uint8_t *)"adabobeve", 9, ends, 3, block, 112) ||
+ *         bitm_strings_check(block, 112)) return 1;
+ *     block[32] ^= 1;
+ *     if (bitm_strings_check(block, 112) != BITM_WRONG) return 1; */
 BITM_MUST_USE uint32_t bitm_strings_check(const uint64_t *block, size_t block_len);
 
 /* The number of a string: BITM_OK, and the string stands at that number, WHATEVER hash, starts and bytes hold;
- * BITM_NONE if it is none of the strings; BITM_WRONG only where the parts hold no strings; BITM_BAD_SIZE exactly if
- * bitm_strings_fault names a fault. Reads what bitm_hash_get reads, at most two starts, and at most as many bytes as
- * the string has (evident from the code).
+ * BITM_NONE if it is none of the strings. Reads what bitm_hash_get reads, at most two starts, and at most string_len
+ * bytes (evident from the code).
  *
- *     if (bitm_strings_find(&names, (const uint8_t *)"eve", 3, &number) != BITM_OK || number > 2) return 1; */
+ * bitm_strings_find_list is bitm_strings_find of each string of a list, where the strings stand one after another in
+ * bytes, string i up to ends[i] (struct bitm_list_counts). BITM_BAD_SIZE also if the ends are not as
+ * bitm_strings_hashes takes them.
+ *
+ *     const uint64_t words[1] = {0x2000004000004000}, upper[1] = {0}, lower[1] = {0xc0180300000000}, sizes[1] = {1};
+ *     const struct bitm_hash hash = {{words, 1, upper, 1, lower, 1, 0, {0}, {0}, {0}}, sizes, 1, 3}; // seed 7
+ *     const uint8_t *const names = (const uint8_t *)"adabobeve";
+ *     const uint64_t ends[3] = {3, 6, 9};
+ *     uint64_t block[112], number, numbers[3]; // bitm_strings_size(1, 1, 3, 9, ..) says 112
+ *     struct bitm_strings strings;
+ *     struct bitm_list_counts counts;
+ *     if (bitm_strings_build(&hash, 7, names, 9, ends, 3, block, 112) || bitm_strings_open(block, 112, &strings) ||
+ *         bitm_strings_find(&strings, names + 3, 3, &number) || number != 2 || // bob
+ *         bitm_strings_find_list(&strings, names, 9, ends, 3, numbers, 3, &counts) || numbers[2] != 0) return 1; */
 BITM_MUST_USE uint32_t bitm_strings_find(const struct bitm_strings *strings, const uint8_t *string, size_t string_len,
                                          uint64_t *out);
-
-/* out[i] is the number of string i, of those that stand one after another in bytes, string i up to ends[i], or
- * BITM_NO_ANSWER for BITM_NONE and BITM_WRONG_TABLES for BITM_WRONG; counts says how many of each there are.
- * BITM_BAD_SIZE also if the ends are not as bitm_strings_hashes takes them, or out_len is not ends_len. out and counts
- * may overlap neither each other nor what the call reads.
- *
- *     if (bitm_strings_find_list(&names, spelled, 9, ends_of, 3, answers, 3, &counts) != BITM_OK ||
- *         counts.missing > 0 || answers[2] != number) return 1; */
 BITM_MUST_USE uint32_t bitm_strings_find_list(const struct bitm_strings *strings, const uint8_t *bytes, size_t bytes_len,
                                               const uint64_t *ends, size_t ends_len, uint64_t *out, size_t out_len,
                                               struct bitm_list_counts *counts);
 
 /* Where the string of a number begins in strings->bytes, taken as bytes, and how many bytes it has. They stand there
  * WHATEVER the starts hold. BITM_NONE exactly if there is no such number; BITM_WRONG exactly if the starts there mark
- * no string in the bytes; BITM_BAD_SIZE exactly if bitm_strings_fault names a fault. begin and len may not overlap.
+ * no string in the bytes.
  *
- *     if (bitm_strings_get(&names, number, &letters_begin, &letters_len) != BITM_OK || letters_len != 3 ||
- *         ((const uint8_t *)names.bytes)[letters_begin] != 'e') return 1;
- *     free(of_names); */
+ *     const uint64_t words[1] = {0x2000004000004000}, upper[1] = {0}, lower[1] = {0xc0180300000000}, sizes[1] = {1};
+ *     const struct bitm_hash hash = {{words, 1, upper, 1, lower, 1, 0, {0}, {0}, {0}}, sizes, 1, 3}; // seed 7
+ *     const uint64_t ends[3] = {3, 6, 9};
+ *     uint64_t block[112], begin, len; // bitm_strings_size(1, 1, 3, 9, ..) says 112
+ *     struct bitm_strings strings;
+ *     if (bitm_strings_build(&hash, 7, (const uint8_t *)"adabobeve", 9, ends, 3, block, 112) ||
+ *         bitm_strings_open(block, 112, &strings) || bitm_strings_get(&strings, 2, &begin, &len) || len != 3 ||
+ *         ((const uint8_t *)strings.bytes)[begin] != 'b') return 1; */
 BITM_MUST_USE uint32_t bitm_strings_get(const struct bitm_strings *strings, size_t number, uint64_t *begin,
                                         uint64_t *len);
 
@@ -2596,29 +2945,30 @@ BITM_MUST_USE uint32_t bitm_strings_get(const struct bitm_strings *strings, size
  * The index of a text (an FM-index: Ferragina and Manzini, FOCS 2000) is all that is needed: the text can be put away.
  * A pattern is counted in two ranks for each of its letters, however long the text is.
  *
- * Letters are numbers below a bound, the alphabet, each of as many bits as the largest letter of the alphabet has. A
- * text of bytes keeps which bytes it uses, so that a letter has no more bits than these need, two for the four letters
- * of a genome: letter c is the c-th byte of those that are used, and calls that end in _bytes take and write the bytes.
+ * Letters are numbers below a bound, the alphabet, each with the bits of the largest letter of the alphabet. A text of
+ * bytes keeps which bytes it uses, so that a letter has no more bits than these need, two for the four letters of a
+ * genome: letter c is the c-th byte that is used, and calls that end in _bytes take and write the bytes.
  *
- *     uint64_t text_len, scratch_len;
  *     const uint8_t *const banana = (const uint8_t *)"banana"; // a letter takes 2 bits: a, b and n are 0, 1 and 2
- *     if (bitm_text_size_bytes(banana, 6, 32, &text_len, &scratch_len) != BITM_OK) return 1;
- *     uint64_t *of_text = malloc(8 * text_len); // or a mapped file
- *     uint32_t *order = malloc(4 * scratch_len);
- *     if (!of_text || !order ||
- *         bitm_text_build_bytes(banana, 6, 32, order, scratch_len, of_text, text_len) != BITM_OK) return 1;
- *     free(order);
- *     struct bitm_text text = {0};
- *     if (bitm_text_open(of_text, text_len, &text) != BITM_OK || bitm_text_len(&text, &value) != BITM_OK || value != 6 ||
- *         bitm_text_count_bytes(&text, (const uint8_t *)"ana", 3, &value) != BITM_OK || value != 2) return 1;
+ *     uint64_t block[176], block_len, scratch_len, count;      // or a mapped file
+ *     uint32_t scratch[14];
+ *     struct bitm_text text;
+ *     if (bitm_text_size_bytes(banana, 6, 32, &block_len, &scratch_len) || block_len != 176 || scratch_len != 14 ||
+ *         bitm_text_build_bytes(banana, 6, 32, scratch, 14, block, 176) || bitm_text_open(block, 176, &text) ||
+ *         bitm_text_count_bytes(&text, (const uint8_t *)"ana", 3, &count) || count != 2) return 1;
  *
  * The program `bitm text build` (docs/PROGRAM.md) makes the same block.
  *
- * Over any block that bitm_text_open takes, a stale or hostile one too, a query returns within the reads that are named
- * below, a count is at most one more than the text has letters, a position is one of the text's, or its end, and a
- * letter has no more bits than the width. If bitm_text_build or bitm_text_build_bytes wrote the block or
- * bitm_text_check passes it, and it did not change afterwards, the answers agree with one text, and no query returns
- * BITM_WRONG. */
+ *   - errors: a query returns BITM_BAD_SIZE if a length in the struct fits no text, and BITM_WRONG only where the block
+ *     holds no text. An error writes nothing, unless the call says otherwise.
+ *   - reads: a query makes ranks in the letters for each bit of their width; each call says how many. bitm_text_open
+ *     reads at most 80 words, however long the block is (evident from the code), and looks at no others.
+ *   - overlap: memory that a call writes overlaps nothing else that it is passed.
+ *   - over any block that bitm_text_open takes, a stale or hostile one too, a query returns within the reads that are
+ *     named below, a count is at most one more than the text has letters, a position is one of the text's, or its end,
+ *     and a letter has no more bits than the width. If bitm_text_build or bitm_text_build_bytes wrote the block or
+ *     bitm_text_check passes it, and it did not change afterwards, the answers agree with one text, and no query
+ *     returns BITM_WRONG. Hints of its matrices do not matter. */
 struct bitm_text {
     struct bitm_matrix letters; /* the letters of the text, in another order */
     struct bitm_matrix marks;   /* which of their places are sampled */
@@ -2627,15 +2977,16 @@ struct bitm_text {
     const uint64_t *samples; /* positions, and places in that order */
     size_t samples_len;
     size_t first;         /* where the whole text stands in that order */
-    uint64_t step;        /* each how many letters a position is sampled */
+    uint64_t step;        /* a position is sampled each step letters */
     const uint64_t *used; /* which bytes letters stand for, 256 bits; no words where letters are numbers */
     size_t used_len;
     uint64_t reserved[2]; /* 0: not read */
 };
 
-/* Faults of the index of a text: see bitm_bits_fault.
+/* Faults of the index of a text: which length is wrong, or NULL (see bitm_bits_fault).
  *
- *     if (bitm_text_fault(&text) != NULL) return 1; */
+ *     struct bitm_text text = {.step = 0};
+ *     if (bitm_text_fault(&text) == NULL) return 1; // marks.len is not letters.len + 1 */
 static inline const char *bitm_text_fault(const struct bitm_text *text)
 {
     if (text->letters.len >= ((size_t)1 << 32) - 1) return "letters.len is 2^32 - 1 or more";
@@ -2644,125 +2995,133 @@ static inline const char *bitm_text_fault(const struct bitm_text *text)
     if (text->first > text->letters.len) return "first is above letters.len";
     if (text->step < 1 || text->step >= (uint64_t)1 << 32) return "step is not 1 to 2^32 - 1";
     if (text->used_len != 0 && text->used_len != 4) return "used_len is neither 0 nor 4";
-    const char *const fault = bitm_matrix_fault(&text->letters);
-    return fault ? fault : bitm_matrix_fault(&text->marks);
+    struct bitm_matrix letters = text->letters, marks = text->marks;
+    letters.hints_len = marks.hints_len = 0; /* do not matter */
+    const char *const fault = bitm_matrix_fault(&letters);
+    return fault ? fault : bitm_matrix_fault(&marks);
 }
 
-/* How many words the block of `len` letters of `width` bits takes, of an alphabet of that many letters, with a sample
+/* How many words the block of `len` letters of `width` bits takes, of an alphabet of `letters` letters, with a sample
  * each `step` letters. BITM_BAD_SIZE if len is 2^32 - 1 or more, width is not 1 to 64, letters is 2^58 or more, or step
  * is 0.
  *
- *     if (bitm_text_size(6, 2, 3, 32, &value) != BITM_OK) return 1; // six letters that are 0, 1 or 2 */
+ *     uint64_t size;
+ *     if (bitm_text_size(6, 2, 3, 32, &size) || size != 168) return 1; // six letters that are 0, 1 or 2 */
 BITM_MUST_USE uint32_t bitm_text_size(size_t len, uint32_t width, size_t letters, uint32_t step, uint64_t *out);
 
 /* How many words the block of a text of `len` letters below `letters` takes, with a sample each `step` letters, and how
- * many numbers of 32 bits bitm_text_build needs while it works: two for each letter and two more, and of a short text
- * with a large alphabet more, which is two for each letter of the alphabet. BITM_BAD_SIZE if len is 2^32 - 1 or more,
- * or step is 0. block_len and scratch_len may not overlap.
+ * many numbers of 32 bits bitm_text_build needs while it works: two for each letter and two more; for a short text with
+ * a large alphabet more, two for each letter of the alphabet. BITM_BAD_SIZE if len is 2^32 - 1 or more, or step is 0.
  *
- *     if (bitm_text_size_letters(6, 3, 32, &value, &scratch_len) != BITM_OK || scratch_len != 14) return 1; */
+ *     uint64_t block_len, scratch_len;
+ *     if (bitm_text_size_letters(6, 3, 32, &block_len, &scratch_len) || block_len != 168 ||
+ *         scratch_len != 14) return 1; */
 BITM_MUST_USE uint32_t bitm_text_size_letters(size_t len, uint32_t letters, uint32_t step, uint64_t *block_len,
                                               uint64_t *scratch_len);
 
 /* Writes the block of the index of a text of letters below `letters`, with a sample each `step` letters: the more
  * letters apart, the less memory, and the more steps for each position and each part of the text. BITM_BAD_SIZE if
  * bitm_text_size_letters does not take text_len and step, or block_len or scratch_len is not the size that it gives;
- * else BITM_WRONG if a letter is not below `letters`. What scratch holds is overwritten. Allocates nothing. Text,
- * scratch and block may not overlap one another. Time grows linearly with the text (tested, not proved).
+ * else BITM_WRONG if a letter is not below `letters`. BITM_OK overwrites scratch. Allocates nothing. Time grows
+ * linearly with the text (tested, not proved).
  *
- *     const uint64_t as_numbers[6] = {1, 0, 2, 0, 2, 0}; // banana
- *     uint32_t working[14];
- *     if (bitm_text_size_letters(6, 3, 32, &value, &scratch_len) != BITM_OK || scratch_len != 14) return 1;
- *     uint64_t *of_letters = malloc(8 * value);
- *     struct bitm_text letters = {0};
- *     if (!of_letters || bitm_text_build(as_numbers, 6, 3, 32, working, 14, of_letters, value) != BITM_OK ||
- *         bitm_text_build(as_numbers, 6, 2, 32, working, 14, of_letters, value) != BITM_WRONG || // no letter 2
- *         bitm_text_open(of_letters, value, &letters) != BITM_OK ||
- *         bitm_text_count(&letters, as_numbers + 1, 3, &value) != BITM_OK || value != 2) return 1; // from 1, and from 3
- *     free(of_letters); */
+ *     const uint64_t banana[6] = {1, 0, 2, 0, 2, 0};
+ *     uint64_t block[168], count; // bitm_text_size_letters(6, 3, 32, ..) says 168 and 14
+ *     uint32_t scratch[14];
+ *     struct bitm_text text;
+ *     if (bitm_text_build(banana, 6, 3, 32, scratch, 14, block, 168) || bitm_text_open(block, 168, &text) ||
+ *         bitm_text_count(&text, banana + 1, 3, &count) || count != 2 || // from 1, and from 3
+ *         bitm_text_build(banana, 6, 2, 32, scratch, 14, block, 168) != BITM_WRONG) return 1; // no letter 2 */
 BITM_MUST_USE uint32_t bitm_text_build(const uint64_t *text, size_t text_len, uint32_t letters, uint32_t step,
                                        uint32_t *scratch, size_t scratch_len, uint64_t *block, size_t block_len);
 
 /* How many words the block of a text of bytes takes, with a sample each `step` bytes, and how many numbers of 32 bits
  * bitm_text_build_bytes needs while it works: eight bytes for each byte of the text, and 2 KiB more for a short one.
  * The text is read twice, to see which bytes it uses (evident from the code). BITM_BAD_SIZE if text_len is 2^32 - 1 or
- * more, or step is 0. */
+ * more, or step is 0.
+ *
+ *     uint64_t block_len, scratch_len;
+ *     if (bitm_text_size_bytes((const uint8_t *)"banana", 6, 32, &block_len, &scratch_len) ||
+ *         block_len != 176) return 1; */
 BITM_MUST_USE uint32_t bitm_text_size_bytes(const uint8_t *text, size_t text_len, uint32_t step, uint64_t *block_len,
                                             uint64_t *scratch_len);
 
 /* bitm_text_build of bytes: only bytes that occur in the text become letters. BITM_BAD_SIZE exactly if
  * bitm_text_size_bytes does not take the text and the step, or a length is not the size that it gives.
  *
- *     if (bitm_text_build_bytes(banana, 6, 32, working, 13, of_text, text_len) != BITM_BAD_SIZE) return 1; */
+ *     const uint8_t *const banana = (const uint8_t *)"banana";
+ *     uint64_t block[176]; // bitm_text_size_bytes says 176 and 14
+ *     uint32_t scratch[14];
+ *     if (bitm_text_build_bytes(banana, 6, 32, scratch, 14, block, 176) ||
+ *         bitm_text_build_bytes(banana, 6, 32, scratch, 13, block, 176) != BITM_BAD_SIZE) return 1; */
 BITM_MUST_USE uint32_t bitm_text_build_bytes(const uint8_t *text, size_t text_len, uint32_t step, uint32_t *scratch,
                                              size_t scratch_len, uint64_t *block, size_t block_len);
 
 /* Building in two steps, for a caller that wants to say how far it is. Writes the order of the text's suffixes to the
  * first text_len + 1 numbers of scratch: number k is where the suffix with rank k begins, and the empty suffix has rank
  * 0. The rest of scratch holds arbitrary numbers then. BITM_BAD_SIZE if bitm_text_size_letters does not take text_len,
- * or scratch_len is not the size that it gives; else BITM_WRONG if a letter is not below `letters`. scratch and text may
- * not overlap. */
+ * or scratch_len is not the size that it gives; else BITM_WRONG if a letter is not below `letters`.
+ *
+ * bitm_text_order_bytes is bitm_text_order of bytes. BITM_BAD_SIZE exactly if bitm_text_size_bytes does not take
+ * text_len, or scratch_len is not the size that it gives.
+ *
+ *     const uint64_t banana[6] = {1, 0, 2, 0, 2, 0};
+ *     uint32_t scratch[14]; // bitm_text_size_letters and bitm_text_size_bytes say 14
+ *     if (bitm_text_order(banana, 6, 3, scratch, 14) || scratch[0] != 6 || scratch[1] != 5 || // the end, the last a
+ *         bitm_text_order_bytes((const uint8_t *)"banana", 6, scratch, 14) || scratch[1] != 5) return 1; */
 BITM_MUST_USE uint32_t bitm_text_order(const uint64_t *text, size_t text_len, uint32_t letters, uint32_t *scratch,
                                        size_t scratch_len);
-
-/* bitm_text_order of bytes. BITM_BAD_SIZE exactly if bitm_text_size_bytes does not take text_len, or scratch_len is not
- * the size that it gives. */
 BITM_MUST_USE uint32_t bitm_text_order_bytes(const uint8_t *text, size_t text_len, uint32_t *scratch,
                                              size_t scratch_len);
 
 /* Writes the block of the index of a text, as bitm_text_build does, from the order that bitm_text_order wrote to
  * scratch. BITM_BAD_SIZE as bitm_text_build; else BITM_WRONG exactly if a letter is not below `letters`, or the first
- * text_len + 1 numbers of scratch are not the order of the text's suffixes: each is looked at. What scratch holds is
- * overwritten. Text, scratch and block may not overlap one another.
+ * text_len + 1 numbers of scratch are not the order of the text's suffixes: each is looked at.
  *
- *     uint32_t ranked[14];
- *     uint64_t in_two_len;
- *     if (bitm_text_size_letters(6, 3, 32, &in_two_len, &scratch_len) != BITM_OK) return 1;
- *     uint64_t *in_two = malloc(8 * in_two_len);
- *     if (!in_two || bitm_text_order(as_numbers, 6, 3, ranked, 14) != BITM_OK || ranked[1] != 5 || // the last a
- *         bitm_text_build_ordered(as_numbers, 6, 3, 32, ranked, 14, in_two, in_two_len) != BITM_OK ||
- *         bitm_text_check(in_two, in_two_len) != BITM_OK) return 1;
- *     free(in_two); */
+ * bitm_text_build_ordered_bytes is bitm_text_build_ordered of bytes, from the order that bitm_text_order_bytes wrote.
+ * BITM_BAD_SIZE exactly as bitm_text_build_bytes; else BITM_WRONG exactly if the order is not the order of the text's
+ * suffixes. Both overwrite scratch, after BITM_WRONG too.
+ *
+ *     const uint8_t *const bytes = (const uint8_t *)"banana";
+ *     const uint64_t letters[6] = {1, 0, 2, 0, 2, 0};
+ *     uint64_t by_letters[168], by_bytes[176]; // bitm_text_size_letters says 168 and 14, .._bytes 176 and 14
+ *     uint32_t scratch[14];
+ *     if (bitm_text_order(letters, 6, 3, scratch, 14) ||
+ *         bitm_text_build_ordered(letters, 6, 3, 32, scratch, 14, by_letters, 168) ||
+ *         bitm_text_order_bytes(bytes, 6, scratch, 14) ||
+ *         bitm_text_build_ordered_bytes(bytes, 6, 32, scratch, 14, by_bytes, 176)) return 1; */
 BITM_MUST_USE uint32_t bitm_text_build_ordered(const uint64_t *text, size_t text_len, uint32_t letters, uint32_t step,
                                                uint32_t *scratch, size_t scratch_len, uint64_t *block,
                                                size_t block_len);
-
-/* bitm_text_build_ordered of bytes, from the order that bitm_text_order_bytes wrote. BITM_BAD_SIZE exactly as
- * bitm_text_build_bytes; else BITM_WRONG exactly if the order is not that of the text's suffixes.
- *
- *     uint64_t by_bytes_len;
- *     if (bitm_text_size_bytes(banana, 6, 32, &by_bytes_len, &scratch_len) != BITM_OK) return 1;
- *     uint64_t *by_bytes = malloc(8 * by_bytes_len);
- *     uint32_t *ranked_bytes = malloc(4 * scratch_len);
- *     if (!by_bytes || !ranked_bytes || bitm_text_order_bytes(banana, 6, ranked_bytes, scratch_len) != BITM_OK ||
- *         bitm_text_build_ordered_bytes(banana, 6, 32, ranked_bytes, scratch_len, by_bytes, by_bytes_len) != BITM_OK ||
- *         bitm_text_check(by_bytes, by_bytes_len) != BITM_OK) return 1;
- *     free(by_bytes), free(ranked_bytes); */
 BITM_MUST_USE uint32_t bitm_text_build_ordered_bytes(const uint8_t *text, size_t text_len, uint32_t step,
                                                      uint32_t *scratch, size_t scratch_len, uint64_t *block,
                                                      size_t block_len);
 
 /* Opens a block: writes the index that queries take, which points into the block. BITM_WRONG exactly if the header or
- * the directory of the block is not right, or belongs to no text, or block_len is not as they say. Reads at most 80
- * words, however long the block is (evident from the code); what its other words hold is not looked at.
+ * the directory of the block is not right, or belongs to no text, or block_len is not as they say.
  *
- *     if (bitm_text_open(of_text, text_len - 1, &text) != BITM_WRONG || text.letters.len != 6) return 1; */
+ * bitm_text_check says whether a block is as it was written and holds the index of a text: BITM_OK, or BITM_WRONG as
+ * above, if a checksum does not match its words, or if the words are not the words that an index keeps of a text. So a
+ * block in which one word was changed is refused. Three passes over the block, and a walk through all letters (evident
+ * from the code).
+ *
+ *     uint64_t block[176]; // bitm_text_size_bytes says 176 and 14
+ *     uint32_t scratch[14];
+ *     struct bitm_text text;
+ *     if (bitm_text_build_bytes((const uint8_t *)"banana", 6, 32, scratch, 14, block, 176) ||
+ *         bitm_text_open(block, 176, &text) || text.letters.len != 6 || bitm_text_check(block, 176)) return 1;
+ *     block[100] ^= 1;
+ *     if (bitm_text_check(block, 176) != BITM_WRONG) return 1; */
 BITM_MUST_USE uint32_t bitm_text_open(const uint64_t *block, size_t block_len, struct bitm_text *text);
-
-/* Whether a block is as it was written and holds the index of a text: BITM_OK, or BITM_WRONG as bitm_text_open, if a
- * checksum does not match its words, or if the words are not what an index keeps of a text. So a block in which one
- * word was changed is refused. Three passes over the block, and a walk through all letters (evident from the code).
- *
- *     of_text[100] ^= 1;
- *     if (bitm_text_check(of_text, text_len) != BITM_WRONG) return 1;
- *     of_text[100] ^= 1;
- *     if (bitm_text_check(of_text, text_len) != BITM_OK) return 1; */
 BITM_MUST_USE uint32_t bitm_text_check(const uint64_t *block, size_t block_len);
 
-/* Each of these calls returns BITM_BAD_SIZE if a length in *text fits no text, and BITM_WRONG only where the block
- * holds no text.
+/* How many letters the text has.
  *
- * How many letters the text has. */
+ *     uint64_t block[176], len; // bitm_text_size_bytes says 176 and 14
+ *     uint32_t scratch[14];
+ *     struct bitm_text text;
+ *     if (bitm_text_build_bytes((const uint8_t *)"banana", 6, 32, scratch, 14, block, 176) ||
+ *         bitm_text_open(block, 176, &text) || bitm_text_len(&text, &len) || len != 6) return 1; */
 BITM_MUST_USE uint32_t bitm_text_len(const struct bitm_text *text, uint64_t *out);
 
 /* At how many positions of the text a pattern stands; one of no letters at each position, the end too. A letter or a
@@ -2770,39 +3129,49 @@ BITM_MUST_USE uint32_t bitm_text_len(const struct bitm_text *text, uint64_t *out
  * at most three upper entries, three lower entries and 24 words.
  *
  *     const uint64_t ana[3] = {0, 2, 0}; // of a, b and n
- *     if (bitm_text_count(&text, ana, 3, &value) != BITM_OK || value != 2) return 1; // from 1 and from 3 on */
+ *     uint64_t block[176], count; // bitm_text_size_bytes says 176 and 14
+ *     uint32_t scratch[14];
+ *     struct bitm_text text;
+ *     if (bitm_text_build_bytes((const uint8_t *)"banana", 6, 32, scratch, 14, block, 176) ||
+ *         bitm_text_open(block, 176, &text) || bitm_text_count(&text, ana, 3, &count) || count != 2 ||
+ *         bitm_text_count_bytes(&text, (const uint8_t *)"na", 2, &count) || count != 2) return 1; */
 BITM_MUST_USE uint32_t bitm_text_count(const struct bitm_text *text, const uint64_t *pattern, size_t pattern_len,
                                        uint64_t *out);
 BITM_MUST_USE uint32_t bitm_text_count_bytes(const struct bitm_text *text, const uint8_t *pattern, size_t pattern_len,
                                              uint64_t *out);
 
 /* Writes positions at which a pattern stands, in the order of the suffixes that begin there: without the first `from`
- * of them, as many as there is room for; and to *written how many these are. Items of out after them stay as they were.
- * Where BITM_WRONG is returned, out may have been written to; *written is as it was. Reads what bitm_text_count reads;
- * and for each position, with n for the step or, if it is less, the text's length and 1, what bitm_text_extract reads
- * for n - 1 letters, and of the marks at most n + 2 upper entries, as many lower entries, eight times as many words,
- * and a sample. out and written may overlap neither each other nor what the call reads.
+ * of them, until out is full or there are no more; and to *written how many these are. Items of out after them stay as
+ * they were. Where BITM_WRONG is returned, out may have been written to; *written is as it was. Reads what
+ * bitm_text_count reads; and for each position, with n for the step or, if it is less, the text's length and 1, what
+ * bitm_text_extract reads for n - 1 letters, and of the marks at most n + 2 upper entries, n + 2 lower entries, 8 * (n
+ * + 2) words, and a sample.
  *
- *     uint64_t places[4];
- *     if (bitm_text_locate(&text, ana, 3, 0, places, 4, &value) != BITM_OK || value != 2 || places[0] != 3 ||
- *         bitm_text_locate_bytes(&text, (const uint8_t *)"ana", 3, 1, places, 4, &value) != BITM_OK || value != 1 ||
- *         places[0] != 1) return 1; */
+ *     const uint64_t ana[3] = {0, 2, 0}; // of a, b and n
+ *     uint64_t block[176], found[4], written; // bitm_text_size_bytes says 176 and 14
+ *     uint32_t scratch[14];
+ *     struct bitm_text text;
+ *     if (bitm_text_build_bytes((const uint8_t *)"banana", 6, 32, scratch, 14, block, 176) ||
+ *         bitm_text_open(block, 176, &text) || bitm_text_locate(&text, ana, 3, 0, found, 4, &written) ||
+ *         written != 2 || found[0] != 3 || found[1] != 1 ||
+ *         bitm_text_locate_bytes(&text, (const uint8_t *)"ana", 3, 1, found, 4, &written) || written != 1) return 1; */
 BITM_MUST_USE uint32_t bitm_text_locate(const struct bitm_text *text, const uint64_t *pattern, size_t pattern_len,
                                         size_t from, uint64_t *out, size_t out_len, uint64_t *written);
 BITM_MUST_USE uint32_t bitm_text_locate_bytes(const struct bitm_text *text, const uint8_t *pattern, size_t pattern_len,
                                               size_t from, uint64_t *out, size_t out_len, uint64_t *written);
 
-/* Writes the out_len letters of the text from position `from` on. BITM_NONE exactly if the text has fewer, and out is
- * as it was then. Where BITM_WRONG is returned, out may have been written to. BITM_BAD_SIZE for bytes also if letters
- * are numbers that may have more than 8 bits. Reads for each letter, and for at most `step` - 1 more, or if that is
- * less the text's length, two upper entries, two lower entries and 16 words for each bit of the width, and at most a
- * sample.
+/* Writes the out_len letters of the text from position `from` on. BITM_NONE exactly if the text has fewer. Where
+ * BITM_WRONG is returned, out may have been written to. BITM_BAD_SIZE for bytes also if letters are numbers that may
+ * have more than 8 bits. Reads for each letter, and for at most `step` - 1 letters more, or the text's length if that
+ * is less, two upper entries, two lower entries and 16 words for each bit of the width, and at most a sample.
  *
- *     uint8_t nan[3];
- *     if (bitm_text_extract_bytes(&text, 2, nan, 3) != BITM_OK || nan[0] != 'n' || nan[1] != 'a' ||
- *         bitm_text_extract(&text, 4, places, 3) != BITM_NONE || bitm_text_extract(&text, 4, places, 2) != BITM_OK ||
- *         places[0] != 2 || places[1] != 0) return 1;
- *     free(of_text); */
+ *     uint64_t block[176], letters[2]; // bitm_text_size_bytes says 176 and 14
+ *     uint32_t scratch[14];
+ *     uint8_t bytes[3];
+ *     struct bitm_text text;
+ *     if (bitm_text_build_bytes((const uint8_t *)"banana", 6, 32, scratch, 14, block, 176) ||
+ *         bitm_text_open(block, 176, &text) || bitm_text_extract_bytes(&text, 2, bytes, 3) || bytes[0] != 'n' ||
+ *         bitm_text_extract(&text, 4, letters, 2) || letters[0] != 2 || letters[1] != 0) return 1; */
 BITM_MUST_USE uint32_t bitm_text_extract(const struct bitm_text *text, size_t from, uint64_t *out, size_t out_len);
 BITM_MUST_USE uint32_t bitm_text_extract_bytes(const struct bitm_text *text, size_t from, uint8_t *out, size_t out_len);
 

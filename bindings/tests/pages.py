@@ -7,7 +7,7 @@ from common import ARCHIVE, PYTHON
 from shell import bash, needs
 
 HEADS = {
-    "c": "#include <bitm.h>\n#include <stdlib.h>\n#include <string.h>\n",
+    "c": "#include <bitm.h>\n",
     "cpp": "#include <bitm.hpp>\n#include <iostream>\n#include <string>\n#include <vector>\n",
 }
 # What stands at the top of a program, and what is put around the rest.
@@ -37,9 +37,24 @@ def blocks_of(page):
     text = page.read_text(encoding="utf-8")
     if page.suffix == ".md":
         return blocks_in(text.partition(IN_RATTLE)[2] if has_data(page) else text)
-    language, mark = ("c", r" \*") if page.suffix == ".h" else ("cpp", "//")
-    found = [re.sub(rf"^{mark} *", "", it, flags=re.M) for it in re.findall(rf"^{mark}\n((?:{mark}     .*\n)+)", text, re.M)]
-    return [(language, it.replace("*/", "")) for it in [HEADS[language], *found]] if found else []
+    if page.suffix == ".h":
+        return [("c", alone(examples_of(text), page.name))]
+    found = [re.sub(r"^// *", "", it, flags=re.M) for it in re.findall(r"^//\n((?://     .*\n)+)", text, re.M)]
+    return [("cpp", it) for it in [HEADS["cpp"], *found]] if found else []
+
+
+def examples_of(text):
+    """The examples in the comments of a header of C, each with its line: what is indented after an empty line."""
+    found = re.finditer(r"^ \*\n((?: \*     .*\n)+)", text, re.M)
+    return [(text.count("\n", 0, it.start(1)) + 1, re.sub(r" *\*/$", "", re.sub(r"^ \* *", "    ", it[1], flags=re.M))) for it in found]
+
+
+def alone(examples, name):
+    """The program of examples, each a function of its own below the header alone: none can take a value of another. It
+    says which one failed, by its line; where one does not compile, the compiler does."""
+    functions = "".join(f'static int at_{line}(void)\n{{\n#line {line} "{name}"\n{code}    return 0;\n}}\n' for line, code in examples)
+    calls = "".join(f'    if (at_{line}()) return printf("{name}:{line}: the example fails\\n"), 1;\n' for line, _ in examples)
+    return f"{HEADS['c']}{functions}#include <stdio.h>\nint main(void)\n{{\n{calls}    return 0;\n}}\n"
 
 
 def whole(language, code):

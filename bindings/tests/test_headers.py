@@ -8,7 +8,7 @@ from header import PLAIN, header
 from shell import bash, needs
 
 HEADER, VERSION = header(), read("VERSION").strip()
-SOURCES = "\n".join(it.read_text() for name in ("bitm_abi", "bitm_c", "bitm_block_c", "bitm_matrix_c", "bitm_text_c", "bitm_lists_c", "bitm_hash_c", "bitm_trie_c", "bitm_strings_c") for it in sorted(TOP.glob(f"crates/{name}/src/**/*.rt")))
+SOURCES = "\n".join(it.read_text() for name in ("bitm_abi", "bitm_c", "bitm_numbers_c", "bitm_keys_c", "bitm_trees_c") for it in sorted(TOP.glob(f"crates/{name}/src/**/*.rt")))
 OF_INLINE = {"bitm_sequence_walk"}  # of functions in the header alone
 NUMBERS = {"u8": "uint8_t", "u16": "uint16_t", "u32": "uint32_t", "u64": "uint64_t", "usize": "uint64_t", "bool": "bool", "": "void"}
 

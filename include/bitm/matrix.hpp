@@ -5,8 +5,8 @@
 //     std::cout << m[4] << ' ' << m.rank(1, 4) << ' ' << m.select(1, 2).value() << '\n';                 // 5 2 5
 //     std::cout << m.quantile(1, 5, 2).value() << ' ' << m.count_less(1, 5, 4) << '\n';                  // 4 2
 //
-// A number of `width` bits takes about 1.03 times as many, and with quarters about 1.16 times. The file of a matrix is
-// its block, the same bytes from each language.
+// A number of `width` bits takes about 1.03 times as many, with quarters about 1.16 times, and with hints a quarter of
+// them more. The file of a matrix is its block, the same bytes from each language.
 #ifndef BITM_MATRIX_HPP
 #define BITM_MATRIX_HPP
 
@@ -17,6 +17,9 @@ BITM_NAMESPACE_BEGIN
 // Whether a matrix has quarters: counts of 1 bits for every eight words of its block, by which most queries read fewer
 // words.
 enum class quarters : bool { no, yes };
+
+// Whether a matrix has hints: positions of bits, by which `select` of a number mostly reads no table.
+enum class hints : bool { no, yes };
 
 // The numbers of a matrix, read one at a time.
 class matrix_iterator : public detail::at_position<matrix_iterator, std::uint64_t> {
@@ -51,7 +54,7 @@ struct matrix_kind : block_kind<matrix_kind, bitm_matrix, bitm_matrix_open> {
     static constexpr std::size_t nothing_len = 56;
     static std::uint32_t build_nothing(std::uint64_t *to) noexcept
     {
-        return bitm_matrix_build(nullptr, 0, 1, false, nullptr, 0, to, nothing_len);
+        return bitm_matrix_build(nullptr, 0, 1, false, false, nullptr, 0, to, nothing_len);
     }
 };
 
@@ -223,10 +226,10 @@ private:
     }
 };
 
-// The width of a matrix, whether it has quarters, and how many words its block has.
+// The width of a matrix, whether it has quarters and hints, and how many words its block has.
 struct matrix_shape {
     std::uint32_t width;
-    bool quarters;
+    bool quarters, hints;
     std::uint64_t len;
 };
 
@@ -277,10 +280,12 @@ public:
 
     // No numbers; those of words, a list or iterators, of `width` bits at most, or 0 for as many as the largest one
     // has: fails where one has more, with errc::bad_size, its index and item_fault::too_wide. With quarters the block
-    // takes an eighth more, and most queries read fewer words (evident from the code).
+    // takes an eighth more, and most queries read fewer words; with hints it takes a quarter of the numbers' bits more,
+    // and `select` reads fewer words (evident from the code).
     wavelet_matrix() noexcept = default;
-    explicit wavelet_matrix(words_in numbers, std::uint32_t width = 0, quarters kept = quarters::no)
-        : wavelet_matrix(try_of(numbers, width, kept).value())
+    explicit wavelet_matrix(words_in numbers, std::uint32_t width = 0, quarters kept = quarters::no,
+                            hints led = hints::no)
+        : wavelet_matrix(try_of(numbers, width, kept, led).value())
     {
     }
     wavelet_matrix(std::initializer_list<std::uint64_t> numbers)
@@ -288,18 +293,20 @@ public:
     {
     }
     template <class It, class = typename std::iterator_traits<It>::iterator_category>
-    wavelet_matrix(It first, It last, std::uint32_t width = 0, quarters kept = quarters::no)
-        : wavelet_matrix(detail::gathered::of(first, last), width, kept)
+    wavelet_matrix(It first, It last, std::uint32_t width = 0, quarters kept = quarters::no, hints led = hints::no)
+        : wavelet_matrix(detail::gathered::of(first, last), width, kept, led)
     {
         static_assert(std::is_unsigned_v<typename std::iterator_traits<It>::value_type>, "numbers without a sign");
     }
-    static result<wavelet_matrix> try_of(words_in numbers, std::uint32_t width = 0, quarters kept = quarters::no)
+    static result<wavelet_matrix> try_of(words_in numbers, std::uint32_t width = 0, quarters kept = quarters::no,
+                                         hints led = hints::no)
     {
-        const result<detail::matrix_shape> wanted = shape_of(numbers, width, kept);
+        const result<detail::matrix_shape> wanted = shape_of(numbers, width, kept, led);
         if (!wanted) return wanted.error();
         detail::block all(wanted->len), scratch(2 * numbers.size());
-        const std::uint32_t status = bitm_matrix_build(numbers.data(), numbers.size(), wanted->width, wanted->quarters,
-                                                       scratch.data(), scratch.size(), all.data(), all.size());
+        const std::uint32_t status =
+            bitm_matrix_build(numbers.data(), numbers.size(), wanted->width, wanted->quarters, wanted->hints,
+                              scratch.data(), scratch.size(), all.data(), all.size());
         if (status == BITM_WRONG) return detail::too_wide(numbers, wanted->width, errc::bad_size, "number");
         if (status != BITM_OK) return detail::error_of(status);
         return opened(std::move(all), verify::no);
@@ -308,14 +315,15 @@ public:
     // The same matrix, built level by level: `progress` is called after each of its `width` levels with how many are
     // done, and how many there are. What it throws ends the build.
     template <class Progress, detail::if_progress<Progress> = 0>
-    wavelet_matrix(words_in numbers, std::uint32_t width, quarters kept, Progress &&progress)
-        : wavelet_matrix(try_of(numbers, width, kept, progress).value())
+    wavelet_matrix(words_in numbers, std::uint32_t width, quarters kept, hints led, Progress &&progress)
+        : wavelet_matrix(try_of(numbers, width, kept, led, progress).value())
     {
     }
     template <class Progress, detail::if_progress<Progress> = 0>
-    static result<wavelet_matrix> try_of(words_in numbers, std::uint32_t width, quarters kept, Progress &&progress)
+    static result<wavelet_matrix> try_of(words_in numbers, std::uint32_t width, quarters kept, hints led,
+                                         Progress &&progress)
     {
-        const result<detail::matrix_shape> wanted = shape_of(numbers, width, kept);
+        const result<detail::matrix_shape> wanted = shape_of(numbers, width, kept, led);
         if (!wanted) return wanted.error();
         const failure wide = detail::too_wide(numbers, wanted->width, errc::bad_size, "number");
         if (wide.item != item_fault::none) return wide;
@@ -323,10 +331,11 @@ public:
         if (!numbers.empty()) std::memcpy(sorted.data(), numbers.data(), 8 * numbers.size());
         for (std::uint32_t depth = 0; depth < wanted->width; depth++) {
             std::uint32_t status =
-                bitm_matrix_write_level(sorted.data(), sorted.size(), wanted->width, wanted->quarters, depth,
-                                        scratch.data(), scratch.size(), all.data(), all.size());
+                bitm_matrix_write_level(sorted.data(), sorted.size(), wanted->width, wanted->quarters, wanted->hints,
+                                        depth, scratch.data(), scratch.size(), all.data(), all.size());
             if (status == BITM_OK && depth + 1 == wanted->width)
-                status = bitm_matrix_seal(numbers.size(), wanted->width, wanted->quarters, all.data(), all.size());
+                status = bitm_matrix_seal(numbers.size(), wanted->width, wanted->quarters, wanted->hints, all.data(),
+                                          all.size());
             if (status != BITM_OK) return detail::error_of(status);
             progress(std::uint64_t{depth} + 1, std::uint64_t{wanted->width});
         }
@@ -349,10 +358,13 @@ public:
 private:
     friend class detail::matrix_calls<wavelet_matrix>;
 
-    static result<detail::matrix_shape> shape_of(words_in numbers, std::uint32_t width, quarters kept) noexcept
+    static result<detail::matrix_shape> shape_of(words_in numbers, std::uint32_t width, quarters kept,
+                                                 hints led) noexcept
     {
-        detail::matrix_shape wanted{width == 0 ? width_of(numbers) : width, kept == quarters::yes, 0};
-        if (bitm_matrix_size(numbers.size(), wanted.width, wanted.quarters, &wanted.len) == BITM_OK) return wanted;
+        detail::matrix_shape wanted{width == 0 ? width_of(numbers) : width, kept == quarters::yes, led == hints::yes,
+                                    0};
+        if (bitm_matrix_size(numbers.size(), wanted.width, wanted.quarters, wanted.hints, &wanted.len) == BITM_OK)
+            return wanted;
         return detail::bad_size("the width is above 64, or the numbers have 2^63 bits or more");
     }
     // How many bits the largest number has, and at least 1.
