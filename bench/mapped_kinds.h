@@ -157,9 +157,9 @@ static void make_matrix(uint64_t bits)
     at = len / 2;
     other = counted[0] = numbers[at];
     for (size_t i = 0; i < at; i++) counted[1] += numbers[i] == other;
-    const uint32_t status = bitm_matrix_size(len, 32, false, &size);
+    const uint32_t status = bitm_matrix_size(len, 32, false, false, &size);
     uint64_t *block = room(status, size);
-    built(bitm_matrix_build(numbers, len, 32, false, scratch, 2 * len, block, size), block);
+    built(bitm_matrix_build(numbers, len, 32, false, false, scratch, 2 * len, block, size), block);
     drop(scratch, 2 * len);
     drop(numbers, len);
 }

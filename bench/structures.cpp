@@ -100,15 +100,15 @@ struct InBlock {
     static uint64_t size(uint64_t count, int width, bool quarters)
     {
         uint64_t words = 0;
-        have(bitm_matrix_size(count, width, quarters, &words), "bitm_matrix_size");
+        have(bitm_matrix_size(count, width, quarters, false, &words), "bitm_matrix_size");
         return words;
     }
     const char *by() const { return quarters ? "C with quarters" : "C"; }
     Form built(const Numbers &numbers, Block &scratch)
     {
         return {"build_a_number", by(), [this, &numbers, &scratch] {
-                    have(bitm_matrix_build(numbers.data(), numbers.size(), width, quarters, scratch.words, scratch.len,
-                                           block.words, words),
+                    have(bitm_matrix_build(numbers.data(), numbers.size(), width, quarters, false, scratch.words,
+                                           scratch.len, block.words, words),
                          "bitm_matrix_build");
                     have(bitm_matrix_open(block.words, words, &matrix), "bitm_matrix_open");
                     return matrix.len;

@@ -17,19 +17,21 @@ from functions import functions_of
 NAME = re.compile(r"(total_)?(\w+?)((?:_on|_by)*)")
 # By crate and name: what stands beside a `total_`.
 LEFT = {
-    ("bitm_view", "rank_on"): "ranks by ranked_on of lent_tables, which runs total_rank_on",
+    ("bitm_view", "rank_on"): "ranks by ranked_on of tables_view, which runs total_rank_on",
     ("bitm_view", "select_on"): "selects by search_on, as total_select_on does",
+    ("hash_buckets", "number_on"): "of another structure than number_by of perfect_hash: a seed for each bucket",
     ("louds", "degree_by"): "reads the words after one selection, where the clause of degree_on has two",
     ("louds", "degree_on"): "its clause has two selections, and no words between them",
+    ("perfect_hash", "number_by"): "of another structure than number_on of hash_buckets: levels with a bit for each key",
     ("text_index", "longer_on"): "for the check, where the letters are a matrix, and nothing else is known",
 }
 SHARED = {
     "a block of a kind": "CanHold IsBlockOf IsSoundBlock StandsIn AreParts HasLengths parts_of sections_of",
+    "the hints of a structure": "hints_in with_hints AreHintsWritten",
     "why nothing was made": "IsReason",
     "the text of an error": "build_error_text error_text failure_text",
     "what a call of C answers":
         "FindAnswered RankAnswered NextAnswered PreviousAnswered",
-    "a command of the program": "command_in IsDone Did DidAsAsked",
 }
 DEFINED = re.compile(r"^(?:abbrev )?pub (?:record |data )?([A-Za-z]\w*)(?= [({:])", re.M)
 

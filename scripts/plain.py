@@ -38,12 +38,12 @@ perfect_hash/src/table.rt get:number number:_by+found get_counted:number_by_on
 sharded_index/src/shard.rt rank:rank_of
 sparse_bits/src/sparse.rt try_rank:rank_in+asked+found try_get_bit:bit_in+asked bit_and_rank:_in+asked
     try_select:select_in+asked+found try_select0:select0_in+asked+found
-sparse_block/src/queries.rt rank:_in+asked get_bit:bit_in+asked select:_in+asked select0:_in+asked
+sequence_block/src/sparse/queries.rt rank:_in+asked get_bit:bit_in+asked select:_in+asked select0:_in+asked
 text_index/src/growing.rt extend:rows_with
 text_index/src/index.rt count:total_count_on locate:total_locate_on extract:total_extract_on rows_of:total_rows_of_on
     rows_with:total_rows_with_on position:total_position_on
 text_index/src/matches.rt matches:rows_of
-trie_block/src/queries.rt total_child_by_label_on:child_by_label_by total_find_on:find_by total_longest_on:longest_by
+tree_block/src/trie/queries.rt total_child_by_label_on:child_by_label_by total_find_on:find_by total_longest_on:longest_by
 wavelet_matrix/src/distinct.rt quantile_and_count:total_quantile_and_count_on
 wavelet_matrix/src/queries.rt get:total_get_on try_get:total_get_on get_and_rank:total_get_and_rank_on
     get_many:total_get_list_on rank:total_rank_on try_rank:total_rank_on rank_many:total_rank_list_on
@@ -58,21 +58,21 @@ OTHERS = {
     "bitm_abi/src/shards.rt": {
         "rank": "a shard with a wrong length is Wrong", "rank_list": "a shard with a wrong length is Wrong",
         "select": "a shard with a wrong length is Wrong", "select_list": "a shard with a wrong length is Wrong"},
-    "bitm_lists_c/src/moving.rt": {"bitm_cursor_start": "writes where the cursor stands, or says why not"},
+    "bitm_numbers_c/src/cursors/moving.rt": {"bitm_cursor_start": "writes where the cursor stands, or says why not"},
     "block_items/src/items.rt": {"next": "an iterator over items, each of which is one query"},
     "block_items/src/views.rt": {"item": "a query of the view, whose answer the iterator takes"},
     "elias_fano_view/src/sequence/items.rt": {"items_from": "a selection, and one body for all numbers after it"},
     "matrix_block/src/shared.rt": {"intersect": "next values of both ranges by turns, without memory of its own"},
     "perfect_hash/src/dictionary.rt": {"get": "a number, and the key's fingerprint there"},
-    "seeded_block/src/packed.rt": {"get": "a byte of a word, and no table"},
+    "hash_block/src/seeded/packed.rt": {"get": "a byte of a word, and no table"},
     "sharded_index/src/near.rt": {"next": "a rank and a selection", "previous": "a rank and a selection"},
     "sharded_index/src/selections.rt": {"select_list": "one list for each shard"},
     "sharded_index/src/shard.rt": {
         "select": "a call of the view for each kind", "select_list": "a call of the view for each kind"},
     "sharded_index/src/sharded.rt": {
         "rank": "the prefix counts, and one shard", "select": "the prefix counts, and one shard"},
-    "string_block/src/view.rt": {"get": "two starts of strings, and no table"},
-    "text_collection/src/collection.rt": {
+    "hash_block/src/strings/view.rt": {"get": "two starts of strings, and no table"},
+    "text_index/src/collection/collection.rt": {
         "count": "a pattern of other letters is nowhere, else one count", "locate": "positions, each with its document"},
     "text_index/src/growing.rt": {"count": "no reads: the rows are known"},
     "text_index/src/matches.rt": {"next": "an iterator over positions, each of which is one query"},
@@ -93,13 +93,13 @@ OTHER_WAYS = {
         "return self.select_on::<BIT, Probe<'_>, ByTables>(":
             "self.rank::<BIT>(rank); return self.select_on::<BIT, Probe<'_>, ByTables>(",
     },
-    "louds_block/src/tree.rt": {
+    "tree_block/src/tree.rt": {
         "degree_by(&self.finder(),": "self.child(node, 0); degree_by(&self.finder(),",
     },
-    "string_block/src/view.rt": {
+    "hash_block/src/strings/view.rt": {
         "self.find_counted(string).0": "self.check(); self.find_counted(string).0",
     },
-    "trie_block/src/view.rt": {
+    "tree_block/src/trie/view.rt": {
         "find_by(&finder, &mut source,": "self.longest(word); find_by(&finder, &mut source,",
     },
     "louds/src/node.rt": {

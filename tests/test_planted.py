@@ -22,9 +22,9 @@ PLANTS = {
         "BITM_WRONG exactly at the root and if there is no such node. Reads what one",
         "bitm_tree_parent: its comment has WRONG"),
     "two statuses exchanged": (
-        "promises", "include/bitm.h", "BITM_NONE exactly if index is len or more; BITM_WRONG if the parts",
-        "BITM_WRONG exactly if index is len or more; BITM_NONE if the parts",
-        "bitm_sequence_get: its comment has WRONG NONE"),
+        "promises", "include/bitm.h", "BITM_NONE exactly if there is no such number; BITM_WRONG exactly if the starts",
+        "BITM_WRONG exactly if there is no such number; BITM_NONE exactly if the starts",
+        "bitm_strings_get: its comment has WRONG NONE"),
     "the reads of a number": (
         "promises", "include/bitm.h", "Reads or writes at most two words", "Reads or writes at most one word",
         "bitm_bits_get_number: its comment has NONE one"),
@@ -33,7 +33,15 @@ PLANTS = {
         " upper entry, one lower entry and seven words.", "bitm_index_rank: its reads"),
     "a limit": (
         "promises", "include/bitm.h", "BITM_BAD_SIZE if there are 2^57 nodes or more",
-        "BITM_BAD_SIZE if there are 2^59 nodes or more", "['bitm_trie_size']: 2^59 is in none of its clauses"),
+        "BITM_BAD_SIZE if there are 2^59 nodes or more", "bitm_trie_size: 2^59 is in none of its clauses"),
+    "a limit of a section": (
+        "promises", "include/bitm.h", "also if words_len is 2^58 or more. An error", "also if words_len is 2^59 or more. An error",
+        "words without tables: 2^59 is in none of its clauses"),
+    "an example that takes a value of another": (
+        "promises", "include/bitm.h", " *     uint64_t found[8], written;\n", "", "an example takes ['found', 'written'] from elsewhere"),
+    "a call that no example of its comment calls": (
+        "promises", "include/bitm.h", "bitm_bits_select_in_word(0x5a,", "bitm_bits_select_in(0x5a,",
+        "bitm_bits_select_in_word: no example of its comment calls it"),
     "reads in a comment of Rattle": (
         "numbers", "crates/bitm_tables/src/quarters.rt", "no lower entry and two words are read; by its code",
         "no lower entry and one word are read; by its code", "rank_by_quarters_on: its cost has one word"),
@@ -51,12 +59,12 @@ PLANTS = {
         "numbers", "docs/FORMAT.md", "`0xb5dda96bf4e1ef47`", "`0xb5dda96bf4e1ef48`",
         "the checksums of eight times 0 are"),
     "a word of a trie looked up twice": (
-        "thin", "crates/trie_block/src/view.rt", "find_by(&finder, &mut source,",
+        "thin", "crates/tree_block/src/trie/view.rt", "find_by(&finder, &mut source,",
         "self.longest(word); find_by(&finder, &mut source,",
-        "trie_block/src/view.rt: find does more or less"),
+        "tree_block/src/trie/view.rt: find does more or less"),
     "a string found after a check of the block": (
-        "thin", "crates/string_block/src/view.rt", "self.find_counted(string).0",
-        "self.check(); self.find_counted(string).0", "string_block/src/view.rt: find does more or less"),
+        "thin", "crates/hash_block/src/strings/view.rt", "self.find_counted(string).0",
+        "self.check(); self.find_counted(string).0", "hash_block/src/strings/view.rt: find does more or less"),
     "a rank that counts all words first": (
         "thin", "crates/bitm/src/index.rt", "match self.try_rank(index) {",
         "let _ = count_bit_ones(self.content().as_slice()); match self.try_rank(index) {",
@@ -88,7 +96,7 @@ PLANTS = {
         "ran", "bindings/rust/tests/words.rs", "#[test]\n", "#[test]\n#[ignore]\n",
         "words.rs: tests/skips.txt has no such reason"),
     "a test in Rattle that is none": (
-        "ran", "crates/test_bits/src/bytes.rt", "#[test]\n", "", "crates/test_bits/src/bytes.rt: nothing where"),
+        "ran", "crates/test_bits/src/bits/bytes.rt", "#[test]\n", "", "crates/test_bits/src/bits/bytes.rt: nothing where"),
     "a stage that is not run": (
         "ran", "scripts/test", '"documents", "prose", ', '"documents", ', "not run by scripts/test: prose"),
     "a gate that runs nothing": (
@@ -177,9 +185,14 @@ PLANTS = {
     "a caller": (
         "documents", "crates/bitm/CALLING.md", "rank_on(&mut probe, place)", "rank_on(&mut probe, place + 1)",
         "crates/bitm/CALLING.md: its first caller is not of"),
-    "the crates below one": (
-        "documents", "docs/ARCHITECTURE.md", "(Elias-Fano), over the index | `bitm_selection`, ", "(Elias-Fano), over the index | ",
-        "docs/ARCHITECTURE.md: elias_fano lists"),
+    "the list of all crates": (
+        "documents", "docs/ARCHITECTURE.md", "\n| `digits` | ", "\n| `digit` | ", "docs/ARCHITECTURE.md: its crates differ from crates.txt"),
+    "a crate in two families": (
+        "documents", "docs/ARCHITECTURE.md", "`bitm_block`, `block_tables` |", "`bitm_block`, `louds` |",
+        "docs/ARCHITECTURE.md: its families have not each crate once"),
+    "a crate of a family above": (
+        "documents", "docs/ARCHITECTURE.md", "`matrix_levels`, `levels_view`,", "`matrix_levels`, `louds`,",
+        "docs/ARCHITECTURE.md: matrix_block stands on levels_view, whose family is above its own"),
     "how many exports there are": (
         "documents", "crates/bitm_c/README.md", " exports and no undefined", "0 exports and no undefined", "crates/bitm_c/README.md does not say:"),
     "a link to no file": (
@@ -195,7 +208,7 @@ PLANTS = {
     "the bytes of an item": (
         "numbers", "docs/FORMAT.md", "| 15 | 1 | seeds", "| 15 | 8 | seeds", "the bytes of an item are not those"),
     "the bytes of an item in the header of C": (
-        "numbers", "include/bitm.h", "those from 65536 on", "those from 32768 on", "the bytes of an item are not those"),
+        "numbers", "include/bitm.h", "the roles from 65536 on", "the roles from 32768 on", "the bytes of an item are not those"),
     "a role of a caller's own": (
         "numbers", "docs/FORMAT.md", "0x687361686d746962", "0x687361686d746963", "no code has the number 0x687361686d746963"),
     "a status that is excluded": (
@@ -360,15 +373,15 @@ def test_edit_that_no_goal_refuses_is_a_failure():
 
 def test_what_was_refused_is_kept_by_all_that_its_checks_read(tmp_path):
     refused = script("refused")
-    library = tmp_path / "rlibs/program_runs.rlib/interface"
+    library = tmp_path / "rlibs/bit_lists.rlib/interface"
     library.parent.mkdir(parents=True)
 
     def kept(interface="one", tiers=(0,), **others):
         library.write_text(interface)
-        crate = refused.Crate("program_help", tiers)
+        crate = refused.Crate("broadword", tiers)
         for it in crate.edits:
             vars(it).update(others)
         return crate.kept(str(tmp_path))
 
-    assert kept() == kept() and kept().parent.name == "program_help"
+    assert kept() == kept() and kept().parent.name == "broadword"
     assert len({kept(), kept("two"), kept(tiers=(0, 1)), kept(name="other"), kept(text="other")}) == 5

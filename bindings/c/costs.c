@@ -46,9 +46,9 @@ static void the_most_frequent_of_many(void)
         numbers[i] = i;
         numbers[HALF + 2 * i] = numbers[HALF + 2 * i + 1] = HALF + i;
     }
-    MUST(bitm_matrix_size(LEN, 20, false, &words) == BITM_OK);
+    MUST(bitm_matrix_size(LEN, 20, false, false, &words) == BITM_OK);
     uint64_t *const block = calloc(words, 8);
-    MUST(block && bitm_matrix_build(numbers, LEN, 20, false, scratch, 2 * LEN, block, words) == BITM_OK);
+    MUST(block && bitm_matrix_build(numbers, LEN, 20, false, false, scratch, 2 * LEN, block, words) == BITM_OK);
     struct bitm_matrix matrix = {0};
     MUST(bitm_matrix_open(block, words, &matrix) == BITM_OK);
     for (size_t room = KINDS; room > 0; room /= 32) {

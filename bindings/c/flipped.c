@@ -18,6 +18,8 @@ static const struct kind {
     {"trie", small_trie, bitm_trie_check},
     {"matrix", small_matrix, bitm_matrix_check},
     {"matrix with quarters", small_matrix_of_quarters, bitm_matrix_check},
+    {"matrix with hints", small_matrix_of_hints, bitm_matrix_check},
+    {"matrix with both", small_matrix_of_both, bitm_matrix_check},
     {"text", small_text, bitm_text_check},
     {"text of numbers", small_text_of_numbers, bitm_text_check},
 };

@@ -58,14 +58,16 @@ static void of_sparse(size_t ones, uint64_t most, uint64_t more)
     put_block(4, ones, bits, ones, words);
 }
 
-static void of_matrix(size_t len, uint32_t width)
+/* With quarters where how is 1 or 3, and with hints where it is 2 or 3. */
+static void of_matrix(size_t len, uint32_t width, size_t how)
 {
     uint64_t words;
+    const bool quarters = how % 2, hints = how / 2;
     for (size_t i = 0; i < len; i++) given[i] = draw() >> (64 - width);
-    MUST(bitm_matrix_size(len, width, false, &words) == BITM_OK && words <= sizeof block / 8);
+    MUST(bitm_matrix_size(len, width, quarters, hints, &words) == BITM_OK && words <= sizeof block / 8);
     memset(block, UNTOUCHED, sizeof block);
-    MUST(bitm_matrix_build(given, len, width, false, scratch, 2 * len, block, words) == BITM_OK);
-    put_block(6, len, width, len, words);
+    MUST(bitm_matrix_build(given, len, width, quarters, hints, scratch, 2 * len, block, words) == BITM_OK);
+    put_block(6, len, width + 256 * how, len, words);
 }
 
 static uint64_t level_words[SCRATCH], again[SCRATCH], upper[1], lower[SCRATCH / 32], sizes[256];
@@ -208,7 +210,7 @@ int main(int argc, char **argv)
     for (size_t i = 0; i < 9; i++) of_sequence(i < 4 ? i : 100 * i, (uint64_t)1 << 6 * i);
     for (size_t i = 0; i < 18; i++) of_sparse(i < 8 ? i / 2 : 50 * i, (uint64_t)1 << 3 * i, i % 2 * 1000);
     for (size_t i = 0; i < 6; i++)
-        for (size_t k = 0; k < 4; k++) of_matrix(k < 2 ? k : k == 2 ? 6 : 1000 / (i + 1), widths[i]);
+        for (size_t k = 0; k < 16; k++) of_matrix(k < 8 ? k / 4 : k < 12 ? 6 : 1000 / (i + 1), widths[i], k % 4);
     for (size_t i = 0; i < 9; i++) of_hash(i < 4 ? i : 200 * i, i % 3 ? 100 : 25 * (uint32_t)i);
     for (size_t i = 0; i < 12; i++)
         of_seeded(i < 4 ? i : 60 * i, i % 3 ? 100 : 25 * (uint32_t)i, (uint16_t)(i == 11 ? 300 : 5 * i));

@@ -204,23 +204,33 @@ static void trie_queried(uint64_t node, uint64_t other)
 
 static struct bitm_matrix matrix;
 
-static uint64_t matrix_with(uint64_t *block, size_t len, bool quarters)
+static uint64_t matrix_with(uint64_t *block, size_t len, bool quarters, bool hints)
 {
     uint64_t words;
     for (size_t i = 0; i < len; i++) numbers[i] = draw() >> (64 - WIDTH) & draw();
-    MUST(bitm_matrix_size(len, WIDTH, quarters, &words) == BITM_OK && 8 * words <= ROOM);
-    MUST(bitm_matrix_build(numbers, len, WIDTH, quarters, scratch, 2 * len, block, words) == BITM_OK);
+    MUST(bitm_matrix_size(len, WIDTH, quarters, hints, &words) == BITM_OK && 8 * words <= ROOM);
+    MUST(bitm_matrix_build(numbers, len, WIDTH, quarters, hints, scratch, 2 * len, block, words) == BITM_OK);
     return words;
 }
 
 static uint64_t matrix_built(uint64_t *block, size_t len)
 {
-    return matrix_with(block, len, false);
+    return matrix_with(block, len, false, false);
 }
 
 static uint64_t quarters_built(uint64_t *block, size_t len)
 {
-    return matrix_with(block, len, true);
+    return matrix_with(block, len, true, false);
+}
+
+static uint64_t hints_built(uint64_t *block, size_t len)
+{
+    return matrix_with(block, len, false, true);
+}
+
+static uint64_t both_built(uint64_t *block, size_t len)
+{
+    return matrix_with(block, len, true, true);
 }
 
 static bool matrix_opens(const uint64_t *block, size_t words)
@@ -279,6 +289,8 @@ static const struct kind kinds[] = {
     {"trie", trie_built, 40, trie_opens, trie_queried},
     {"matrix", matrix_built, 40, matrix_opens, matrix_queried},
     {"matrix with quarters", quarters_built, 40, matrix_opens, matrix_queried},
+    {"matrix with hints", hints_built, 40, matrix_opens, matrix_queried},
+    {"matrix with both", both_built, 48, matrix_opens, matrix_queried},
     {"hash with seeds", seeded_built, 40, seeded_opens, seeded_queried},
 };
 enum { KINDS = sizeof kinds / sizeof *kinds };

@@ -110,10 +110,11 @@ static struct bitm_matrix drawn_matrix(size_t len, uint64_t width)
 {
     struct bitm_matrix matrix = {.len = draw() % 8 ? len : (size_t)1 << (57 + draw() % 7), .width = width,
                                  .words = zeros, .upper = zeros, .lower = zeros, .ones = zeros, .zeros = zeros,
-                                 .quarters = zeros};
+                                 .quarters = zeros, .hints = zeros};
     drawn_tables(len * width, &matrix.words_len, &matrix.upper_len, &matrix.lower_len);
     matrix.ones_len = near_to(width), matrix.zeros_len = near_to(width);
     matrix.quarters_len = draw() % 2 ? near_to((bitm_bits_words_len(len * width) + 7) / 8) : 0;
+    matrix.hints_len = draw() % 2 ? near_to(bitm_hints_room(matrix.words_len)) : 0;
     return matrix;
 }
 
@@ -123,7 +124,7 @@ static void drawn_numbers(void)
     const size_t len = draw() % 500;
     const struct bitm_matrix matrix = drawn_matrix(len, draw() % 66);
     MUST(agrees(bitm_matrix_get(&matrix, 0, &out), bitm_matrix_fault(&matrix),
-                " len width words_len upper_len lower_len ones_len zeros_len quarters_len "));
+                " len width words_len upper_len lower_len ones_len zeros_len quarters_len hints_len "));
     struct bitm_text text = {.letters = drawn_matrix(len, 1 + draw() % 8), .starts = zeros, .starts_len = draw() % 9,
                              .samples = zeros, .samples_len = draw() % 9, .first = near_to(len), .used = zeros};
     text.marks = drawn_matrix(near_to(len + 1) % 2048, draw() % 8 ? 1 : 2);
@@ -172,6 +173,8 @@ static void by_hand(void)
     MUST(bitm_hints_len(3, WORDS) == 1 + 24 && bitm_hints_len(SIZE_MAX, WORDS) == 24 && bitm_hints_len(1, 0) == 0);
     MUST(bitm_hints_len(256, 4) == 1 && bitm_hints_len(257, 5) == 3 && bitm_hints_len(7, (size_t)1 << 26) == 0);
     MUST(bitm_hints_len(0, ((size_t)1 << 26) - 1) == ((size_t)1 << 24) && bitm_hints_len(7, SIZE_MAX) == 0);
+    MUST(bitm_hints_room(0) == 1 && bitm_hints_room(4) == 2 && bitm_hints_room(5) == 3);
+    MUST(bitm_hints_room(((size_t)1 << 26) - 1) == ((size_t)1 << 24) + 1 && bitm_hints_room((size_t)1 << 26) == 0);
     sequence.hints_len = 0;
     MUST(!bitm_sequence_fault(&sequence));
     struct bitm_tree tree = {.len = 4, .words = zeros, .words_len = 1, .upper = zeros, .upper_len = 1};

@@ -2,9 +2,13 @@
  * byte is changed, each prefix, and blocks whose words and tables hold random numbers. All is beside pages that may not
  * be touched (places.h). */
 #define _DEFAULT_SOURCE
+#include "hinted.h"
 #include "plain_numbers.h"
 
 enum { NUMBERS = 700, SMALL = 9, LIST = 64 };
+
+/* What a block has besides. */
+enum { COMPACT = 0, QUARTERS = 1, HINTS = 2, EITHER = 3, HOWS = 4 };
 
 /* A list of numbers as an array. */
 struct plain {
@@ -23,15 +27,16 @@ static void draw_plain(struct plain *plain, size_t len, uint32_t width, uint64_t
 }
 
 /* The block of the numbers, which ends at the guard, as they and the scratch do. */
-static uint64_t *built(const struct plain *plain, bool quarters, uint64_t *words)
+static uint64_t *built(const struct plain *plain, size_t how, uint64_t *words)
 {
-    MUST(bitm_matrix_size(plain->len, plain->width, quarters, words) == BITM_OK && *words % 8 == 0);
+    const bool quarters = how & QUARTERS, hints = how & HINTS;
+    MUST(bitm_matrix_size(plain->len, plain->width, quarters, hints, words) == BITM_OK && *words % 8 == 0);
     uint64_t *block = untouched_at(OF_BLOCK, 8 * *words); /* memory that is written may hold anything */
     uint64_t *numbers = placed(OF_NUMBERS, 8 * plain->len);
     uint64_t *scratch = placed(OF_SCRATCH, 16 * plain->len);
     memcpy(numbers, plain->numbers, 8 * plain->len);
-    MUST(bitm_matrix_build(numbers, plain->len, plain->width, quarters, scratch, 2 * plain->len, block, *words) ==
-         BITM_OK);
+    MUST(bitm_matrix_build(numbers, plain->len, plain->width, quarters, hints, scratch, 2 * plain->len, block,
+                           *words) == BITM_OK);
     return block;
 }
 
@@ -172,12 +177,13 @@ static void drawn_matrices(void)
     for (uint32_t i = 0; i < 96; i++) {
         uint64_t words;
         draw_plain(&plain, i < 12 ? i : draw() % NUMBERS, 1 + i % 64, i % 3 == 2 ? 0 : 1 + 3 * (i % 3));
-        const bool quarters = i % 2 == 1;
-        uint64_t *block = built(&plain, quarters, &words);
+        const size_t how = i % HOWS;
+        uint64_t *block = built(&plain, how, &words);
         struct bitm_matrix matrix = {0};
         MUST(bitm_matrix_open(block, words, &matrix) == BITM_OK);
         MUST(bitm_matrix_check(block, words) == BITM_OK);
-        MUST(matrix.quarters_len == (quarters ? (matrix.words_len + 7) / 8 : 0));
+        MUST(matrix.quarters_len == (how & QUARTERS ? (matrix.words_len + 7) / 8 : 0));
+        MUST(how & HINTS ? has_matrix_hints(&matrix) : matrix.hints_len == 0);
         answers_as(&plain, &matrix);
         lists_as_single_calls(&matrix);
     }
@@ -189,32 +195,44 @@ static void no_matrices(void)
     static const uint64_t numbers[SMALL] = {3, 1, 4, 1, 5, 9, 2, 6, 5};
     static const uint32_t bad[] = {0, 65, 256, 257, UINT32_MAX};
     uint64_t words, room[100], scratch[2 * SMALL + 2];
-    MUST(bitm_matrix_size(SMALL, 4, true, &words) == BITM_OK && words == 88);
-    MUST(bitm_matrix_size(SMALL, 4, false, &words) == BITM_OK && words == 80);
+    MUST(bitm_matrix_size(SMALL, 4, true, true, &words) == BITM_OK && words == 104); /* of a longer directory */
+    MUST(bitm_matrix_size(SMALL, 4, true, false, &words) == BITM_OK && words == 88);
+    MUST(bitm_matrix_size(SMALL, 4, false, true, &words) == BITM_OK && words == 88);
+    MUST(bitm_matrix_size(SMALL, 4, false, false, &words) == BITM_OK && words == 80);
     memset(room, UNTOUCHED, sizeof room), memset(scratch, UNTOUCHED, sizeof scratch);
-    MUST(bitm_matrix_build(numbers, SMALL, 3, false, scratch, 2 * SMALL, room, words) == BITM_WRONG); /* 9 has 4 bits */
-    MUST(bitm_matrix_build(numbers, SMALL, 3, false, scratch, 2 * SMALL, room, 0) == BITM_BAD_SIZE);
-    MUST(bitm_matrix_build(numbers, SMALL, 3, false, scratch, 0, room, words) == BITM_BAD_SIZE);
-    for (size_t len = 0; len < 100; len++)
-        if (len != words)
-            MUST(bitm_matrix_build(numbers, SMALL, 4, false, scratch, 2 * SMALL, room, len) == BITM_BAD_SIZE);
-    for (size_t len = 0; len < 100; len++)
-        if (len != words + 8)
-            MUST(bitm_matrix_build(numbers, SMALL, 4, true, scratch, 2 * SMALL, room, len) == BITM_BAD_SIZE);
+    /* 9 has 4 bits */
+    MUST(bitm_matrix_build(numbers, SMALL, 3, false, false, scratch, 2 * SMALL, room, words) == BITM_WRONG);
+    MUST(bitm_matrix_build(numbers, SMALL, 3, false, false, scratch, 2 * SMALL, room, 0) == BITM_BAD_SIZE);
+    MUST(bitm_matrix_build(numbers, SMALL, 3, false, false, scratch, 0, room, words) == BITM_BAD_SIZE);
+    for (size_t how = 0; how < HOWS; how++) {
+        const bool quarters = how & QUARTERS, hints = how & HINTS;
+        const size_t right = how == EITHER ? words + 24 : how ? words + 8 : words;
+        for (size_t len = 0; len < 110; len++)
+            if (len != right)
+                MUST(bitm_matrix_build(numbers, SMALL, 4, quarters, hints, scratch, 2 * SMALL, room, len) ==
+                     BITM_BAD_SIZE);
+    }
     for (size_t len = 0; len <= 2 * SMALL + 2; len++)
         if (len != 2 * SMALL)
-            MUST(bitm_matrix_build(numbers, SMALL, 4, false, scratch, len, room, words) == BITM_BAD_SIZE);
+            MUST(bitm_matrix_build(numbers, SMALL, 4, false, false, scratch, len, room, words) == BITM_BAD_SIZE);
     for (size_t i = 0; i < sizeof bad / sizeof *bad; i++) {
         uint64_t out = UNTOUCHED;
-        MUST(bitm_matrix_size(SMALL, bad[i], false, &out) == BITM_BAD_SIZE && out == UNTOUCHED);
-        MUST(bitm_matrix_build(numbers, SMALL, bad[i], false, scratch, 2 * SMALL, room, words) == BITM_BAD_SIZE);
+        MUST(bitm_matrix_size(SMALL, bad[i], false, i % 2, &out) == BITM_BAD_SIZE && out == UNTOUCHED);
+        MUST(bitm_matrix_build(numbers, SMALL, bad[i], false, false, scratch, 2 * SMALL, room, words) == BITM_BAD_SIZE);
     }
     MUST(is_untouched(room, sizeof room) && is_untouched(scratch, sizeof scratch));
     words = UNTOUCHED;
-    MUST(bitm_matrix_size((size_t)1 << 63, 1, false, &words) == BITM_BAD_SIZE && words == UNTOUCHED);
-    MUST(bitm_matrix_size((size_t)1 << 57, 64, false, &words) == BITM_BAD_SIZE && words == UNTOUCHED);
-    MUST(bitm_matrix_size(SIZE_MAX, 64, false, &words) == BITM_BAD_SIZE && words == UNTOUCHED);
-    MUST(bitm_matrix_size(((size_t)1 << 63) - 1, 1, false, &words) == BITM_OK && words < (uint64_t)1 << 59);
+    MUST(bitm_matrix_size((size_t)1 << 63, 1, false, false, &words) == BITM_BAD_SIZE && words == UNTOUCHED);
+    MUST(bitm_matrix_size((size_t)1 << 57, 64, false, true, &words) == BITM_BAD_SIZE && words == UNTOUCHED);
+    MUST(bitm_matrix_size(SIZE_MAX, 64, false, false, &words) == BITM_BAD_SIZE && words == UNTOUCHED);
+    MUST(bitm_matrix_size(((size_t)1 << 63) - 1, 1, false, true, &words) == BITM_OK && words < (uint64_t)1 << 59);
+    /* no position of 2^26 words or more fits in a hint: its section has no words then */
+    uint64_t with, without;
+    MUST(bitm_matrix_size((size_t)1 << 32, 1, false, true, &with) == BITM_OK);
+    MUST(bitm_matrix_size((size_t)1 << 32, 1, false, false, &without) == BITM_OK && with == without);
+    MUST(bitm_matrix_size(((size_t)1 << 32) - 64, 1, false, true, &with) == BITM_OK);
+    MUST(bitm_matrix_size(((size_t)1 << 32) - 64, 1, false, false, &without) == BITM_OK);
+    MUST(with == without + ((size_t)1 << 24) + 8);
 }
 
 static uint32_t open_block(const uint64_t *block, size_t words, void *opened)
@@ -222,17 +240,21 @@ static uint32_t open_block(const uint64_t *block, size_t words, void *opened)
     return bitm_matrix_open(block, words, opened);
 }
 
+/* After six sections at most, and after seven. */
 static const struct kind of_matrix = {40, sizeof(struct bitm_matrix), bitm_matrix_check, open_block, answers_within};
+static const struct kind of_seven = {48, sizeof(struct bitm_matrix), bitm_matrix_check, open_block, answers_within};
+
+static const struct kind *kind_of(size_t how) { return how == EITHER ? &of_seven : &of_matrix; }
 
 static void changed_blocks(void)
 {
     static struct plain plain;
     uint64_t words;
     draw_plain(&plain, SMALL, 3, 0);
-    for (int quarters = 0; quarters < 2; quarters++) {
-        uint64_t *const block = built(&plain, quarters == 1, &words);
-        changed_bytes(&of_matrix, block, words, 1);
-        cut_off(&of_matrix, block, words);
+    for (size_t how = 0; how < HOWS; how++) {
+        uint64_t *const block = built(&plain, how, &words);
+        changed_bytes(kind_of(how), block, words, 1);
+        cut_off(kind_of(how), block, words);
     }
 }
 
@@ -242,7 +264,7 @@ static void other_quarters(void)
     static struct plain plain;
     uint64_t words;
     draw_plain(&plain, 600, 9, 5);
-    uint64_t *const block = built(&plain, true, &words);
+    uint64_t *const block = built(&plain, QUARTERS, &words);
     struct bitm_matrix matrix = {0};
     MUST(bitm_matrix_open(block, words, &matrix) == BITM_OK && matrix.quarters_len == 11);
     uint64_t *const quarters = block + (matrix.quarters - block);
@@ -250,6 +272,35 @@ static void other_quarters(void)
         quarters[i] = draw();
         answers_within(&matrix);
         MUST(bitm_matrix_check(block, words) == BITM_WRONG);
+    }
+}
+
+/* Other numbers in the hints: the checksums may be right, the hints are not. A selection goes astray at most within its
+ * range; a number and a rank do not depend on hints, and a list of selections goes without. */
+static void other_hints(void)
+{
+    static struct plain plain;
+    uint64_t words, *out;
+    uint32_t status;
+    draw_plain(&plain, 600, 9, 5);
+    for (size_t how = HINTS; how < HOWS; how++) {
+        uint64_t *const block = built(&plain, how, &words);
+        struct bitm_matrix matrix = {0};
+        MUST(bitm_matrix_open(block, words, &matrix) == BITM_OK && matrix.hints_len == 23);
+        uint64_t *const hints = block + (matrix.hints - block);
+        for (size_t i = 0; i < matrix.hints_len; i++) {
+            hints[i] = draw();
+            answers_within(&matrix);
+            MUST(bitm_matrix_check(block, words) == BITM_WRONG);
+        }
+        struct bitm_matrix bare = matrix;
+        bare.hints = NULL, bare.hints_len = 0;
+        answers_as(&plain, &bare);
+        for (size_t i = 0; i < plain.len; i++) {
+            ANSWER(bitm_matrix_get(&matrix, i, out));
+            MUST(status == BITM_OK && *out == plain.numbers[i]);
+        }
+        lists_as_single_calls(&bare);
     }
 }
 
@@ -261,14 +312,15 @@ static void random_blocks(void)
     for (size_t turn = 0; turn < 400; turn++) {
         uint64_t words;
         draw_plain(&plain, 1 + draw() % 300, 1 + (uint32_t)(draw() % 64), draw() % 9);
-        uint64_t *const block = built(&plain, turn % 2 == 1, &words);
-        spoil(block, of_matrix.head, words, turn);
-        MUST(opens(&of_matrix, block, words, &matrix));
+        const size_t how = turn / 2 % HOWS;
+        uint64_t *const block = built(&plain, how, &words);
+        spoil(block, kind_of(how)->head, words, turn);
+        MUST(opens(kind_of(how), block, words, &matrix));
         answers_within(&matrix);
-        lists_as_single_calls(&matrix);
+        if (!(how & HINTS)) lists_as_single_calls(&matrix); /* lists go without hints */
         if (bitm_matrix_check(block, words) == BITM_OK) answers_as(&plain, &matrix);
         draw_words(block, words);
-        MUST(refuses(&of_matrix, block, words));
+        MUST(refuses(kind_of(how), block, words));
     }
 }
 
@@ -279,10 +331,10 @@ static void wrong_lengths(void)
     uint64_t words, *out;
     uint32_t status;
     draw_plain(&plain, 200, 5, 4);
-    uint64_t *const block = built(&plain, true, &words);
+    uint64_t *const block = built(&plain, EITHER, &words);
     struct bitm_matrix matrix = {0};
     MUST(bitm_matrix_open(block, words, &matrix) == BITM_OK);
-    for (size_t i = 0; i < 16; i++) {
+    for (size_t i = 0; i < 18; i++) {
         struct bitm_matrix bad = matrix;
         if (i == 0) bad.len = 0;
         if (i == 1) bad.len = SIZE_MAX;
@@ -300,6 +352,8 @@ static void wrong_lengths(void)
         if (i == 13) bad.width = UINT64_MAX;
         if (i == 14) bad.quarters_len--;
         if (i == 15) bad.quarters_len++;
+        if (i == 16) bad.hints_len--;
+        if (i == 17) bad.hints_len++;
         ANSWER(bitm_matrix_get(&bad, 1, out));
         MUST(status == BITM_BAD_SIZE);
         ANSWER(bitm_matrix_rank(&bad, 1, 1, out));
@@ -317,23 +371,25 @@ static void wrong_lengths(void)
     }
 }
 
-/* A section of the role of quarters, after the sections of a matrix that has none: the block opens as that matrix or not
- * at all, and where its check passes it is that matrix. */
-static void of_the_role_of_quarters(void)
+/* A section of the role of quarters or of hints, after the sections of a matrix that has none: the block opens as that
+ * matrix or not at all, and where its check passes it is that matrix. Hints of another length are none. */
+static void of_the_role(uint64_t role, bool quarters)
 {
     enum { COUNT = 3, MOST = 40, ROOM = 256 };
     const uint64_t numbers[COUNT] = {1, 2, 3};
     uint64_t scratch[2 * COUNT], words, more, items[MOST], block[ROOM], to[ROOM], out;
-    MUST(bitm_matrix_size(COUNT, 8, false, &words) == BITM_OK && words <= ROOM);
-    MUST(bitm_matrix_build(numbers, COUNT, 8, false, scratch, 2 * COUNT, block, words) == BITM_OK);
+    MUST(bitm_matrix_size(COUNT, 8, quarters, false, &words) == BITM_OK && words <= ROOM);
+    MUST(bitm_matrix_build(numbers, COUNT, 8, quarters, false, scratch, 2 * COUNT, block, words) == BITM_OK);
     for (size_t count = 0; count < MOST; count++) {
         for (size_t i = 0; i < count; i++) items[i] = draw() % 3 ? draw() : draw() % 3;
-        MUST(bitm_block_extended_size(block, words, 6, count, &more) == BITM_OK && more <= ROOM);
-        MUST(bitm_block_extend(block, words, 6, count, items, count, to, more) == BITM_OK);
+        MUST(bitm_block_extended_size(block, words, role, count, &more) == BITM_OK && more <= ROOM);
+        MUST(bitm_block_extend(block, words, role, count, items, count, to, more) == BITM_OK);
         MUST(bitm_block_check(to, more) == BITM_OK);
         struct bitm_matrix matrix;
         const uint32_t opened = bitm_matrix_open(to, more, &matrix), checked = bitm_matrix_check(to, more);
-        MUST(opened == BITM_OK || (opened == BITM_WRONG && checked == BITM_WRONG));
+        MUST(opened == BITM_OK || (role == 6 && opened == BITM_WRONG && checked == BITM_WRONG));
+        MUST(role == 6 || matrix.hints_len == (count == bitm_hints_room(matrix.words_len) ? count : 0));
+        MUST(role == 6 || matrix.hints_len > 0 || checked == BITM_OK);
         for (size_t i = 0; opened == BITM_OK && i < COUNT; i++) {
             const uint32_t status = bitm_matrix_get(&matrix, i, &out);
             MUST(status == BITM_OK ? out < 256 : status == BITM_WRONG);
@@ -348,9 +404,12 @@ static void tests(void)
     no_matrices();
     changed_blocks();
     other_quarters();
+    other_hints();
     random_blocks();
     wrong_lengths();
-    of_the_role_of_quarters();
+    of_the_role(6, false);
+    of_the_role(22, false);
+    of_the_role(22, true);
 }
 
 int main(int argc, char **argv)

@@ -3,7 +3,7 @@
  * a page that may not be touched (places.h). */
 #define _DEFAULT_SOURCE
 #define NUMBERS 300
-#define WORDS 600
+#define WORDS 800
 #include "plain_numbers.h"
 
 static uint64_t sorted[NUMBERS];

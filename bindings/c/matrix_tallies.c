@@ -3,7 +3,7 @@
  * that are none, and structs of wrong lengths. What is written is beside a page that may not be touched (places.h). */
 #define _DEFAULT_SOURCE
 #define NUMBERS 200
-#define WORDS 500
+#define WORDS 700
 #include "plain_numbers.h"
 
 enum { OF_TALLIES = OF_MORE };

@@ -85,10 +85,10 @@ static void query_a_matrix(uint64_t *one)
     const size_t len = WORDS / 2;
     uint64_t *numbers = placed(OF_LOW, 8 * len), *scratch = placed(OF_OUT, 16 * len), words;
     for (size_t i = 0; i < len; i++) numbers[i] = draw() >> (64 - WIDTH);
-    TOUCHES_ANY(bitm_matrix_size(len, WIDTH, false, one));
+    TOUCHES_ANY(bitm_matrix_size(len, WIDTH, false, false, one));
     words = *one;
     uint64_t *block = placed(OF_WORDS, 8 * words);
-    TOUCHES_ANY(bitm_matrix_build(numbers, len, WIDTH, false, scratch, 2 * len, block, words));
+    TOUCHES_ANY(bitm_matrix_build(numbers, len, WIDTH, false, false, scratch, 2 * len, block, words));
     TOUCHES_ANY(bitm_matrix_check(block, words));
     struct bitm_matrix *matrix = placed(OF_STARTS, sizeof *matrix);
     *matrix = (struct bitm_matrix){0};
@@ -141,13 +141,13 @@ static void query_a_text(uint64_t *one)
     struct bitm_text *text = placed(OF_STARTS, sizeof *text);
     *text = (struct bitm_text){.first = len, .step = STEP, .starts_len = STARTS, .samples_len = sampled};
     uint64_t of_letters, of_marks;
-    MUST(bitm_matrix_size(len, WIDTH, false, &of_letters) == BITM_OK &&
-         bitm_matrix_size(len + 1, 1, false, &of_marks) == BITM_OK);
+    MUST(bitm_matrix_size(len, WIDTH, false, false, &of_letters) == BITM_OK &&
+         bitm_matrix_size(len + 1, 1, false, false, &of_marks) == BITM_OK);
     uint64_t *letters = placed(OF_WORDS, 8 * (of_letters + of_marks)), *marks = letters + of_letters;
     for (size_t i = 0; i <= len; i++) numbers[i] = 0;
-    MUST(bitm_matrix_build(numbers, len, WIDTH, false, scratch, 2 * len, letters, of_letters) == BITM_OK);
+    MUST(bitm_matrix_build(numbers, len, WIDTH, false, false, scratch, 2 * len, letters, of_letters) == BITM_OK);
     for (size_t row = 0; row <= len; row++) numbers[row] = (len - row) % STEP == 0;
-    MUST(bitm_matrix_build(numbers, len + 1, 1, false, scratch, 2 * (len + 1), marks, of_marks) == BITM_OK);
+    MUST(bitm_matrix_build(numbers, len + 1, 1, false, false, scratch, 2 * (len + 1), marks, of_marks) == BITM_OK);
     MUST(bitm_matrix_open(letters, of_letters, &text->letters) == BITM_OK);
     MUST(bitm_matrix_open(marks, of_marks, &text->marks) == BITM_OK);
     uint64_t *starts = placed(OF_LOWER, 8 * STARTS), *samples = placed(OF_SAMPLES, 8 * sampled);

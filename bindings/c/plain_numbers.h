@@ -29,15 +29,15 @@ static void sort_range(size_t start, size_t end, uint64_t *sorted)
     qsort(sorted, end - start, 8, by_number);
 }
 
-/* A matrix of drawn numbers, with quarters or compact. */
+/* A matrix of drawn numbers, with quarters or without, and with hints or without. */
 static struct bitm_matrix drawn(size_t len, uint32_t width, uint64_t kinds)
 {
     uint64_t words;
     struct bitm_matrix matrix = {0};
-    const bool quarters = draw() % 2 == 1;
+    const bool quarters = draw() % 2 == 1, hints = draw() % 2 == 1;
     draw_numbers(numbers, len, width, kinds);
-    MUST(bitm_matrix_size(len, width, quarters, &words) == BITM_OK && words <= WORDS);
-    MUST(bitm_matrix_build(numbers, len, width, quarters, scratch, 2 * len, block, words) == BITM_OK);
+    MUST(bitm_matrix_size(len, width, quarters, hints, &words) == BITM_OK && words <= WORDS);
+    MUST(bitm_matrix_build(numbers, len, width, quarters, hints, scratch, 2 * len, block, words) == BITM_OK);
     MUST(bitm_matrix_open(block, words, &matrix) == BITM_OK);
     return matrix;
 }

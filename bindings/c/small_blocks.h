@@ -36,16 +36,18 @@ static inline size_t small_sparse(uint64_t *block)
     return len;
 }
 
-static inline size_t small_matrix_with(bool quarters, uint64_t *block)
+static inline size_t small_matrix_with(bool quarters, bool hints, uint64_t *block)
 {
     const uint64_t numbers[3] = {2, 3, 5};
     uint64_t len, scratch[6];
-    MUST(bitm_matrix_size(3, 3, quarters, &len) == BITM_OK && len <= ROOM);
-    MUST(bitm_matrix_build(numbers, 3, 3, quarters, scratch, 6, block, len) == BITM_OK);
+    MUST(bitm_matrix_size(3, 3, quarters, hints, &len) == BITM_OK && len <= ROOM);
+    MUST(bitm_matrix_build(numbers, 3, 3, quarters, hints, scratch, 6, block, len) == BITM_OK);
     return len;
 }
-static inline size_t small_matrix(uint64_t *block) { return small_matrix_with(false, block); }
-static inline size_t small_matrix_of_quarters(uint64_t *block) { return small_matrix_with(true, block); }
+static inline size_t small_matrix(uint64_t *block) { return small_matrix_with(false, false, block); }
+static inline size_t small_matrix_of_quarters(uint64_t *block) { return small_matrix_with(true, false, block); }
+static inline size_t small_matrix_of_hints(uint64_t *block) { return small_matrix_with(false, true, block); }
+static inline size_t small_matrix_of_both(uint64_t *block) { return small_matrix_with(true, true, block); }
 
 static inline size_t small_tree(uint64_t *block)
 {

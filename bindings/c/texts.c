@@ -235,8 +235,8 @@ static void changed_blocks(bool is_of_bytes)
     changed_bytes(&of_text, block, words, at_the_end ? 5 : 17);
     cut_off(&of_text, block, words);
     uint64_t scratch[6], of_matrix;
-    MUST(bitm_matrix_size(3, 2, false, &of_matrix) == BITM_OK);
-    MUST(bitm_matrix_build(plain.letters, 3, 2, false, scratch, 6, block, of_matrix) == BITM_OK);
+    MUST(bitm_matrix_size(3, 2, false, false, &of_matrix) == BITM_OK);
+    MUST(bitm_matrix_build(plain.letters, 3, 2, false, false, scratch, 6, block, of_matrix) == BITM_OK);
     MUST(refuses(&of_text, block, of_matrix));
 }
 

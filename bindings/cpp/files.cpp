@@ -81,6 +81,7 @@ static void damage(const fs::path &path)
     flipped(bitm::tree(degrees), path), flipped(bitm::trie::of_words({"a", "b", "be"}), path);
     flipped(bitm::wavelet_matrix(some), path);
     flipped(bitm::wavelet_matrix(some, 11, bitm::quarters::yes), path), flipped(bitm::text_index("banana"), path);
+    flipped(bitm::wavelet_matrix(some, 11, bitm::quarters::no, bitm::hints::yes), path);
     flipped(bitm::text_index::of_letters(Words{3, 1, 4, 1, 5}, 8), path);
 }
 

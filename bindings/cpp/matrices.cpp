@@ -157,16 +157,16 @@ static void wide_numbers()
     MUST(bitm::message(why) == "bitm: number 4 (300) has more than 8 bits");
     u64 calls = 0;
     const auto count = [&](u64, u64) { calls++; };
-    MUST(Matrix::try_of(wide, 8, bitm::quarters::no, count).error() == why);
-    MUST(!Matrix::try_of(wide, 65, bitm::quarters::no, count) && calls == 0);
+    MUST(Matrix::try_of(wide, 8, bitm::quarters::no, bitm::hints::no, count).error() == why);
+    MUST(!Matrix::try_of(wide, 65, bitm::quarters::no, bitm::hints::yes, count) && calls == 0);
     MUST(Matrix::try_of(Words{0, u64{1} << 63}, 63).error().at == 1);
 }
 
-static void levels(const Words &plain, bitm::quarters kept)
+static void levels(const Words &plain, bitm::quarters kept, bitm::hints led)
 {
     for (const std::uint32_t width : {0u, 64u}) {
-        const Matrix at_once(plain, width, kept);
-        told(at_once, at_once.width(), [&](auto step) { return Matrix(plain, width, kept, step); });
+        const Matrix at_once(plain, width, kept, led);
+        told(at_once, at_once.width(), [&](auto step) { return Matrix(plain, width, kept, led, step); });
     }
 }
 
@@ -177,6 +177,8 @@ static void owners(const Words &plain)
     MUST(a == Matrix(listed.begin(), listed.end()) && b.width() == 64), same(b, plain);
     const Matrix c(listed.begin(), listed.end(), 64, bitm::quarters::yes);
     MUST(c.block().size() > b.block().size()), same(c, plain);
+    const Matrix d(listed.begin(), listed.end(), 64, bitm::quarters::no, bitm::hints::yes);
+    MUST(d.raw().hints_len == (d.raw().words_len + 3) / 4 + 1 && b.raw().hints_len == 0), same(d, plain);
     copies_and_moves(
         a, [&](const auto &it) { same(it, plain); }, [](const auto &it) { same(it, {}); });
 }
@@ -207,9 +209,9 @@ static void any(const View &m)
 
 static void spoilt()
 {
-    const Matrix m(drawn(90, 5));
-    MUST(m.raw().words == m.block().data() + 40);
-    spoilt_blocks(m, 40, 1, any);
+    const Matrix m(drawn(90, 5)), led(drawn(90, 5), 0, bitm::quarters::yes, bitm::hints::yes);
+    MUST(m.raw().words == m.block().data() + 40 && led.raw().words == led.block().data() + 48);
+    spoilt_blocks(m, 40, 1, any), spoilt_blocks(led, 48, 1, any);
 }
 
 static void threads()
@@ -234,9 +236,11 @@ int main(int, char **argv)
     for (u64 count = 1; count < 20; count++) all.push_back(drawn(count * count, 1 + static_cast<unsigned>(count * 3)));
     all.push_back(drawn(3000, 12));
     for (const Words &plain : all) {
-        for (const bitm::quarters kept : {bitm::quarters::no, bitm::quarters::yes}) {
-            const Matrix m(plain, 0, kept);
-            if (plain.size() < 1000) levels(plain, kept);
+        for (const int how : {0, 1, 2, 3}) {
+            const bitm::quarters kept = how % 2 ? bitm::quarters::yes : bitm::quarters::no;
+            const bitm::hints led = how / 2 ? bitm::hints::yes : bitm::hints::no;
+            const Matrix m(plain, 0, kept, led);
+            if (plain.size() < 1000) levels(plain, kept, led);
             same(m, plain), files_of(m, path, [&](const auto &it) { same(it, plain); });
         }
     }

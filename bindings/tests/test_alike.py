@@ -27,6 +27,7 @@ int main(int, char **words)
     both("sequence", bitm::sequence{2, 3, 5, std::uint64_t{1} << 60});
     both("sparse", bitm::sparse_bits({1, 500, 999}, 1000));
     both("matrix", bitm::wavelet_matrix{3, 1, 4, 1, 5});
+    both("hinted", bitm::wavelet_matrix(std::vector<std::uint64_t>{3, 1, 4, 1, 5}, 3, bitm::quarters::yes, bitm::hints::yes));
     both("tree", bitm::tree{2, 0, 1, 0});
     both("trie", bitm::trie::of_words({"a", "b", "be"}));
     both("dictionary", bitm::dictionary{4, 9, 49});
@@ -39,6 +40,7 @@ import pathlib, sys, bitm
 ones = [1, 500, 999]
 made = dict(index=bitm.Index(bitm.BitVector.from_indices(ones, 1000)), sequence=bitm.EliasFano([2, 3, 5, 2**60]),
             sparse=bitm.SparseBits(ones, 1000), matrix=bitm.WaveletMatrix([3, 1, 4, 1, 5]), tree=bitm.Tree([2, 0, 1, 0]),
+            hinted=bitm.WaveletMatrix([3, 1, 4, 1, 5], quarters=True, hints=True),
             trie=bitm.Trie.of_words(["a", "b", "be"]), dictionary=bitm.Dictionary([4, 9, 49]),
             strings=bitm.Strings(["ada", "bob", "eve"]), text=bitm.TextIndex(b"banana"))
 for name, value in made.items():
@@ -55,6 +57,7 @@ const B = await import(process.argv[2]), ones = [1, 500, 999];
 const made = {
     index: new B.Index(B.BitVector.fromPositions(ones, 1000)), sequence: new B.EliasFano([2, 3, 5, 2n ** 60n]),
     sparse: new B.SparseBits(ones, 1000), matrix: new B.WaveletMatrix([3, 1, 4, 1, 5]), tree: new B.Tree([2, 0, 1, 0]),
+    hinted: new B.WaveletMatrix([3, 1, 4, 1, 5], { quarters: true, hints: true }),
     trie: B.Trie.ofWords(["a", "b", "be"]), dictionary: new B.Dictionary([4, 9, 49]),
     strings: new B.Strings(["ada", "bob", "eve"]), text: B.TextIndex.of("banana"),
 };
@@ -67,13 +70,14 @@ for (const [name, value] of Object.entries(made)) {
     }
 }
 """
-KINDS = "index sequence sparse matrix tree trie dictionary strings text".split()
+KINDS = "index sequence sparse matrix hinted tree trie dictionary strings text".split()
 ONES = [1, 500, 999]
 BY_THE_PAGE = {
     "index": of_bits(1000, 0, packed([at in ONES for at in range(1000)])),
     "sequence": of_sequence(4, 0, [2, 3, 5, 2**60]),
     "sparse": of_sparse(3, 1000, ONES),
     "matrix": of_matrix(5, 3, [3, 1, 4, 1, 5]),
+    "hinted": of_matrix(5, 3 + 3 * 256, [3, 1, 4, 1, 5]),
     "tree": of_tree(4, 0, [2, 0, 1, 0]),
     "trie": of_trie(4, 8, [2, 0, 1, 0, 97, 98, 101, 0b1110]),
 }

@@ -31,7 +31,7 @@ def test_blocks_are_those_of_the_format(tmp_path):
         kinds.append(kind)
         del words[: 6 + given + size]
     assert {kind: kinds.count(kind) for kind in WRITERS} == {
-        2: 9, 3: 9, 4: 18, 5: 9, 6: 24, 7: 18, 9: 36, 12: 9, 50: 9, 51: 12}
+        2: 9, 3: 9, 4: 18, 5: 9, 6: 96, 7: 18, 9: 36, 12: 9, 50: 9, 51: 12}
 
 
 @pytest.mark.parametrize("of", [list, as_version_3], ids=["", "of version 3"])

@@ -16,9 +16,9 @@ def functions():
 
 
 CALLERS = sorted(functions(), key=lambda it: len(it[2]))
-NEAR = {"bitm_bits": "bitm", "bitm_select": "bitm", "bitm_many": "bitm", "bitm_tables": "bitm",
+NEAR = {"bitm_bits": "bitm", "bitm_select": "bitm", "bitm_tables": "bitm",
         "bitm_strategies": "bitm", "bit_words": "bitm", "broadword": "bitm",
-        "hash_levels": "perfect_hash", "matrix_levels": "wavelet_matrix", "lent_tables": "bitm_view", "lent_levels": "matrix_block"}
+        "matrix_levels": "wavelet_matrix", "tables_view": "bitm_view", "levels_view": "matrix_block"}
 
 
 def opening(crate):

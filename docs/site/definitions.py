@@ -3,8 +3,11 @@ import pathlib
 import re
 
 TOP = pathlib.Path(__file__).resolve().parents[2] / "crates"
-CRATES = ("bitm bitm_bits bitm_view postings sparse_bits elias_fano elias_fano_view text_collection text_index suffix_order wavelet_matrix perfect_hash "
-          "extended_blocks block_items string_block seeded_block trie_words trie_block louds_block text_block matrix_block lent_levels sparse_block sequence_block hash_block bits_block block_tables block_sections bitm_block louds number_lists matrix_levels lent_tables bitm_selection bitm_strategies bitm_many bitm_select hash_levels bitm_tables bit_slices bit_words broadword bit_lists tuning").split()  # the lowest ones last
+CRATES = """bitm bitm_bits bitm_view postings sparse_bits elias_fano elias_fano_view text_index suffix_order wavelet_matrix
+    perfect_hash hash_buckets digits block_sections block_items tree_block text_block matrix_block levels_view
+    sequence_block hash_block
+    block_tables bitm_block louds matrix_levels tables_view bitm_selection bitm_strategies bitm_select bitm_tables bit_words
+    broadword bit_lists tuning""".split()  # the lowest ones last
 
 
 def definitions():

@@ -106,7 +106,7 @@ def rust():
 def pages():
     """Each page has an example, but for that of a crate in which nothing runs."""
     for path in sorted([*(SITE / "html/reference").rglob("*.html"), *(SITE / "html/docs/guides").glob("[!R]*.html")]):
-        see("<pre" in path.read_text(encoding="utf-8") or path.stem == "number_lists", f"{path.relative_to(SITE / 'html')} has no example")
+        see("<pre" in path.read_text(encoding="utf-8"), f"{path.relative_to(SITE / 'html')} has no example")
 
 
 for part in (c, cpp, python, javascript, rust, pages):

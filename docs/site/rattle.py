@@ -6,7 +6,7 @@ them: `requires` beside Conditions, clauses about reads and sizes beside Cost, t
 beside the first text. Below stand the definitions that the clauses name, with their comments from `specs/*.antt`, and a caller.
 A name that a lib.rt hands on and that is on no page is an error.
 """
-import collections, pathlib, re, sys
+import collections, functools, pathlib, re, sys
 import callers
 from definitions import CRATES, TOP, anchor, definitions, definitions_page
 from sources import address
@@ -68,23 +68,48 @@ def items(path):
             doc = []
         k += 1
 
-def reached(crate):
-    """The names and the files that lib.rt makes public, and the (crate, names) that it takes from others."""
-    names, others, todo = set(), [], [(TOP / crate / "src/lib.rt", TOP / crate / "src")]
+@functools.cache
+def parts(crate):
+    """The root of a crate, "", and its public modules that hand on names of modules inside, each with its file."""
+    root = TOP / crate / "src"
+    modules = re.findall(r"^pub mod (\w+);", (root / "lib.rt").read_text(encoding="utf-8"), re.M)
+    files = {it: root / f"{it}.rt" for it in modules}
+    hands_on = re.compile(r"^mod \w+;.*^pub use", re.M | re.S)
+    return {"": root / "lib.rt", **{it: at for it, at in files.items() if hands_on.search(at.read_text(encoding="utf-8"))}}
+
+def part_of(crate, path):
+    """The part of a crate that a file belongs to."""
+    first = path.relative_to(TOP / crate / "src").parts[0].removesuffix(".rt")
+    return first if first in parts(crate) else ""
+
+def reached(crate, part=""):
+    """The names and the files that a part of a crate makes public, and the (crate, names) that it takes from others."""
+    path = parts(crate)[part]
+    names, others, todo = set(), [], [(path, path.parent / part)]
     for path, folder in todo:
         text = path.read_text(encoding="utf-8")
         for it in re.finditer(r"^pub use (\w+)([\w:]*?)::(?:(\w+)|\{([^}]*)\});", text, re.M):
             listed = re.findall(r"\w+", it[3] or it[4])
-            others.append((it[1], listed)) if it[1] in CRATES else names.update(listed)
-        todo += [(folder / f"{it}.rt", folder / it) for it in re.findall(r"^pub mod (\w+);", text, re.M)]
-    return names, {it for it, _ in todo[1:]}, others
+            is_own = it[1] not in CRATES or (folder / f"{it[1]}.rt").exists()
+            names.update(listed) if is_own else others.append((it[1], listed))
+        modules = [it for it in re.findall(r"^pub mod (\w+);", text, re.M) if part or it not in parts(crate)]
+        todo += [(folder / f"{it}.rt", folder / it) for it in modules]
+    return names, {it for it, _ in todo[not part:]}, others
+
+def path_of(crate, it):
+    """The path of an item in its crate."""
+    return "::".join(x for x in (part_of(crate, TOP.parent / it.place[0]), it.box, it.name) if x)
 
 def fenced(text):
     """Plain fences are Rattle, and headings bold words: the page has headings of its own."""
     return re.sub(r"```\n(.*?)```", r"```rattle\n\1```", re.sub(r"^# (.*)$", r"**\1**\n", text, flags=re.M), flags=re.S)
 
+def said(text):
+    """What a file says of itself, in its `//!` lines."""
+    return fenced("\n".join(x[4:] for x in text.split("\n") if x.startswith("//!")))
+
 def item(crate, it, known):
-    full = (it.box and it.box + "::") + it.name
+    full = path_of(crate, it)
     pieces = re.split(r"^# (.*)$", "\n".join(it.doc), flags=re.M)
     texts = {"": fenced(pieces[0].strip()), **{t: fenced(x.strip()) for t, x in zip(pieces[1::2], pieces[2::2])}}
     yield f"(rattle-{crate}-{full.replace('::', '.')})=\n{'###' if it.box else '##'} `{full}`\n\n```rattle\n{it.head}\n```\n"
@@ -114,31 +139,39 @@ def item(crate, it, known):
     yield example
 
 def public(crate):
-    names, files, _ = reached(crate)
-    return [x for path in sorted((TOP / crate / "src").rglob("*.rt")) for x in items(path) if (x.box or x.name) in names or path in files]
+    found = {part: reached(crate, part) for part in parts(crate)}
+    each = ((found[part_of(crate, path)], path) for path in sorted((TOP / crate / "src").rglob("*.rt")))
+    return [x for (names, files, _), path in each for x in items(path) if (x.box or x.name) in names or path in files]
 
 def definer(crate, name, entries):
-    """The crate that defines what a crate hands on by this name, and whether that is an item of its page, no module."""
-    if name in {x.name for x in entries[crate] if not x.box}:
-        return crate, True
+    """The crate that defines what a crate hands on by this name, and its path where that is an item of its page, no module."""
+    if it := next((x for x in entries[crate] if not x.box and x.name == name), None):
+        return crate, path_of(crate, it)
     if (TOP / crate / f"src/{name}.rt").exists():
-        return crate, False
-    return next((definer(at, name, entries) for at, listed in reached(crate)[2] if name in listed), (None, False))
+        return crate, None
+    taken = (it for part in parts(crate) for it in reached(crate, part)[2])
+    return next((definer(at, name, entries) for at, listed in taken if name in listed), (None, None))
 
 def page(crate, known, entries):
     lib, handed = (TOP / crate / "src/lib.rt").read_text(encoding="utf-8"), {}
-    yield f"(rattle-{crate})=\n# {crate}\n\n" + fenced("\n".join(x[4:] for x in lib.split("\n") if x.startswith("//!"))) + "\n"
+    yield f"(rattle-{crate})=\n# {crate}\n\n" + said(lib) + "\n"
     if caller := callers.opening(crate):
         yield f"```rattle\n{caller}\n```\n\n[How to call it](../../crates/{crate}/CALLING.md) goes on from this example.\n\n```{{toctree}}\n:hidden:\n\n../../crates/{crate}/CALLING\n```\n"
     for at, name in ((at, x) for at, listed in reached(crate)[2] for x in listed):
-        of, is_item = definer(at, name, entries)
+        of, path = definer(at, name, entries)
         COUNT[f"name of {crate} without a page: {name}"] += not of
-        handed.setdefault(of, []).append(f"[`{name}`](rattle-{of}-{name})" if is_item else f"`{name}`")
+        handed.setdefault(of, []).append(f"[`{name}`](rattle-{of}-{path.replace('::', '.')})" if path else f"`{name}`")
     for other, listed in handed.items():
         yield f"From [{other}](rattle-{other}): " + ", ".join(listed) + ".\n"
     types = list(dict.fromkeys(x.box or x.name for x in entries[crate] if x.box or x.kind in ("struct", "enum", "trait")))
     place = {name: k for k, name in enumerate(types)}  # types with their methods first, then functions
-    for entry in sorted(entries[crate], key=lambda x: (place.get(x.box or x.name, len(types)), bool(x.box))):
+    order = {part: k for k, part in enumerate(parts(crate))}
+    part = {id(x): part_of(crate, TOP.parent / x.place[0]) for x in entries[crate]}
+    last = ""
+    for entry in sorted(entries[crate], key=lambda x: (order[part[id(x)]], place.get(x.box or x.name, len(types)), bool(x.box))):
+        if part[id(entry)] != last:
+            last = part[id(entry)]
+            yield f"## {crate}::{last}\n\n" + said(parts(crate)[last].read_text(encoding="utf-8")) + "\n"
         yield from item(crate, entry, known)
 
 def main():

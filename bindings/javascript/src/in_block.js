@@ -4,11 +4,12 @@
 import { bytesAt, calls, numberAt } from "./core.js";
 import { bytesOf, flag, optionsOf } from "./given.js";
 import { damaged, notOf } from "./kinds.js";
+import { BITM_TEXT } from "./layout.js";
 import { Block, freed } from "./memory.js";
 import { WrongTables } from "./numbers.js";
 
-/** How many bytes stand before the block: room for the struct that the calls take. */
-const BEFORE = 320;
+/** How many bytes stand before the block: room for the struct that queries take (a text has the largest), in whole lines. */
+const BEFORE = 64 * Math.ceil(BITM_TEXT.sizeof / 64);
 
 /** Memory with a copy of a block that a user gave, which is not looked at yet. */
 export class Copied {

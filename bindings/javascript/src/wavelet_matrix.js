@@ -21,8 +21,8 @@ export class WaveletMatrix {
 
     /**
      * The numbers. Each is kept in `width` bits (1 to 64), which is as many as the largest has unless it is given. With `quarters`
-     * the block takes an eighth more, and most queries read fewer words. progress(done, total) is called after each of `width`
-     * levels.
+     * the block takes an eighth more, and most queries read fewer words. With `hints` it takes a quarter of the numbers' bits
+     * more, and select() reads fewer words. progress(done, total) is called after each of `width` levels.
      */
     constructor(numbers, options) {
         if (numbers instanceof Copied) this.#held = new InBlock(KIND, this, numbers);
@@ -32,12 +32,13 @@ export class WaveletMatrix {
     }
 
     #build(items, options) {
-        const n = items.length, quarters = flag(options.quarters, "quarters", false), progress = callback(options.progress);
+        const n = items.length, quarters = flag(options.quarters, "quarters", false), hints = flag(options.hints, "hints", false);
+        const progress = callback(options.progress);
         const given = options.width === undefined ? undefined : within(options.width, 1, 64, "width");
         withRoom(24 * n, list => {
             copyIn(items, list, "numbers");
-            const width = given ?? widthOf(items), words = orThrow(calls.bitm_matrix_size(n, width, quarters), "numbers", n);
-            const how = { list, n, width, quarters, scratch: list + 8 * n, words };
+            const width = given ?? widthOf(items), words = orThrow(calls.bitm_matrix_size(n, width, quarters, hints), "numbers", n);
+            const how = { list, n, width, quarters, hints, scratch: list + 8 * n, words };
             this.#held = new InBlock(KIND, this, words, at => (progress ? byLevels(how, at, progress) : atOnce(how, at)));
         });
     }
@@ -165,19 +166,19 @@ export class WaveletMatrix {
 
 shows(WaveletMatrix, "WaveletMatrix", it => ({ numbers: it.length, width: it.width }));
 
-function atOnce({ list, n, width, quarters, scratch, words }, at) {
-    const got = calls.bitm_matrix_build(list, n, width, quarters, scratch, 2 * n, at, words);
+function atOnce({ list, n, width, quarters, hints, scratch, words }, at) {
+    const got = calls.bitm_matrix_build(list, n, width, quarters, hints, scratch, 2 * n, at, words);
     if (got === -STATUS.WRONG) throw tooWide(list, n, "number", width);
     must(got, "numbers");
 }
 
 /** Builds the same block level by level. progress() may run code of the user's. */
-function byLevels({ list, n, width, quarters, scratch, words }, at, progress) {
+function byLevels({ list, n, width, quarters, hints, scratch, words }, at, progress) {
     const fault = tooWide(list, n, "number", width);
     if (fault) throw fault;
     for (let depth = 0; depth < width; depth++) {
-        must(calls.bitm_matrix_write_level(list, n, width, quarters, depth, scratch, n, at, words), "numbers");
-        if (depth === width - 1) must(calls.bitm_matrix_seal(n, width, quarters, at, words), "numbers");
+        must(calls.bitm_matrix_write_level(list, n, width, quarters, hints, depth, scratch, n, at, words), "numbers");
+        if (depth === width - 1) must(calls.bitm_matrix_seal(n, width, quarters, hints, at, words), "numbers");
         progress(depth + 1, width);
     }
 }

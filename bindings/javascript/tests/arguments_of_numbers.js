@@ -6,9 +6,9 @@ import { ANSWER, BITS, N, START, arena, library, put, r, slot, structs, words } 
 function matrix(spoilt) {
     const block = slot(42);
     for (let i = 0; i < N; i++) words(slot(40), N)[i] = BigInt(r() % 128);
-    assert.equal(library.bitm_matrix_size(BigInt(N), 7, 0, BigInt(ANSWER)), 0);
+    assert.equal(library.bitm_matrix_size(BigInt(N), 7, 0, 0, BigInt(ANSWER)), 0);
     const size = words(ANSWER, 1)[0];
-    assert.equal(library.bitm_matrix_build(BigInt(slot(40)), BigInt(N), 7, 0, BigInt(slot(41)), BigInt(2 * N), BigInt(block), size), 0);
+    assert.equal(library.bitm_matrix_build(BigInt(slot(40)), BigInt(N), 7, 0, 0, BigInt(slot(41)), BigInt(2 * N), BigInt(block), size), 0);
     assert.equal(library.bitm_matrix_open(BigInt(block), size, BigInt(slot(43))), 0);
     if (spoilt) words(block, Number(size))[32 + (r() % (Number(size) - 32))] ^= BigInt(r());
     return Number(size);
@@ -97,13 +97,13 @@ const ofCursors = () => ({ cursors: cursors(), cursors_len: r() % 7 ? 1 + (r() %
 /** Arguments that have to fit together, by export and name. */
 export const NUMBERS = {
     bitm_matrix_build: () => ({
-        numbers: slot(40), numbers_len: N, width: r() % 7 ? 7 : 6 + (r() % 60), quarters: 0, scratch: slot(41), scratch_len: 2 * N, block: slot(50), block_len: matrix(false) - (r() % 7 ? 0 : 1),
+        numbers: slot(40), numbers_len: N, width: r() % 7 ? 7 : 6 + (r() % 60), quarters: 0, hints: 0, scratch: slot(41), scratch_len: 2 * N, block: slot(50), block_len: matrix(false) - (r() % 7 ? 0 : 1),
     }),
     bitm_matrix_write_level: () => ({
-        numbers: slot(40), numbers_len: N, width: 7, quarters: 0, depth: r() % 8, scratch: slot(41), scratch_len: N - (r() % 9 ? 0 : 1), block: slot(50),
+        numbers: slot(40), numbers_len: N, width: 7, quarters: 0, hints: 0, depth: r() % 8, scratch: slot(41), scratch_len: N - (r() % 9 ? 0 : 1), block: slot(50),
         block_len: matrix(false) - (r() % 7 ? 0 : 1),
     }),
-    bitm_matrix_seal: () => ({ len: N, width: r() % 7 ? 7 : 6, quarters: 0, block: slot(42), block_len: matrix(true) - (r() % 7 ? 0 : 1) }),
+    bitm_matrix_seal: () => ({ len: N, width: r() % 7 ? 7 : 6, quarters: 0, hints: 0, block: slot(42), block_len: matrix(true) - (r() % 7 ? 0 : 1) }),
     bitm_matrix_open: ofMatrixBlock,
     bitm_matrix_check: ofMatrixBlock,
     bitm_matrix_get: ofMatrix,

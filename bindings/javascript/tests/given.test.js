@@ -110,7 +110,7 @@ test("options are an object's own properties, each read once", () => {
     const changed = index.toBytes(), block = new Tree([1, 0]).toBytes();
     changed[300] ^= 1;
     const progress = () => assert.fail("it is inherited");
-    const inherited = { progress, check: false, sampleLog2: 7, width: 40, quarters: true, percent: 10000, seed: 5, step: 1, limit: 0, from: 1, tries: 4, fingerprintBits: 0, ends: 1 };
+    const inherited = { progress, check: false, sampleLog2: 7, width: 40, quarters: true, hints: true, percent: 10000, seed: 5, step: 1, limit: 0, from: 1, tries: 4, fingerprintBits: 0, ends: 1 };
     Object.assign(Object.prototype, inherited);
     try {
         assert.throws(() => open(changed), bitm.WrongTables);

@@ -98,6 +98,7 @@ test("lists of booleans, and options that are booleans", () => {
         const type = it === null ? "null" : typeof it;
         says("TypeError", `check must be a boolean, and is of type ${type}`, () => Tree.open(block, { check: it }), () => open(file, { check: it }));
         says("TypeError", `quarters must be a boolean, and is of type ${type}`, () => new WaveletMatrix([1], { quarters: it }));
+        says("TypeError", `hints must be a boolean, and is of type ${type}`, () => new WaveletMatrix([1], { hints: it }));
     }
     assert.equal(Tree.open(block, { check: undefined }).length + open(file, { check: true }).length, 11);
     assert.equal(new WaveletMatrix([1], { quarters: undefined }).byteLength, new WaveletMatrix([1], { quarters: false }).byteLength);

@@ -15,11 +15,12 @@ const BUILDS = {
     strings: (n, options) => new Strings(texts(n), options),
     "a matrix": (n, options) => new WaveletMatrix(upTo(n), options),
     "a matrix with quarters": (n, options) => new WaveletMatrix(upTo(n).map(k => (7 * k) % 64), { ...options, width: 7, quarters: true }),
+    "a matrix with hints": (n, options) => new WaveletMatrix(upTo(n).map(k => (7 * k) % 64), { ...options, width: 7, hints: true }),
     "a wide matrix": (n, options) => new WaveletMatrix(upTo(n).map(k => BigInt(k) << 50n), { ...options, width: 64 }),
     "a text": (n, options) => TextIndex.of("she sells sea shells ".repeat(n / 20), options),
     "a text of numbers": (n, options) => TextIndex.ofLetters(upTo(n).map(k => (k * k) % 1000), 1000, { ...options, step: 5 }),
 };
-const STEPS = { "a matrix with quarters": 7, "a wide matrix": 64, "a text": 2, "a text of numbers": 2 };
+const STEPS = { "a matrix with quarters": 7, "a matrix with hints": 7, "a wide matrix": 64, "a text": 2, "a text of numbers": 2 };
 
 test("each step is reported, and the last when all is done; the bytes are those without a callback", () => {
     for (const [name, build] of Object.entries(BUILDS)) for (const n of [0, 1, 2, 65, 700]) {

@@ -18,6 +18,7 @@ const KINDS = [
     [bitm.PerfectHash, new bitm.PerfectHash(["a", "b"]), it => it.getList(["a", "b", "c"])],
     [bitm.WaveletMatrix, new bitm.WaveletMatrix([3, 1, 4, 1, 5]), it => it.quantile(2)],
     [bitm.WaveletMatrix, new bitm.WaveletMatrix([3, 1, 4], { quarters: true }), it => it.get(2)],
+    [bitm.WaveletMatrix, new bitm.WaveletMatrix([3, 1, 4], { hints: true }), it => it.select(4, 0)],
     [bitm.TextIndex, bitm.TextIndex.of("banana"), it => it.findAll("ana")],
 ];
 const drawn = (n, seed) => Uint8Array.from({ length: n }, random(seed));

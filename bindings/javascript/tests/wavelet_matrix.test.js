@@ -40,7 +40,7 @@ function ofNumber(matrix, items, x, begin, end) {
 }
 
 function compare(items, width, seed, absent) {
-    for (const quarters of [false, true]) compareWith(items, { width, quarters }, seed, absent);
+    for (const quarters of [false, true]) for (const hints of [false, true]) compareWith(items, { width, quarters, hints }, seed, absent);
 }
 
 function compareWith(items, options, seed, absent) {

@@ -122,6 +122,9 @@ export interface WaveletMatrixOptions {
     /** Whether the block has quarters: it takes an eighth more, and most queries read fewer words. False unless it is given. TypeError
      *  where it is no boolean. */
     quarters?: boolean;
+    /** Whether the block has hints: it takes a quarter of the numbers' bits more, and select() reads fewer words. False unless it is
+     *  given. TypeError where it is no boolean. */
+    hints?: boolean;
     /** Called after each of `width` levels of the matrix. */
     progress?: Progress;
 }

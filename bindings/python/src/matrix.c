@@ -25,7 +25,7 @@ typedef struct {
     uint64_t *numbers; /* its own */
     size_t count;
     uint32_t width;
-    bool quarters;
+    bool quarters, hints;
     PyObject *progress; /* or NULL */
 } Given;
 
@@ -35,10 +35,10 @@ static int written_by_levels(const Given *from, uint64_t *scratch, uint64_t *blo
     for (uint32_t depth = 0; depth < from->width; depth++) {
         uint32_t status;
         Py_BEGIN_ALLOW_THREADS
-        status = bitm_matrix_write_level(from->numbers, from->count, from->width, from->quarters, depth, scratch,
-                                         from->count, block, len);
+        status = bitm_matrix_write_level(from->numbers, from->count, from->width, from->quarters, from->hints, depth,
+                                         scratch, from->count, block, len);
         if (status == BITM_OK && depth + 1 == from->width)
-            status = bitm_matrix_seal(from->count, from->width, from->quarters, block, len);
+            status = bitm_matrix_seal(from->count, from->width, from->quarters, from->hints, block, len);
         Py_END_ALLOW_THREADS
         if (status != BITM_OK)
             return refuse("the numbers are too many");
@@ -53,8 +53,8 @@ static int written_at_once(const Given *from, uint64_t *scratch, uint64_t *block
 {
     uint32_t status;
     Py_BEGIN_ALLOW_THREADS
-    status = bitm_matrix_build(from->numbers, from->count, from->width, from->quarters, scratch, 2 * from->count, block,
-                               len);
+    status = bitm_matrix_build(from->numbers, from->count, from->width, from->quarters, from->hints, scratch,
+                               2 * from->count, block, len);
     Py_END_ALLOW_THREADS
     if (status == BITM_OK)
         return 0;
@@ -67,7 +67,7 @@ static int built(Memory *it, const Given *from)
 {
     const int is_by_levels = from->progress != NULL;
     uint64_t len, *block, *scratch;
-    if (bitm_matrix_size(from->count, from->width, from->quarters, &len) != BITM_OK)
+    if (bitm_matrix_size(from->count, from->width, from->quarters, from->hints, &len) != BITM_OK)
         return refuse("the width is 1 to 64 bits, and all numbers have less than 2**63 bits");
     if ((is_by_levels && say_wide("number", from->numbers, from->count, from->width)) ||
         (block = block_room(it, len)) == NULL ||
@@ -80,13 +80,13 @@ static int built(Memory *it, const Given *from)
 
 static int matrix_init(PyObject *self, PyObject *args, PyObject *keywords)
 {
-    static char *names[] = {"numbers", "width", "quarters", "progress", NULL};
+    static char *names[] = {"numbers", "width", "quarters", "hints", "progress", NULL};
     PyObject *numbers, *wanted = NULL, *progress = NULL;
     Given from = {0};
     uint64_t width;
-    int quarters = 0;
-    if (!PyArg_ParseTupleAndKeywords(args, keywords, "O|$OpO:WaveletMatrix", names, &numbers, &wanted, &quarters,
-                                     &progress))
+    int quarters = 0, hints = 0;
+    if (!PyArg_ParseTupleAndKeywords(args, keywords, "O|$OppO:WaveletMatrix", names, &numbers, &wanted, &quarters,
+                                     &hints, &progress))
         return -1;
     Py_XINCREF(progress);
     const int is_given = wanted != NULL && wanted != Py_None;
@@ -95,6 +95,7 @@ static int matrix_init(PyObject *self, PyObject *args, PyObject *keywords)
     if (taken)
         from.width = is_given ? (uint32_t)(width > 65 ? 65 : width) : width_of(from.numbers, from.count);
     from.quarters = quarters != 0;
+    from.hints = hints != 0;
     Memory *it = taken ? memory_new() : NULL;
     int is_made = it != NULL && built(it, &from) == 0;
     free(from.numbers);
@@ -353,12 +354,13 @@ static PyGetSetDef attributes[] = {
     {NULL, NULL, NULL, NULL, NULL}};
 
 #define MATRIX_DOC                                                                                                     \
-    "WaveletMatrix(numbers, *, width=None, quarters=False, progress=None)\n--\n\n"                                     \
+    "WaveletMatrix(numbers, *, width=None, quarters=False, hints=False, progress=None)\n--\n\n"                        \
     "A list of numbers in any order, in one block of memory of about 1.03 * width bits a number: where\n"              \
     "and how often a number is there, and which numbers of a range are the least.\n\n"                                 \
     "width is how many bits each has at most: those of the largest one, where it is not given. With\n"                 \
-    "quarters the block takes an eighth more, and most queries read fewer words. ValueError where a number\n"          \
-    "has more bits than width: it says which.\n\n"                                                                     \
+    "quarters the block takes an eighth more, and most queries read fewer words. With hints it takes a\n"              \
+    "quarter of the numbers' bits more, and select reads fewer words. ValueError where a number has more\n"            \
+    "bits than width: it says which.\n\n"                                                                              \
     "progress(done, total) is called after each bit of the width, of `total` bits in all." EXAMPLE(                    \
         "numbers = WaveletMatrix([3, 1, 4, 1, 5, 1])")                                                                 \
         THEN("numbers[4], numbers.rank(1, 4), numbers.select(1, 2), numbers.quantile(3)") PRINTS("(5, 2, 5, 3)")       \

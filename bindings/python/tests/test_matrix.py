@@ -61,6 +61,10 @@ def test_answers_are_those_of_plain_lists(plain):
     quick = WaveletMatrix(plain, quarters=True)
     assert (len(quick.block) > len(matrix.block)) is (len(plain) > 0)
     as_plain_lists(quick, plain)
+    for quarters in (False, True):
+        led = WaveletMatrix(plain, quarters=quarters, hints=True)
+        assert len(led.block) > len(WaveletMatrix(plain, quarters=quarters).block)
+        as_plain_lists(led, plain)
 
 
 @settings(max_examples=60, deadline=None)

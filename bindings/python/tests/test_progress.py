@@ -66,13 +66,13 @@ def test_the_steps_of_a_hash_are_its_levels(keys, percent, seed):
 
 
 @settings(max_examples=60, deadline=None)
-@given(st.lists(st.integers(0, 9) | st.integers(0, 2**64 - 1), max_size=40), st.booleans())
-def test_matrices_of_any_numbers(numbers, quarters):
+@given(st.lists(st.integers(0, 9) | st.integers(0, 2**64 - 1), max_size=40), st.booleans(), st.booleans())
+def test_matrices_of_any_numbers(numbers, quarters, hints):
     steps = []
-    found = WaveletMatrix(numbers, quarters=quarters, progress=lambda *step: steps.append(step))
+    found = WaveletMatrix(numbers, quarters=quarters, hints=hints, progress=lambda *step: steps.append(step))
     width = max(1, *(it.bit_length() for it in numbers), 1)
     assert steps == [(at, width) for at in range(1, width + 1)]
-    assert list(found) == numbers and bytes(found.block) == bytes(WaveletMatrix(numbers, quarters=quarters).block)
+    assert list(found) == numbers and bytes(found.block) == bytes(WaveletMatrix(numbers, quarters=quarters, hints=hints).block)
 
 
 @settings(max_examples=60, deadline=None)

@@ -23,6 +23,8 @@ VALUES = (
     (bitm.PerfectHash("abc", tries=5), lambda it: it.get_list("abcd")),
     (bitm.WaveletMatrix([3, 1, 4, 1, 5]), lambda it: it.get_list(range(5))),
     (bitm.WaveletMatrix([3, 1, 4, 1, 5], quarters=True), lambda it: it.get_list(range(5))),
+    (bitm.WaveletMatrix([3, 1, 4, 1, 5], hints=True), lambda it: [it.select(1, k) for k in range(3)]),
+    (bitm.WaveletMatrix([3, 1, 4, 1, 5], quarters=True, hints=True), lambda it: [it.select(1, k) for k in range(3)]),
     (bitm.TextIndex(b"banana"), lambda it: it.find_all(b"ana")),
 )
 

@@ -30,6 +30,7 @@ def small_values():
     yield from (Index(bits), Index(bits, sample_log2=7), EliasFano(range(0, 900, 7)), PerfectHash(range(40)), PerfectHash(range(40), tries=4))
     yield from (bitm.SparseBits([3, 100, 101, 4000], 5000), bitm.Dictionary([4, 9, 49]), bitm.Strings(["ada", "bob", "eve"]), bitm.Tree([2, 0, 1, 0]))
     yield from (bitm.Trie.of_words(["a", "be"]), bitm.WaveletMatrix([3, 1, 4, 1]), bitm.WaveletMatrix(range(40), quarters=True), bitm.TextIndex(b"banana"))
+    yield from (bitm.WaveletMatrix(range(40), hints=True), bitm.WaveletMatrix([3, 1, 4, 1], quarters=True, hints=True))
     yield bitm.TextIndex.of_letters([3, 1, 4, 1, 5], 8)
 
 

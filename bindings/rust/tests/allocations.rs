@@ -161,7 +161,7 @@ fn blocks_of_other_kinds() {
 fn builds_that_say_how_far_they_are() {
     let (numbers, text, nothing) = ([3, 1, 4], b"banana", |_, _| ());
     let plain = of(|| WaveletMatrix::build(&numbers));
-    assert_eq!(of(|| WaveletMatrix::build_with_progress(&numbers, 3, false, nothing)), plain);
+    assert_eq!(of(|| WaveletMatrix::build_with_progress(&numbers, 3, false, false, nothing)), plain);
     assert_eq!(of(|| TextIndex::build_with_progress(text, 2, nothing)), of(|| TextIndex::build(text, 2)));
     let letters = of(|| TextIndex::build_of_letters(&numbers, 5, 2));
     assert_eq!(of(|| TextIndex::build_of_letters_with_progress(&numbers, 5, 2, nothing)), letters);

@@ -63,7 +63,13 @@ fn of_trees_and_tries() {
 
 #[test]
 fn of_matrices_and_texts() {
-    for matrix in [WaveletMatrix::build(&[3, 1, 4, 1, 5]), WaveletMatrix::build_with_quarters(&[3, 1, 4, 1, 5], 3)] {
+    let numbers = [3, 1, 4, 1, 5];
+    for matrix in [
+        WaveletMatrix::build(&numbers),
+        WaveletMatrix::build_with_quarters(&numbers, 3),
+        WaveletMatrix::build_with_hints(&numbers, 3, false),
+        WaveletMatrix::build_with_hints(&numbers, 3, true),
+    ] {
         refuses_each_flipped_bit("matrix", matrix.expect("numbers").block(), passes!(WaveletMatrix));
     }
     for text in [TextIndex::build(b"banana", 2), TextIndex::build_of_letters(&[3, 1, 4, 1, 5], 8, 2)] {

@@ -137,6 +137,10 @@ fn answers_are_those_of_plain_lists() {
         as_a_plain_list(least.clone().view(), &plain, &mut random);
         let quick = WaveletMatrix::build_with_quarters(&plain, bits.max(1)).expect("any");
         as_a_plain_list(quick.view(), &plain, &mut random);
+        for quarters in [false, true] {
+            let led = WaveletMatrix::build_with_hints(&plain, bits.max(1), quarters).expect("any");
+            as_a_plain_list(led.view(), &plain, &mut random);
+        }
         if !plain.is_empty() {
             lists(&least, &plain, &mut random);
             lists(&quick, &plain, &mut random);

@@ -26,11 +26,12 @@ fn matrices_level_by_level() {
     let mut random = Random(91);
     for (count, width) in [(0, 1), (0, 64), (1, 3), (2, 64), (63, 8), (1000, 13), (600, 64)] {
         let numbers = drawn(count, u64::MAX >> (64 - width), &mut random);
-        for quarters in [false, true] {
-            let (made, steps) = told(|it| WaveletMatrix::build_with_progress(&numbers, width, quarters, it));
-            let plain = match quarters {
-                true => WaveletMatrix::build_with_quarters(&numbers, width),
-                false => WaveletMatrix::build_with(&numbers, width),
+        for (quarters, hints) in [(false, false), (true, false), (false, true), (true, true)] {
+            let (made, steps) = told(|it| WaveletMatrix::build_with_progress(&numbers, width, quarters, hints, it));
+            let plain = match (quarters, hints) {
+                (_, true) => WaveletMatrix::build_with_hints(&numbers, width, quarters),
+                (true, false) => WaveletMatrix::build_with_quarters(&numbers, width),
+                (false, false) => WaveletMatrix::build_with(&numbers, width),
             };
             assert_eq!(made.expect("numbers").into_owner(), plain.expect("numbers").into_owner());
             let width = width as usize;
@@ -41,10 +42,10 @@ fn matrices_level_by_level() {
 
 #[test]
 fn matrices_that_are_refused_say_no_step() {
-    let (made, steps) = told(|it| WaveletMatrix::build_with_progress(&[1, 7, 300, 9], 8, false, it));
+    let (made, steps) = told(|it| WaveletMatrix::build_with_progress(&[1, 7, 300, 9], 8, false, false, it));
     let why = BuildError::TooWide { index: 2, number: 300, width: 8 };
     assert_eq!((made.err(), steps), (Some(why), vec![]));
-    let (made, steps) = told(|it| WaveletMatrix::build_with_progress(&[1], 65, false, it));
+    let (made, steps) = told(|it| WaveletMatrix::build_with_progress(&[1], 65, false, true, it));
     assert_eq!((made.err(), steps), (Some(BuildError::WrongWidth { width: 65 }), vec![]));
 }
 
@@ -133,7 +134,7 @@ fn a_callback_that_panics_ends_the_build() {
         let keys = || KeyHash::build_with_progress(0..2000, KeyOptions::default(), panics_at(step));
         assert_eq!(says(|| drop(keys())), "enough");
         assert_eq!(says(|| drop(TextIndex::build_with_progress(b"banana", 2, panics_at(step)))), "enough");
-        let matrix = || WaveletMatrix::build_with_progress(&[3, 1, 4], 3, true, panics_at(step));
+        let matrix = || WaveletMatrix::build_with_progress(&[3, 1, 4], 3, true, true, panics_at(step));
         assert_eq!(says(|| drop(matrix())), "enough");
     }
 }
@@ -141,8 +142,8 @@ fn a_callback_that_panics_ends_the_build() {
 #[test]
 fn a_callback_may_build_and_query() {
     let mut inside = vec![];
-    let outside = WaveletMatrix::build_with_progress(&[3, 1, 4], 3, false, |done, _| {
-        let other = WaveletMatrix::build_with_progress(&[7; 9], 3, false, |_, _| ()).expect("numbers");
+    let outside = WaveletMatrix::build_with_progress(&[3, 1, 4], 3, false, true, |done, _| {
+        let other = WaveletMatrix::build_with_progress(&[7; 9], 3, false, false, |_, _| ()).expect("numbers");
         inside.push((done, other.count(7), bitm_proved::Index::build([7u64]).count_ones()));
     });
     assert_eq!(outside.expect("numbers").get(2), Some(4));

@@ -8,3 +8,10 @@ pub mod JoinLemmas
 pub mod RangeLemmas
 pub mod WriteLemmas
 pub mod ZeroLemmas
+pub mod CopyLemmas
+pub mod FillLemmas
+pub mod FirstLemmas
+pub mod ListedLemmas
+pub mod PositionLemmas
+pub mod SameLemmas
+pub mod WhereLemmas

@@ -5,3 +5,7 @@ pub use Rattle.bit_lists.specs.Coming
 pub use Rattle.bit_lists.specs.Count
 pub use Rattle.bit_lists.specs.Number
 pub use Rattle.bit_lists.specs.Window
+pub mod Copied
+pub mod First
+pub mod Listed
+pub mod Where

@@ -17,6 +17,7 @@
 // - `successive`: calls that advance the position or index that they take
 // - `words`: the calls of `BitAccess` and `BitAccessMut`, as functions over slices
 // - `writing`: writes of bits and numbers
+// - `slices`: bit vectors that end inside a word, by value
 mod bytes;
 mod closures;
 mod combining;
@@ -28,6 +29,7 @@ mod nearest;
 mod places;
 mod ranges;
 mod reading;
+pub mod slices;
 mod successive;
 pub mod words;
 mod writing;

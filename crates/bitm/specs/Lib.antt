@@ -15,7 +15,7 @@ pub use Rattle.bitm_bits.specs.Lending
 pub use Rattle.bitm_bits.specs.Size
 pub use Rattle.bitm_select.specs.Answers
 pub use Rattle.bitm_tables.specs.Entry
-pub use Rattle.bitm_many.specs.Many
+pub use Rattle.bitm_select.specs.Many
 pub use Rattle.bitm_tables.specs.Quarters
 pub use Rattle.bitm_tables.specs.Reads
 pub use Rattle.bitm_select.specs.Search

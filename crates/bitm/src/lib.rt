@@ -39,7 +39,7 @@ pub use bit_words::{
     n_lowest_bits_1_64, set_bits25, set_bits57, words,
 };
 pub use bitm_bits::{BitAccess, BitAccessMut, BitVec, BitWriter, CloneWords, GetSize};
-pub use bitm_many::lists::{rank_many_on, select_many_on, total_select_many_on};
+pub use bitm_select::many::lists::{rank_many_on, select_many_on, total_select_many_on};
 pub use bitm_select::search::selected::{NO_ANSWER, WRONG_TABLES};
 pub use bitm_select::search::selecting::{binary_select_on, total_select_on};
 pub use bitm_strategies::{

@@ -9,9 +9,9 @@ use Rattle.bitm_tables.specs.declared.answer.Answer.{Answer}
 use Rattle.bitm_tables.specs.declared.answer.Answer.TheVariants.{Found, Absent, Wrong}
 use Rattle.bitm_view.proofs.CodeLemmas.{selected_place}
 use Rattle.bitm_view.specs.Queries.{ranked_by}
-use Rattle.hash_levels.specs.Levels.{fall_in}
-use Rattle.hash_levels.specs.Numbers.{number_in}
-use Rattle.hash_levels.specs.Places.{place_by, place_in}
+use Rattle.perfect_hash.specs.Levels.{fall_in}
+use Rattle.perfect_hash.specs.Numbers.{number_in}
+use Rattle.perfect_hash.specs.Places.{place_by, place_in}
 use Rattle.perfect_hash.specs.Asking.{IsBelow, IsNumbered}
 use Rattle.perfect_hash.specs.Listed.{IsNumberTold, IsTotal}
 use Rattle.bitm_abi.specs.Hash.{fall_of, HashLists, IsHashNumber, IsHashOf}

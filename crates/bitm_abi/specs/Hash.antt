@@ -3,11 +3,11 @@ use Rattle.std.specs.Prelude.{◌≡◌, ℕ, ◌≤◌, ◌⊎◌, List, [], �
 use Rattle.bitm_tables.specs.declared.answer.Answer.{Answer}
 use Rattle.bit_lists.specs.Count.{ones_of}
 use Rattle.bitm_tables.specs.Tables.{HasSizes, HasTables, Lists, bits_in}
-use Rattle.lent_tables.specs.Sizes.{lists_of}
+use Rattle.tables_view.specs.Sizes.{lists_of}
 use Rattle.perfect_hash.specs.Asking.{IsBelow, IsNumbered}
-use Rattle.hash_levels.specs.Levels.{fall_in}
-use Rattle.hash_levels.specs.Numbers.{number_in, AreSizes}
-use Rattle.hash_levels.specs.Places.{place_by, place_in}
+use Rattle.perfect_hash.specs.Levels.{fall_in}
+use Rattle.perfect_hash.specs.Numbers.{number_in, AreSizes}
+use Rattle.perfect_hash.specs.Places.{place_by, place_in}
 use Rattle.bitm_abi.specs.declared.hash.Hash.{Hash}
 use Rattle.bitm_abi.specs.declared.hash.SeededHash.{SeededHash}
 

@@ -1,7 +1,7 @@
 -- An index as C passes it.
 use Rattle.bitm_view.specs.Cut.{Cut, cut_at}
-use Rattle.lent_tables.specs.Samples.{sampled}
-use Rattle.lent_tables.specs.Sizes.{lists_of}
+use Rattle.tables_view.specs.Samples.{sampled}
+use Rattle.tables_view.specs.Sizes.{lists_of}
 use Rattle.bitm_abi.specs.Samples.{lent_samples}
 use Rattle.bitm_abi.specs.declared.index.Index.{Index}
 

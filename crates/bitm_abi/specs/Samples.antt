@@ -1,11 +1,11 @@
 -- Samples as C passes them.
 use Rattle.std.specs.Prelude.{◌≡◌, Bool, length, min, if◌then◌else◌}
-use Rattle.lent_tables.specs.declared.samples.LentSamples.{LentSamples}
+use Rattle.tables_view.specs.declared.samples.SamplesView.{SamplesView}
 use Rattle.bitm_abi.specs.declared.samples.Samples.{Samples}
 use Rattle.bitm_abi.specs.declared.index.Index.{Index}
 
 -- the samples as the library takes them
-abbrev pub lent_samples : Samples → LentSamples
+abbrev pub lent_samples : Samples → SamplesView
 lent_samples s = record { samples = s.samples; starts = s.starts; log2 = min s.log2 31 }
 
 -- there are none

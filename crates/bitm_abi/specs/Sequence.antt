@@ -4,9 +4,9 @@ use Rattle.std.specs.List.{Contains}
 use Rattle.bitm_tables.specs.declared.answer.Answer.{Answer}
 use Rattle.bitm_tables.specs.Tables.{HasSizes, Lists}
 use Rattle.bitm_view.specs.Queries.{selected_by}
-use Rattle.lent_tables.specs.Sizes.{lists_of}
+use Rattle.tables_view.specs.Sizes.{lists_of}
 use Rattle.elias_fano.specs.Answers.{IsPlaceOf, IsPredecessorOf}
-use Rattle.elias_fano.specs.LentParts.{parts_of, with_hints, AreHeldParts, HasLengths, LentParts}
+use Rattle.elias_fano.specs.SequenceParts.{parts_of, with_hints, AreHeldParts, HasLengths, SequenceParts}
 use Rattle.elias_fano.specs.Told.{ClaimAtMost, ClaimLess, IfLast}
 use Rattle.elias_fano_view.specs.declared.lists.ListAnswer.{ListAnswer}
 use Rattle.elias_fano_view.specs.declared.lists.ListAnswer.TheVariants.{All, AbsentAt, WrongAt, WrongLength}
@@ -19,15 +19,15 @@ abbrev pub sizes_in_c : Sizes → SequenceLens
 sizes_in_c s = record { width = s.width; low_len = s.low; words_len = s.words; upper_len = s.upper; lower_len = s.lower }
 
 -- the parts of a sequence
-abbrev pub lent_parts : Sequence → LentParts
-lent_parts sequence =
+abbrev pub sequence_parts : Sequence → SequenceParts
+sequence_parts sequence =
     with_hints sequence.hints.now
     (parts_of sequence.len sequence.width sequence.low.now (lists_of sequence.words.now sequence.upper.now sequence.lower.now))
 
 -- the lengths of a sequence are right
 pub record IsSequenceSized (sequence : Sequence) : Type 0 where
-  pub tables : HasSizes (lent_parts sequence).upper
-  pub lengths : HasLengths (lent_parts sequence)
+  pub tables : HasSizes (sequence_parts sequence).upper
+  pub lengths : HasLengths (sequence_parts sequence)
 
 -- the answer that an item of a list of answers stands for
 abbrev pub sought_by : ℕ → Answer ℕ
@@ -48,7 +48,7 @@ pub record FindsLast (value len width : ℕ) (low : List ℕ) (upper : Lists) (h
   pub counts : (xs : List ℕ) → AreHeldParts xs len width low upper hints → IsPredecessorOf xs value answer
 
 -- the predecessor in a sequence
-abbrev pub IsPredecessor : ℕ → LentParts → Answer ℕ → Type 0
+abbrev pub IsPredecessor : ℕ → SequenceParts → Answer ℕ → Type 0
 IsPredecessor value parts = FindsLast value parts.len parts.width parts.low parts.upper parts.hints
 
 -- whether value is one of the numbers, as an item of a list: 1 or 0, or 2^64 - 2 where the parts are not those of a
@@ -59,5 +59,5 @@ pub record FindsEqual (value len width : ℕ) (low : List ℕ) (upper : Lists) (
   pub right : (xs : List ℕ) → AreHeldParts xs len width low upper hints → (n ≤ 1) × ((n ≡ 1) ↔ Contains xs value)
 
 -- whether value is a number of a sequence
-abbrev pub IsContained : ℕ → LentParts → ℕ → Type 0
+abbrev pub IsContained : ℕ → SequenceParts → ℕ → Type 0
 IsContained value parts = FindsEqual value parts.len parts.width parts.low parts.upper parts.hints

@@ -1,6 +1,6 @@
 -- A tree as C passes it.
 use Rattle.bitm_abi.specs.declared.tree.Tree.{Tree}
-use Rattle.louds_block.specs.Block.{parts_of, TreeParts}
+use Rattle.tree_block.specs.Block.{parts_of, TreeParts}
 
 -- the number of nodes, and the words with their tables and hints
 abbrev pub tree_parts : Tree → TreeParts

@@ -8,10 +8,10 @@ use crate::index::Index;
 use bitm_select::search::selected::WRONG_TABLES;
 use bitm_tables::answer::Answer;
 use bitm_tables::source::counts::ReadCounts;
-use hash_levels::Plain;
-use lent_tables::Lent;
+use perfect_hash::levels::Plain;
 use perfect_hash::{SeedsView, total_number_by_on, total_numbers_on};
 use std::marker::Model;
+use tables_view::TablesView;
 
 /// At most this many levels are queried.
 const LEVELS: usize = 256;
@@ -41,14 +41,14 @@ pub struct SeededHash<'a> {
 
 /// A perfect hash whose lengths are right, as the library queries it. The words, tables and sizes may hold anything.
 #[derive(Drop)]
-pub struct LentHash<'a> {
-    tables: Lent<'a>,
+pub struct PerfectHashView<'a> {
+    tables: TablesView<'a>,
     sizes: &'a [usize],
     keys: usize,
     seeds: &'a [u8],
 }
 
-impl<'a> Model for LentHash<'a> {
+impl<'a> Model for PerfectHashView<'a> {
     ghost use Rattle.bitm_abi.specs.Hash.{CanBeHash, HashLists};
 
     ghost Value = { HashLists };
@@ -71,23 +71,23 @@ impl<'a> Model for LentHash<'a> {
 impl<'a> Hash<'a> {
     /// The words and tables as the library queries them; `None` exactly where a length is not right.
     #[inline(always)]
-    pub fn lent(&self) -> Option<Lent<'a>>
+    pub fn lent(&self) -> Option<TablesView<'a>>
         ensures { SomeIff result (HasSizes (hash_lists self.now) × (length self.now.sizes.now ≤ 256))
             (hash_lists self.now) }
     {
         if self.sizes.len() > LEVELS {
             return None;
         }
-        Lent::over(self.index.words, self.index.upper, self.index.lower)
+        TablesView::over(self.index.words, self.index.upper, self.index.lower)
     }
 
     /// The hash as the library queries it; `None` exactly where a length is not right.
     #[inline(always)]
-    pub fn view(&self) -> Option<LentHash<'a>>
+    pub fn view(&self) -> Option<PerfectHashView<'a>>
         ensures { SomeIff result (CanBeHash (parts_of self.now)) (parts_of self.now) }
     {
         let tables = self.lent()?;
-        Some(LentHash {
+        Some(PerfectHashView {
             tables,
             sizes: self.sizes,
             keys: self.keys,
@@ -99,7 +99,7 @@ impl<'a> Hash<'a> {
 impl<'a> SeededHash<'a> {
     /// The hash as the library queries it; `None` exactly where a length is not right.
     #[inline(always)]
-    pub fn view(&self) -> Option<LentHash<'a>>
+    pub fn view(&self) -> Option<PerfectHashView<'a>>
         ensures { SomeIff result (CanBeHash (seeded_parts self.now)) (seeded_parts self.now) }
     {
         let hash = &self.hash;
@@ -107,7 +107,7 @@ impl<'a> SeededHash<'a> {
             return None;
         }
         let tables = hash.lent()?;
-        Some(LentHash {
+        Some(PerfectHashView {
             tables,
             sizes: hash.sizes,
             keys: hash.keys,
@@ -116,7 +116,7 @@ impl<'a> SeededHash<'a> {
     }
 }
 
-impl<'a> LentHash<'a> {
+impl<'a> PerfectHashView<'a> {
     /// The number of a hash.
     #[inline(always)]
     pub fn number(&self, hash: u64) -> Answer<usize>

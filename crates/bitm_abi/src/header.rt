@@ -6,7 +6,7 @@ ghost use Rattle.bitm_abi.specs.Stored.{LiesWithin};
 
 use crate::layout::{Span, Stored};
 use crate::sequence::SequenceLens;
-use lent_tables::samples_len;
+use tables_view::samples_len;
 
 /// The size of the header in words.
 pub const HEADER_WORDS: usize = 24;

@@ -6,7 +6,7 @@ ghost use Rattle.bitm_abi.specs.Samples.{lent_samples};
 
 use crate::samples::Samples;
 use bitm_view::IndexView;
-use lent_tables::{Lent, LentSamples};
+use tables_view::{SamplesView, TablesView};
 
 /// An index in the caller's memory: words, whose first `bits_len` bits are the bit vector, with their two tables, and
 /// samples of either kind of bit, which may be none. For C each slice is a pointer and a length.
@@ -35,7 +35,7 @@ impl<'a> Index<'a> {
     pub fn view(&self) -> Option<IndexView<'a>>
         ensures { SomeIff result (IsSizedCut (cut_of self.now)) (sampled_cut_of self.now) }
     {
-        let tables = Lent::over(self.words, self.upper, self.lower)?;
+        let tables = TablesView::over(self.words, self.upper, self.lower)?;
         let whole = IndexView::over(tables, self.bits_len as usize)?;
         let of_ones = whole.with_samples::<1>(self.ones.lent());
         Some(of_ones.with_samples::<0>(self.zeros.lent()))
@@ -49,7 +49,7 @@ impl<'a> Index<'a> {
             × (0 < length self.now.words.now) × (length self.now.words.now ≤ 2 ^ 18))
             (cut_of self.now) }
     {
-        let tables = Lent::over_few(self.words, self.upper, self.lower)?;
+        let tables = TablesView::over_few(self.words, self.upper, self.lower)?;
         IndexView::over(tables, self.bits_len as usize)
     }
 
@@ -61,7 +61,7 @@ impl<'a> Index<'a> {
             × (2 ^ 18 < length self.now.words.now) × (length self.now.words.now ≤ 2 ^ 26))
             (cut_of self.now) }
     {
-        let tables = Lent::over_large_part(self.words, self.upper, self.lower)?;
+        let tables = TablesView::over_large_part(self.words, self.upper, self.lower)?;
         IndexView::over(tables, self.bits_len as usize)
     }
 
@@ -70,13 +70,13 @@ impl<'a> Index<'a> {
     pub fn bare_view(&self) -> Option<IndexView<'a>>
         ensures { SomeIff result (IsSizedCut (cut_of self.now)) (cut_of self.now) }
     {
-        let tables = Lent::over(self.words, self.upper, self.lower)?;
+        let tables = TablesView::over(self.words, self.upper, self.lower)?;
         IndexView::over(tables, self.bits_len as usize)
     }
 
     /// The samples of the 1 bits; of the 0 bits where `BIT` is 0.
     #[inline(always)]
-    pub fn samples<const BIT: u8>(&self) -> LentSamples<'a>
+    pub fn samples<const BIT: u8>(&self) -> SamplesView<'a>
         ensures zeros { BIT ≡ 0 → result ≡ lent_samples self.now.zeros }
         ensures ones { BIT ≢ 0 → result ≡ lent_samples self.now.ones }
     {

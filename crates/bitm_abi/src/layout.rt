@@ -4,7 +4,7 @@ ghost use Rattle.bitm_view.specs.Block.{starts_of};
 ghost use Rattle.bitm_abi.specs.Stored.{header_checksum, mixed, span_from, span_mixed, IsAlike, IsBoundedHeader};
 ghost use Rattle.bitm_abi.specs.Stored.{IsLaidOut};
 
-use lent_tables::{lower_len, upper_len};
+use tables_view::{lower_len, upper_len};
 
 /// The letters `bitm` and `tab`, and version 2. A processor with the other byte order reads another number.
 const MARK: u64 = 0x0262_6174_6d74_6962;

@@ -38,7 +38,7 @@ mod tree;
 
 pub use answer::{BAD_SIZE, NONE, OK, UNSORTED, WRONG, as_number, done, report, report_both, tell};
 pub use counts::{ListCounts, code_of, report_list};
-pub use hash::{Hash, LentHash, SeededHash};
+pub use hash::{Hash, PerfectHashView, SeededHash};
 pub use hash_blocks::{hash_at, hash_view};
 pub use header::{HEADER_WORDS, header_at, header_of, index_of, sequence_of};
 pub use index::Index;

@@ -1,13 +1,13 @@
 //! A matrix in a block as C passes it, and as the library queries it.
-ghost use Rattle.std.specs.Prelude.{◌≡◌, SomeIff};
-ghost use Rattle.matrix_block.specs.Block.{HasLengths};
+ghost use Rattle.std.specs.Prelude.{◌≡◌, [], SomeIff};
+ghost use Rattle.matrix_block.specs.Block.{with_hints, HasLengths};
 ghost use Rattle.bitm_abi.specs.Matrix.{matrix_parts};
 
-use lent_levels::LevelsView;
+use levels_view::LevelsView;
 use matrix_block::MatrixView;
 
-/// A matrix in the caller's memory: how many numbers it holds and of how many bits, and the words and tables of its
-/// block, for C six pairs of a pointer and a length.
+/// A matrix in the caller's memory: how many numbers it holds and of how many bits, and the words, tables and hints of
+/// its block, for C seven pairs of a pointer and a length.
 #[repr(C)]
 #[derive(Clone, Copy)]
 pub struct Matrix<'a> {
@@ -27,11 +27,13 @@ pub struct Matrix<'a> {
     pub zeros: &'a [u64],
     /// The quarters of the words, none where the block is compact.
     pub quarters: &'a [u64],
+    /// The hints of the words, or no words.
+    pub hints: &'a [u64],
 }
 
 impl<'a> Matrix<'a> {
     /// What C is passed for a view of a block.
-    #[tactic(auto, using(crate::proofs::MatrixLemmas::plain))]
+    #[tactic(auto, using(matrix_block::proofs::PlainLemmas::plain_parts))]
     #[inline(always)]
     pub fn of(view: &MatrixView<'a>) -> Matrix<'a>
         ensures { matrix_parts result ≡ view.now }
@@ -46,6 +48,25 @@ impl<'a> Matrix<'a> {
             ones: levels.ones(),
             zeros: levels.zeros(),
             quarters: levels.quarters(),
+            hints: view.hints(),
+        }
+    }
+
+    /// The matrix without its hints.
+    #[inline(always)]
+    pub fn bare(&self) -> Matrix<'a>
+        ensures { matrix_parts result ≡ with_hints [] (matrix_parts self.now) }
+    {
+        Matrix {
+            len: self.len,
+            width: self.width,
+            words: self.words,
+            upper: self.upper,
+            lower: self.lower,
+            ones: self.ones,
+            zeros: self.zeros,
+            quarters: self.quarters,
+            hints: &[],
         }
     }
 
@@ -59,6 +80,6 @@ impl<'a> Matrix<'a> {
         }
         let width = self.width as u8;
         let levels = LevelsView::over(self.len, width, self.ones, self.zeros, self.quarters)?;
-        MatrixView::over(levels, self.words, self.upper, self.lower)
+        MatrixView::over(levels, self.words, self.upper, self.lower)?.with_hints(self.hints)
     }
 }

@@ -1,9 +1,9 @@
 //! Samples as C passes them, and as the library takes them.
 ghost use Rattle.std.specs.Prelude.{◌≡◌, min};
-ghost use Rattle.lent_tables.specs.Samples.{enough_samples};
+ghost use Rattle.tables_view.specs.Samples.{enough_samples};
 ghost use Rattle.bitm_abi.specs.Samples.{lent_samples, HasNoSamples};
 
-use lent_tables::{LentSamples, samples_len};
+use tables_view::{SamplesView, samples_len};
 
 /// Samples of one kind of bit: for C two pairs of a pointer and a length, and a number.
 #[repr(C)]
@@ -51,10 +51,10 @@ impl<'a> Samples<'a> {
 
     /// The samples as the library takes them.
     #[inline(always)]
-    pub fn lent(&self) -> LentSamples<'a>
+    pub fn lent(&self) -> SamplesView<'a>
         ensures { result ≡ lent_samples self.now }
     {
-        LentSamples {
+        SamplesView {
             samples: self.samples,
             starts: self.starts,
             log2: narrow_log2(self.log2),

@@ -1,10 +1,10 @@
 //! A sequence as C passes it, and as the library takes it.
 ghost use Rattle.std.specs.Prelude.{SomeIff};
-ghost use Rattle.bitm_abi.specs.Sequence.{lent_parts, IsListTold, IsSequenceSized};
+ghost use Rattle.bitm_abi.specs.Sequence.{sequence_parts, IsListTold, IsSequenceSized};
 
 use crate::answer::{BAD_SIZE, NONE, OK, WRONG};
-use elias_fano_view::{LentSequence, ListAnswer};
-use lent_tables::Lent;
+use elias_fano_view::{ListAnswer, SequenceView};
+use tables_view::TablesView;
 
 /// A sequence in the caller's memory: for C two numbers and five pairs of a pointer and a length.
 #[repr(C)]
@@ -45,14 +45,14 @@ pub struct SequenceLens {
 impl<'a> Sequence<'a> {
     /// The parts as the library queries them; `None` exactly where a length is not right.
     #[inline(always)]
-    pub fn lent(&self) -> Option<LentSequence<'a>>
-        ensures { SomeIff result (IsSequenceSized self.now) (lent_parts self.now) }
+    pub fn lent(&self) -> Option<SequenceView<'a>>
+        ensures { SomeIff result (IsSequenceSized self.now) (sequence_parts self.now) }
     {
-        let upper = Lent::over(self.words, self.upper, self.lower)?;
+        let upper = TablesView::over(self.words, self.upper, self.lower)?;
         if self.width > 63 {
             return None;
         }
-        let parts = LentSequence::over(self.len, self.width as u8, self.low, upper)?;
+        let parts = SequenceView::over(self.len, self.width as u8, self.low, upper)?;
         parts.with_hints(self.hints)
     }
 }

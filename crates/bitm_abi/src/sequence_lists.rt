@@ -4,11 +4,11 @@ ghost use Rattle.bitm_abi.specs.Sequence.{sought_by, IsContained, IsPredecessor}
 
 use bitm_select::search::selected::{NO_ANSWER, WRONG_TABLES};
 use bitm_tables::answer::Answer;
-use elias_fano_view::LentSequence;
+use elias_fano_view::SequenceView;
 
 /// Writes the predecessor of each value. Returns false, and writes nothing, exactly where `out` is not as long as
 /// `values`.
-pub fn last_at_most_list(parts: &LentSequence<'_>, values: &[u64], out: &mut [usize]) -> bool
+pub fn last_at_most_list(parts: &SequenceView<'_>, values: &[u64], out: &mut [usize]) -> bool
     ensures room { IsTrue result ↔ length out.old ≡ length values.now }
     ensures predecessors { IsTrue result → (j : ℕ) → j < length values.now → IsPredecessor
         (slice_index values.now j) parts.now (sought_by (slice_index out.new j)) }
@@ -23,7 +23,7 @@ pub fn last_at_most_list(parts: &LentSequence<'_>, values: &[u64], out: &mut [us
 
 /// Writes whether each value is one of the numbers. Returns false, and writes nothing, exactly where `out` is not as
 /// long as `values`.
-pub fn contains_list(parts: &LentSequence<'_>, values: &[u64], out: &mut [usize]) -> bool
+pub fn contains_list(parts: &SequenceView<'_>, values: &[u64], out: &mut [usize]) -> bool
     ensures room { IsTrue result ↔ length out.old ≡ length values.now }
     ensures contained { IsTrue result → (j : ℕ) → j < length values.now
         → IsContained (slice_index values.now j) parts.now (slice_index out.new j) }
@@ -37,7 +37,7 @@ pub fn contains_list(parts: &LentSequence<'_>, values: &[u64], out: &mut [usize]
 }
 
 /// The predecessor of each value.
-fn last_each(parts: &LentSequence<'_>, values: &[u64], out: &mut [usize])
+fn last_each(parts: &SequenceView<'_>, values: &[u64], out: &mut [usize])
     requires { length out.old ≡ length values.now }
     ensures { (j : ℕ) → j < length values.now → IsPredecessor (slice_index values.now j) parts.now
         (sought_by (slice_index out.new j)) }
@@ -49,7 +49,7 @@ fn last_each(parts: &LentSequence<'_>, values: &[u64], out: &mut [usize])
 
 /// The predecessor of a value, by the codes of lists.
 #[inline(always)]
-fn last_code(parts: &LentSequence<'_>, value: u64) -> usize
+fn last_code(parts: &SequenceView<'_>, value: u64) -> usize
     ensures { IsPredecessor value parts.now (sought_by result) }
 {
     let _ = parts.len(); // its clause makes the limit of the length known to the proof
@@ -61,7 +61,7 @@ fn last_code(parts: &LentSequence<'_>, value: u64) -> usize
 }
 
 /// Whether each value is one of the numbers.
-fn contain_each(parts: &LentSequence<'_>, values: &[u64], out: &mut [usize])
+fn contain_each(parts: &SequenceView<'_>, values: &[u64], out: &mut [usize])
     requires { length out.old ≡ length values.now }
     ensures { (j : ℕ) → j < length values.now
         → IsContained (slice_index values.now j) parts.now (slice_index out.new j) }
@@ -73,7 +73,7 @@ fn contain_each(parts: &LentSequence<'_>, values: &[u64], out: &mut [usize])
 
 /// Whether a value is one of the numbers, as 0 or 1, or the code of wrong parts.
 #[inline(always)]
-fn contained_code(parts: &LentSequence<'_>, value: u64) -> usize
+fn contained_code(parts: &SequenceView<'_>, value: u64) -> usize
     ensures { IsContained value parts.now result }
 {
     match parts.contains(value) {

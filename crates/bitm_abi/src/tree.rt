@@ -1,9 +1,9 @@
 //! A tree in a block as C passes it, and as the library queries it.
 ghost use Rattle.std.specs.Prelude.{◌≡◌, SomeIff};
-ghost use Rattle.louds_block.specs.Block.{HasLengths};
+ghost use Rattle.tree_block.specs.Block.{HasLengths};
 ghost use Rattle.bitm_abi.specs.Tree.{tree_parts};
 
-use louds_block::LoudsView;
+use tree_block::LoudsView;
 
 /// A tree in the caller's memory: the number of nodes, and the words, tables and hints of its block, for C four pairs
 /// of a pointer and a length.

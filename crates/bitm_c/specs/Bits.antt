@@ -2,7 +2,7 @@
 use Rattle.std.specs.Prelude.{◌≡◌, ◌≢◌, ℕ, ◌<◌, ◌≤◌, ◌↔◌, ◌⊎◌, Bool, not, List, length}
 use Rattle.bit_lists.specs.Bits.{item}
 use Rattle.bit_lists.specs.Count.{IsFirstFrom}
-use Rattle.bit_slices.specs.First.{first_bits, IsLastUpTo}
+use Rattle.bit_words.specs.First.{first_bits, IsLastUpTo}
 use Rattle.bitm_abi.specs.Lengths.{HasCountedBits}
 
 -- a status is 2 exactly where the lengths do not fit; where they do, it is 0 exactly where `inside` holds, and else 1

@@ -1,11 +1,11 @@
 -- What the exported calls on sequences answer: a status, and a number written where the caller says.
 use Rattle.std.specs.Prelude.{ℕ, List}
-use Rattle.elias_fano.specs.LentParts.{AreHeldParts, LentParts}
+use Rattle.elias_fano.specs.SequenceParts.{AreHeldParts, SequenceParts}
 use Rattle.elias_fano.specs.Answers.{IsItem, IsOfPlace, IsPlaceOf, IsSuccessorOf}
 use Rattle.elias_fano.specs.Told.{ClaimLess, IfPlace}
 use Rattle.bitm_tables.specs.Tables.{Lists}
 use Rattle.bitm_tables.specs.declared.answer.Answer.{Answer}
-use Rattle.bitm_abi.specs.Sequence.{lent_parts, IsSequenceSized}
+use Rattle.bitm_abi.specs.Sequence.{sequence_parts, IsSequenceSized}
 use Rattle.bitm_abi.specs.Status.{Exported}
 use Rattle.bitm_abi.specs.declared.sequence.Sequence.{Sequence}
 
@@ -18,11 +18,11 @@ pub record FindsItem (index len width : ℕ) (low : List ℕ) (upper : Lists) (h
   pub counts : (xs : List ℕ) → AreHeldParts xs len width low upper hints → IsItem xs index answer
 
 -- number index of a sequence
-abbrev pub IsNumber : ℕ → LentParts → Answer ℕ → Type 0
+abbrev pub IsNumber : ℕ → SequenceParts → Answer ℕ → Type 0
 IsNumber index parts = FindsItem index parts.len parts.width parts.low parts.upper parts.hints
 
 abbrev pub ItemAnswered : Sequence → ℕ → ℕ → ℕ → ℕ → Type 0
-ItemAnswered sequence index = Exported (IsSequenceSized sequence) (IsNumber index (lent_parts sequence))
+ItemAnswered sequence index = Exported (IsSequenceSized sequence) (IsNumber index (sequence_parts sequence))
 
 -- the successor of value: the index of the first number that is at least value; whatever the parts hold, they claim
 -- that all numbers before that index are less, or all numbers where the answer is that there is none
@@ -32,8 +32,8 @@ pub record FindsFirst (value len width : ℕ) (low : List ℕ) (upper : Lists) (
   pub counts : (xs : List ℕ) → AreHeldParts xs len width low upper hints → IsSuccessorOf xs value answer
 
 -- the successor in a sequence
-abbrev pub IsSuccessor : ℕ → LentParts → Answer ℕ → Type 0
+abbrev pub IsSuccessor : ℕ → SequenceParts → Answer ℕ → Type 0
 IsSuccessor value parts = FindsFirst value parts.len parts.width parts.low parts.upper parts.hints
 
 abbrev pub PlaceAnswered : Sequence → ℕ → ℕ → ℕ → ℕ → Type 0
-PlaceAnswered sequence value = Exported (IsSequenceSized sequence) (IsSuccessor value (lent_parts sequence))
+PlaceAnswered sequence value = Exported (IsSequenceSized sequence) (IsSuccessor value (sequence_parts sequence))

@@ -2,8 +2,8 @@
 use Rattle.std.specs.Prelude.{◌≡◌, ℕ, ◌+◌, ◌-◌, ◌^◌, ◌<◌, Bool, List, Option, Some, None}
 use Rattle.bitm_tables.specs.declared.answer.Answer.{Answer}
 use Rattle.bitm_select.specs.Answers.{IsFoundFrom, IsSelected}
-use Rattle.lent_tables.specs.Nearest.{IsNext, IsPrevious}
-use Rattle.lent_tables.specs.Ranks.{IsCountWithin, IsRanked}
+use Rattle.tables_view.specs.Nearest.{IsNext, IsPrevious}
+use Rattle.tables_view.specs.Ranks.{IsCountWithin, IsRanked}
 use Rattle.sharded_index.specs.Joined.{joined, kind_of}
 use Rattle.sharded_index.specs.Prefixes.{claimed_in_all, ArePrefixes, HasLengths, IsClaimedBy, IsShardFound, Prefixes as Counts}
 use Rattle.sharded_index.specs.Shards.{IfFoundHasBit, IsOfRank}

@@ -2,11 +2,11 @@
 ghost use Rattle.std.specs.Prelude.{◌≡◌, ◌≢◌, ◌+◌, ◌*◌, ◌%◌, ◌^◌, ◌<◌, ◌≤◌, if◌then◌else◌};
 ghost use Rattle.bit_lists.specs.Bits.{bits_of, item};
 ghost use Rattle.bit_lists.specs.Number.{number_at, with_number};
-ghost use Rattle.bit_slices.specs.First.{first_bits};
+ghost use Rattle.bit_words.specs.First.{first_bits};
 ghost use Rattle.bitm_c.specs.Bits.{IsStatus};
 ghost use Rattle.bitm_abi.specs.Lengths.{HasBits};
 
-use bit_slices::{fragment_in, number_in, set_fragment_in, set_number_in};
+use bit_words::slices::{fragment_in, number_in, set_fragment_in, set_number_in};
 use bit_words::words;
 use bitm_abi::{BAD_SIZE, NONE, OK, done, has_bits, tell};
 

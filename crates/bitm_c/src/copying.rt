@@ -1,10 +1,10 @@
 //! Copies and comparisons of ranges of bits in the caller's words.
 ghost use Rattle.std.specs.Prelude.{◌≡◌, ◌≢◌, ◌≤◌, ◌↔◌};
 ghost use Rattle.bit_lists.specs.Bits.{bits_of};
-ghost use Rattle.bit_slices.specs.Copied.{AreSame, IsCopied};
+ghost use Rattle.bit_words.specs.Copied.{AreSame, IsCopied};
 ghost use Rattle.bitm_abi.specs.Lengths.{HasRange};
 
-use bit_slices::{copy_range, is_equal_range};
+use bit_words::slices::{copy_range, is_equal_range};
 use bitm_abi::{NONE, OK, has_range};
 
 /// Replaces the `count` bits of `to` from `to_begin` on by the bits of `from` from `from_begin` on.

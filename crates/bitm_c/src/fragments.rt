@@ -6,7 +6,7 @@ ghost use Rattle.bit_lists.specs.Number.{number_at, with_number, with_swapped};
 ghost use Rattle.bitm_c.specs.Bits.{IsStatus};
 ghost use Rattle.bitm_abi.specs.Lengths.{HasBits};
 
-use bit_slices::{fill_fragments_in, swap_fragments_in, xor_number_in};
+use bit_words::slices::{fill_fragments_in, swap_fragments_in, xor_number_in};
 use bitm_abi::{BAD_SIZE, done, has_bits};
 
 /// The number of words that hold `bits_len` bits.

@@ -4,7 +4,7 @@ ghost use Rattle.std.specs.Int.{div_ceil};
 ghost use Rattle.bit_lists.specs.Bits.{bits_of};
 ghost use Rattle.bit_lists.specs.Count.{ones_of};
 ghost use Rattle.bitm_tables.specs.Tables.{HasSizes, HasTables};
-ghost use Rattle.lent_tables.specs.Sizes.{lists_of};
+ghost use Rattle.tables_view.specs.Sizes.{lists_of};
 ghost use Rattle.bitm_view.specs.Cut.{IsSizedCut};
 ghost use Rattle.bitm_abi.specs.Index.{cut_of};
 
@@ -15,7 +15,7 @@ use bitm_abi::{BAD_SIZE, Index, OK, WRONG};
 pub extern "C" fn bitm_index_upper_len(words_len: usize) -> usize
     ensures { result ≡ div_ceil words_len (2 ^ 26) }
 {
-    lent_tables::upper_len(words_len)
+    tables_view::upper_len(words_len)
 }
 
 /// The length of the lower table of `words_len` words: ceil(words_len / 32) numbers.
@@ -23,7 +23,7 @@ pub extern "C" fn bitm_index_upper_len(words_len: usize) -> usize
 pub extern "C" fn bitm_index_lower_len(words_len: usize) -> usize
     ensures { result ≡ div_ceil words_len 32 }
 {
-    lent_tables::lower_len(words_len)
+    tables_view::lower_len(words_len)
 }
 
 /// Writes both tables of the words, and the number of 1 bits.
@@ -42,7 +42,7 @@ pub extern "C" fn bitm_index_build(
     ensures kept { result ≢ 0 → (upper.new ≡ upper.old) × (lower.new ≡ lower.old)
         × (ones.new ≡ ones.old) }
 {
-    match lent_tables::build(words, upper, lower) {
+    match tables_view::build(words, upper, lower) {
         Some(count) => {
             *ones = count;
             OK

@@ -1,4 +1,4 @@
-//! Rank, select and Elias-Fano sequences for C: the caller owns the memory of words and tables, and no call allocates,
+//! Bits, the index, sequences in parts and sections of blocks for C: the caller owns the memory, and no call allocates,
 //! keeps a pointer or has state. Each call is defined for all numbers: it tests its arguments, and answers by a status.
 //!
 //! `include/bitm.h` declares the exports for C and C++ and says what each one answers.
@@ -11,6 +11,7 @@
 // - `copying`: copies and comparisons of ranges of bits
 // - `fragments`: arrays of numbers in words, and the size of a bit vector
 // - `index`: building and checking tables
+// - `index_blocks`: the block of bits with their index, written, opened as an index and checked
 // - `listed`: writes at a list of positions
 // - `numbers`: predecessors, membership and runs of numbers of a sequence
 // - `order`: where lists of numbers stop ascending, and where they pass a bound
@@ -18,6 +19,7 @@
 // - `ranges`: counts, nearest bits, positions and writes over ranges, without tables
 // - `ranks`: the rank of an index
 // - `sampled`: building and checking samples
+// - `sections`: a copy of a block with one section more, a section as it stands, and checksums
 // - `selections`: the selection of an index, and nearest bits
 // - `sequence`: Elias-Fano sequences
 // - `sequence_lists`: lists of queries of a sequence
@@ -33,6 +35,7 @@ mod bytes;
 mod copying;
 mod fragments;
 mod index;
+mod index_blocks;
 mod listed;
 mod numbers;
 mod order;
@@ -40,6 +43,7 @@ mod queries;
 mod ranges;
 mod ranks;
 mod sampled;
+mod sections;
 mod selections;
 mod sequence;
 mod sequence_lists;

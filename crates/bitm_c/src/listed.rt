@@ -1,10 +1,10 @@
 //! Bits at a list of positions.
 ghost use Rattle.std.specs.Prelude.{◌≡◌, ◌≢◌, ◌↔◌};
 ghost use Rattle.bit_lists.specs.Bits.{bits_of};
-ghost use Rattle.bit_slices.specs.Listed.{outside_of, IsSetAt};
+ghost use Rattle.bit_words.specs.Listed.{outside_of, IsSetAt};
 ghost use Rattle.bitm_abi.specs.Lengths.{HasBits};
 
-use bit_slices::set_listed_in;
+use bit_words::slices::set_listed_in;
 use bitm_abi::{BAD_SIZE, OK, has_bits};
 
 /// Sets the bits at those positions that are below `bits_len` to `value`, and writes how many positions are not.

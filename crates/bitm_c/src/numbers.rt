@@ -1,11 +1,11 @@
 //! More queries of a sequence: the predecessor of a value, whether a value is one of the numbers, and the numbers in
 //! order.
 ghost use Rattle.std.specs.Prelude.{◌≡◌, ◌≢◌, ◌-◌, ◌≤◌, ◌↔◌, ◌⊎◌, ℕ, List, length, min};
-ghost use Rattle.elias_fano.specs.LentParts.{Holds};
+ghost use Rattle.elias_fano.specs.SequenceParts.{Holds};
 ghost use Rattle.bit_lists.specs.Kept.{IsKeptFrom};
 ghost use Rattle.elias_fano_view.specs.Lists.{AreItemsFrom};
 ghost use Rattle.bitm_c.specs.Numbers.{ContainsAnswered, LastAnswered};
-ghost use Rattle.bitm_abi.specs.Sequence.{lent_parts, IsSequenceSized};
+ghost use Rattle.bitm_abi.specs.Sequence.{sequence_parts, IsSequenceSized};
 
 use bitm_abi::{BAD_SIZE, OK, Sequence, WRONG, report};
 
@@ -55,9 +55,9 @@ pub extern "C" fn bitm_sequence_items(
         → (result ≡ 0) ↔ written.new ≡ min (length out.old) (sequence.now.len - from) }
     ensures status { (result ≡ 0) ⊎ (result ≡ 2) ⊎ (result ≡ 3) }
     ensures most { result ≢ 2 → written.new ≤ min (length out.old) (sequence.now.len - from) }
-    ensures all { result ≢ 2 → (xs : List ℕ) → Holds xs (lent_parts sequence.now)
+    ensures all { result ≢ 2 → (xs : List ℕ) → Holds xs (sequence_parts sequence.now)
         → written.new ≡ min (length out.old) (length xs - from) }
-    ensures items { result ≢ 2 → (xs : List ℕ) → Holds xs (lent_parts sequence.now)
+    ensures items { result ≢ 2 → (xs : List ℕ) → Holds xs (sequence_parts sequence.now)
         → AreItemsFrom xs from written.new out.new }
     ensures behind { result ≢ 2 → IsKeptFrom written.new out.old out.new }
     ensures kept { result ≡ 2 → (out.new ≡ out.old) × (written.new ≡ written.old) }

@@ -2,14 +2,14 @@
 ghost use Rattle.std.specs.Prelude.{◌≡◌, ◌≢◌, ℕ, ◌+◌, ◌-◌, ◌<◌, ◌≤◌, ◌↔◌, ◌⊎◌, not, false, length, min, slice_index};
 ghost use Rattle.bit_lists.specs.Bits.{bits_of, item};
 ghost use Rattle.bit_lists.specs.Count.{count_before, count_of, Picks};
-ghost use Rattle.bit_slices.specs.First.{first_bits};
+ghost use Rattle.bit_words.specs.First.{first_bits};
 ghost use Rattle.bitm_c.specs.Bits.{IsStatus, NextAnswered, PreviousAnswered};
 ghost use Rattle.bitm_abi.specs.Lengths.{HasBits, HasCountedBits};
 
-use bit_slices::{count_in, count_range_in, next_in, positions_in, previous_in};
+use bit_words::slices::{count_in, count_range_in, next_in, positions_in, previous_in};
 use bit_words::words;
 use bitm_abi::{BAD_SIZE, NONE, OK, has_bits, has_counted_bits, tell};
-use lent_tables::clear_from;
+use tables_view::clear_from;
 
 /// The number of 1 bits, or of 0 bits, among the first `bits_len` bits.
 #[unsafe(no_mangle)]

@@ -2,7 +2,7 @@
 ghost use Rattle.std.specs.Prelude.{◌≡◌, ◌≢◌, ◌≤◌, ◌↔◌, ◌⊎◌, ℕ, length, slice_index, take};
 ghost use Rattle.bitm_strategies.specs.Density.{clamped_log};
 ghost use Rattle.bitm_tables.specs.Tables.{HasTables, bits_in};
-ghost use Rattle.lent_tables.specs.Samples.{AreSamples, AreSamplesOf, HasSampleRoom, enough_samples};
+ghost use Rattle.tables_view.specs.Samples.{AreSamples, AreSamplesOf, HasSampleRoom, enough_samples};
 ghost use Rattle.bitm_view.specs.Cut.{IsSizedCut};
 ghost use Rattle.bitm_abi.specs.Index.{cut_of};
 ghost use Rattle.bitm_abi.specs.Samples.{index_samples, lent_samples};
@@ -14,7 +14,7 @@ use bitm_abi::{BAD_SIZE, Index, OK, WRONG, narrow_log2};
 pub extern "C" fn bitm_index_samples_len(words_len: usize, log2: u32) -> usize
     ensures { result ≡ enough_samples words_len log2 }
 {
-    lent_tables::samples_len(words_len, narrow_log2(log2))
+    tables_view::samples_len(words_len, narrow_log2(log2))
 }
 
 /// Writes the samples of the 1 bits, or of the 0 bits, the number of samples before each upper block, and how many

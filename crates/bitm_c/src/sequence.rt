@@ -1,15 +1,15 @@
 //! Monotone integer sequences (Elias-Fano) whose parts lie in the caller's memory.
 ghost use Rattle.std.specs.Prelude.{◌≡◌, ◌≢◌, ◌<◌, ◌≤◌, ◌↔◌, ◌⊎◌, ℕ, List, length, slice_index};
-ghost use Rattle.lent_tables.specs.Sizes.{lists_of};
+ghost use Rattle.tables_view.specs.Sizes.{lists_of};
 ghost use Rattle.elias_fano.specs.Parts.{width_of};
 ghost use Rattle.elias_fano.specs.Sequence.{HasFall};
-ghost use Rattle.elias_fano.specs.LentParts.{parts_of, AreParts, Holds};
+ghost use Rattle.elias_fano.specs.SequenceParts.{parts_of, AreParts, Holds};
 ghost use Rattle.bit_lists.specs.Kept.{IsKeptFrom};
 ghost use Rattle.elias_fano_view.specs.Lists.{AreItems};
 ghost use Rattle.elias_fano_view.specs.Sizes.{sizes_of, HasPartRoom, IsLargest};
 ghost use Rattle.bitm_c.specs.Sequence.{ItemAnswered, PlaceAnswered};
 ghost use Rattle.bitm_abi.specs.Lists.{IsStopped};
-ghost use Rattle.bitm_abi.specs.Sequence.{lent_parts, sizes_in_c, IsSequenceSized};
+ghost use Rattle.bitm_abi.specs.Sequence.{sequence_parts, sizes_in_c, IsSequenceSized};
 
 use bitm_abi::{BAD_SIZE, OK, Sequence, SequenceLens, UNSORTED, WRONG, report, tell_list};
 use elias_fano_view::{BuildError, Sizes, build};
@@ -71,7 +71,7 @@ pub extern "C" fn bitm_sequence_build(
 /// numbers.
 #[unsafe(no_mangle)]
 pub extern "C" fn bitm_sequence_check(sequence: &Sequence<'_>) -> u32
-    ensures ok { (result ≡ 0) ↔ (IsSequenceSized sequence.now × AreParts (lent_parts sequence.now)) }
+    ensures ok { (result ≡ 0) ↔ (IsSequenceSized sequence.now × AreParts (sequence_parts sequence.now)) }
     ensures bad { (result ≡ 2) ↔ ¬ (IsSequenceSized sequence.now) }
     ensures status { (result ≡ 0) ⊎ (result ≡ 2) ⊎ (result ≡ 3) }
 {
@@ -124,9 +124,9 @@ pub extern "C" fn bitm_sequence_get_list(
     ensures most { result ≢ 2 → written.new ≤ length indices.now }
     ensures inside { result ≢ 2 → (j : ℕ) → j < written.new
         → slice_index indices.now j < sequence.now.len }
-    ensures items { result ≢ 2 → (xs : List ℕ) → Holds xs (lent_parts sequence.now)
+    ensures items { result ≢ 2 → (xs : List ℕ) → Holds xs (sequence_parts sequence.now)
         → AreItems xs indices.now written.new out.new }
-    ensures whole { result ≢ 2 → (xs : List ℕ) → Holds xs (lent_parts sequence.now)
+    ensures whole { result ≢ 2 → (xs : List ℕ) → Holds xs (sequence_parts sequence.now)
         → written.new < length indices.now
         → length xs ≤ slice_index indices.now written.new }
     ensures behind { result ≢ 2 → IsKeptFrom written.new out.old out.new }

@@ -2,7 +2,7 @@
 ghost use Rattle.std.specs.Prelude.{◌≡◌, ◌≢◌, ◌<◌, ◌-◌, ◌↔◌, ℕ, length, slice_index};
 ghost use Rattle.elias_fano_view.specs.Lists.{PlaceTold};
 ghost use Rattle.bitm_abi.specs.Lists.{AreAnswersCounted};
-ghost use Rattle.bitm_abi.specs.Sequence.{lent_parts, sought_by, IsContained, IsPredecessor, IsSequenceSized};
+ghost use Rattle.bitm_abi.specs.Sequence.{sequence_parts, sought_by, IsContained, IsPredecessor, IsSequenceSized};
 
 use bitm_abi::{BAD_SIZE, ListCounts, Sequence, contains_list, last_at_most_list, report_list};
 
@@ -19,7 +19,7 @@ pub extern "C" fn bitm_sequence_first_at_least_list(
     ensures unchanged { result ≢ 0 → (result ≡ 2) × (out.new ≡ out.old)
         × (counts.new ≡ counts.old) }
     ensures successors { result ≡ 0 → (j : ℕ) → j < length values.now
-        → PlaceTold (lent_parts sequence.now) (slice_index values.now j) (slice_index out.new j) }
+        → PlaceTold (sequence_parts sequence.now) (slice_index values.now j) (slice_index out.new j) }
     ensures counts { result ≡ 0 → AreAnswersCounted out.new counts.new }
 {
     let Some(lent) = sequence.lent() else {
@@ -42,7 +42,7 @@ pub extern "C" fn bitm_sequence_last_at_most_list(
     ensures unchanged { result ≢ 0 → (result ≡ 2) × (out.new ≡ out.old)
         × (counts.new ≡ counts.old) }
     ensures predecessors { result ≡ 0 → (j : ℕ) → j < length values.now
-        → IsPredecessor (slice_index values.now j) (lent_parts sequence.now)
+        → IsPredecessor (slice_index values.now j) (sequence_parts sequence.now)
         (sought_by (slice_index out.new j)) }
     ensures counts { result ≡ 0 → AreAnswersCounted out.new counts.new }
 {
@@ -65,7 +65,7 @@ pub extern "C" fn bitm_sequence_contains_list(
     ensures unchanged { result ≢ 0 → (result ≡ 2) × (out.new ≡ out.old)
         × (counts.new ≡ counts.old) }
     ensures contained { result ≡ 0 → (j : ℕ) → j < length values.now
-        → IsContained (slice_index values.now j) (lent_parts sequence.now) (slice_index out.new j) }
+        → IsContained (slice_index values.now j) (sequence_parts sequence.now) (slice_index out.new j) }
     ensures counts { result ≡ 0 → AreAnswersCounted out.new counts.new }
 {
     let Some(lent) = sequence.lent() else {

@@ -5,7 +5,7 @@ ghost use Rattle.bitm_abi.specs.Stored.{IsSequenceOf};
 ghost use Rattle.bitm_abi.specs.Stored.{IsStored, LiesWithin};
 
 use bitm_abi::{BAD_SIZE, OK, SequenceLens, Stored, WRONG, header_of, index_of, sequence_of};
-use lent_tables::{lower_len, upper_len};
+use tables_view::{lower_len, upper_len};
 
 /// Writes the header of an index of `bits_len` bits with the given numbers of samples of 1 bits and of 0 bits; a
 /// logarithm of 0 goes with no samples.

@@ -1,10 +1,10 @@
 //! Bitwise operations on two bit vectors of the caller, word by word.
 ghost use Rattle.std.specs.Prelude.{◌≡◌, ◌≢◌, ℕ, ◌*◌, ◌<◌, ◌≤◌, ◌↔◌, ◌&&◌, ◌||◌, not, if◌then◌else◌, length};
 ghost use Rattle.bit_lists.specs.Bits.{bits_of, item};
-ghost use Rattle.bit_slices.specs.Where.{AreDisjoint, IsSubset};
+ghost use Rattle.bit_words.specs.Where.{AreDisjoint, IsSubset};
 ghost use Rattle.bitm_abi.specs.Lengths.{HasBits};
 
-use bit_slices::has_where;
+use bit_words::slices::has_where;
 use bit_words::words;
 use bitm_abi::{BAD_SIZE, OK, has_bits};
 

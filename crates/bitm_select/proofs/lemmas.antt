@@ -10,3 +10,6 @@ pub use Rattle.bitm_tables.proofs.lemmas.RankLemmas
 pub use Rattle.bitm_tables.proofs.lemmas.StretchLemmas
 pub use Rattle.bitm_tables.proofs.lemmas.TableLemmas
 pub use Rattle.bitm_tables.proofs.lemmas.TableMakingLemmas
+pub mod HalfLemmas
+pub mod ManyLemmas
+pub mod SideLemmas

@@ -9,3 +9,4 @@ pub use Rattle.bitm_tables.specs.Quarters
 pub use Rattle.bitm_tables.specs.Reads
 pub use Rattle.bitm_tables.specs.Tables
 pub use Rattle.bitm_tables.specs.declared.source.counts.ReadCounts
+pub mod Many

@@ -3,6 +3,10 @@
 //! answer where these match the words.
 #![tactic(auto)]
 
+// What is in each file:
+// - `many`: lists of ranks and selections, side by side, so that their waits for memory overlap
+// - `search`: one selection
+pub mod many;
 pub mod search;
 
 pub use bitm_tables::{answer, entry, levels, quarters, source, tables};

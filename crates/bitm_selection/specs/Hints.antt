@@ -33,6 +33,10 @@ pub record AreHints (v : Bool) (words hints : List ℕ) : Type 0 where
 abbrev pub hints_len : ℕ → ℕ → ℕ
 hints_len ones words = if nat_lt words (2 ^ 26) then hint_words (min ones (64 * words)) + hint_words (64 * words - ones) else 0
 
+-- how many they take at most, however many of the bits of these words are 1 bits
+abbrev pub hints_room : ℕ → ℕ
+hints_room words = if nat_lt words (2 ^ 26) then hint_words (64 * words) + 1 else 0
+
 -- the hints of the 1 bits, and after them those of the 0 bits, of words with the given number of 1 bits; there may be none
 pub record Lead (ones : ℕ) (all words : List ℕ) : Type 0 where
   pub of_ones : AreHints true words (take (hint_words ones) all)

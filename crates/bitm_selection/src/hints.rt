@@ -9,7 +9,8 @@ ghost use Rattle.bitm_select.specs.Told.{TellsNone};
 ghost use Rattle.bitm_tables.specs.Answers.{IfAbsent};
 ghost use Rattle.bitm_tables.specs.Reads.{OnlyReads};
 ghost use Rattle.bitm_tables.specs.Tables.{bits_in, HasSizes, HasTables, IsIndexed};
-ghost use Rattle.bitm_selection.specs.Hints.{hint_words, hints_len, AreHints, ArePair, ArePairs, IsHint, Lead};
+ghost use Rattle.bitm_selection.specs.Hints.{hint_words, hints_len, hints_room, AreHints, ArePair, ArePairs};
+ghost use Rattle.bitm_selection.specs.Hints.{IsHint, Lead};
 
 use bitm_select::search::record::{among, sought_word};
 use bitm_select::search::selecting::{binary_select_on, total_select_on};
@@ -51,6 +52,23 @@ pub fn hints_len(ones: usize, words: usize) -> usize
         return 0;
     }
     hint_words(ones.min(64 * words)) + hint_words((64 * words).saturating_sub(ones))
+}
+
+/// How many words the hints of both kinds take at most, of the given number of words, however many of their bits are 1
+/// bits: a quarter of the words, and one more. Of 2^26 words or more there are none.
+///
+/// ```
+/// hints_room(40);   // 11, as many as hints_len(1000, 40)
+/// ```
+#[inline(always)]
+pub fn hints_room(words: usize) -> usize
+    ensures room { result ≡ hints_room words }
+    ensures enough { (ones : ℕ) → hints_len ones words ≤ result }
+{
+    if words >= 1 << 26 {
+        return 0;
+    }
+    hint_words(64 * words) + 1
 }
 
 /// The hints of words: of each 128th 1 bit, and of each 128th 0 bit. They may hold anything, and either may be empty.
@@ -197,7 +215,7 @@ fn hint_on<const BIT: u8, T: TableSource>(source: &mut T, at: usize) -> u64
 fn pair_on<const BIT: u8, T: TableSource>(source: &mut T, at: usize) -> u64
     requires indexed { IsIndexed (T.lists source.old) }
     requires short { length (T.lists source.old).words < 2 ^ 26 }
-    requires few { at < 2 ^ 24 }
+    requires few { at < 2 ^ 25 }
     ensures pair { ArePair (as_bit BIT) (bits_in (T.lists source.old)) at result }
     ensures only { (w : ℕ) → w < 2 ^ 64
         → ArePair (as_bit BIT) (bits_in (T.lists source.old)) at w → w ≡ result }
@@ -213,7 +231,7 @@ fn pair_on<const BIT: u8, T: TableSource>(source: &mut T, at: usize) -> u64
 ///
 /// # Conditions
 /// The source's tables match its words, which are fewer than 2^26 where there is room for a hint. There is room for at
-/// most 2^25 hints.
+/// most 2^26 hints.
 /// # Cost
 /// One selection for each hint (evident from the code).
 ///
@@ -223,7 +241,7 @@ fn pair_on<const BIT: u8, T: TableSource>(source: &mut T, at: usize) -> u64
 pub fn fill_hints<const BIT: u8, T: TableSource>(source: &mut T, hints: &mut [u64])
     requires indexed { IsIndexed (T.lists source.old) }
     requires short { 0 < length hints.old → length (T.lists source.old).words < 2 ^ 26 }
-    requires few { length hints.old ≤ 2 ^ 24 }
+    requires few { length hints.old ≤ 2 ^ 25 }
     ensures hints { AreHints (as_bit BIT) (T.lists source.old).words hints.new }
     ensures len { length hints.new ≡ length hints.old }
     ensures same { T.lists source.new ≡ T.lists source.old }
@@ -246,7 +264,7 @@ pub fn fill_hints<const BIT: u8, T: TableSource>(source: &mut T, hints: &mut [u6
 pub fn are_hints<const BIT: u8, T: TableSource>(source: &mut T, hints: &[u64]) -> bool
     requires indexed { IsIndexed (T.lists source.old) }
     requires short { 0 < length hints.now → length (T.lists source.old).words < 2 ^ 26 }
-    requires few { length hints.now ≤ 2 ^ 24 }
+    requires few { length hints.now ≤ 2 ^ 25 }
     ensures hints { IsTrue result ↔ AreHints (as_bit BIT) (T.lists source.old).words hints.now }
     ensures same { T.lists source.new ≡ T.lists source.old }
 {
@@ -256,6 +274,32 @@ pub fn are_hints<const BIT: u8, T: TableSource>(source: &mut T, hints: &[u64]) -
         }
     }
     true
+}
+
+/// Writes the hints of both kinds of the source's words, which have the given number of 1 bits, into all the room: the
+/// hints of the 1 bits into the first words, and the hints of the 0 bits into the others. A hint for which there is no
+/// bit is 2^32 - 1.
+///
+/// # Conditions
+/// The conditions of `fill_hints`.
+/// # Cost
+/// One selection for each hint (evident from the code).
+///
+/// ```
+/// write_hints_within(&mut source, 1000, hints);   // hints_room(40) words
+/// ```
+pub fn write_hints_within<T: TableSource>(source: &mut T, ones: usize, hints: &mut [u64])
+    requires indexed { IsIndexed (T.lists source.old) }
+    requires short { 0 < length hints.old → length (T.lists source.old).words < 2 ^ 26 }
+    requires few { length hints.old ≤ 2 ^ 25 }
+    ensures lead { Lead ones hints.new (T.lists source.old).words }
+    ensures len { length hints.new ≡ length hints.old }
+    ensures same { T.lists source.new ≡ T.lists source.old }
+{
+    let at = hint_words(ones).min(hints.len());
+    let (of_ones, of_zeros) = hints.split_at_mut(at);
+    fill_hints::<1, T>(&mut *source, of_ones);
+    fill_hints::<0, T>(source, of_zeros);
 }
 
 /// Writes the hints of both kinds of the source's words, which have the given number of 1 bits.
@@ -275,10 +319,29 @@ pub fn write_hints<T: TableSource>(source: &mut T, ones: usize, hints: &mut [u64
     ensures len { length hints.new ≡ length hints.old }
     ensures same { T.lists source.new ≡ T.lists source.old }
 {
-    let at = hint_words(ones).min(hints.len());
-    let (of_ones, of_zeros) = hints.split_at_mut(at);
-    fill_hints::<1, T>(&mut *source, of_ones);
-    fill_hints::<0, T>(source, of_zeros);
+    write_hints_within(source, ones, hints);
+}
+
+/// Whether these are the hints of both kinds of the source's words, which have the given number of 1 bits, in whatever
+/// room there is.
+///
+/// # Conditions
+/// The conditions of `fill_hints`.
+/// # Cost
+/// At most one selection for each hint (evident from the code).
+///
+/// ```
+/// are_hints_within(&mut source, 1000, hints);   // true of hints that `write_hints_within` wrote
+/// ```
+pub fn are_hints_within<T: TableSource>(source: &mut T, ones: usize, hints: &[u64]) -> bool
+    requires indexed { IsIndexed (T.lists source.old) }
+    requires short { 0 < length hints.now → length (T.lists source.old).words < 2 ^ 26 }
+    requires few { length hints.now ≤ 2 ^ 25 }
+    ensures lead { IsTrue result ↔ Lead ones hints.now (T.lists source.old).words }
+    ensures same { T.lists source.new ≡ T.lists source.old }
+{
+    let all = Hints::over(hints, ones);
+    are_hints::<1, T>(&mut *source, all.ones) && are_hints::<0, T>(source, all.zeros)
 }
 
 /// Whether these are the hints of both kinds of the source's words, which have the given number of 1 bits.
@@ -297,6 +360,5 @@ pub fn are_all_hints<T: TableSource>(source: &mut T, ones: usize, hints: &[u64])
     ensures lead { IsTrue result ↔ Lead ones hints.now (T.lists source.old).words }
     ensures same { T.lists source.new ≡ T.lists source.old }
 {
-    let all = Hints::over(hints, ones);
-    are_hints::<1, T>(&mut *source, all.ones) && are_hints::<0, T>(source, all.zeros)
+    are_hints_within(source, ones, hints)
 }

@@ -19,6 +19,6 @@ mod hints;
 
 pub use finding::Finds;
 pub use hints::{
-    BITS_PER_HINT, Hints, are_all_hints, are_hints, fill_hints, hint_words, hinted_select_on,
-    hints_len, write_hints,
+    BITS_PER_HINT, Hints, are_all_hints, are_hints, are_hints_within, fill_hints, hint_words,
+    hinted_select_on, hints_len, hints_room, write_hints, write_hints_within,
 };

@@ -2,7 +2,7 @@
 //! bits.
 #![tactic(auto)]
 
-use program_session::{CANNOT_READ, start};
+use program_base::session::{CANNOT_READ, start};
 use std::env::Env;
 use std::io::BufWriter;
 use std::process::ExitCode;

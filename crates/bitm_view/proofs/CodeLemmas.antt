@@ -11,7 +11,7 @@ use Rattle.bitm_tables.specs.declared.answer.Answer.TheVariants.{Found, Absent, 
 use Rattle.bitm_view.proofs.CutLemmas.{cut_counted, cut_found, cut_none, cut_past, cut_wrong}
 use Rattle.bitm_view.specs.Cut.{Cut, IsSizedCut}
 use Rattle.bitm_view.specs.Queries.{ranked_by, selected_by, RanksIn, SelectsIn}
-use Rattle.lent_tables.specs.Counting.{Selects}
+use Rattle.tables_view.specs.Counting.{Selects}
 
 -- a number that is no code stands for itself
 pub selected_place : (n : ℕ) → n < 2 ^ 64 - 2 → selected_by n ≡ Found n

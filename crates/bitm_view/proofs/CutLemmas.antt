@@ -10,8 +10,8 @@ use Rattle.bitm_tables.specs.Tables.{bits_in}
 use Rattle.bitm_tables.specs.declared.answer.Answer.TheVariants.{Found, Absent, Wrong}
 use Rattle.bitm_view.specs.Cut.{Cut, bits_of_cut, IsWithin}
 use Rattle.bitm_view.specs.Queries.{RanksIn, SelectsIn}
-use Rattle.lent_tables.specs.Counting.{Ranks, Selects}
-use Rattle.lent_tables.specs.Ranks.{IsRanked}
+use Rattle.tables_view.specs.Counting.{Ranks, Selects}
+use Rattle.tables_view.specs.Ranks.{IsRanked}
 use Rattle.bitm_tables.specs.declared.answer.Answer.{Answer}
 
 module _ (b : List Bool) (v : Bool) (len : ℕ) (within : len ≤ length b) where

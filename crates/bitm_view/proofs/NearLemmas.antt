@@ -8,8 +8,8 @@ use Rattle.bitm_tables.specs.declared.answer.Answer.{Answer}
 use Rattle.bitm_tables.specs.declared.answer.Answer.TheVariants.{Found, Absent, Wrong}
 use Rattle.bitm_view.specs.Cut.{Cut, bits_of_cut, IsWithin}
 use Rattle.bitm_view.specs.Queries.{NextIn, PreviousIn, RanksIn, SelectsIn}
-use Rattle.lent_tables.specs.Nearest.{IsOnlyBefore, IsOnlyFrom}
-use Rattle.lent_tables.proofs.NearestLemmas.{next_of, previous_none, previous_of}
+use Rattle.tables_view.specs.Nearest.{IsOnlyBefore, IsOnlyFrom}
+use Rattle.tables_view.proofs.NearestLemmas.{next_of, previous_none, previous_of}
 
 -- what holds of a position that is found, and of Wrong, holds of the answer that is only one of the two
 one_of : (P : Answer ℕ → Type 0) (p i : ℕ) (answer : Answer ℕ) → (i ≤ p → P answer) → (p < i → P answer) → P answer

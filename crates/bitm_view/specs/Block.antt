@@ -4,8 +4,8 @@ use Rattle.std.specs.Int.{div_ceil}
 use Rattle.bit_lists.specs.Bits.{bits_of, item}
 use Rattle.bitm_strategies.specs.Density.{clamped_log}
 use Rattle.bitm_tables.specs.Tables.{HasTables}
-use Rattle.lent_tables.specs.Samples.{enough_samples, AreSamples}
-use Rattle.lent_tables.specs.Sizes.{lists_of}
+use Rattle.tables_view.specs.Samples.{enough_samples, AreSamples}
+use Rattle.tables_view.specs.Sizes.{lists_of}
 
 -- the room for samples of one kind of the given number of words at a logarithm, where 0 stands for no samples
 abbrev pub sample_room : ℕ → ℕ → ℕ

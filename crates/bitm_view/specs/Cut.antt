@@ -3,7 +3,7 @@ use Rattle.std.specs.Prelude.{◌≡◌, ℕ, ◌<◌, ◌≤◌, ◌⊎◌, Boo
 use Rattle.bit_lists.specs.Bits.{item}
 use Rattle.bitm_tables.specs.Tables.{HasSizes, Lists, bits_in}
 use Rattle.bitm_select.specs.Told.{TellsNone}
-use Rattle.lent_tables.specs.Samples.{not_sampled, SampleLists}
+use Rattle.tables_view.specs.Samples.{not_sampled, SampleLists}
 
 -- words and their tables, how many of the bits belong to the bit vector, and the samples of 1 bits and of 0 bits
 pub record Cut : Type 0 where

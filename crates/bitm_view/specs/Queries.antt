@@ -5,8 +5,8 @@ use Rattle.bitm_tables.specs.Tables.{HasTables}
 use Rattle.bitm_tables.specs.declared.answer.Answer.{Answer}
 use Rattle.bitm_tables.specs.declared.answer.Answer.TheVariants.{Found, Absent, Wrong}
 use Rattle.bitm_view.specs.Cut.{Cut, bits_of_cut, TellsNoneOf}
-use Rattle.lent_tables.specs.Counting.{IsCounting, IsSelection}
-use Rattle.lent_tables.specs.Nearest.{IsNext, IsPrevious}
+use Rattle.tables_view.specs.Counting.{IsCounting, IsSelection}
+use Rattle.tables_view.specs.Nearest.{IsNext, IsPrevious}
 
 -- a selection among the bits of the bit vector
 abbrev pub SelectsIn : Bool → Cut → ℕ → Answer ℕ → Type 0

@@ -6,10 +6,10 @@ ghost use Rattle.bit_lists.specs.Count.{as_bit};
 ghost use Rattle.bitm_strategies.specs.Density.{clamped_log};
 ghost use Rattle.bitm_tables.specs.Tables.{bits_in, HasTables};
 ghost use Rattle.bitm_view.specs.Block.{sample_room, starts_of, AreFirst, HasBlockRoom, IsIndexBlock};
-ghost use Rattle.lent_tables.specs.Samples.{AreSamples, HasSampleRoom};
+ghost use Rattle.tables_view.specs.Samples.{AreSamples, HasSampleRoom};
 
-use bit_slices::copy_range;
-use lent_tables::{Lent, build, clear_from, lower_len, samples_len, upper_len};
+use bit_words::slices::copy_range;
+use tables_view::{TablesView, build, clear_from, lower_len, samples_len, upper_len};
 
 /// Copies the first `len` bits; those after them become 0 bits.
 fn copy_first(words: &[u64], len: usize, to: &mut [u64])
@@ -43,9 +43,10 @@ pub fn starts_len(upper: usize, log2: u8) -> usize
     if log2 == 0 { 0 } else { upper }
 }
 
-/// Builds samples as `Lent::build_samples` does and returns their number; builds none and returns 0 where `log2` is 0.
+/// Builds samples as `TablesView::build_samples` does and returns their number; builds none and returns 0 where `log2`
+/// is 0.
 fn sample<const BIT: u8>(
-    tables: &Lent<'_>,
+    tables: &TablesView<'_>,
     log2: u8,
     samples: &mut [u32],
     starts: &mut [usize],
@@ -99,7 +100,7 @@ pub fn has_block_room(
 /// # Conditions
 /// `has_block_room` holds of the lists.
 /// # Cost
-/// Two passes over the words, and what `Lent::build_samples` reads.
+/// Two passes over the words, and what `TablesView::build_samples` reads.
 pub fn build_block(
     words: &[u64],
     len: usize,
@@ -118,7 +119,7 @@ pub fn build_block(
 {
     copy_first(words, len, &mut *to);
     let _ones = build(&*to, &mut *upper, &mut *lower);
-    let tables = Lent::over(&*to, &*upper, &*lower).unwrap();
+    let tables = TablesView::over(&*to, &*upper, &*lower).unwrap();
     let room = samples_room(to.len(), logs.0);
     let ones = sample::<1>(&tables, logs.0, &mut samples[..room], starts);
     let first = ones.div_ceil(16) * 16;

@@ -8,19 +8,21 @@
 //! ```
 //! let (mut upper, mut lower) = ([0], [0; 2]);         // upper_len(40) and lower_len(40) entries
 //! let ones = build(&words, &mut upper, &mut lower);   // Some(..) of 40 words
-//! let Some(lent) = Lent::over(&words, &upper, &lower) else { return };
+//! let Some(lent) = TablesView::over(&words, &upper, &lower) else { return };
 //! lent.select::<1>(17);                               // Found(place), Absent or Wrong
 //!
 //! let (mut numbers, mut starts) = ([0; 20], [0]);     // samples_len(40, 7) and upper_len(40) numbers
 //! let Some(used) = lent.build_samples::<1>(7, &mut numbers, &mut starts) else { return };
-//! let samples = LentSamples { samples: &numbers[..used], starts: &starts, log2: 7 };
+//! let samples = SamplesView { samples: &numbers[..used], starts: &starts, log2: 7 };
 //! lent.sampled_select::<1>(&samples, 17);             // the same answers, by fewer reads
 //! ```
 #![tactic(auto)]
 
-// What is in each file, over the tables of `lent_tables`:
+// What is in each file, over the tables of `tables_view`:
 // - `block`: words, tables and samples of an index, built in one call
 // - `view`: an index over borrowed memory, and its queries
+// - `bits`: bits with their index in a block of memory, such as a mapped file
+pub mod bits;
 mod block;
 mod view;
 
@@ -29,8 +31,8 @@ pub use bitm_select::search::selecting::{ByTables, total_select_on};
 pub use bitm_tables::answer::Answer;
 pub use bitm_tables::ranking::total_rank_on;
 pub use block::{build_block, has_block_room};
-pub use lent_tables::{
-    ByGuess, Lent, LentSamples, build, clear, clear_from, lower_len, ones_from, ranked_on,
+pub use tables_view::{
+    ByGuess, SamplesView, TablesView, build, clear, clear_from, lower_len, ones_from, ranked_on,
     sampled_select_on, samples_len, upper_len,
 };
 pub use view::IndexView;

@@ -6,22 +6,22 @@ ghost use Rattle.bitm_tables.specs.Tables.{HasTables, bits_in};
 ghost use Rattle.bitm_tables.specs.Answers.{IfAbsent};
 ghost use Rattle.bitm_view.specs.Cut.{bits_of_cut, cut_at, Cut, IsWithin, TellsNoneOf};
 ghost use Rattle.bitm_view.specs.Queries.{RanksIn, SelectsIn};
-ghost use Rattle.lent_tables.specs.Counting.{Selects};
-ghost use Rattle.lent_tables.specs.Ranks.{IsCountWithin, IsRanked};
-ghost use Rattle.lent_tables.specs.Samples.{sampled};
+ghost use Rattle.tables_view.specs.Counting.{Selects};
+ghost use Rattle.tables_view.specs.Ranks.{IsCountWithin, IsRanked};
+ghost use Rattle.tables_view.specs.Samples.{sampled};
 ghost use Rattle.bitm_select.specs.Answers.{HasBit, IsSelected};
 ghost use Rattle.bitm_tables.specs.Reads.{OnlyReads, ReadsAtMost};
 
 mod many;
 mod near;
 
-use bit_slices::positions_in;
+use bit_words::slices::positions_in;
 use bit_words::words;
 use bitm_select::search::selecting::{ByTables, FindsEntry, search_on};
 use bitm_tables::answer::Answer;
 use bitm_tables::source::{Probe, TableSource};
-use lent_tables::{ByGuess, Lent, LentSamples, is_one, ranked_on};
 use std::marker::Model;
+use tables_view::{ByGuess, SamplesView, TablesView, is_one, ranked_on};
 
 /// The answer of a selection, with `Absent` in place of a position at or after `len`.
 #[inline(always)]
@@ -49,15 +49,15 @@ fn cut(selected: Answer<usize>, len: usize) -> Answer<usize>
 /// anything: answers depend on the first `len` bits alone. Samples never change an answer, whatever they hold.
 #[derive(Drop)]
 pub struct IndexView<'a> {
-    tables: Lent<'a>,
+    tables: TablesView<'a>,
     len: usize,
-    ones: LentSamples<'a>,
-    zeros: LentSamples<'a>,
+    ones: SamplesView<'a>,
+    zeros: SamplesView<'a>,
 }
 
 impl<'a> Model for IndexView<'a> {
     ghost use Rattle.bitm_view.specs.Cut.{cut_at, Cut, IsSizedCut};
-    ghost use Rattle.lent_tables.specs.Samples.{sampled};
+    ghost use Rattle.tables_view.specs.Samples.{sampled};
 
     ghost Value = { Cut };
 
@@ -75,7 +75,7 @@ impl<'a> IndexView<'a> {
     /// A view of the first `len` bits, without samples; `None` exactly where there are fewer bits.
     #[inline(always)]
     #[tactic(auto, using(bitm::proofs::BitLaws::bits_are_counted))]
-    pub fn over(tables: Lent<'a>, len: usize) -> Option<IndexView<'a>>
+    pub fn over(tables: TablesView<'a>, len: usize) -> Option<IndexView<'a>>
         ensures { MatchOption result (length (bits_in tables.entry) < len)
             (λ view. (view ≡ cut_at tables.entry len) × IsWithin view) }
     {
@@ -85,15 +85,15 @@ impl<'a> IndexView<'a> {
         Some(IndexView {
             tables,
             len,
-            ones: LentSamples::none(),
-            zeros: LentSamples::none(),
+            ones: SamplesView::none(),
+            zeros: SamplesView::none(),
         })
     }
 
     /// The same view with these samples of 1 bits, in place of the samples that it had; of 0 bits where `BIT` is 0. The
     /// samples of the other kind are kept.
     #[inline(always)]
-    pub fn with_samples<const BIT: u8>(self, samples: LentSamples<'a>) -> IndexView<'a>
+    pub fn with_samples<const BIT: u8>(self, samples: SamplesView<'a>) -> IndexView<'a>
         ensures zeros { BIT ≡ 0 → result ≡ record self.entry { zeros = sampled samples.entry } }
         ensures ones { BIT ≢ 0 → result ≡ record self.entry { ones = sampled samples.entry } }
     {
@@ -121,7 +121,7 @@ impl<'a> IndexView<'a> {
 
     /// The samples of one kind.
     #[inline(always)]
-    fn samples<const BIT: u8>(&self) -> &LentSamples<'a> {
+    fn samples<const BIT: u8>(&self) -> &SamplesView<'a> {
         if BIT == 0 { &self.zeros } else { &self.ones }
     }
 
@@ -142,7 +142,7 @@ impl<'a> IndexView<'a> {
     }
 
     /// How many of the first `index` bits are 1 bits, or 0 bits: `Absent` exactly where the bit vector has fewer,
-    /// whatever the tables hold; else as `Lent::rank`.
+    /// whatever the tables hold; else as `TablesView::rank`.
     ///
     /// # Cost
     /// The cost of `rank_on`.
@@ -189,8 +189,8 @@ impl<'a> IndexView<'a> {
         cut(search_on::<BIT, 1, T, F>(source, finder, rank), len)
     }
 
-    /// The position of the 1 bit with rank `rank`, as `Lent::select`: bits after the bit vector are not found. Of the 0
-    /// bit where `BIT` is 0.
+    /// The position of the 1 bit with rank `rank`, as `TablesView::select`: bits after the bit vector are not found. Of
+    /// the 0 bit where `BIT` is 0.
     ///
     /// Whatever the tables hold, the answer is `Absent` only where tables and words claim at most `rank` such bits, or
     /// the words have such a bit after the bit vector.
@@ -213,7 +213,7 @@ impl<'a> IndexView<'a> {
 
     /// The words with their tables.
     #[inline(always)]
-    pub fn tables(&self) -> &Lent<'a>
+    pub fn tables(&self) -> &TablesView<'a>
         ensures { result.now ≡ self.now.lists }
     {
         &self.tables
@@ -243,7 +243,7 @@ impl<'a> IndexView<'a> {
     /// the positions are right whatever they hold.
     ///
     /// # Cost
-    /// The cost of `bit_slices::positions_in`.
+    /// The cost of `bit_words::slices::positions_in`.
     pub fn places_from<const BIT: u8>(&self, from: usize, out: &mut [usize]) -> usize
         ensures number { let b = bits_of_cut self.now in result ≡ min (length out.old)
             (count_of b (as_bit BIT) - count_before b (as_bit BIT) from) }

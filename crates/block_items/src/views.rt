@@ -1,17 +1,17 @@
 //! The views of blocks that have items.
 ghost use Rattle.std.specs.Prelude.{◌≡◌};
-ghost use Rattle.elias_fano.specs.LentParts.{Holds};
+ghost use Rattle.elias_fano.specs.SequenceParts.{Holds};
 ghost use Rattle.matrix_block.specs.Block.{items_in, HoldsMatrix};
-ghost use Rattle.sparse_block.specs.Block.{HoldsOnes};
+ghost use Rattle.sequence_block.specs.SparseBlock.{HoldsOnes};
 
 use crate::items::HasItems;
 use bitm_tables::answer::Answer;
-use elias_fano_view::LentSequence;
+use elias_fano_view::SequenceView;
 use matrix_block::MatrixView;
-use sparse_block::SparseView;
+use sequence_block::sparse::SparseView;
 
 /// The numbers of a sequence; each takes one selection.
-impl<'a> HasItems for LentSequence<'a> {
+impl<'a> HasItems for SequenceView<'a> {
     ghost holds = { Holds };
 
     ghost announced = { λ parts. parts.len };

@@ -1,1 +1,10 @@
 pub mod ExtendLemmas
+pub mod KeptLemmas
+pub mod KeptHashes
+pub mod KeptStrings
+pub mod KeptTexts
+pub mod HintsKept
+pub mod KeptTrees
+pub mod KeptSequences
+pub mod KeptSparse
+pub mod KeptMatrices

@@ -16,8 +16,10 @@
 // - `error`: why a block was not extended
 // - `extending`: a copy of a block with one section more
 // - `placing`: its sections, and their words
+// - `laws`: a block that is extended by a section holds the same as before
 mod error;
 mod extending;
+pub mod laws;
 mod placing;
 
 pub use error::ExtendError;

@@ -4,7 +4,7 @@ use Rattle.std.specs.Int.{div_ceil}
 use Rattle.bitm_block.specs.Header.{section_in, IsOfKind}
 use Rattle.bitm_block.specs.declared.layout.Section.{Section}
 use Rattle.bitm_tables.specs.Tables.{Lists}
-use Rattle.lent_tables.specs.Sizes.{lists_of}
+use Rattle.tables_view.specs.Sizes.{lists_of}
 
 -- a section of a role and a number of items
 abbrev pub section_of : ℕ → ℕ → Section

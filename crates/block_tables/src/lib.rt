@@ -15,7 +15,7 @@ mod source;
 mod tables;
 
 pub use entries::{as_entries, as_entries_mut};
-pub use hints::{HINTS, hints_of};
+pub use hints::{HINTS, hints_of, hints_with};
 pub use sections::{has_tables, table_sections, tables_of};
 pub use source::probe;
 pub use tables::{are_tables, fill_tables};

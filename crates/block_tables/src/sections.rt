@@ -6,7 +6,7 @@ ghost use Rattle.block_tables.specs.Sections.{table_sections, tables_in, HasTabl
 
 use crate::entries::as_entries;
 use bitm_block::{Block, Section};
-use lent_tables::{Lent, lower_len, upper_len};
+use tables_view::{TablesView, lower_len, upper_len};
 
 /// The sections of the given number of words: these, their upper and their lower table.
 ///
@@ -48,12 +48,16 @@ pub fn has_tables(block: &Block<'_>, kind: u64) -> bool
 /// tables.check();   // true where they are the tables of the words
 /// ```
 #[inline]
-pub fn tables_of<'a>(block: &Block<'a>) -> Option<Lent<'a>>
+pub fn tables_of<'a>(block: &Block<'a>) -> Option<TablesView<'a>>
     requires { 3 ≤ count_in block.now }
     ensures { SomeIff result (HasSizes (tables_in block.now)) (tables_in block.now) }
 {
     match (block.section(0), block.section(1), block.section(2)) {
-        (Some(words), Some(upper), Some(lower)) => Lent::over(words, as_entries(upper), lower),
+        (Some(words), Some(upper), Some(lower)) => TablesView::over(
+            words,
+            as_entries(upper),
+            lower,
+        ),
         _ => unreachable!(),
     }
 }

@@ -3,10 +3,10 @@ ghost use Rattle.std.specs.Prelude.{◌≡◌, ◌↔◌, IsTrue};
 ghost use Rattle.bit_lists.specs.Bits.{bits_of};
 ghost use Rattle.bit_lists.specs.Count.{ones_of};
 ghost use Rattle.bitm_tables.specs.Tables.{HasSizes, HasTables};
-ghost use Rattle.lent_tables.specs.Sizes.{lists_of};
+ghost use Rattle.tables_view.specs.Sizes.{lists_of};
 
 use crate::entries::{as_entries, as_entries_mut};
-use lent_tables::{Lent, build};
+use tables_view::{TablesView, build};
 
 /// Writes both tables of the words and returns the number of 1 bits.
 ///
@@ -44,7 +44,7 @@ pub fn are_tables(words: &[u64], upper: &[u64], lower: &[u64]) -> bool
     requires { HasSizes (lists_of words.now upper.now lower.now) }
     ensures { IsTrue result ↔ HasTables (lists_of words.now upper.now lower.now) }
 {
-    match Lent::over(words, as_entries(upper), lower) {
+    match TablesView::over(words, as_entries(upper), lower) {
         Some(lent) => lent.check(),
         None => unreachable!(),
     }

@@ -4,7 +4,7 @@ use Rattle.bit_lists.specs.Bits.{item}
 use Rattle.bitm_tables.specs.Tables.{Lists, bits_in}
 use Rattle.bitm_tables.specs.Entry.{less}
 use Rattle.bitm_select.specs.Told.{TellsNone}
-use Rattle.elias_fano.specs.LentParts.{LentParts}
+use Rattle.elias_fano.specs.SequenceParts.{SequenceParts}
 use Rattle.elias_fano.specs.Low.{fragment, unread}
 use Rattle.bitm_tables.specs.declared.answer.Answer.{Answer}
 use Rattle.bitm_tables.specs.declared.answer.Answer.TheVariants.{Found, Absent, Wrong}
@@ -46,7 +46,7 @@ pub record ClaimLess (len width : ℕ) (low : List ℕ) (upper : Lists) (v p : �
   pub parting : PartsAt (fragment (unread low width)) width first end (v % 2 ^ width) p
 
 -- the parts claim it, whatever hints they have
-abbrev pub TellsLess : LentParts → ℕ → ℕ → Type 0
+abbrev pub TellsLess : SequenceParts → ℕ → ℕ → Type 0
 TellsLess parts = ClaimLess parts.len parts.width parts.low parts.upper
 
 -- four parts claim that p of their numbers are at most v: all, where v is the greatest number of 64 bits
@@ -55,7 +55,7 @@ pub record ClaimAtMost (len width : ℕ) (low : List ℕ) (upper : Lists) (v p :
   pub greatest : 2 ^ 64 ≤ v + 1 → p ≡ len
 
 -- the parts claim it, whatever hints they have
-abbrev pub TellsAtMost : LentParts → ℕ → ℕ → Type 0
+abbrev pub TellsAtMost : SequenceParts → ℕ → ℕ → Type 0
 TellsAtMost parts = ClaimAtMost parts.len parts.width parts.low parts.upper
 
 -- P of the index that is found, and of n where the answer is Absent

@@ -3,7 +3,7 @@ ghost use Rattle.std.specs.Prelude.{◌≡◌, ◌+◌, ◌*◌, ◌↔◌, ℕ,
 ghost use Rattle.std.specs.List.{Contains};
 ghost use Rattle.bit_lists.specs.Bits.{digit_count};
 ghost use Rattle.bitm_tables.specs.Reads.{OnlyReads, ReadsAtMost};
-ghost use Rattle.elias_fano.specs.LentParts.{parts_of, parts_with, AreParts, Holds};
+ghost use Rattle.elias_fano.specs.SequenceParts.{parts_of, parts_with, AreParts, Holds};
 ghost use Rattle.elias_fano.specs.Low.{sharing, ReadsFragments};
 ghost use Rattle.elias_fano.specs.Sequence.{IsFirstAtLeast, IsLastAtMost};
 

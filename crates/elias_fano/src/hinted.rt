@@ -10,7 +10,7 @@ ghost use Rattle.bitm_tables.specs.Reads.{OnlyReads};
 ghost use Rattle.bitm_tables.specs.Tables.{bits_in, HasSizes, HasTables};
 ghost use Rattle.elias_fano.specs.Answers.{IsItem, IsOfPlace, IsPlaceOf, IsPredecessorOf, IsSuccessorOf};
 ghost use Rattle.elias_fano.specs.Ends.{searched};
-ghost use Rattle.elias_fano.specs.LentParts.{parts_with, with_hints, HasLengths, Holds};
+ghost use Rattle.elias_fano.specs.SequenceParts.{parts_with, with_hints, HasLengths, Holds};
 ghost use Rattle.elias_fano.specs.Low.{sharing, ReadsFragments};
 ghost use Rattle.elias_fano.specs.Told.{IfLast, IfPlace, TellsAtMost, TellsLess};
 

@@ -5,7 +5,7 @@ ghost use Rattle.bit_lists.specs.Bits.{digit_count};
 ghost use Rattle.bitm_tables.specs.Reads.{OnlyReads};
 ghost use Rattle.bitm_tables.specs.Tables.{HasSizes};
 ghost use Rattle.elias_fano.specs.Answers.{IsPlaceOf, IsPredecessorOf};
-ghost use Rattle.elias_fano.specs.LentParts.{parts_with, HasLengths, Holds};
+ghost use Rattle.elias_fano.specs.SequenceParts.{parts_with, HasLengths, Holds};
 ghost use Rattle.elias_fano.specs.Low.{sharing, ReadsFragments};
 ghost use Rattle.elias_fano.specs.Sequence.{ReachesTo};
 ghost use Rattle.elias_fano.specs.Told.{IfLast, TellsAtMost, TellsLess};

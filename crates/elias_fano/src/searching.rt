@@ -10,7 +10,7 @@ ghost use Rattle.bitm_tables.specs.Tables.{HasSizes};
 ghost use Rattle.bitm_tables.specs.Entry.{less};
 ghost use Rattle.elias_fano.specs.Answers.{IsItem, IsOfPlace, IsPlaceOf, IsSuccessorOf};
 ghost use Rattle.elias_fano.specs.Buckets.{CountsBelow, CountsTo, HasEnds, LowsRise, Splits};
-ghost use Rattle.elias_fano.specs.LentParts.{parts_with, HasLengths, Holds};
+ghost use Rattle.elias_fano.specs.SequenceParts.{parts_with, HasLengths, Holds};
 ghost use Rattle.elias_fano.specs.Low.{fragment, joined_item, sharing, HasFragments, ReadsFragments};
 ghost use Rattle.elias_fano.specs.Parts.{ArePartsOf, HasFragment, HasOneAt, IsUpper};
 ghost use Rattle.elias_fano.specs.Told.{IfPlace, PartsAt, TellsLess};

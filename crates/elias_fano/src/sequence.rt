@@ -7,7 +7,7 @@ ghost use Rattle.bit_lists.specs.Bits.{bits_of, IsShort};
 ghost use Rattle.bitm_bits.specs.Size.{saturated_size};
 ghost use Rattle.bitm_tables.specs.Reads.{none_read};
 ghost use Rattle.bitm_tables.specs.Tables.{bits_in, HasSizes, HasTables};
-ghost use Rattle.elias_fano.specs.LentParts.{parts_with, HasLengths, Holds};
+ghost use Rattle.elias_fano.specs.SequenceParts.{parts_with, HasLengths, Holds};
 ghost use Rattle.elias_fano.specs.Numbers.{HasBefore};
 ghost use Rattle.elias_fano.specs.Parts.{width_of, low_words_of, upper_words_of, IsLow, IsUpper};
 ghost use Rattle.elias_fano.specs.Sequence.{IsSequence, HasFall};

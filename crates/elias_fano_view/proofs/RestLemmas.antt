@@ -9,7 +9,7 @@ use Rattle.bit_lists.proofs.lemmas.CountLemmas.{ones_before-bits_of_in_word}
 use Rattle.bit_lists.proofs.lemmas.WordLemmas.{bit_at-lowest_cleared_other, bit_at-lowest_cleared_same, bit_at-shr}
 use Rattle.bit_lists.specs.Bits.{bits_of}
 use Rattle.bit_lists.specs.Count.{ones_before, IsFirstFrom}
-use Rattle.bit_slices.proofs.lemmas.PositionLemmas.{next_counts}
+use Rattle.bit_words.proofs.lemmas.PositionLemmas.{next_counts}
 use Rattle.elias_fano_view.specs.Rests.{IsRestFrom}
 
 -- ---- w with zeros for its d lowest digits

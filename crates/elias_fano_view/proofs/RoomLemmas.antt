@@ -4,7 +4,7 @@ use Rattle.std.proofs.Math.Nat.{div-le_self}
 use Rattle.std.proofs.lemmas.Bool.{cases_eq}
 use Rattle.std.specs.Int.{div_ceil}
 use Rattle.bitm_tables.specs.Tables.{HasSizes}
-use Rattle.lent_tables.specs.Sizes.{lists_of}
+use Rattle.tables_view.specs.Sizes.{lists_of}
 use Rattle.elias_fano.proofs.lemmas.SizeLemmas.{few_of_some, upper_few_at}
 use Rattle.elias_fano.specs.Parts.{width_at, width_of, upper_words_of, IsUpper}
 use Rattle.elias_fano.specs.Sequence.{largest}

@@ -9,7 +9,7 @@ pub use Rattle.bit_lists.specs.Count
 pub use Rattle.bit_lists.specs.Number
 pub use Rattle.bitm_tables.specs.Tables
 pub use Rattle.elias_fano.specs.Answers
-pub use Rattle.elias_fano.specs.LentParts
+pub use Rattle.elias_fano.specs.SequenceParts
 pub use Rattle.elias_fano.specs.Low
 pub use Rattle.elias_fano.specs.Parts
 pub use Rattle.elias_fano.specs.Sequence

@@ -4,7 +4,7 @@ use Rattle.bitm_select.specs.Answers.{SelectTold}
 use Rattle.bitm_tables.specs.Tables.{Lists}
 use Rattle.elias_fano.specs.Sequence.{Reaches}
 use Rattle.elias_fano.specs.Told.{ClaimLess}
-use Rattle.elias_fano.specs.LentParts.{AreHeldParts, LentParts}
+use Rattle.elias_fano.specs.SequenceParts.{AreHeldParts, SequenceParts}
 use Rattle.elias_fano_view.specs.declared.lists.ListAnswer.{ListAnswer}
 use Rattle.elias_fano_view.specs.declared.lists.ListAnswer.TheVariants.{All, AbsentAt, WrongAt, WrongLength}
 
@@ -33,7 +33,7 @@ AreAhead upper places k end ones =
 abbrev pub CodesZero : Lists → ℕ → ℕ → ℕ → ℕ → Type 0
 CodesZero upper width less v = SelectTold false upper (v / 2 ^ width - less)
 
-abbrev pub ZeroTold : LentParts → ℕ → ℕ → ℕ → Type 0
+abbrev pub ZeroTold : SequenceParts → ℕ → ℕ → ℕ → Type 0
 ZeroTold parts = CodesZero parts.upper parts.width
 
 -- begin and end code the 0 bits at the ends of the bucket of v, the latter only where there are low bits
@@ -41,11 +41,11 @@ pub record CodeEnds (upper : Lists) (width v begin end : ℕ) : Type 0 where
   pub begins : CodesZero upper width 1 v begin
   pub ends : 0 < width → CodesZero upper width 0 v end
 
-abbrev pub EndsTold : LentParts → ℕ → ℕ → ℕ → Type 0
+abbrev pub EndsTold : SequenceParts → ℕ → ℕ → ℕ → Type 0
 EndsTold parts = CodeEnds parts.upper parts.width
 
 -- for the values of the list from value k on and before value end, sixteen numbers code those 0 bits
-abbrev pub AreZerosAhead : LentParts → ℕ → List ℕ → ℕ → ℕ → List ℕ → Type 0
+abbrev pub AreZerosAhead : SequenceParts → ℕ → List ℕ → ℕ → ℕ → List ℕ → Type 0
 AreZerosAhead parts less values k end zeros =
     (j : ℕ) → k ≤ j → j < end → j < length values → ZeroTold parts less (slice_index values j) (slice_index zeros (j % 16))
 
@@ -80,5 +80,5 @@ pub record CodesPlace (len width : ℕ) (low : List ℕ) (upper : Lists) (hints 
   pub none : (xs : List ℕ) → AreHeldParts xs len width low upper hints → n ≡ 2 ^ 64 - 1 → IsAllLess xs v
 
 -- the successor in the parts
-abbrev pub PlaceTold : LentParts → ℕ → ℕ → Type 0
+abbrev pub PlaceTold : SequenceParts → ℕ → ℕ → Type 0
 PlaceTold parts = CodesPlace parts.len parts.width parts.low parts.upper parts.hints

@@ -8,7 +8,7 @@ ghost use Rattle.bitm_tables.specs.Tables.{HasTables, Lists};
 ghost use Rattle.elias_fano.specs.Buckets.{CountsTo, CountsBelow};
 ghost use Rattle.elias_fano.specs.Parts.{IsUpper};
 ghost use Rattle.elias_fano.specs.Answers.{IsPlaceOf, IsSuccessorOf};
-ghost use Rattle.elias_fano.specs.LentParts.{parts_with, Holds};
+ghost use Rattle.elias_fano.specs.SequenceParts.{parts_with, Holds};
 ghost use Rattle.elias_fano_view.specs.Lists.{EndsTold};
 ghost use Rattle.elias_fano.specs.Low.{sharing, HasFragments, ReadsFragments};
 ghost use Rattle.elias_fano.specs.Told.{IfPlace, TellsBelow, TellsLess, TellsTo};

@@ -1,17 +1,17 @@
 //! The parts of a sequence, written into the caller's memory.
 ghost use Rattle.std.specs.Prelude.{◌≡◌, ◌^◌, ◌<◌, ◌≤◌, ◌↔◌, IsErrOf, IfOk, IsErr, IsTrue, SomeIff, length, replicate};
-ghost use Rattle.lent_tables.specs.Sizes.{lists_of};
+ghost use Rattle.tables_view.specs.Sizes.{lists_of};
 ghost use Rattle.std.specs.List.Sorted.{IsNonDecreasing};
 ghost use Rattle.elias_fano.specs.Parts.{width_of, upper_words_of, IsUpper};
 ghost use Rattle.elias_fano.specs.Sequence.{HasFall};
-ghost use Rattle.elias_fano.specs.LentParts.{parts_of, Holds};
+ghost use Rattle.elias_fano.specs.SequenceParts.{parts_of, Holds};
 ghost use Rattle.elias_fano_view.specs.Sizes.{HasPartRoom};
 
 use crate::error::BuildError;
 use crate::sizes::Sizes;
 use bit_words::words::set_bit;
 use elias_fano::building::{is_rising, largest_of, write_low};
-use lent_tables::clear;
+use tables_view::clear;
 
 /// Sets a 1 bit for each number after as many 0 bits as its high bits say, in words that are all 0. Returns whether
 /// each position was in the words, which holds.
@@ -99,7 +99,7 @@ pub fn build(
     if !write_tested(&mut *words, items, width) {
         return Err(BuildError::NotSorted);
     }
-    match lent_tables::build(&*words, upper, lower) {
+    match tables_view::build(&*words, upper, lower) {
         Some(_) => Ok(width),
         None => unreachable!(),
     }

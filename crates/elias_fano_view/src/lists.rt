@@ -1,11 +1,11 @@
 //! Lists of queries: the numbers at a list of indices, and the successors of a list of values.
 ghost use Rattle.std.specs.Prelude.{◌≡◌, ◌<◌, ◌↔◌, ℕ, IsTrue, List, length, slice_index, false};
-ghost use Rattle.elias_fano.specs.LentParts.{Holds};
+ghost use Rattle.elias_fano.specs.SequenceParts.{Holds};
 ghost use Rattle.bit_lists.specs.Kept.{IsKeptFrom};
 ghost use Rattle.elias_fano_view.specs.Lists.{written_count, AreItems, EndsTold, IsListed, IsNeverWrong};
 ghost use Rattle.elias_fano_view.specs.Lists.{PlaceTold};
 
-use crate::sequence::LentSequence;
+use crate::sequence::SequenceView;
 use bitm_select::search::selected::{NO_ANSWER, WRONG_TABLES};
 use bitm_tables::answer::Answer;
 use tuning::SELECTIONS_SIDE_BY_SIDE;
@@ -24,7 +24,7 @@ pub enum ListAnswer {
     WrongLength,
 }
 
-impl<'a> LentSequence<'a> {
+impl<'a> SequenceView<'a> {
     /// Writes the number at each index of the list, up to the first that is not found: what `get` answers where the
     /// parts form a sequence. In other parts a number may differ from the answer of `get`.
     pub fn get_list(&self, places: &[usize], out: &mut [u64]) -> ListAnswer

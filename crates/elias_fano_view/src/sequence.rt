@@ -7,7 +7,7 @@ ghost use Rattle.bitm_selection.specs.Hints.{Lead};
 ghost use Rattle.bitm_tables.specs.Tables.{HasTables, Lists};
 ghost use Rattle.elias_fano.specs.Parts.{HasFragment};
 ghost use Rattle.elias_fano.specs.Answers.{IsItem, IsOfPlace, IsPlaceOf, IsSuccessorOf};
-ghost use Rattle.elias_fano.specs.LentParts.{parts_of, parts_with, with_hints, AreParts, HasLengths, Holds};
+ghost use Rattle.elias_fano.specs.SequenceParts.{parts_of, parts_with, with_hints, AreParts, HasLengths, Holds};
 ghost use Rattle.elias_fano_view.specs.Lists.{AreAhead, AreZerosAhead, EndsTold, ZeroTold};
 ghost use Rattle.elias_fano.specs.Low.{unread, ReadsFragments};
 ghost use Rattle.elias_fano.specs.Told.{IfPlace, TellsLess};
@@ -23,8 +23,8 @@ use bitm_selection::{are_all_hints, hints_len};
 use bitm_tables::answer::Answer;
 use elias_fano::building::item_at_one;
 use elias_fano::{Items, LowDigits, hinted_first_at_least_on, hinted_item_on};
-use lent_tables::Lent;
 use std::marker::Model;
+use tables_view::TablesView;
 use tuning::SELECTIONS_SIDE_BY_SIDE;
 
 /// Number `place` of `n`, from the code `one` of the position of its 1 bit. Reads the low bits of at most one number.
@@ -54,18 +54,18 @@ fn item_of(low: &mut LowDigits<'_>, n: usize, place: usize, one: usize) -> Answe
 /// A view may have hints of the high bits, by which it selects. They are trusted as the tables are: where they do not
 /// match the words, an answer may differ.
 #[derive(Drop)]
-pub struct LentSequence<'a> {
+pub struct SequenceView<'a> {
     len: usize,
     width: u8,
     low: &'a [u64],
-    upper: Lent<'a>,
+    upper: TablesView<'a>,
     hints: &'a [u64],
 }
 
-impl<'a> Model for LentSequence<'a> {
-    ghost use Rattle.elias_fano.specs.LentParts.{parts_of, with_hints, HasLengths, LentParts};
+impl<'a> Model for SequenceView<'a> {
+    ghost use Rattle.elias_fano.specs.SequenceParts.{parts_of, with_hints, HasLengths, SequenceParts};
 
-    ghost Value = { LentParts };
+    ghost Value = { SequenceParts };
 
     ghost view = { λ s. record {
       len = s.len;
@@ -78,12 +78,17 @@ impl<'a> Model for LentSequence<'a> {
     ghost invariant = { λ s. HasLengths (with_hints s.hints.now (parts_of s.len s.width s.low.now s.upper)) };
 }
 
-impl<'a> LentSequence<'a> {
+impl<'a> SequenceView<'a> {
     /// Borrows the parts of `len` numbers: `width` low bits of each in `low`, and the words of the high bits with their
     /// tables in `upper`. `None` exactly where there are 2^56 numbers or more, more than 63 low bits of each, or where
     /// `low` is not as long as the low bits need. The sequence has no hints.
     #[inline(always)]
-    pub fn over(len: usize, width: u8, low: &'a [u64], upper: Lent<'a>) -> Option<LentSequence<'a>>
+    pub fn over(
+        len: usize,
+        width: u8,
+        low: &'a [u64],
+        upper: TablesView<'a>,
+    ) -> Option<SequenceView<'a>>
         ensures { SomeIff result (HasLengths (parts_of len width low.now upper.entry))
             (parts_of len width low.now upper.entry) }
     {
@@ -93,7 +98,7 @@ impl<'a> LentSequence<'a> {
         if low.len() != (len * width as usize).div_ceil(64) {
             return None;
         }
-        Some(LentSequence {
+        Some(SequenceView {
             len,
             width,
             low,
@@ -112,21 +117,21 @@ impl<'a> LentSequence<'a> {
     /// primes.get(4);   // Found(11)
     /// ```
     #[inline(always)]
-    pub fn with_hints(self, hints: &'a [u64]) -> Option<LentSequence<'a>>
+    pub fn with_hints(self, hints: &'a [u64]) -> Option<SequenceView<'a>>
         ensures { SomeIff result (HasLengths (with_hints hints.now self.entry))
             (with_hints hints.now self.entry) }
     {
         if !hints.is_empty() && hints.len() != hints_len(self.len, self.upper.words().len()) {
             return None;
         }
-        let LentSequence {
+        let SequenceView {
             len,
             width,
             low,
             upper,
             ..
         } = self;
-        Some(LentSequence {
+        Some(SequenceView {
             len,
             width,
             low,
@@ -302,7 +307,7 @@ impl<'a> LentSequence<'a> {
     }
 }
 
-impl<'a> Items for LentSequence<'a> {
+impl<'a> Items for SequenceView<'a> {
     ghost len = { λ s. s.len };
 
     ghost holds = { λ xs s. Holds xs s };

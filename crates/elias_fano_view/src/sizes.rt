@@ -3,7 +3,7 @@ ghost use Rattle.std.specs.Prelude.{◌≡◌, ◌+◌, ◌*◌, ◌≤◌, IfSo
 ghost use Rattle.elias_fano_view.specs.Sizes.{sizes_of, IsLargest};
 
 use elias_fano::building::low_width;
-use lent_tables::{lower_len, upper_len};
+use tables_view::{lower_len, upper_len};
 
 /// The number of low bits of each number, and the length of each part.
 #[derive(Clone, Copy, PartialEq, Eq, Debug)]

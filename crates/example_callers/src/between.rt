@@ -2,7 +2,7 @@
 ghost use Rattle.std.specs.Prelude.{◌+◌, ◌*◌, ◌<◌, ◌≤◌, ◌↔◌, ℕ, List, length, slice_index};
 ghost use Rattle.bitm.specs.Bits.{digit_count};
 ghost use Rattle.bitm.specs.Reads.{OnlyReads};
-ghost use Rattle.elias_fano.specs.LentParts.{parts_of, AreParts, Holds};
+ghost use Rattle.elias_fano.specs.SequenceParts.{parts_of, AreParts, Holds};
 
 use bitm::{Select0ForRank101111, SelectForRank101111, TableSource};
 use elias_fano::{Sequence, first_at_least_counted, laws};

@@ -8,10 +8,10 @@ ghost use Rattle.bitm.specs.Tables.{upper_of};
 use bitm::{BinaryRankSearch, RankSelect101111, ReadCounts, rank_on};
 
 /// An index over borrowed words, which selects by binary search.
-type Lent<'a> = RankSelect101111<BinaryRankSearch, BinaryRankSearch, &'a [u64]>;
+type Borrowed<'a> = RankSelect101111<BinaryRankSearch, BinaryRankSearch, &'a [u64]>;
 
 /// The position of the 1 bit with exactly `rank` 1 bits before it, `None` exactly where there is none, and the reads.
-pub fn select_with_reads(index: &Lent<'_>, rank: usize) -> (Option<usize>, ReadCounts)
+pub fn select_with_reads(index: &Borrowed<'_>, rank: usize) -> (Option<usize>, ReadCounts)
     ensures answer { IsSelect (bits_of index.now.content.now) true rank result.0 }
     ensures reads { let uppers = length (upper_of (bits_of index.now.content.now)) in
         ReadsAtMost none_read result.1 (digit_count uppers + 1) 23 8 }
@@ -22,7 +22,7 @@ pub fn select_with_reads(index: &Lent<'_>, rank: usize) -> (Option<usize>, ReadC
 }
 
 /// The number of 1 bits among the first `place` bits, `None` exactly where there are fewer bits, and the reads.
-pub fn rank_with_reads(index: &Lent<'_>, place: usize) -> (Option<usize>, ReadCounts)
+pub fn rank_with_reads(index: &Borrowed<'_>, place: usize) -> (Option<usize>, ReadCounts)
     ensures answer { IsRank (bits_of index.now.content.now) place result.0 }
     ensures reads { ReadsAtMost none_read result.1 1 1 8 }
 {

@@ -5,7 +5,7 @@ ghost use Rattle.bitm.specs.Count.{IsSelect};
 ghost use Rattle.bitm.specs.Tables.{HasSizes, HasTables};
 ghost use Rattle.bitm_view.specs.Sizes.{lists_of};
 
-use bitm_view::{Answer, Lent, build};
+use bitm_view::{Answer, TablesView, build};
 
 /// Makes the tables match the words, unless they do; false exactly where their lengths are not right.
 pub fn repair(words: &[u64], upper: &mut [usize], lower: &mut [u64]) -> bool
@@ -13,7 +13,7 @@ pub fn repair(words: &[u64], upper: &mut [usize], lower: &mut [u64]) -> bool
     ensures sizes { IsTrue result → HasSizes (lists_of words.now upper.new lower.new) }
     ensures tables { IsTrue result → HasTables (lists_of words.now upper.new lower.new) }
 {
-    let Some(lent) = Lent::over(words, &*upper, &*lower) else {
+    let Some(lent) = TablesView::over(words, &*upper, &*lower) else {
         return false;
     };
     if lent.check() {
@@ -32,7 +32,7 @@ pub fn select(words: &[u64], upper: &mut [usize], lower: &mut [u64], rank: usize
     if !repair(words, &mut *upper, &mut *lower) {
         return None;
     }
-    let Some(lent) = Lent::over(words, &*upper, &*lower) else {
+    let Some(lent) = TablesView::over(words, &*upper, &*lower) else {
         unreachable!()
     };
     match lent.select::<1>(rank) {

@@ -1,9 +1,9 @@
 //! The parts of a sequence that came from elsewhere and may be wrong: checked once, and queried.
 ghost use Rattle.std.specs.Prelude.{◌≡◌, ◌<◌, ◌≤◌, ◌↔◌, ℕ, List, IfOk, IsErr, MatchOption};
 ghost use Rattle.std.specs.List.{All, Contains};
-ghost use Rattle.elias_fano_view.specs.LentParts.{AreParts, Holds};
+ghost use Rattle.elias_fano_view.specs.SequenceParts.{AreParts, Holds};
 
-use elias_fano_view::{Answer, LentSequence};
+use elias_fano_view::{Answer, SequenceView};
 
 /// The parts form no sequence.
 #[derive(Clone, Copy, Debug, PartialEq, Eq)]
@@ -13,7 +13,7 @@ pub struct NoSequence;
 ///
 /// # Errors
 /// `NoSequence` exactly where the parts form no sequence.
-pub fn least_from(sequence: &LentSequence<'_>, v: u64) -> Result<Option<u64>, NoSequence>
+pub fn least_from(sequence: &SequenceView<'_>, v: u64) -> Result<Option<u64>, NoSequence>
     ensures found { (xs : List ℕ) → Holds xs sequence.now → IfOk result
         (λ o. MatchOption o (All (λ x. x < v) xs)
         (λ y. Contains xs y × (v ≤ y) × All (λ x. v ≤ x → y ≤ x) xs)) }

@@ -5,11 +5,16 @@ ghost use Rattle.bitm.specs.Count.{ones_of};
 ghost use Rattle.bitm.specs.Tables.{bits_in, HasTables};
 ghost use Rattle.perfect_hash.specs.Numbers.{number_by, AreSizes};
 
-use bitm_view::{Answer, Lent};
+use bitm_view::{Answer, TablesView};
 use perfect_hash::total_number_on;
 
 /// The value at the number of a hash. Whatever words, tables and sizes hold, that number is one of a value.
-pub fn value_of_hash(lent: &Lent<'_>, sizes: &[usize], values: &[u64], hash: u64) -> Option<u64>
+pub fn value_of_hash(
+    lent: &TablesView<'_>,
+    sizes: &[usize],
+    values: &[u64],
+    hash: u64,
+) -> Option<u64>
     ensures { let b = bits_in lent.now in
         HasTables lent.now → AreSizes sizes.now b → ones_of b ≤ length values.now
         → result ≡ option_map (slice_index values.now) (number_by sizes.now b hash) }

@@ -3,11 +3,11 @@ ghost use Rattle.std.specs.Prelude.{◌≡◌, ◌<◌, ◌≤◌, Some, None, l
 ghost use Rattle.bitm.specs.Count.{ones_before};
 ghost use Rattle.bitm.specs.Tables.{HasTables, bits_in};
 
-use bitm_view::{Answer, Lent};
+use bitm_view::{Answer, TablesView};
 
 /// The item of your array at the rank of `place`, by tables that may be wrong; the array has one item more than there
 /// are bits. `None` where there are fewer bits, or the tables are wrong.
-pub fn item_at_rank(lent: &Lent<'_>, place: usize, items: &[u64]) -> Option<u64>
+pub fn item_at_rank(lent: &TablesView<'_>, place: usize, items: &[u64]) -> Option<u64>
     requires { length (bits_in lent.now) < length items.now }
     ensures item { HasTables lent.now → place ≤ length (bits_in lent.now)
         → result ≡ Some (slice_index items.now (ones_before (bits_in lent.now) place)) }

@@ -5,10 +5,10 @@ ghost use Rattle.bitm.specs.Tables.{HasTables, bits_in};
 ghost use Rattle.bitm_view.specs.Answers.{IsSelected};
 ghost use Rattle.bitm_view.specs.Samples.{HasSampleRoom};
 
-use bitm_view::{Answer, Lent, LentSamples};
+use bitm_view::{Answer, SamplesView, TablesView};
 
 /// The position of the 1 bit with `rank` 1 bits before it, from samples of whatever words: they never change it.
-pub fn select(lent: &Lent<'_>, samples: &LentSamples<'_>, rank: usize) -> Option<usize>
+pub fn select(lent: &TablesView<'_>, samples: &SamplesView<'_>, rank: usize) -> Option<usize>
     requires { HasTables lent.now }
     ensures { IsSelect (bits_in lent.now) true rank result }
 {
@@ -23,7 +23,7 @@ pub fn select(lent: &Lent<'_>, samples: &LentSamples<'_>, rank: usize) -> Option
 /// Makes samples of ones, one for each 2^`log2`, and answers one selection by them: `Wrong` only where there is
 /// no room for them.
 pub fn sample_and_select(
-    lent: &Lent<'_>,
+    lent: &TablesView<'_>,
     log2: u8,
     numbers: &mut [u32],
     starts: &mut [usize],
@@ -36,7 +36,7 @@ pub fn sample_and_select(
     let Some(used) = lent.build_samples::<1>(log2, &mut *numbers, &mut *starts) else {
         return Answer::Wrong;
     };
-    let samples = LentSamples {
+    let samples = SamplesView {
         samples: &numbers[..used],
         starts: &*starts,
         log2,

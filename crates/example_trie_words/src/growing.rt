@@ -1,4 +1,4 @@
-//! The degrees and labels of the trie of sorted words, which `trie_words` writes.
+//! The degrees and labels of the trie of sorted words, which `tree_block::words` writes.
 use std::alloc::{AllocError, Global};
 
 /// What a trie is built of, and for each node whether a word ends there.
@@ -46,7 +46,7 @@ fn with_root(alloc: Global, letters: &[u64]) -> Result<Vec<u64>, AllocError> {
 /// The trie of words in the order of a dictionary, each there once; `None` for other words.
 pub fn grow(alloc: Global, words: &[&str]) -> Result<Option<Grown>, AllocError> {
     let (bytes, starts) = joined(alloc, words)?;
-    let Ok(nodes) = trie_words::nodes(bytes.as_slice(), starts.as_slice()) else {
+    let Ok(nodes) = tree_block::words::nodes(bytes.as_slice(), starts.as_slice()) else {
         return Ok(None);
     };
     let children = nodes.saturating_sub(1);
@@ -54,7 +54,7 @@ pub fn grow(alloc: Global, words: &[&str]) -> Result<Option<Grown>, AllocError> 
     let mut letters = vec![in alloc; 0u64; children]?;
     let mut parents = vec![in alloc; 0usize; children]?;
     let mut ends = vec![in alloc; 0u64; nodes.div_ceil(64)]?;
-    let grown = trie_words::grow(
+    let grown = tree_block::words::grow(
         bytes.as_slice(),
         starts.as_slice(),
         degrees.as_mut_slice(),

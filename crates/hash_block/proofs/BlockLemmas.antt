@@ -10,10 +10,10 @@ use Rattle.bitm_block.specs.Layout.{head_of, part_in}
 use Rattle.bitm_block.specs.Written.{IsSealed}
 use Rattle.bitm_block.specs.declared.head.Head.{Head}
 use Rattle.bitm_block.specs.declared.layout.Section.{Section}
-use Rattle.lent_tables.specs.Sizes.{lists_of}
+use Rattle.tables_view.specs.Sizes.{lists_of}
 use Rattle.block_tables.specs.Sections.{tables_in}
-use Rattle.hash_levels.specs.Numbers.{number_by, AreSizes}
-use Rattle.hash_levels.specs.Perfect.{IsMinimalPerfect}
+use Rattle.perfect_hash.specs.Numbers.{number_by, AreSizes}
+use Rattle.perfect_hash.specs.Perfect.{IsMinimalPerfect}
 use Rattle.hash_block.specs.Block.{hash_head, hash_in, hash_sections, AreParts, IsBlockOf, StandsIn}
 use Rattle.hash_block.specs.Dictionary.{added, dictionary_sections, number_of_key, IsDictionaryOf, KeysStandIn, StandAtNumbers}
 use Rattle.hash_block.proofs.KeyLemmas.{only, own}

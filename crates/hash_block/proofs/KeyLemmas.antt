@@ -4,7 +4,7 @@ use Rattle.std.proofs.lemmas.Bool.{cases_lt}
 use Rattle.std.proofs.lemmas.Option.{slice_get_within, get_or_from_slice_get}
 use Rattle.std.specs.List.{slice_get, slice_index}
 use Rattle.std.specs.Option.{IfSome, IsSome}
-use Rattle.hash_levels.specs.Perfect.{IsMinimalPerfect}
+use Rattle.perfect_hash.specs.Perfect.{IsMinimalPerfect}
 use Rattle.hash_block.specs.Dictionary.{AreKeys, StandAtNumbers}
 
 -- the first i keys stand at their numbers

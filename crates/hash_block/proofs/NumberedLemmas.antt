@@ -5,11 +5,11 @@ use Rattle.std.specs.List.{slice_get, slice_index}
 use Rattle.std.specs.Option.{option_map, IfSome, IsSome}
 use Rattle.bit_lists.specs.Bits.{bits_of, item}
 use Rattle.bit_lists.specs.Count.{ones_before, ones_of}
-use Rattle.hash_levels.specs.Levels.{place_from}
+use Rattle.perfect_hash.specs.Levels.{place_from}
 use Rattle.perfect_hash.proofs.lemmas.GetLemmas.{one_counted}
-use Rattle.hash_levels.specs.Numbers.{number_by}
-use Rattle.hash_levels.specs.Perfect.{IsMinimalPerfect}
-use Rattle.hash_levels.specs.Places.{place_in}
+use Rattle.perfect_hash.specs.Numbers.{number_by}
+use Rattle.perfect_hash.specs.Perfect.{IsMinimalPerfect}
+use Rattle.perfect_hash.specs.Places.{place_in}
 use Rattle.hash_block.specs.Dictionary.{added, number_of_key, DictionaryParts, IsDictionaryIn}
 use Rattle.hash_block.specs.Numbered.{NumberKeys}
 

@@ -7,9 +7,9 @@ use Rattle.bitm_block.specs.Header.{section_in, IsBlock, IsOfKind, IsVerified}
 use Rattle.bitm_block.specs.Layout.{end_of, part_in}
 use Rattle.bitm_block.specs.declared.head.Head.{Head}
 use Rattle.bitm_block.specs.declared.layout.Section.{Section}
-use Rattle.lent_tables.specs.Sizes.{lists_of}
+use Rattle.tables_view.specs.Sizes.{lists_of}
 use Rattle.block_tables.specs.Sections.{section_of, tables_in}
-use Rattle.hash_levels.specs.Numbers.{AreSizes}
+use Rattle.perfect_hash.specs.Numbers.{AreSizes}
 use Rattle.hash_block.specs.Parts.{HasLengths, HashParts, IsHash}
 
 -- the numbers of the header of a hash of n keys

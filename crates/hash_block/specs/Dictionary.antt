@@ -10,7 +10,7 @@ use Rattle.bitm_block.specs.Header.{count_in, section_in, IsVerified}
 use Rattle.bitm_block.specs.Layout.{end_of, part_in}
 use Rattle.bitm_block.specs.declared.layout.Section.{Section}
 use Rattle.block_tables.specs.Sections.{section_of}
-use Rattle.hash_levels.specs.Numbers.{number_by, AreSizes}
+use Rattle.perfect_hash.specs.Numbers.{number_by, AreSizes}
 use Rattle.hash_block.specs.Block.{hash_in, AreFew, AreParts, IsHashBlock}
 use Rattle.hash_block.specs.declared.hashing.Added.{Added}
 use Rattle.hash_block.specs.Parts.{HasLengths, HashParts, IsHash}

@@ -3,3 +3,15 @@ pub mod Dictionary
 pub mod Error
 pub mod Numbered
 pub mod Parts
+pub mod SeededBlock
+pub mod SeededError
+pub mod SeededParts
+pub mod Seeds
+pub mod StringsBlock
+pub mod Bytes
+pub mod StringsError
+pub mod Given
+pub mod Kinds
+pub mod StringsParts
+pub mod Prints
+pub mod SipHash

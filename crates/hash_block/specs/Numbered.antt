@@ -2,8 +2,8 @@
 use Rattle.std.specs.Prelude.{◌≡◌, ℕ, ◌^◌, ◌<◌, List, length, Option}
 use Rattle.bit_lists.specs.Bits.{bits_of}
 use Rattle.bit_lists.specs.Count.{ones_of}
-use Rattle.hash_levels.specs.Numbers.{number_by}
-use Rattle.hash_levels.specs.Perfect.{IsMinimalPerfect}
+use Rattle.perfect_hash.specs.Numbers.{number_by}
+use Rattle.perfect_hash.specs.Perfect.{IsMinimalPerfect}
 use Rattle.bitm_block.specs.Layout.{end_of}
 use Rattle.hash_block.specs.Dictionary.{added, dictionary_sections, DictionaryParts}
 

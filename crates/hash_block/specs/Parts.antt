@@ -2,7 +2,7 @@
 use Rattle.std.specs.Prelude.{◌≡◌, ℕ, ◌≤◌, List, length}
 use Rattle.bit_lists.specs.Count.{ones_of}
 use Rattle.bitm_tables.specs.Tables.{bits_in, HasSizes, HasTables, Lists}
-use Rattle.hash_levels.specs.Numbers.{AreSizes}
+use Rattle.perfect_hash.specs.Numbers.{AreSizes}
 
 -- the words of all levels with their tables, how many words each level has, the number of keys, and the seed that the
 -- caller hashed them by

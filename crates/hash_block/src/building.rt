@@ -5,7 +5,7 @@ ghost use Rattle.bit_lists.specs.Bits.{bits_of};
 ghost use Rattle.bit_lists.specs.Count.{ones_of};
 ghost use Rattle.bitm_block.specs.Layout.{end_of};
 ghost use Rattle.bitm_block.specs.Written.{IsSealed};
-ghost use Rattle.hash_levels.specs.Numbers.{AreSizes};
+ghost use Rattle.perfect_hash.specs.Numbers.{AreSizes};
 ghost use Rattle.hash_block.specs.Block.{hash_head, hash_sections, AreFew, AreParts, CanHold, IsBlockOf, StandsIn};
 
 use crate::error::BuildError;
@@ -15,9 +15,9 @@ use bitm::RankSelect101111;
 use bitm_block::{aligned, copy_items, seal_sized};
 use bitm_strategies::{Select0ForRank101111, SelectForRank101111};
 use block_tables::{as_entries_mut, fill_tables};
-use lent_tables::{lower_len, upper_len};
 use perfect_hash::PerfectHash;
 use std::convert::AsSlice;
+use tables_view::{lower_len, upper_len};
 
 /// Writes the words of levels, their tables and their sizes where a block has them, and returns how many 1 bits there
 /// are: for who writes a block with these sections and others.

@@ -13,7 +13,7 @@ use crate::view::HashView;
 use bitm_block::Block;
 use bitm_tables::answer::Answer;
 use bitm_tables::source::counts::ReadCounts;
-use hash_levels::KeyHash;
+use perfect_hash::levels::KeyHash;
 use std::marker::Model;
 
 /// A dictionary of numbers in memory that may hold anything: a hash, and the keys in the order of their numbers.

@@ -1,7 +1,7 @@
 //! How the numbers of a dictionary are hashed.
 ghost use Rattle.hash_block.specs.Dictionary.{hashed};
 
-use hash_levels::KeyHash;
+use perfect_hash::levels::KeyHash;
 
 /// Hashes a number by its sum with a seed, modulo 2^64: no two numbers have one hash, and a dictionary needs no other
 /// mixing, since each level spreads the hash by a number of its own.

@@ -5,7 +5,7 @@ ghost use Rattle.bit_lists.specs.Count.{ones_of};
 ghost use Rattle.bitm_block.specs.Layout.{end_of};
 ghost use Rattle.bitm_block.specs.Written.{IsSealed};
 ghost use Rattle.perfect_hash.specs.Parts.{number_of};
-ghost use Rattle.hash_levels.specs.Perfect.{IsMinimalPerfect};
+ghost use Rattle.perfect_hash.specs.Perfect.{IsMinimalPerfect};
 ghost use Rattle.hash_block.specs.Block.{hash_head};
 ghost use Rattle.hash_block.specs.Dictionary.{dictionary_sections, hashed, number_of_key};
 ghost use Rattle.hash_block.specs.Dictionary.{AreFewKeys, CanHoldKeys, IsDictionaryIn, IsDictionaryOf};

@@ -2,9 +2,9 @@
 ghost use Rattle.std.specs.Prelude.{◌≡◌, ◌≤◌, length};
 ghost use Rattle.bit_lists.specs.Bits.{bits_of};
 ghost use Rattle.bitm_tables.specs.Tables.{HasSizes, HasTables};
-ghost use Rattle.lent_tables.specs.Sizes.{lists_of};
-ghost use Rattle.hash_levels.specs.Numbers.{AreSizes};
-ghost use Rattle.hash_levels.specs.Perfect.{IsMinimalPerfect};
+ghost use Rattle.tables_view.specs.Sizes.{lists_of};
+ghost use Rattle.perfect_hash.specs.Numbers.{AreSizes};
+ghost use Rattle.perfect_hash.specs.Perfect.{IsMinimalPerfect};
 ghost use Rattle.hash_block.specs.Dictionary.{number_of_key, CanHoldKeys, KeysStandIn, StandAtNumbers};
 ghost use Rattle.hash_block.specs.Numbered.{key_number, NumberKeys};
 ghost use Rattle.hash_block.specs.Parts.{IsHash};
@@ -13,7 +13,7 @@ use crate::building::write_levels;
 use crate::view::HashView;
 use bitm_block::aligned;
 use block_tables::as_entries;
-use lent_tables::{Lent, lower_len, upper_len};
+use tables_view::{TablesView, lower_len, upper_len};
 
 /// Writes each key at its number.
 ///
@@ -53,7 +53,7 @@ fn hash_over<'a>(
       seed = seed;
     } }
 {
-    match Lent::over(words, as_entries(upper), lower) {
+    match TablesView::over(words, as_entries(upper), lower) {
         Some(tables) => match HashView::over(tables, sizes, keys, seed) {
             Some(hash) => hash,
             None => unreachable!(),

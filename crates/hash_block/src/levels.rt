@@ -1,7 +1,7 @@
 //! Whether sizes are sizes of levels.
 ghost use Rattle.std.specs.Prelude.{◌≡◌, ◌*◌, ◌^◌, ◌<◌, ◌≤◌, ◌↔◌, IsTrue, length, SomeIff, sum};
 ghost use Rattle.bit_lists.specs.Bits.{bits_of};
-ghost use Rattle.hash_levels.specs.Numbers.{AreSizes};
+ghost use Rattle.perfect_hash.specs.Numbers.{AreSizes};
 ghost use Rattle.perfect_hash.specs.Placed.{FitIn};
 
 use crate::sections::LEVELS;

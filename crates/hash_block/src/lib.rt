@@ -27,6 +27,8 @@
 // - `opening`: the view of a block, and whether the block holds what it says
 // - `sections`: the sections of the block of a hash
 // - `view`: a hash in memory that may hold anything
+// - `seeded`: a minimal perfect hash with a seed for each word in a block of memory, such as a mapped file
+// - `strings`: strings of bytes in a block of memory, such as a mapped file, each with a number
 mod building;
 mod dictionary;
 mod error;
@@ -36,6 +38,8 @@ mod keyed_parts;
 mod levels;
 mod opening;
 mod sections;
+pub mod seeded;
+pub mod strings;
 mod view;
 
 pub use bitm_tables::answer::Answer;

@@ -5,7 +5,7 @@ ghost use Rattle.hash_block.specs.Block.{hash_head, hash_sections, AreFew};
 ghost use Rattle.hash_block.specs.Dictionary.{dictionary_sections, AreFewKeys};
 
 use bitm_block::{Head, Section, aligned};
-use lent_tables::{lower_len, upper_len};
+use tables_view::{lower_len, upper_len};
 
 /// The kind of a minimal perfect hash.
 pub const HASH: u64 = 5;

@@ -5,7 +5,7 @@ ghost use Rattle.bit_lists.specs.Count.{ones_of};
 ghost use Rattle.bitm_tables.specs.Tables.{bits_in, HasTables, IsIndexed};
 ghost use Rattle.bitm_tables.specs.Answers.{IfAbsent};
 ghost use Rattle.perfect_hash.specs.Asking.{IsBelow, IsNumbered};
-ghost use Rattle.hash_levels.specs.Numbers.{number_by};
+ghost use Rattle.perfect_hash.specs.Numbers.{number_by};
 ghost use Rattle.perfect_hash.specs.Placed.{FitIn};
 ghost use Rattle.hash_block.specs.Dictionary.{number_of_key};
 ghost use Rattle.hash_block.specs.Parts.{IsHash};
@@ -17,10 +17,10 @@ use bitm_tables::answer::Answer;
 use bitm_tables::ranking::rank_on;
 use bitm_tables::source::TableSource;
 use bitm_tables::source::counts::ReadCounts;
-use hash_levels::KeyHash;
-use lent_tables::Lent;
+use perfect_hash::levels::KeyHash;
 use perfect_hash::total_number_on;
 use std::marker::Model;
+use tables_view::TablesView;
 
 /// A minimal perfect hash in memory that may hold anything: the words of all levels with their tables, how many words
 /// each level has, the number of keys, and the seed that the caller hashed them by.
@@ -34,7 +34,7 @@ use std::marker::Model;
 /// ```
 #[derive(Drop)]
 pub struct HashView<'a> {
-    tables: Lent<'a>,
+    tables: TablesView<'a>,
     sizes: &'a [usize],
     keys: usize,
     seed: u64,
@@ -68,7 +68,7 @@ impl<'a> HashView<'a> {
     /// ```
     #[inline(always)]
     pub fn over(
-        tables: Lent<'a>,
+        tables: TablesView<'a>,
         sizes: &'a [usize],
         keys: usize,
         seed: u64,
@@ -97,7 +97,7 @@ impl<'a> HashView<'a> {
     /// hash.tables().words().len();   // 1
     /// ```
     #[inline(always)]
-    pub fn tables(&self) -> &Lent<'a>
+    pub fn tables(&self) -> &TablesView<'a>
         ensures { result.now ≡ self.now.lists }
     {
         &self.tables

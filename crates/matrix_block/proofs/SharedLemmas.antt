@@ -4,11 +4,11 @@ use Rattle.std.specs.Prelude.{Some}
 use Rattle.std.proofs.lemmas.Bool.{cases_lt}
 use Rattle.std.proofs.lemmas.List.{append_assoc, append-nil, length-take-le, take_all, take_at, take_more_set}
 use Rattle.bitm_tables.specs.declared.answer.Answer.TheVariants.{Found, Absent}
-use Rattle.lent_levels.specs.Ranges.{IsNextOf}
+use Rattle.levels_view.specs.Ranges.{IsNextOf}
 use Rattle.matrix_levels.specs.Numbers.{count_less, IsNextItem}
-use Rattle.number_lists.specs.SharedFrom.{shared_from}
+use Rattle.matrix_levels.specs.SharedFrom.{shared_from}
 use Rattle.matrix_block.specs.RangeLists.{AreRisingFrom}
-use Rattle.number_lists.proofs.SharedFromLemmas.{less-grows, misses-after, misses-all, misses-below, not-first, not-second, shared-first, shared-none, shared-skip}
+use Rattle.matrix_levels.proofs.SharedFromLemmas.{less-grows, misses-after, misses-all, misses-below, not-first, not-second, shared-first, shared-none, shared-skip}
 
 -- x is the least number of the list that is at least v
 pub record IsNext (xs : List ℕ) (v x : ℕ) : Type 0 where

@@ -7,9 +7,9 @@ use Rattle.std.proofs.lemmas.List.Kept.{AllPairs-from_increasing}
 use Rattle.std.proofs.lemmas.Slice.Zip.{length-zip}
 use Rattle.std.specs.List.{zip}
 use Rattle.std.specs.List.Sorted.{IsStrictlyIncreasing}
-use Rattle.number_lists.specs.Distinct.{coming_tallies, tallies_from, StandsBetween}
+use Rattle.matrix_levels.specs.Distinct.{coming_tallies, tallies_from, StandsBetween}
 use Rattle.matrix_levels.specs.Numbers.{count_equal, count_less, IsSmallest}
-use Rattle.number_lists.proofs.DistinctLemmas.{after, coming-first, coming-from, coming-none, stands-after, stands-from}
+use Rattle.matrix_levels.proofs.DistinctLemmas.{after, coming-first, coming-from, coming-none, stands-after, stands-from}
 use Rattle.matrix_levels.proofs.lemmas.OrderLemmas.{at_most-is, count_less-grows}
 use Rattle.matrix_block.specs.RangeLists.{tallies_in, AreItemsWritten, AreRisingFrom, AreTallyCounts}
 

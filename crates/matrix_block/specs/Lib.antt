@@ -3,7 +3,7 @@ pub mod Error
 pub mod Levelwise
 pub mod RangeLists
 pub mod Room
-pub use Rattle.lent_levels.specs.Answers
-pub use Rattle.lent_levels.specs.Check
-pub use Rattle.lent_levels.specs.Levels
-pub use Rattle.lent_levels.specs.Ranges
+pub use Rattle.levels_view.specs.Answers
+pub use Rattle.levels_view.specs.Check
+pub use Rattle.levels_view.specs.Levels
+pub use Rattle.levels_view.specs.Ranges

@@ -6,9 +6,9 @@ use Rattle.std.specs.List.Sorted.{IsStrictlyIncreasing}
 use Rattle.bitm_tables.specs.Answers.{Right}
 use Rattle.bitm_tables.specs.declared.answer.Answer.{Answer}
 use Rattle.bitm_tables.specs.declared.answer.Answer.TheVariants.{Found, Absent, Wrong}
-use Rattle.number_lists.specs.Distinct.{tallies_from}
-use Rattle.number_lists.specs.Frequent.{AreMostFrequent}
-use Rattle.number_lists.specs.SharedFrom.{shared_from}
+use Rattle.matrix_levels.specs.Distinct.{tallies_from}
+use Rattle.matrix_levels.specs.Frequent.{AreMostFrequent}
+use Rattle.matrix_levels.specs.SharedFrom.{shared_from}
 
 -- the first k of the numbers, each with its count
 abbrev pub tallies_in : List ℕ → List ℕ → ℕ → List (ℕ × ℕ)

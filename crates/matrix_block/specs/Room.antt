@@ -3,9 +3,9 @@ use Rattle.std.specs.Prelude.{◌≡◌, ℕ, ◌+◌, List, ◌++◌, length, t
 use Rattle.bit_lists.specs.Bits.{bits_of}
 use Rattle.bitm_tables.specs.Tables.{IsIndexed}
 use Rattle.bitm_block.specs.Layout.{aligned}
-use Rattle.lent_levels.specs.Check.{AreCounts}
-use Rattle.lent_levels.specs.Levels.{levels_of}
-use Rattle.lent_tables.specs.Sizes.{lists_of}
+use Rattle.levels_view.specs.Check.{AreCounts}
+use Rattle.levels_view.specs.Levels.{levels_of}
+use Rattle.tables_view.specs.Sizes.{lists_of}
 use Rattle.matrix_block.specs.Block.{lower_of_numbers, upper_of_numbers}
 use Rattle.matrix_levels.specs.Matrix.{matrix_words}
 

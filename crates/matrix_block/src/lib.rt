@@ -7,9 +7,9 @@
 //!
 //! ```
 //! let numbers = [3u64, 1, 4, 1, 5, 1];
-//! let mut block = [0u64; 80];                                   // size(6, 3, false) words
+//! let mut block = [0u64; 80];                                   // size(6, 3, false, false) words
 //! let mut scratch = [0u64; 12];                                 // two words for each number
-//! build(numbers.as_slice(), 3, false, scratch.as_mut_slice(), block.as_mut_slice());   // Ok(())
+//! build(&numbers, 3, false, false, &mut scratch, &mut block);   // Ok(())
 //! let Some(matrix) = MatrixView::open(block.as_slice()) else { .. };
 //! matrix.check();       // true
 //! matrix.get(4);        // Found(5), Absent or Wrong
@@ -25,10 +25,11 @@
 //! (Information Systems 47, 2015).
 #![tactic(auto)]
 
-// What is in each file, over the levels of `lent_levels`:
+// What is in each file, over the levels of `levels_view`:
 // - `building`: the block of a matrix, written into the caller's memory
 // - `by_levels`: one level of the block after another
 // - `error`: why no block was written
+// - `hints`: the hints in a block, and of how many 1 bits they are
 // - `kept`: the most frequent numbers so far
 // - `lists`: lists of numbers of a view
 // - `matrix`: the view of a block, and its queries
@@ -39,6 +40,7 @@
 mod building;
 mod by_levels;
 mod error;
+mod hints;
 mod kept;
 mod lists;
 mod matrix;
@@ -51,6 +53,6 @@ pub use bitm_tables::answer::Answer;
 pub use building::{build, seal_levels, write_tables_after};
 pub use by_levels::{levels_round_trip, write_level};
 pub use error::BuildError;
-pub use lent_levels::LevelsView;
+pub use levels_view::LevelsView;
 pub use matrix::MatrixView;
 pub use sections::{Lens, MATRIX, matrix_room, matrix_sections, size};

@@ -1,7 +1,7 @@
 //! Lists of numbers of a matrix in a block.
 ghost use Rattle.std.specs.Prelude.{◌≡◌, ◌<◌, ◌≤◌, ◌⊎◌, ℕ, length, slice_index};
 ghost use Rattle.bitm_tables.specs.declared.answer.Answer.TheVariants.{Absent, Found, Wrong};
-ghost use Rattle.lent_levels.specs.Walk.{IsNumberAt};
+ghost use Rattle.levels_view.specs.Walk.{IsNumberAt};
 
 use crate::matrix::MatrixView;
 

@@ -1,18 +1,22 @@
 //! A matrix in a block that may hold anything.
-ghost use Rattle.std.specs.Prelude.{◌≡◌, ◌*◌, ◌≤◌, ◌↔◌, IsTrue, SomeIff, length};
+ghost use Rattle.std.specs.Prelude.{◌≡◌, ◌*◌, ◌≤◌, ◌↔◌, true, false, IsTrue, SomeIff, length};
 ghost use Rattle.bitm_tables.specs.Reads.{none_read};
-ghost use Rattle.bitm_tables.specs.Tables.{bits_in};
-ghost use Rattle.lent_levels.specs.Answers.{IsIndexOf, IsIndexWithin, IsNumberOf, IsNumberWithin};
-ghost use Rattle.lent_levels.specs.Answers.{IsRankOf, IsRankWithin};
-ghost use Rattle.matrix_block.specs.Block.{items_in, matrix_in, parts_of, quarters_in};
-ghost use Rattle.matrix_block.specs.Block.{HasLengths, HasMatrixSections, HoldsMatrix, IsMatrixBlock, IsSoundBlock};
+ghost use Rattle.bitm_selection.specs.Hints.{AreHints};
+ghost use Rattle.bitm_tables.specs.Tables.{bits_in, HasTables};
+ghost use Rattle.levels_view.specs.Answers.{IsIndexOf, IsIndexWithin, IsNumberOf, IsNumberWithin};
+ghost use Rattle.levels_view.specs.Answers.{IsRankOf, IsRankWithin};
+ghost use Rattle.matrix_block.specs.Block.{items_in, matrix_in, parts_of, quarters_in, with_hints};
+ghost use Rattle.matrix_block.specs.Block.{ones_told, HasHints, HasLengths, HasMatrixSections, HoldsMatrix};
+ghost use Rattle.matrix_block.specs.Block.{IsMatrixBlock, IsSoundBlock};
 
-use crate::sections::{Lens, MATRIX, QUARTERS};
+use crate::hints::{has_quarters, hints_of, ones_told};
+use crate::sections::{Lens, MATRIX};
 use bitm_block::Block;
+use bitm_selection::{Hints, are_hints_within, hints_room};
 use bitm_tables::answer::Answer;
 use bitm_tables::source::Probe;
 use block_tables::{are_tables, probe};
-use lent_levels::{LevelsView, are_levels};
+use levels_view::{LevelsView, are_levels};
 use std::marker::Model;
 
 /// Whether header and directory describe a matrix.
@@ -28,8 +32,7 @@ fn is_matrix_block(block: &Block<'_>) -> bool
 fn quarters_of<'a>(block: &Block<'a>) -> &'a [u64]
     ensures { result.now ≡ quarters_in block.now }
 {
-    let words = block.words();
-    if words[11] < 6 || words[36] != QUARTERS {
+    if !has_quarters(block) {
         return &[];
     }
     match block.section(5) {
@@ -40,8 +43,8 @@ fn quarters_of<'a>(block: &Block<'a>) -> &'a [u64]
 
 /// A view of a wavelet matrix in a block whose header and directory are right.
 ///
-/// Contracts see the tables of the levels, the words and their two tables. These may hold anything: a call says its
-/// answer where they form a matrix, and where they do not.
+/// Contracts see the tables of the levels, the words and their two tables, and the hints of the words. These may hold
+/// anything: a call says its answer where they form a matrix, and where they do not.
 ///
 /// ```
 /// let Some(matrix) = MatrixView::open(&block) else { .. };
@@ -51,26 +54,39 @@ fn quarters_of<'a>(block: &Block<'a>) -> &'a [u64]
 /// ```
 #[derive(Drop)]
 pub struct MatrixView<'a> {
-    levels: LevelsView<'a>,
+    // These are 128 bytes, which are copied without a call: so no table of starts is among them.
+    len: usize,
+    width: u8,
+    ones: &'a [u64],
+    zeros: &'a [u64],
+    quarters: &'a [u64],
     words: &'a [u64],
     upper: &'a [u64],
     lower: &'a [u64],
+    hints: &'a [u64],
 }
 
 impl<'a> Model for MatrixView<'a> {
-    ghost use Rattle.matrix_block.specs.Block.{parts_of, HasLengths, MatrixParts};
+    ghost use Rattle.levels_view.specs.Levels.{levels_with};
+    ghost use Rattle.matrix_block.specs.Block.{parts_of, with_hints, HasLengths, MatrixParts};
 
     ghost Value = { MatrixParts };
 
-    ghost view = { λ m. parts_of m.levels m.words.now m.upper.now m.lower.now };
+    ghost view = { λ m. with_hints m.hints.now
+        (parts_of (levels_with m.len m.width m.ones.now m.zeros.now m.quarters.now)
+        m.words.now m.upper.now m.lower.now) };
 
-    ghost invariant = { λ m. HasLengths (parts_of m.levels m.words.now m.upper.now m.lower.now) };
+    ghost invariant = { λ m. HasLengths (with_hints m.hints.now
+        (parts_of (levels_with m.len m.width m.ones.now m.zeros.now m.quarters.now)
+        m.words.now m.upper.now m.lower.now)) };
 }
 
 impl<'a> MatrixView<'a> {
-    /// The matrix in a block, by its quarters where it has these; `None` exactly where the words are no block
+    /// The matrix in a block, by its quarters and hints where it has these; `None` exactly where the words are no block
     /// (`Block::open` says why), the block is of another kind, or a section has a length that does not fit the given
-    /// numbers. What the sections hold is not looked at.
+    /// numbers. The view has the hints that a section of the role `HINTS` holds, after the quarters or, without these,
+    /// after the first five; where there is none, or it is not as long as the hints of the words, it has none. What the
+    /// sections hold is not looked at.
     ///
     /// # Cost
     /// Header and directory are read, at most 80 words (evident from the code).
@@ -95,18 +111,20 @@ impl<'a> MatrixView<'a> {
             _ => return None,
         };
         match (block.section(0), block.section(1), block.section(2)) {
-            (Some(bits), Some(upper), Some(lower)) => MatrixView::over(levels, bits, upper, lower),
+            (Some(bits), Some(upper), Some(lower)) => {
+                let hints = hints_of(&block, bits.len());
+                MatrixView::over(levels, bits, upper, lower)?.with_hints(hints)
+            }
             _ => None,
         }
     }
 
     /// The matrix in a block that is as it was written; `None` exactly where `open` says so, a section or the zeros
-    /// after it are not as they were written (`Block::verify`), or the sections hold no matrix (`check`). So a block in
-    /// which one word was changed is refused, and every answer is right for the numbers.
+    /// after it are not as they were written (`Block::verify`), or the sections hold no matrix or hints of other words
+    /// (`check`). So a block in which one word was changed is refused, and every answer is right for the numbers.
     ///
     /// # Cost
-    /// Two passes over the words, two ranks for each level, and with quarters two for every two words (evident from the
-    /// code).
+    /// A pass over the words, and the cost of `check` (evident from the code).
     ///
     /// ```
     /// MatrixView::open_checked(block.as_slice());   // Some(..) of a block that `build` wrote
@@ -125,12 +143,13 @@ impl<'a> MatrixView<'a> {
         }
     }
 
-    /// The levels of numbers in words with two tables; `None` exactly where a length does not fit the numbers, or the
-    /// levels have a table of starts.
+    /// The levels of numbers in words with two tables, without hints; `None` exactly where a length does not fit the
+    /// numbers, or the levels have a table of starts.
     ///
     /// ```
     /// MatrixView::over(levels, words, upper, lower);   // Some(..) of one word each, for six numbers of three bits
     /// ```
+    #[tactic(auto, using(crate::proofs::PlainLemmas::plain_levels))]
     #[inline]
     pub fn over(
         levels: LevelsView<'a>,
@@ -160,10 +179,55 @@ impl<'a> MatrixView<'a> {
             return None;
         }
         Some(MatrixView {
-            levels,
+            len: levels.len(),
+            width: levels.width(),
+            ones: levels.ones(),
+            zeros: levels.zeros(),
+            quarters: levels.quarters(),
             words,
             upper,
             lower,
+            hints: &[],
+        })
+    }
+
+    /// The matrix with hints of its words, in place of the hints that it had: the hints of the 1 bits and after them
+    /// the hints of the 0 bits, as `write_hints_within` of `bitm_selection` writes them, or an empty list. They shorten
+    /// `select`. `None` exactly where the list is neither empty nor as long as `hints_room` of `bitm_selection` says.
+    ///
+    /// ```
+    /// let Some(matrix) = matrix.with_hints(&hints) else { return };
+    /// matrix.select(1, 2);   // Found(5)
+    /// ```
+    #[inline(always)]
+    pub fn with_hints(self, hints: &'a [u64]) -> Option<MatrixView<'a>>
+        ensures { SomeIff result (HasLengths (with_hints hints.now self.entry))
+            (with_hints hints.now self.entry) }
+    {
+        if !hints.is_empty() && hints.len() != hints_room(self.words.len()) {
+            return None;
+        }
+        let MatrixView {
+            len,
+            width,
+            ones,
+            zeros,
+            quarters,
+            words,
+            upper,
+            lower,
+            ..
+        } = self;
+        Some(MatrixView {
+            len,
+            width,
+            ones,
+            zeros,
+            quarters,
+            words,
+            upper,
+            lower,
+            hints,
         })
     }
 
@@ -176,7 +240,7 @@ impl<'a> MatrixView<'a> {
     pub fn len(&self) -> usize
         ensures { result ≡ self.now.levels.len }
     {
-        self.levels.len()
+        self.len
     }
 
     /// How many bits each number has at most, as the header announces.
@@ -188,7 +252,7 @@ impl<'a> MatrixView<'a> {
     pub fn width(&self) -> u8
         ensures { result ≡ self.now.levels.width }
     {
-        self.levels.width()
+        self.width
     }
 
     /// The words that hold the bits of the numbers.
@@ -227,6 +291,18 @@ impl<'a> MatrixView<'a> {
         self.lower
     }
 
+    /// The hints of the words; no words where there are none.
+    ///
+    /// ```
+    /// matrix.hints().len();   // 2 of a block with hints
+    /// ```
+    #[inline(always)]
+    pub fn hints(&self) -> &'a [u64]
+        ensures { result.now ≡ self.now.hints }
+    {
+        self.hints
+    }
+
     /// The levels, and a source over the words and tables whose reads are counted from 0.
     ///
     /// ```
@@ -235,34 +311,65 @@ impl<'a> MatrixView<'a> {
     /// ```
     #[tactic(auto, using(bitm::proofs::BitLaws::bits_are_counted))]
     #[inline(always)]
-    pub fn parts(&self) -> (&LevelsView<'a>, Probe<'_>)
-        ensures levels { result.0.now ≡ self.now.levels }
+    pub fn parts(&self) -> (LevelsView<'a>, Probe<'_>)
+        ensures levels { result.0 ≡ self.now.levels }
         ensures lists { result.1.lists ≡ self.now.lists }
         ensures lengths { HasLengths self.now }
         ensures room { self.now.levels.width * self.now.levels.len
             ≤ length (bits_in self.now.lists) }
         ensures reads { result.1.reads ≡ none_read }
     {
-        let source = probe(self.words, self.upper, self.lower);
-        (&self.levels, source)
+        let levels = LevelsView::sized(self.len, self.width, self.ones, self.zeros, self.quarters);
+        (levels, probe(self.words, self.upper, self.lower))
     }
 
-    /// Whether the block holds a matrix: then the answers are right for its numbers.
+    /// A way to find the bits of the words, by the hints: what `LevelsView::total_select_by` takes.
+    ///
+    /// ```
+    /// levels.total_select_by(&matrix.finder(), &mut source, 1, 2);   // Found(5)
+    /// ```
+    #[inline(always)]
+    pub fn finder(&self) -> Hints<'a>
+        ensures { HasHints self.now → AreHints true self.now.lists.words result.ones.now
+            × AreHints false self.now.lists.words result.zeros.now }
+    {
+        Hints::over(self.hints, self.ones_told())
+    }
+
+    /// How many 1 bits the tables of the levels say that there are.
+    #[inline(always)]
+    fn ones_told(&self) -> usize
+        ensures { result ≡ ones_told self.now.levels.len self.now.levels.ones self.now.levels.zeros }
+    {
+        ones_told(self.len, self.ones, self.zeros)
+    }
+
+    /// Whether there are no hints, or they match the words, where the tables do.
+    fn has_hints(&self) -> bool
+        requires { HasTables self.now.lists }
+        ensures { IsTrue result ↔ HasHints self.now }
+    {
+        let (_levels, mut source) = self.parts();
+        are_hints_within(&mut source, self.ones_told(), self.hints)
+    }
+
+    /// Whether the block holds a matrix, with the hints of its words or none: then the answers are right for its
+    /// numbers.
     ///
     /// # Cost
-    /// One pass over the words, and the cost of `lent_levels::are_levels`.
+    /// One pass over the words, the cost of `levels_view::are_levels`, and one selection for each hint.
     ///
     /// ```
     /// matrix.check();   // true
     /// ```
     pub fn check(&self) -> bool
-        ensures { IsTrue result ↔ HoldsMatrix self.now }
+        ensures { IsTrue result ↔ (HoldsMatrix self.now × HasHints self.now) }
     {
         if !are_tables(self.words, self.upper, self.lower) {
             return false;
         }
         let (levels, mut source) = self.parts();
-        are_levels(levels, &mut source)
+        are_levels(&levels, &mut source) && self.has_hints()
     }
 
     /// Number `i`. Whatever the block holds, it has no more bits than the width, and the answer is `Absent` exactly
@@ -301,12 +408,13 @@ impl<'a> MatrixView<'a> {
         levels.total_rank_on(&mut source, number, i)
     }
 
-    /// The index of this number with exactly `k` such numbers before it. Whatever the block holds, it is the index of a
-    /// number. Where the block holds a matrix, the answer is `Absent` exactly where there are no more than `k` such
-    /// numbers, and never `Wrong`.
+    /// The index of this number with exactly `k` such numbers before it, by the hints. Whatever the block holds, it is
+    /// the index of a number. Where the block holds a matrix, and there are no hints or those of its words, the answer
+    /// is `Absent` exactly where there are no more than `k` such numbers, and never `Wrong`.
     ///
     /// # Cost
-    /// The cost of `LevelsView::total_select_on`.
+    /// The cost of `LevelsView::total_select_by`; a search reads a hint and nine words, and at most what one by binary
+    /// search reads besides, whatever the hints hold.
     ///
     /// ```
     /// matrix.select(1, 2);   // Found(5)
@@ -314,9 +422,10 @@ impl<'a> MatrixView<'a> {
     #[inline]
     pub fn select(&self, number: u64, k: usize) -> Answer<usize>
         ensures inside { IsIndexWithin self.now.levels.len result }
-        ensures answer { HoldsMatrix self.now → IsIndexOf (items_in self.now) number k result }
+        ensures answer { HoldsMatrix self.now → HasHints self.now
+            → IsIndexOf (items_in self.now) number k result }
     {
         let (levels, mut source) = self.parts();
-        levels.total_select_on(&mut source, number, k)
+        levels.total_select_by(&self.finder(), &mut source, number, k)
     }
 }

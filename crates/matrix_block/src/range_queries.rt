@@ -2,9 +2,9 @@
 ghost use Rattle.std.specs.Prelude.{slice_range};
 ghost use Rattle.matrix_levels.specs.Numbers.{count_between, count_less};
 ghost use Rattle.matrix_block.specs.Block.{items_in, HoldsMatrix};
-ghost use Rattle.lent_levels.specs.Ranges.{IsNextOf, IsNextWithin, IsPreviousOf, IsPreviousWithin};
-ghost use Rattle.lent_levels.specs.Ranges.{IsRangeCountOf, IsRangeCountWithin, IsSmallestOf, IsSmallestWithin};
-ghost use Rattle.lent_levels.specs.Ranges.{IsTallyOf, IsTallyWithin};
+ghost use Rattle.levels_view.specs.Ranges.{IsNextOf, IsNextWithin, IsPreviousOf, IsPreviousWithin};
+ghost use Rattle.levels_view.specs.Ranges.{IsRangeCountOf, IsRangeCountWithin, IsSmallestOf, IsSmallestWithin};
+ghost use Rattle.levels_view.specs.Ranges.{IsTallyOf, IsTallyWithin};
 
 use crate::matrix::MatrixView;
 use bitm_tables::answer::Answer;

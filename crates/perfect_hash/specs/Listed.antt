@@ -4,8 +4,8 @@ use Rattle.bit_lists.specs.Count.{ones_before, ones_of}
 use Rattle.bitm_select.specs.Answers.{told_in}
 use Rattle.bitm_tables.specs.Tables.{bits_in, HasTables, Lists}
 use Rattle.bitm_tables.specs.declared.answer.Answer.{Answer}
-use Rattle.hash_levels.specs.Levels.{fall_in, place_from}
-use Rattle.hash_levels.specs.Numbers.{number_in, AreSizes}
+use Rattle.perfect_hash.specs.Levels.{fall_in, place_from}
+use Rattle.perfect_hash.specs.Numbers.{number_in, AreSizes}
 use Rattle.bitm_tables.specs.Answers.{IfAbsent}
 use Rattle.perfect_hash.specs.Asking.{IsBelow, IsNumbered}
 use Rattle.perfect_hash.specs.Placed.{FitIn}

@@ -1,7 +1,7 @@
 -- Many look-ups side by side. 2^64 - 1 stands where a hash has no number, or has no place yet.
 use Rattle.std.specs.Prelude.{◌≡◌, ◌≢◌, ℕ, ◌-◌, ◌*◌, ◌^◌, ◌<◌, ◌≤◌, All, Bool, List, length, slice_get, slice_index, sum, Option, Some, None}
 use Rattle.bit_lists.specs.Count.{ones_before}
-use Rattle.hash_levels.specs.Levels.{place_from, GoesOn}
+use Rattle.perfect_hash.specs.Levels.{place_from, GoesOn}
 
 -- the number, or 2^64 - 1
 abbrev pub told : Option ℕ → ℕ

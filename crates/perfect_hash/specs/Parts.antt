@@ -1,8 +1,8 @@
 -- What a caller sees of a perfect hash.
 use Rattle.std.specs.Prelude.{ℕ, List, Bool, Option}
-use Rattle.hash_levels.specs.Levels.{fall_in, looked}
-use Rattle.hash_levels.specs.Numbers.{number_in}
-use Rattle.hash_levels.specs.Places.{place_in}
+use Rattle.perfect_hash.specs.Levels.{fall_in, looked}
+use Rattle.perfect_hash.specs.Numbers.{number_in}
+use Rattle.perfect_hash.specs.Places.{place_in}
 
 -- a hasher, what places hashes, how many words each level has, and the bits of all levels, which are those of an index
 pub record Parts (H I P : Type 0) : Type 0 where

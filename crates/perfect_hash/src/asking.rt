@@ -7,10 +7,11 @@ ghost use Rattle.bitm_tables.specs.Reads.{word_read, OnlyReads, ReadsAtMost};
 ghost use Rattle.bitm_tables.specs.Tables.{bits_in, HasSizes, HasTables, IsIndexed};
 ghost use Rattle.bitm_tables.specs.Answers.{IfAbsent};
 ghost use Rattle.perfect_hash.specs.Asking.{IsBelow, IsNumbered};
-ghost use Rattle.hash_levels.specs.Levels.{fall_in, looked, place_from, ExceedsBy};
-ghost use Rattle.hash_levels.specs.Numbers.{number_by, number_in, AreSizes};
+ghost use Rattle.perfect_hash.specs.Levels.{fall_in, looked, place_from, ExceedsBy};
+ghost use Rattle.perfect_hash.specs.Numbers.{number_by, number_in, AreSizes};
 ghost use Rattle.perfect_hash.specs.Placed.{FitIn, IsPlaced, WhereAbsent, WhereWrong};
 
+use crate::levels::{Placing, Plain};
 use crate::querying::{BySource, Query};
 use bit_words::words;
 use bitm::index_laws;
@@ -18,7 +19,6 @@ use bitm_select::search::selected::found;
 use bitm_tables::answer::Answer;
 use bitm_tables::source::TableSource;
 use bitm_tables::source::counts::ReadCounts;
-use hash_levels::{Placing, Plain};
 
 /// Whether the bit at `place` of the source's words is 1.
 ///

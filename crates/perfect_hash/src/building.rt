@@ -1,14 +1,14 @@
 //! Building a perfect hash: the levels of the keys, and an index over their words.
 ghost use Rattle.std.specs.Prelude.{◌≡◌, ◌↔◌, ◌^◌, ◌<◌, ◌≤◌, [], length, map, IfOk, IfErr};
-ghost use Rattle.hash_levels.specs.Collisions.{CollideBySize, CollideChosen, CollideOfSize, IfCollide, IfCollideBy};
-ghost use Rattle.hash_levels.specs.Levels.{fall_in, AreChosen, AreSized, LeadTo};
-ghost use Rattle.hash_levels.specs.Perfect.{IsMinimalPerfect};
-ghost use Rattle.hash_levels.specs.Places.{place_in, words_for};
+ghost use Rattle.perfect_hash.specs.Collisions.{CollideBySize, CollideChosen, CollideOfSize, IfCollide, IfCollideBy};
+ghost use Rattle.perfect_hash.specs.Levels.{fall_in, AreChosen, AreSized, LeadTo};
+ghost use Rattle.perfect_hash.specs.Perfect.{IsMinimalPerfect};
+ghost use Rattle.perfect_hash.specs.Places.{place_in, words_for};
 ghost use Rattle.perfect_hash.specs.Parts.{number_at, number_of};
 
+use crate::levels::{BuildError, KeyHash, Levels, Placing, Plain};
 use crate::table::PerfectHash;
 use bitm::ArrayWithRank101111;
-use hash_levels::{BuildError, KeyHash, Levels, Placing, Plain};
 use std::alloc::Global;
 
 /// A refusal: why, and the hasher that was handed in.

@@ -5,13 +5,13 @@ ghost use Rattle.std.specs.Int.{div_ceil};
 ghost use Rattle.bit_lists.specs.Count.{ones_of};
 ghost use Rattle.perfect_hash.specs.Dictionary.{found_of, print_of, ArePrints, HasPrintRoom, IsDictionary};
 ghost use Rattle.perfect_hash.specs.Parts.{number_at};
-ghost use Rattle.hash_levels.specs.Perfect.{IsMinimalPerfect};
+ghost use Rattle.perfect_hash.specs.Perfect.{IsMinimalPerfect};
 
+use crate::levels::{KeyHash, Placing, Plain, spread_at};
 use crate::table::PerfectHash;
 use bit_words::{n_lowest_bits, words};
 use bitm::{Access, ArrayWithRank101111};
 use bitm_bits::BitVec;
-use hash_levels::{KeyHash, Placing, Plain, spread_at};
 use std::alloc::{AllocError, Global};
 use std::boxed::BoxedSlice;
 use std::marker::Model;

@@ -10,7 +10,7 @@
 //! ```
 #![tactic(auto)]
 
-// What is in each file, over the levels of `hash_levels`:
+// What is in each file, over `levels`:
 // - `asking`: the number of a hash over any source of words and tables
 // - `building`: levels, and an index over their words
 // - `dictionary`: numbers with fingerprints, so that almost all values that are no keys have none
@@ -19,22 +19,24 @@
 // - `querying`: how bits are queried: of a source, or of an index
 // - `seeds`: levels with a seed for each word, in the caller's memory
 // - `table`: the levels, and their queries
+// - `levels`: levels of hashes, by which a minimal perfect hash numbers keys
 mod asking;
 mod building;
 mod dictionary;
+pub mod levels;
 mod listed;
 mod many;
 mod querying;
 mod seeds;
 mod table;
 
-pub use asking::{total_number_by_on, total_number_on};
-pub use building::{Refused, build, build_by};
-pub use dictionary::Dictionary;
-pub use hash_levels::{
+pub use crate::levels::{
     BuildError, Grouped, KeyHash, Levels, Made, Placing, Plain, Seeded, SeededBytes,
     build_in_place, level_len, split_level,
 };
+pub use asking::{total_number_by_on, total_number_on};
+pub use building::{Refused, build, build_by};
+pub use dictionary::Dictionary;
 pub use listed::total_numbers_on;
 pub use seeds::{SeedsView, build_seeded_in_place, split_level_seeded};
 pub use table::PerfectHash;

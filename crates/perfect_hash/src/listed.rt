@@ -7,12 +7,12 @@ ghost use Rattle.perfect_hash.specs.Listed.{AreCoded, AreNumbersTold, IsCode};
 ghost use Rattle.perfect_hash.specs.Many.{AreLevelsInside};
 ghost use Rattle.perfect_hash.specs.Placed.{FitIn};
 
+use crate::levels::Placing;
 use crate::many::find_places;
 use crate::querying::BySource;
-use bitm_many::lists::total_rank_many_on;
+use bitm_select::many::lists::total_rank_many_on;
 use bitm_select::search::selected::{NO_ANSWER, WRONG_TABLES};
 use bitm_tables::source::TableSource;
-use hash_levels::Placing;
 use tuning::RANKS_SIDE_BY_SIDE;
 
 /// How many levels, from the first on, have words and lie within the words that there are.

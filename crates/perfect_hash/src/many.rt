@@ -1,19 +1,19 @@
 //! Many look-ups at once: they go from level to level side by side, so that each waits for memory while the others do.
 ghost use Rattle.std.specs.Prelude.{◌≡◌, ◌≢◌, ◌+◌, ◌*◌, ◌%◌, ◌^◌, ◌-◌, ◌<◌, ◌≤◌, ℕ, length, slice_index};
 ghost use Rattle.bit_lists.specs.Count.{ones_before};
-ghost use Rattle.hash_levels.specs.Levels.{fall_in, place_from, GoesOn};
+ghost use Rattle.perfect_hash.specs.Levels.{fall_in, place_from, GoesOn};
 ghost use Rattle.perfect_hash.specs.Many.{told, AreHashes, AreLevelsInside, AreLookedUp, AreNumbersOf};
 ghost use Rattle.perfect_hash.specs.Many.{AreNumbersOfKeys, AreRanks, IsLookedUp};
 ghost use Rattle.perfect_hash.specs.Parts.{number_at, number_from};
 ghost use Rattle.bitm_tables.specs.Reads.{OnlyReads};
 
+use crate::levels::{KeyHash, Placing};
 use crate::querying::{ByIndex, Query, no_source};
 use crate::table::PerfectHash;
 use bitm::Access;
 use bitm_select::search::selected::NO_ANSWER;
 use bitm_tables::source::TableSource;
 use bitm_tables::source::counts::ReadCounts;
-use hash_levels::{KeyHash, Placing};
 use tuning::LOOK_UPS_SIDE_BY_SIDE;
 
 /// The position of the 1 bit that a hash falls on at this level; `NO_ANSWER` where it falls on none.

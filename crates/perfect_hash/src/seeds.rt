@@ -3,18 +3,18 @@
 ghost use Rattle.std.specs.Prelude.{◌≡◌, ℕ, ◌+◌, ◌-◌, ◌*◌, ◌^◌, ◌<◌, ◌≤◌, ◌⊎◌, List, [], drop, length, min, take};
 ghost use Rattle.bit_lists.specs.Bits.{bits_of, IsShort};
 ghost use Rattle.bit_lists.specs.Count.{ones_of};
-ghost use Rattle.hash_levels.specs.InPlace.{made_sizes, made_words, IsMade};
-ghost use Rattle.hash_levels.specs.Inside.{places_inside};
-ghost use Rattle.hash_levels.specs.Levels.{fall_in, left_of, AreChosen, AreSized, IsLevel, Leave};
-ghost use Rattle.hash_levels.specs.Numbers.{AreLevels};
-ghost use Rattle.hash_levels.specs.Places.{place_by, words_for};
-ghost use Rattle.hash_levels.specs.Seeds.{AreBestSeeds, HasBest};
+ghost use Rattle.perfect_hash.specs.InPlace.{made_sizes, made_words, IsMade};
+ghost use Rattle.perfect_hash.specs.Inside.{places_inside};
+ghost use Rattle.perfect_hash.specs.Levels.{fall_in, left_of, AreChosen, AreSized, IsLevel, Leave};
+ghost use Rattle.perfect_hash.specs.Numbers.{AreLevels};
+ghost use Rattle.perfect_hash.specs.Places.{place_by, words_for};
+ghost use Rattle.perfect_hash.specs.Seeds.{AreBestSeeds, HasBest};
 ghost use Rattle.perfect_hash.specs.Seeded.{seeds_with, StandFrom};
 
+use crate::levels::{Made, Placing, choose_in, level_len, place_seeded, split_level_by};
 use bitm_tables::source::counts::ReadCounts;
-use hash_levels::{Made, Placing, choose_in, level_len, place_seeded, split_level_by};
-use lent_tables::clear;
 use std::alloc::{AllocError, Global};
+use tables_view::clear;
 
 /// At most this many levels are made.
 const LEVELS: usize = 256;

@@ -4,12 +4,13 @@ ghost use Rattle.bit_lists.specs.Bits.{bits_of};
 ghost use Rattle.bit_lists.specs.Count.{ones_of};
 ghost use Rattle.bitm_bits.specs.Size.{saturated_size};
 ghost use Rattle.bitm_tables.specs.Reads.{none_read, ReadsAtMost};
-ghost use Rattle.hash_levels.specs.Levels.{ExceedsBy};
-ghost use Rattle.hash_levels.specs.Places.{place_in};
+ghost use Rattle.perfect_hash.specs.Levels.{ExceedsBy};
+ghost use Rattle.perfect_hash.specs.Places.{place_in};
 ghost use Rattle.perfect_hash.specs.Parts.{levels_looked, number_at, number_from, number_of};
-ghost use Rattle.hash_levels.specs.Numbers.{AreSizes};
+ghost use Rattle.perfect_hash.specs.Numbers.{AreSizes};
 
 use crate::asking::{number_by, number_by_on};
+use crate::levels::{KeyHash, Placing, Plain};
 use crate::querying::{ByIndex, no_source};
 use bitm::{Access, ArrayWithRank101111, RankSelect101111};
 use bitm_bits::{CloneWords, GetSize};
@@ -17,7 +18,6 @@ use bitm_select::search::selected::found;
 use bitm_strategies::{Select0ForRank101111, SelectForRank101111};
 use bitm_tables::source::Probe;
 use bitm_tables::source::counts::ReadCounts;
-use hash_levels::{KeyHash, Placing, Plain};
 use std::alloc::{AllocError, Global};
 use std::boxed::BoxedSlice;
 use std::convert::AsSlice;
@@ -43,7 +43,7 @@ pub struct PerfectHash<H, I: Access = ArrayWithRank101111, P: Placing = Plain> {
 impl<H, I: Access, P: Placing> Model for PerfectHash<H, I, P> {
     ghost use Rattle.std.specs.Box.{boxed_slice_items};
     ghost use Rattle.perfect_hash.specs.Parts.{Parts};
-    ghost use Rattle.hash_levels.specs.Numbers.{AreSizes};
+    ghost use Rattle.perfect_hash.specs.Numbers.{AreSizes};
 
     ghost Value = { Parts H I P };
 

@@ -2,7 +2,7 @@
 use Rattle.std.proofs.Common.{◌≡◌, ℕ, ◌+◌, ◌<◌, List, get_or, drop, sym, ap, subst, arith, length-drop}
 use Rattle.std.proofs.lemmas.List.{get_or-drop}
 use Rattle.bitm_tables.specs.Tables.{HasSizes, Lists}
-use Rattle.elias_fano.specs.LentParts.{parts_of, Holds}
+use Rattle.elias_fano.specs.SequenceParts.{parts_of, Holds}
 use Rattle.elias_fano.specs.Low.{Lows}
 use Rattle.elias_fano.specs.Parts.{items_of}
 use Rattle.postings.specs.Held.{IsSpotHeld}

@@ -4,7 +4,7 @@ use Rattle.std.proofs.Math.Nat.{div-le_self}
 use Rattle.std.specs.Int.{div_ceil}
 use Rattle.std.specs.List.{All}
 use Rattle.bit_lists.proofs.BitLaws.{digits_bound_powers}
-use Rattle.elias_fano.specs.LentParts.{HaveLengths}
+use Rattle.elias_fano.specs.SequenceParts.{HaveLengths}
 use Rattle.elias_fano.specs.Parts.{width_of, ArePartsOf}
 use Rattle.elias_fano.specs.Sequence.{largest}
 

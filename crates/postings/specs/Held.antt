@@ -2,7 +2,7 @@
 use Rattle.std.specs.Prelude.{ℕ, List}
 use Rattle.bitm_tables.specs.Tables.{HasSizes, Lists}
 use Rattle.bitm.specs.declared.ReadCounts.{ReadCounts}
-use Rattle.elias_fano.specs.LentParts.{parts_of, Holds}
+use Rattle.elias_fano.specs.SequenceParts.{parts_of, Holds}
 use Rattle.elias_fano.specs.Parts.{items_of}
 use Rattle.postings.specs.Moves.{IsHere}
 use Rattle.postings.specs.declared.spot.Spot.{Spot}

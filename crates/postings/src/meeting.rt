@@ -2,14 +2,14 @@
 ghost use Rattle.std.specs.Prelude.{◌≡◌, ◌+◌, ◌-◌, ◌^◌, ◌<◌, ◌≤◌, ◌⊎◌, ℕ, List, IsTrue, length, slice_index};
 ghost use Rattle.std.specs.List.Sorted.{IsNonDecreasing};
 ghost use Rattle.bit_lists.specs.Kept.{IsKeptFrom};
-ghost use Rattle.elias_fano.specs.LentParts.{Holds};
+ghost use Rattle.elias_fano.specs.SequenceParts.{Holds};
 ghost use Rattle.postings.specs.Merged.{written_in, IsMerged};
 ghost use Rattle.postings.specs.Pair.{pair_from, IsBlockOf};
 ghost use Rattle.postings.specs.Shared.{AreInAll, IsInAll, IsMeeting};
 
 use crate::merged::Merged;
 use crate::pair::{BLOCK, Block, Read, Stand, Step, block_of, passed, read_on, write};
-use elias_fano_view::LentSequence;
+use elias_fano_view::SequenceView;
 
 /// Writes the least of two numbers where both are it, unless it is below `low`; answers how many are written then, and
 /// the least number that may be written next.
@@ -105,9 +105,9 @@ fn step_to_meet(stand: Stand, one: Block<'_>, other: Block<'_>) -> Step
 /// total_intersect_of_two(&one, 0, &other, 0, 0, &mut out);     // Done(2)
 /// ```
 pub fn total_intersect_of_two(
-    one: &LentSequence<'_>,
+    one: &SequenceView<'_>,
     one_at: usize,
-    other: &LentSequence<'_>,
+    other: &SequenceView<'_>,
     other_at: usize,
     from: u64,
     out: &mut [u64],

@@ -6,7 +6,7 @@ ghost use Rattle.bit_lists.specs.Bits.{bits_of, digit_count, IsShort};
 ghost use Rattle.bit_lists.specs.Count.{IsFirstOneFrom, Picks};
 ghost use Rattle.bitm_tables.specs.Reads.{OnlyReads};
 ghost use Rattle.bitm_tables.specs.Tables.{bits_in, HasSizes};
-ghost use Rattle.elias_fano.specs.LentParts.{parts_with, HasLengths, Holds};
+ghost use Rattle.elias_fano.specs.SequenceParts.{parts_with, HasLengths, Holds};
 ghost use Rattle.elias_fano.specs.Low.{sharing, HasFragments, ReadsFragments};
 ghost use Rattle.postings.specs.Moves.{IfFound, IsFar, IsForward, IsReaching};
 ghost use Rattle.postings.specs.Spot.{IsBehind, IsNear, IsSpot, IsUpTo};

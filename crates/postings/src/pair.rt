@@ -2,14 +2,14 @@
 ghost use Rattle.std.specs.Prelude.{◌≡◌, ◌+◌, ◌-◌, ◌^◌, ◌<◌, ◌≤◌, ◌⊎◌, ℕ, List, IsTrue, length, slice_index};
 ghost use Rattle.std.specs.List.Sorted.{IsNonDecreasing};
 ghost use Rattle.bit_lists.specs.Kept.{IsKeptFrom};
-ghost use Rattle.elias_fano.specs.LentParts.{Holds};
+ghost use Rattle.elias_fano.specs.SequenceParts.{Holds};
 ghost use Rattle.postings.specs.Joined.{AreJoined, IsJoining, IsLeastOf};
 ghost use Rattle.postings.specs.Merged.{written_in, IsMerged};
 ghost use Rattle.postings.specs.Pair.{pair_from, IsBlockOf};
 ghost use Rattle.postings.specs.Shared.{IsInAll, IsMeeting};
 
 use crate::merged::Merged;
-use elias_fano_view::LentSequence;
+use elias_fano_view::SequenceView;
 
 /// How many numbers are decoded at once.
 pub(crate) const BLOCK: usize = 32;
@@ -188,7 +188,7 @@ pub(crate) fn block_of(read: &Read, len: usize) -> Block<'_>
 
 /// Reads the next block; `false` only where the parts form no sequence.
 #[inline(always)]
-pub(crate) fn read_on(sequence: &LentSequence<'_>, read: &mut Read) -> bool
+pub(crate) fn read_on(sequence: &SequenceView<'_>, read: &mut Read) -> bool
     requires more { read.old.from + read.old.len < sequence.now.len }
     ensures from { read.new.from ≡ read.old.from + read.old.len }
     ensures within { read.new.from + read.new.len ≤ sequence.now.len }
@@ -218,9 +218,9 @@ pub(crate) fn read_on(sequence: &LentSequence<'_>, read: &mut Read) -> bool
 /// total_union_of_two(&one, 0, &other, 0, 0, &mut out);     // Done(4)
 /// ```
 pub fn total_union_of_two(
-    one: &LentSequence<'_>,
+    one: &SequenceView<'_>,
     one_at: usize,
-    other: &LentSequence<'_>,
+    other: &SequenceView<'_>,
     other_at: usize,
     from: u64,
     out: &mut [u64],

@@ -3,7 +3,7 @@ ghost use Rattle.std.specs.Prelude.{◌≡◌, ◌+◌, ◌*◌, ◌≤◌, ℕ,
 ghost use Rattle.bit_lists.specs.Bits.{digit_count};
 ghost use Rattle.bitm_tables.specs.Reads.{none_read, ReadsAtMost};
 ghost use Rattle.bitm_tables.specs.Tables.{HasSizes, HasTables};
-ghost use Rattle.elias_fano.specs.LentParts.{parts_of, parts_with, AreParts, Holds};
+ghost use Rattle.elias_fano.specs.SequenceParts.{parts_of, parts_with, AreParts, Holds};
 ghost use Rattle.elias_fano.specs.Low.{sharing};
 ghost use Rattle.elias_fano.specs.Parts.{width_of, IsUpper};
 ghost use Rattle.postings.specs.Next.{IsNextAtLeast, IsReached};
@@ -16,8 +16,8 @@ use bitm_tables::answer::Answer;
 use bitm_tables::source::Probe;
 use bitm_tables::source::counts::ReadCounts;
 use elias_fano::{LowDigits, Sequence, laws};
-use lent_tables::Lent;
 use std::marker::Model;
+use tables_view::TablesView;
 
 /// A cursor over the numbers of an Elias-Fano sequence, which it borrows.
 ///
@@ -118,7 +118,7 @@ impl<'a> Seeker<'a> {
     /// The parts form a sequence, with the tables of its upper words.
     /// # Cost
     /// The cost of `of`.
-    pub fn over(len: usize, width: u8, low: &'a [u64], upper: &'a Lent<'_>) -> Seeker<'a>
+    pub fn over(len: usize, width: u8, low: &'a [u64], upper: &'a TablesView<'_>) -> Seeker<'a>
         requires { AreParts (parts_of len width low.now upper.now) }
         ensures left { (xs : List ℕ) → Holds xs (parts_of len width low.now upper.now) → result.left ≡ xs }
         ensures items { (xs : List ℕ) → Holds xs (parts_of len width low.now upper.now) → result.items ≡ xs }

@@ -4,7 +4,7 @@ ghost use Rattle.std.specs.Prelude.{◌≡◌, ◌+◌, ◌*◌, ◌<◌, ◌≤
 ghost use Rattle.bit_lists.specs.Bits.{digit_count};
 ghost use Rattle.bitm_tables.specs.Reads.{OnlyReads};
 ghost use Rattle.bitm_tables.specs.Tables.{HasSizes};
-ghost use Rattle.elias_fano.specs.LentParts.{parts_with, HasLengths, Holds};
+ghost use Rattle.elias_fano.specs.SequenceParts.{parts_with, HasLengths, Holds};
 ghost use Rattle.elias_fano.specs.Low.{sharing, ReadsFragments};
 ghost use Rattle.postings.specs.Moves.{HasMoved, HasStarted, IsMove, IsReaching};
 

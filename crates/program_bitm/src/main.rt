@@ -7,8 +7,8 @@ mod progress;
 
 use crate::process::Process;
 use crate::progress::{Counted, Progress};
-use program_help::topic_in;
-use program_runs::CANNOT_READ;
+use program_base::help::topic_in;
+use program_base::runs::CANNOT_READ;
 use std::env::Env;
 use std::io::{BufWriter, Write};
 use std::process::ExitCode;
@@ -34,7 +34,7 @@ fn main(rt: HostRuntime) -> ExitCode {
 /// the status.
 fn run<W: Write>(rt: &HostRuntime, progress: Progress, args: &[String], out: &mut W) -> u8 {
     if let Some(topic) = topic_in(args) {
-        return program_help::start(topic, out, &mut rt.stderr());
+        return program_base::help::start(topic, out, &mut rt.stderr());
     }
     let (word, rest) = match args.split_first() {
         Some((word, rest)) => (word.as_str(), rest),
@@ -48,13 +48,13 @@ fn run<W: Write>(rt: &HostRuntime, progress: Progress, args: &[String], out: &mu
     };
     let err = &mut rt.stderr();
     if walks {
-        program_kinds::start(&process, args, out, err)
+        program_files::kinds::start(&process, args, out, err)
     } else if word == "text" {
-        program_texts::start(&process, rest, out, err)
+        program_files::texts::start(&process, rest, out, err)
     } else if word == "strings" {
-        program_strings::start(&process, rest, out, err)
+        program_files::strings::start(&process, rest, out, err)
     } else {
-        program_blocks::start(&process, args, out, err)
+        program_files::blocks::start(&process, args, out, err)
     }
 }
 

@@ -1,7 +1,7 @@
 //! What the program reads from.
 
 use crate::progress::{Counted, Progress};
-use program_runs::{CannotRead, Sources, read_all};
+use program_base::runs::{CannotRead, Sources, read_all};
 use std::alloc::{Alloc, Global};
 use std::io::Input;
 

@@ -11,14 +11,14 @@ use Rattle.bitm_block.specs.Written.{IsSealed}
 use Rattle.bitm_block.specs.declared.head.Head.{Head}
 use Rattle.bitm_block.specs.declared.layout.Section.{Section}
 use Rattle.bitm_tables.specs.Tables.{HasSizes, Lists}
-use Rattle.lent_tables.specs.Sizes.{lists_of}
+use Rattle.tables_view.specs.Sizes.{lists_of}
 use Rattle.bitm_selection.specs.Hints.{hints_len}
 use Rattle.block_tables.proofs.HintLemmas.{hints_are}
 use Rattle.block_tables.specs.Hints.{hints_in}
 use Rattle.block_tables.specs.Sections.{tables_in}
 use Rattle.elias_fano.proofs.lemmas.SequenceLemmas.{is_sequence}
 use Rattle.elias_fano.proofs.lemmas.SizeLemmas.{upper_few_at, width-small}
-use Rattle.elias_fano.specs.LentParts.{parts_of, with_hints, HasLengths, Holds, LentParts}
+use Rattle.elias_fano.specs.SequenceParts.{parts_of, with_hints, HasLengths, Holds, SequenceParts}
 use Rattle.elias_fano.specs.Parts.{width_of}
 use Rattle.elias_fano.specs.Sequence.{largest}
 use Rattle.elias_fano_view.proofs.RoomLemmas.{room-sizes}
@@ -113,7 +113,7 @@ module _ (kind b : ℕ) (xs old new : List ℕ) (sealed : IsSealed (numbers_head
   hints = part_in ss old 4
 
   -- its parts, as they were written
-  abbrev written : LentParts
+  abbrev written : SequenceParts
   written = with_hints hints (parts_of (length xs) (width_of xs) low (lists_of words upper lower))
 
   at : (i : ℕ) → i < 5 → section_in new i ≡ part_in ss old i
@@ -137,7 +137,7 @@ module _ (kind b : ℕ) (xs old new : List ℕ) (sealed : IsSealed (numbers_head
 
   parts : sequence_in new ≡ written
   parts =
-      let of : ℕ → ℕ → List ℕ → Lists → LentParts = λ n l digits t.
+      let of : ℕ → ℕ → List ℕ → Lists → SequenceParts = λ n l digits t.
       with_hints (hints_in new 4 n (length t.words)) (parts_of n l digits t) in
       ap (λ (h : Head). of h.len h.width (section_in new 3) (tables_in new)) sealed.head_is
       ∙ ap (λ (d : List ℕ). of (length xs) (width_of xs) d (tables_in new)) (at 3 (omega arith))
@@ -147,7 +147,7 @@ module _ (kind b : ℕ) (xs old new : List ℕ) (sealed : IsSealed (numbers_head
   holds : Holds xs (sequence_in new)
   holds =
       let whole : Holds xs written = record { are = are.0.holds.are; tables = are.0.holds.tables; lead = are.1.lead } in
-      subst (λ (p : LentParts). Holds xs p) (sym parts) whole
+      subst (λ (p : SequenceParts). Holds xs p) (sym parts) whole
 
   lengths : HasLengths written
   lengths = record {
@@ -170,7 +170,7 @@ module _ (kind b : ℕ) (xs old new : List ℕ) (sealed : IsSealed (numbers_head
         is_block = sealed.is_block;
         sections = sections;
         sized = subst (λ (t : Lists). HasSizes t) (sym lists) sizes_are;
-        lengths = subst (λ (p : LentParts). HasLengths p) (sym parts) lengths;
+        lengths = subst (λ (p : SequenceParts). HasLengths p) (sym parts) lengths;
       };
       verified = sealed.verified;
       parts = (xs, holds);

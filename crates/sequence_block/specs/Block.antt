@@ -6,11 +6,11 @@ use Rattle.bitm_block.specs.Layout.{end_of, part_in}
 use Rattle.bitm_block.specs.declared.head.Head.{Head}
 use Rattle.bitm_block.specs.declared.layout.Section.{Section}
 use Rattle.bitm_tables.specs.Tables.{HasSizes}
-use Rattle.lent_tables.specs.Sizes.{lists_of}
+use Rattle.tables_view.specs.Sizes.{lists_of}
 use Rattle.bitm_selection.specs.Hints.{hints_len, Lead}
 use Rattle.block_tables.specs.Hints.{hints_in}
 use Rattle.block_tables.specs.Sections.{section_of, tables_in}
-use Rattle.elias_fano.specs.LentParts.{parts_of, with_hints, AreParts, HasLengths, Holds, LentParts}
+use Rattle.elias_fano.specs.SequenceParts.{parts_of, with_hints, AreParts, HasLengths, Holds, SequenceParts}
 use Rattle.elias_fano.specs.Parts.{width_of}
 use Rattle.elias_fano.specs.Sequence.{largest}
 use Rattle.elias_fano_view.specs.Sizes.{sizes_of, HasPartRoom}
@@ -51,7 +51,7 @@ StandsIn xs block =
     × AreHintsWritten xs (part_in ss block 0) (part_in ss block 4)
 
 -- the sequence whose parts are the first four sections, with the hints that a fifth one may have
-abbrev pub sequence_in : List ℕ → LentParts
+abbrev pub sequence_in : List ℕ → SequenceParts
 sequence_in block =
     with_hints (hints_in block 4 (slice_index block 3) (length (tables_in block).words))
     (parts_of (slice_index block 3) (slice_index block 4) (section_in block 3) (tables_in block))

@@ -1,2 +1,4 @@
 pub mod Block
 pub mod Error
+pub mod SparseBlock
+pub mod SparseError

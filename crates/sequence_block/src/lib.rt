@@ -1,7 +1,7 @@
 //! A monotone sequence (Elias-Fano) in a block of memory, such as a mapped file: nothing is allocated or copied, and no
 //! call has a condition on what the memory holds.
 //!
-//! A block is opened as an `elias_fano_view::LentSequence`, which has the queries: with the block of a sequence the
+//! A block is opened as an `elias_fano_view::SequenceView`, which has the queries: with the block of a sequence the
 //! answers are right for its numbers; if it is stale or hostile, every call still terminates within its read bound.
 //!
 //! ```
@@ -23,14 +23,16 @@
 // - `error`: why no block was written
 // - `opening`: the view of a block, and whether it holds what it says
 // - `sections`: the sections of the block of a sequence
+// - `sparse`: sparse bits in a block of memory, such as a mapped file
 mod building;
 mod error;
 mod opening;
 mod sections;
+pub mod sparse;
 
 pub use bitm_tables::answer::Answer;
 pub use building::{build, build_as};
-pub use elias_fano_view::{LentSequence, ListAnswer};
+pub use elias_fano_view::{ListAnswer, SequenceView};
 pub use error::BuildError;
 pub use opening::{check, check_as, open, open_as};
 pub use sections::{SEQUENCE, size};

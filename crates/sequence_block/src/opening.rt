@@ -6,7 +6,7 @@ ghost use Rattle.sequence_block.specs.Block.{IsBlockOfKind, IsSoundOfKind};
 use crate::sections::SEQUENCE;
 use bitm_block::Block;
 use block_tables::{hints_of, tables_of};
-use elias_fano_view::LentSequence;
+use elias_fano_view::SequenceView;
 
 /// Whether a block is of a kind, and its first four sections are words, two tables and low bits.
 #[inline(always)]
@@ -28,7 +28,7 @@ fn has_sequence(block: &Block<'_>, kind: u64) -> bool
 /// let Some(primes) = open(block.as_slice()) else { .. };
 /// primes.get(4);   // Found(11), Absent or Wrong
 /// ```
-pub fn open(block: &[u64]) -> Option<LentSequence<'_>>
+pub fn open(block: &[u64]) -> Option<SequenceView<'_>>
     ensures { SomeIff result (IsSequenceBlock block.now) (sequence_in block.now) }
 {
     open_as(SEQUENCE, block)
@@ -43,7 +43,7 @@ pub fn open(block: &[u64]) -> Option<LentSequence<'_>>
 /// open_as(SEQUENCE, block.as_slice());   // as open(block.as_slice())
 /// ```
 #[inline(always)]
-pub fn open_as(kind: u64, block: &[u64]) -> Option<LentSequence<'_>>
+pub fn open_as(kind: u64, block: &[u64]) -> Option<SequenceView<'_>>
     ensures { SomeIff result (IsBlockOfKind kind block.now) (sequence_in block.now) }
 {
     let Ok(opened) = Block::open(block) else {
@@ -56,7 +56,7 @@ pub fn open_as(kind: u64, block: &[u64]) -> Option<LentSequence<'_>>
     let tables = tables_of(&opened)?;
     let len = block[3] as usize;
     let hints = hints_of(&opened, 4, len, tables.words().len());
-    LentSequence::over(len, block[4] as u8, low, tables)?.with_hints(hints)
+    SequenceView::over(len, block[4] as u8, low, tables)?.with_hints(hints)
 }
 
 /// Whether the block is opened, is as it was written, and holds the parts of a sequence: then each answer of the view

@@ -7,7 +7,7 @@ use Rattle.bit_lists.specs.Count.{count_before, count_of, Picks}
 use Rattle.bitm_tables.specs.declared.answer.Answer.{Answer}
 use Rattle.bitm_tables.specs.declared.answer.Answer.TheVariants.{Found, Wrong}
 use Rattle.bitm_select.specs.Answers.{IsSelected}
-use Rattle.lent_tables.specs.Ranks.{IsCountWithin, IsRanked}
+use Rattle.tables_view.specs.Ranks.{IsCountWithin, IsRanked}
 use Rattle.sharded_index.proofs.JoinedLaws.{picked_in_joined, rank_in_joined}
 use Rattle.sharded_index.proofs.JoinedLemmas.{shard_is_within}
 use Rattle.sharded_index.proofs.PlaceLemmas.{claimed_is, number_of-kind, placed}

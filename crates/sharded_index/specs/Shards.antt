@@ -4,7 +4,7 @@ use Rattle.bit_lists.specs.Bits.{item}
 use Rattle.bitm_tables.specs.declared.answer.Answer.{Answer}
 use Rattle.bitm_tables.specs.declared.answer.Answer.TheVariants.{Found, Absent, Wrong}
 use Rattle.bitm_select.specs.Answers.{IsSelected}
-use Rattle.lent_tables.specs.Ranks.{IsCountWithin, IsRanked}
+use Rattle.tables_view.specs.Ranks.{IsCountWithin, IsRanked}
 use Rattle.sharded_index.specs.Joined.{joined, kind_of, shard_at}
 use Rattle.sharded_index.specs.Prefixes.{claimed, claimed_in_all, Prefixes}
 use Rattle.sharded_index.specs.declared.counts.Kind.TheVariants.{Positions}

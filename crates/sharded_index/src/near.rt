@@ -1,7 +1,7 @@
 //! The nearest bit of a kind on either side of a position of the joined bits: a rank and a selection.
 ghost use Rattle.std.specs.Prelude.{◌≡◌, ◌+◌, map};
 ghost use Rattle.bitm_select.specs.Answers.{IsFoundFrom};
-ghost use Rattle.lent_tables.specs.Nearest.{IsNext, IsPrevious};
+ghost use Rattle.tables_view.specs.Nearest.{IsNext, IsPrevious};
 ghost use Rattle.sharded_index.specs.Joined.{joined};
 ghost use Rattle.sharded_index.specs.Prefixes.{claimed_in_all};
 ghost use Rattle.sharded_index.specs.Shards.{IfFoundHasBit};
@@ -11,7 +11,7 @@ use crate::counts::Kind;
 use crate::shard::Shard;
 use crate::sharded::ShardedIndex;
 use bitm_tables::answer::Answer;
-use lent_tables::{only_before, only_from};
+use tables_view::{only_before, only_from};
 
 impl<'a, S: Shard> ShardedIndex<'a, S> {
     ghost use Rattle.sharded_index.specs.Sharded.{AreShards};

@@ -1,7 +1,7 @@
 //! Ranks of a list of positions of the joined bits.
 ghost use Rattle.std.specs.Prelude.{◌≡◌, ◌-◌, ◌^◌, ◌<◌, ◌≤◌, ◌↔◌, ℕ, IsTrue, false, length, map, slice_index};
 ghost use Rattle.bitm_view.specs.Queries.{ranked_by};
-ghost use Rattle.lent_tables.specs.Ranks.{IsRanked};
+ghost use Rattle.tables_view.specs.Ranks.{IsRanked};
 ghost use Rattle.sharded_index.specs.Joined.{shard_at};
 ghost use Rattle.sharded_index.specs.Prefixes.{claimed_in_all};
 ghost use Rattle.sharded_index.specs.Sharded.{IfNoCode};

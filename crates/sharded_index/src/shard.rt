@@ -2,7 +2,7 @@
 ghost use Rattle.std.specs.Prelude.{◌≡◌, ◌<◌, ℕ, Bool, List, length, slice_index};
 ghost use Rattle.bitm_select.specs.Answers.{HasBit, IsSelected};
 ghost use Rattle.bitm_view.specs.Queries.{ranked_by, selected_by};
-ghost use Rattle.lent_tables.specs.Ranks.{IsRanked};
+ghost use Rattle.tables_view.specs.Ranks.{IsRanked};
 
 use bitm_tables::answer::Answer;
 use bitm_view::IndexView;

@@ -2,7 +2,7 @@
 ghost use Rattle.std.specs.Prelude.{◌≡◌, ◌+◌, ◌<◌, ◌≤◌, Bool, List, MatchOption, length, map};
 ghost use Rattle.bit_lists.specs.Count.{count_before, Picks};
 ghost use Rattle.bitm_select.specs.Answers.{HasBit, IsSelected};
-ghost use Rattle.lent_tables.specs.Ranks.{IsCountWithin, IsRanked};
+ghost use Rattle.tables_view.specs.Ranks.{IsCountWithin, IsRanked};
 ghost use Rattle.sharded_index.specs.Joined.{joined, kind_of, shard_at};
 ghost use Rattle.sharded_index.specs.Prefixes.{claimed_in_all, IsClaimed};
 ghost use Rattle.sharded_index.specs.Shards.{IfFoundHasBit, IsOfRank};

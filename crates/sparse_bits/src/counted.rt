@@ -7,7 +7,7 @@ ghost use Rattle.bit_lists.specs.Bits.{digit_count};
 ghost use Rattle.bitm_select.specs.Answers.{IsSelected};
 ghost use Rattle.bitm_tables.specs.declared.answer.Answer.TheVariants.{Found, Wrong};
 ghost use Rattle.elias_fano.specs.Answers.{IsItem, IsOfPlace, IsPlaceOf, IsSuccessorOf};
-ghost use Rattle.lent_tables.specs.Ranks.{IsCountWithin, IsRanked};
+ghost use Rattle.tables_view.specs.Ranks.{IsCountWithin, IsRanked};
 ghost use Rattle.sparse_bits.specs.Answers.{IsBitAndRankOf, IsBitOf, IsBitWithin, IsSelectedWithin};
 ghost use Rattle.sparse_bits.specs.Looks.{LooksAtMost, no_looks, one_more_get, one_more_search};
 ghost use Rattle.sparse_bits.specs.Positions.{bits_at, ArePlacesHeld, PartsZeros};

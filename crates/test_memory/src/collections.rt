@@ -1,7 +1,7 @@
 //! The calls of a collection of texts that take memory.
 use crate::outcome::{Ended, Outcome, answered, refused};
 use std::alloc::Global;
-use text_collection::{BuildError, Documents, TextCollection};
+use text_index::collection::{BuildError, Documents, TextCollection};
 
 /// banana and nana, with 0 for a.
 const BANANA: [u64; 6] = [1, 0, 2, 0, 2, 0];

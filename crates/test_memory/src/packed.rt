@@ -18,7 +18,7 @@ use example_callers::strategies::listed::Listed;
 type Samples = CombinedSampling<AdaptiveCombinedSamplingDensity<7>>;
 
 /// An index over borrowed words.
-type LentIndex<'a> = RankSelect101111<BinaryRankSearch, BinaryRankSearch, &'a [u64]>;
+type BorrowedIndex<'a> = RankSelect101111<BinaryRankSearch, BinaryRankSearch, &'a [u64]>;
 
 /// An index over words that it owns.
 type OwnedIndex<S> = RankSelect101111<S, S, BoxedSlice<u64, Global>>;
@@ -113,7 +113,7 @@ fn uncopied(alloc: Global) -> Outcome {
 
 /// Samples of the ones of an index's content.
 fn sampled_new(alloc: Global) -> Outcome {
-    let Ok((index, total)) = LentIndex::build(alloc, WORDS.as_slice()) else {
+    let Ok((index, total)) = BorrowedIndex::build(alloc, WORDS.as_slice()) else {
         return Outcome::Unready;
     };
     let content = index.as_slice();
@@ -134,7 +134,7 @@ fn sampled_new(alloc: Global) -> Outcome {
 
 /// Samples of the zeros of an index's content.
 fn sampled_new0(alloc: Global) -> Outcome {
-    let Ok((index, total)) = LentIndex::build(alloc, WORDS.as_slice()) else {
+    let Ok((index, total)) = BorrowedIndex::build(alloc, WORDS.as_slice()) else {
         return Outcome::Unready;
     };
     let content = index.as_slice();

@@ -1,22 +1,18 @@
-//! Tests of the structures that stand on an index: wavelet matrices, perfect hashes and trees, beside plain loops and
-//! answers worked by hand.
+//! Tests of the structures that own their memory: sequences, posting lists, sparse bits, matrices, hashes and trees.
 //!
 //! They stand in a crate of their own, since a crate with tests is proved twice.
 #![tactic(auto)]
 
 // What is in each file:
-// - `hashes`: perfect hashes
-// - `matrices`: wavelet matrices, worked by hand and compared with plain loops
-// - `trees`: trees compared with a search for parents by the definition
-// - `tries`: trees with labels, by answers worked by hand
-// - `ways`: ways up and down trees, compared with lists of parents, and answers worked by hand
+// - `postings`: tests of posting lists
+// - `sequences`: tests of sequences, and of runs of the program `bitm_vectors`
+// - `sparse`: tests of sparse bits, beside a walk over the bits and numbers worked out by hand
+// - `structures`: tests of the structures that stand on an index
 #[cfg(test)]
-mod hashes;
+mod postings;
 #[cfg(test)]
-mod matrices;
+mod sequences;
 #[cfg(test)]
-mod trees;
+mod sparse;
 #[cfg(test)]
-mod tries;
-#[cfg(test)]
-mod ways;
+mod structures;

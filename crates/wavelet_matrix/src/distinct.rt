@@ -1,7 +1,7 @@
 //! The distinct numbers of a range, as an iterator.
 ghost use Rattle.std.specs.Prelude.{◌≡◌, ◌-◌, ◌<◌, ◌≤◌, length, slice_range};
 ghost use Rattle.std.specs.Iterator.{YieldsFirst, item_count};
-ghost use Rattle.number_lists.specs.Distinct.{AreDistinct};
+ghost use Rattle.matrix_levels.specs.Distinct.{AreDistinct};
 ghost use Rattle.matrix_levels.specs.Numbers.{count_equal, IsSmallest};
 
 use crate::matrix::WaveletMatrix;
@@ -24,7 +24,7 @@ pub struct DistinctValues<'a, S: SelectForRank101111, S0: Select0ForRank101111> 
 
 impl<'a, S: SelectForRank101111, S0: Select0ForRank101111> Model for DistinctValues<'a, S, S0> {
     ghost use Rattle.std.specs.Prelude.{◌≤◌, ◌^◌, ℕ, List, length, slice_range};
-    ghost use Rattle.number_lists.specs.Distinct.{StandsBetween, coming_tallies};
+    ghost use Rattle.matrix_levels.specs.Distinct.{StandsBetween, coming_tallies};
 
     ghost Value = { List (ℕ × ℕ) };
 

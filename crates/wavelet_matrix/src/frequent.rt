@@ -1,11 +1,11 @@
 //! The most frequent numbers of a range.
 ghost use Rattle.std.specs.Prelude.{◌≡◌, ◌<◌, ◌≤◌, ℕ, List, [], ◌∷◌, ◌++◌, length, slice_range, All, IfOk};
 ghost use Rattle.std.specs.List.{zip};
-ghost use Rattle.number_lists.specs.Frequent.{pair_at, AreBest, AreMostFrequent, IsHeapFrom};
+ghost use Rattle.matrix_levels.specs.Frequent.{pair_at, AreBest, AreMostFrequent, IsHeapFrom};
 
 use crate::matrix::WaveletMatrix;
 use bitm_strategies::{Select0ForRank101111, SelectForRank101111};
-use number_lists::{make_heap, replace_last, sort_tallies};
+use matrix_levels::lists::{make_heap, replace_last, sort_tallies};
 use std::alloc::{AllocError, Global};
 use std::ops::Range;
 

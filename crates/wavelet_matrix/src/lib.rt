@@ -15,7 +15,7 @@
 //! ```
 #![tactic(auto)]
 
-// What is in each file, over the queries of `lent_levels`:
+// What is in each file, over the queries of `levels_view`:
 // - `distinct`: the distinct numbers of a range, as an iterator
 // - `frequent`: the most frequent numbers of a range
 // - `iterating`: the numbers as an iterator
@@ -31,6 +31,6 @@ mod range_queries;
 
 pub use distinct::DistinctValues;
 pub use iterating::Numbers;
-pub use lent_levels::LevelsView;
+pub use levels_view::LevelsView;
 pub use matrix::{BinaryWaveletMatrix, WaveletMatrix};
 pub use matrix_levels::{all_fit, digit_of, fits, write_levels};

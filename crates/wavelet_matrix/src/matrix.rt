@@ -5,7 +5,7 @@ ghost use Rattle.std.specs.Int.{div_ceil};
 ghost use Rattle.bit_lists.specs.Bits.{bits_of};
 ghost use Rattle.bitm_tables.specs.Reads.{none_read};
 ghost use Rattle.bitm_bits.specs.Size.{saturated_size};
-ghost use Rattle.lent_levels.specs.Laws.{Fits};
+ghost use Rattle.levels_view.specs.Laws.{Fits};
 ghost use Rattle.matrix_levels.specs.Levels.{known_of};
 ghost use Rattle.matrix_levels.specs.Matrix.{IsMatrix, level_items, matrix_words, numbers_in, quarters_for};
 
@@ -13,7 +13,7 @@ use bitm::RankSelect101111;
 use bitm_bits::GetSize;
 use bitm_strategies::{BinaryRankSearch, Select0ForRank101111, SelectForRank101111};
 use bitm_tables::source::Probe;
-use lent_levels::{Levels, LevelsView, laws};
+use levels_view::{Levels, LevelsView, laws};
 use matrix_levels::{known_for, make_levels, quarters_unless};
 use std::alloc::{AllocError, Global};
 use std::boxed::BoxedSlice;

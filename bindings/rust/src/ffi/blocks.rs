@@ -169,18 +169,22 @@ pub struct bitm_matrix {
     pub zeros_len: usize,
     pub quarters: *const u64,
     pub quarters_len: usize,
+    pub hints: *const u64,
+    pub hints_len: usize,
 }
 extern "C" {
-    pub fn bitm_matrix_size(len: usize, width: u32, quarters: bool, out: *mut u64) -> u32;
+    pub fn bitm_matrix_size(len: usize, width: u32, quarters: bool, hints: bool, out: *mut u64) -> u32;
     pub fn bitm_matrix_build(
-        numbers: *const u64, numbers_len: usize, width: u32, quarters: bool, scratch: *mut u64, scratch_len: usize,
-        block: *mut u64, block_len: usize,
-    ) -> u32;
-    pub fn bitm_matrix_write_level(
-        numbers: *mut u64, numbers_len: usize, width: u32, quarters: bool, depth: u32, scratch: *mut u64,
+        numbers: *const u64, numbers_len: usize, width: u32, quarters: bool, hints: bool, scratch: *mut u64,
         scratch_len: usize, block: *mut u64, block_len: usize,
     ) -> u32;
-    pub fn bitm_matrix_seal(len: usize, width: u32, quarters: bool, block: *mut u64, block_len: usize) -> u32;
+    pub fn bitm_matrix_write_level(
+        numbers: *mut u64, numbers_len: usize, width: u32, quarters: bool, hints: bool, depth: u32, scratch: *mut u64,
+        scratch_len: usize, block: *mut u64, block_len: usize,
+    ) -> u32;
+    pub fn bitm_matrix_seal(
+        len: usize, width: u32, quarters: bool, hints: bool, block: *mut u64, block_len: usize,
+    ) -> u32;
     pub fn bitm_matrix_open(block: *const u64, block_len: usize, matrix: *mut bitm_matrix) -> u32;
     pub fn bitm_matrix_check(block: *const u64, block_len: usize) -> u32;
     pub fn bitm_matrix_get(matrix: *const bitm_matrix, index: usize, out: *mut u64) -> u32;

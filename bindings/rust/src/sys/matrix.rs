@@ -302,30 +302,31 @@ impl WaveletMatrixView<'_> {
     }
 }
 
-/// The block of numbers of `width` bits at most, with quarters or without: by one call, or level by level with a call
-/// of `progress` after each.
-pub(crate) fn build(
-    numbers: &[u64],
-    width: u32,
-    quarters: bool,
-    progress: Progress<'_>,
-) -> Result<Vec<u64>, BuildError> {
+/// What the block of a matrix has besides: quarters, and hints.
+#[derive(Clone, Copy, Default)]
+pub(crate) struct With {
+    pub(crate) quarters: bool,
+    pub(crate) hints: bool,
+}
+
+/// The block of numbers of `width` bits at most: by one call, or level by level with a call of `progress` after each.
+pub(crate) fn build(numbers: &[u64], width: u32, with: With, progress: Progress<'_>) -> Result<Vec<u64>, BuildError> {
     let (len, mut words) = (numbers.len(), 0);
     if !(1..=64).contains(&width) {
         return Err(BuildError::WrongWidth { width });
     }
     // SAFETY: numbers are passed, and room for one.
-    if unsafe { bitm_matrix_size(len, width, quarters, &mut words) } != OK {
+    if unsafe { bitm_matrix_size(len, width, with.quarters, with.hints, &mut words) } != OK {
         return Err(BuildError::TooLong { len });
     }
     let (mut scratch, mut block) = (zeroed::<u64>(2 * len)?, zeroed::<u64>(words as usize)?);
     let status = match progress {
         Some(_) if wider(numbers, width).is_some() => WRONG,
-        Some(progress) => level_by_level(numbers, (width, quarters), &mut scratch, &mut block, progress),
+        Some(progress) => level_by_level(numbers, (width, with), &mut scratch, &mut block, progress),
         // SAFETY: a shared and two mutable slices, which do not overlap.
         None => unsafe {
             let (from, room, to) = (numbers.as_ptr(), scratch.as_mut_ptr(), block.as_mut_ptr());
-            bitm_matrix_build(from, len, width, quarters, room, scratch.len(), to, block.len())
+            bitm_matrix_build(from, len, width, with.quarters, with.hints, room, scratch.len(), to, block.len())
         },
     };
     match status {
@@ -346,7 +347,7 @@ fn too_wide(numbers: &[u64], width: u32) -> BuildError {
 /// Writes the block of numbers, of which none has more bits than the width, with a scratch of twice as many.
 fn level_by_level(
     numbers: &[u64],
-    (width, quarters): (u32, bool),
+    (width, With { quarters, hints }): (u32, With),
     scratch: &mut [u64],
     block: &mut [u64],
     progress: &mut dyn FnMut(usize, usize),
@@ -357,10 +358,11 @@ fn level_by_level(
     let (from, room, to, words) = (sorted.as_mut_ptr(), room.as_mut_ptr(), block.as_mut_ptr(), block.len());
     for depth in 0..width {
         // SAFETY: three mutable slices, which do not overlap.
-        let mut status = unsafe { bitm_matrix_write_level(from, len, width, quarters, depth, room, len, to, words) };
+        let mut status =
+            unsafe { bitm_matrix_write_level(from, len, width, quarters, hints, depth, room, len, to, words) };
         if status == OK && depth + 1 == width {
             // SAFETY: a mutable slice.
-            status = unsafe { bitm_matrix_seal(len, width, quarters, to, words) };
+            status = unsafe { bitm_matrix_seal(len, width, quarters, hints, to, words) };
         }
         if status != OK {
             return status;

@@ -2,10 +2,10 @@
 ghost use Rattle.std.specs.Prelude.{◌≡◌, ◌<◌, ◌≤◌, true, false, All, length};
 ghost use Rattle.bit_lists.specs.Bits.{bits_of};
 ghost use Rattle.bit_lists.specs.Count.{ones_of, zeros_of};
-ghost use Rattle.bitm_many.specs.Many.{RanksEach, PicksEach};
+ghost use Rattle.bitm_select.specs.Many.{RanksEach, PicksEach};
 
 use crate::index::RankSelect101111;
-use bitm_many::lists::{rank_many_on, select_many_on};
+use bitm_select::many::lists::{rank_many_on, select_many_on};
 use bitm_strategies::{Select0ForRank101111, SelectForRank101111};
 use std::convert::AsSlice;
 

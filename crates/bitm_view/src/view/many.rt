@@ -7,11 +7,11 @@ ghost use Rattle.bitm_select.specs.Answers.{RanksTold, RankTold, SelectTold, Tol
 ghost use Rattle.bitm_tables.specs.Reads.{OnlyReads};
 
 use crate::view::IndexView;
-use bitm_many::lists::{FindsEntries, total_rank_many_on};
+use bitm_select::many::lists::{FindsEntries, total_rank_many_on};
 use bitm_select::search::selected::{NO_ANSWER, WRONG_TABLES};
 use bitm_select::search::selecting::ByTables;
 use bitm_tables::source::{Probe, TableSource};
-use lent_tables::{LentSamples, select_list_on};
+use tables_view::{SamplesView, select_list_on};
 
 impl<'a> IndexView<'a> {
     /// `rank_each` over a source of the view's words and tables.
@@ -127,7 +127,7 @@ impl<'a> IndexView<'a> {
         if samples.samples.is_empty() {
             return self.select_each_on::<BIT, Probe<'_>, ByTables>(source, &ByTables, ranks, out);
         }
-        self.select_each_on::<BIT, Probe<'_>, LentSamples<'_>>(source, &samples, ranks, out)
+        self.select_each_on::<BIT, Probe<'_>, SamplesView<'_>>(source, &samples, ranks, out)
     }
 
     /// Puts `NO_ANSWER` in place of each position after the bit vector.

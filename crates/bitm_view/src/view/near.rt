@@ -7,13 +7,13 @@ ghost use Rattle.bitm_tables.specs.Reads.{OnlyReads};
 ghost use Rattle.bitm_tables.specs.Tables.{HasTables};
 ghost use Rattle.bitm_view.specs.Cut.{bits_of_cut};
 ghost use Rattle.bitm_view.specs.Queries.{NextIn, PreviousIn, SelectsIn};
-ghost use Rattle.lent_tables.specs.Nearest.{IsNext, IsPrevious};
+ghost use Rattle.tables_view.specs.Nearest.{IsNext, IsPrevious};
 
 use crate::view::IndexView;
 use bitm_select::search::selecting::{ByTables, FindsEntry};
 use bitm_tables::answer::Answer;
 use bitm_tables::source::{Probe, TableSource};
-use lent_tables::{ByGuess, is_one, only_before, only_from};
+use tables_view::{ByGuess, is_one, only_before, only_from};
 
 impl<'a> IndexView<'a> {
     /// `select_on` in code of its own, which both neighbours share.

@@ -13,7 +13,7 @@ use Rattle.elias_fano.proofs.lemmas.ItemLemmas.{upper-short}
 use Rattle.elias_fano.proofs.lemmas.SizeLemmas.{few_of_some}
 use Rattle.elias_fano.specs.Buckets.{BeginsAt, CountsBelow, CountsTo, HasEnds}
 use Rattle.elias_fano.specs.Ends.{HoldsHigh}
-use Rattle.elias_fano.specs.LentParts.{parts_with, Holds}
+use Rattle.elias_fano.specs.SequenceParts.{parts_with, Holds}
 use Rattle.elias_fano.specs.Low.{Lows}
 use Rattle.elias_fano.specs.Parts.{width_of, IsUpper}
 use Rattle.elias_fano.specs.Sequence.{largest}

@@ -7,7 +7,7 @@ use Rattle.bit_lists.specs.Bits.{bits_of}
 use Rattle.bit_lists.specs.Number.{number_at}
 use Rattle.bitm_tables.specs.Tables.{Lists}
 use Rattle.elias_fano.specs.Buckets.{CountsTo, CountsBelow}
-use Rattle.elias_fano.specs.LentParts.{parts_of, parts_with, Holds}
+use Rattle.elias_fano.specs.SequenceParts.{parts_of, parts_with, Holds}
 use Rattle.elias_fano.specs.Low.{fragment, joined_item, sharing, Lows, ReadsFragments}
 
 -- the same digits have the same fragments, and make the same items

@@ -4,7 +4,7 @@ use Rattle.std.proofs.lemmas.List.{length-take}
 use Rattle.std.proofs.Math.ListN.{length-drop}
 use Rattle.bitm_selection.specs.Hints.{hint_words, AreHints, Lead}
 use Rattle.bitm_tables.specs.Tables.{Lists}
-use Rattle.elias_fano.specs.LentParts.{parts_with, with_hints, Holds}
+use Rattle.elias_fano.specs.SequenceParts.{parts_with, with_hints, Holds}
 use Rattle.elias_fano.specs.Low.{Lows}
 
 no_hints : (v : Bool) (words hints : List ℕ) → length hints ≡ 0 → AreHints v words hints

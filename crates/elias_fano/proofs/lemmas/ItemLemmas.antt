@@ -8,7 +8,7 @@ use Rattle.bit_lists.proofs.BitLaws.{no_items_are_zero}
 use Rattle.bit_lists.specs.Bits.{bits_of, IsShort}
 use Rattle.bit_lists.specs.Count.{places}
 use Rattle.bit_lists.specs.Number.{number_at}
-use Rattle.elias_fano.specs.LentParts.{HaveLengths}
+use Rattle.elias_fano.specs.SequenceParts.{HaveLengths}
 use Rattle.elias_fano.specs.Low.{unread, HasFragments, Lows}
 use Rattle.elias_fano.specs.Parts.{upper_place, IsLow, ArePartsOf, HasFragment, HasOneAt, items_of}
 use Rattle.elias_fano.specs.Sequence.{largest}

@@ -1,7 +1,7 @@
 -- What is told of a place among the low digits is told of the parts; and of all but the answer that they are wrong.
 use Rattle.std.proofs.Common.{◌≡◌, ℕ, ◌/◌, ◌%◌, ◌^◌, ◌<◌, ◌≤◌, false, Bool, IfSome, Option, None, Some, arith, refl}
 use Rattle.bitm_tables.specs.Tables.{Lists}
-use Rattle.elias_fano.specs.LentParts.{parts_with}
+use Rattle.elias_fano.specs.SequenceParts.{parts_with}
 use Rattle.elias_fano.specs.Low.{fragment, Lows}
 use Rattle.elias_fano.specs.Told.{IfPlace, PartsAt, TellsBelow, TellsLess, TellsTo}
 use Rattle.bitm_tables.specs.declared.answer.Answer.{Answer}

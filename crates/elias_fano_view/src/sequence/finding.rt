@@ -2,14 +2,14 @@
 ghost use Rattle.std.specs.Prelude.{◌≡◌, ◌↔◌, ℕ, false, IfSome, IsTrue, List, IsSomeAnd};
 ghost use Rattle.std.specs.List.{Contains};
 ghost use Rattle.elias_fano.specs.Answers.{IsPlaceOf, IsPredecessorOf};
-ghost use Rattle.elias_fano.specs.LentParts.{Holds};
+ghost use Rattle.elias_fano.specs.SequenceParts.{Holds};
 ghost use Rattle.elias_fano.specs.Told.{IfLast, TellsAtMost, TellsLess};
 
-use crate::sequence::LentSequence;
+use crate::sequence::SequenceView;
 use bitm_tables::answer::Answer;
 use elias_fano::{hinted_contains_on, hinted_last_at_most_on};
 
-impl<'a> LentSequence<'a> {
+impl<'a> SequenceView<'a> {
     /// The predecessor of `v`: the greatest index whose number is at most `v`, and `Absent` exactly where each number
     /// is greater, where the parts form a sequence. Whatever they hold, the answer is `Wrong`, or the parts claim that
     /// all numbers up to the index are at most `v`, or that none is for `Absent`.

@@ -6,13 +6,13 @@ ghost use Rattle.bit_lists.specs.Count.{ones_before, ones_of, Picks};
 ghost use Rattle.bit_lists.specs.Kept.{IsKeptFrom};
 ghost use Rattle.bitm_tables.specs.Reads.{OnlyReads, ReadsAtMost};
 ghost use Rattle.bitm_tables.specs.Tables.{bits_in};
-ghost use Rattle.elias_fano.specs.LentParts.{Holds};
+ghost use Rattle.elias_fano.specs.SequenceParts.{Holds};
 ghost use Rattle.elias_fano.specs.Low.{ReadsFragments};
 ghost use Rattle.elias_fano.specs.Parts.{ArePartsOf, HasFragment};
 ghost use Rattle.elias_fano_view.specs.Lists.{AreItemsFrom};
 ghost use Rattle.elias_fano_view.specs.Rests.{IsRestFrom};
 
-use crate::sequence::LentSequence;
+use crate::sequence::SequenceView;
 use bit_words::n_lowest_bits;
 use bitm_selection::{Hints, hinted_select_on};
 use bitm_tables::answer::Answer;
@@ -104,7 +104,7 @@ fn write_items_on<T: TableSource>(
     done
 }
 
-impl<'a> LentSequence<'a> {
+impl<'a> SequenceView<'a> {
     /// Writes the numbers from number `from` on until none is left or `out` is full, and returns how many. The rest of
     /// `out` keeps its values. In parts that form no sequence these are some numbers, and may be fewer.
     ///

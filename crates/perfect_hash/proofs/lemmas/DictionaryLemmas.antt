@@ -9,7 +9,7 @@ use Rattle.bit_lists.specs.Bits.{bits_of}
 use Rattle.bit_lists.specs.Number.{number_at, with_number}
 use Rattle.bit_lists.proofs.BitLaws.{bits_are_counted, number_beside_is_kept, read_after_write}
 use Rattle.perfect_hash.specs.Dictionary.{ArePrints, IsDictionary, kept_if, print_at}
-use Rattle.hash_levels.specs.Perfect.{IsMinimalPerfect}
+use Rattle.perfect_hash.specs.Perfect.{IsMinimalPerfect}
 
 -- what is kept was there, and passed
 pub kept_was : (test : ℕ → Bool) (o : Option ℕ) (v : ℕ) → kept_if test o ≡ Some v → (o ≡ Some v) × (test v ≡ true)

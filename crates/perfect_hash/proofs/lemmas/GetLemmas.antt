@@ -10,10 +10,10 @@ use Rattle.bit_lists.proofs.BitLaws.{counts_grow}
 use Rattle.bitm_select.specs.Answers.{place_in}
 use Rattle.bitm_tables.specs.declared.answer.Answer.{Answer}
 use Rattle.bitm_tables.specs.declared.answer.Answer.TheVariants.{Found, Absent, Wrong}
-use Rattle.hash_levels.specs.Numbers.{AreSizes}
+use Rattle.perfect_hash.specs.Numbers.{AreSizes}
 use Rattle.perfect_hash.specs.Asking.{IsNumbered}
 use Rattle.perfect_hash.specs.Placed.{FitIn}
-use Rattle.hash_levels.proofs.lemmas.LevelLemmas.{one_more_after}
+use Rattle.perfect_hash.proofs.lemmas.LevelLemmas.{one_more_after}
 
 -- the rank of a one is less than the count of ones
 pub one_counted : (b : List Bool) (p : ℕ) → item b p ≡ true → ones_before b p < ones_of b

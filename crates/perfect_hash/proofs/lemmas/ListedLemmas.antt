@@ -9,10 +9,10 @@ use Rattle.bit_lists.specs.Count.{ones_before}
 use Rattle.bitm_select.specs.Answers.{RankTold}
 use Rattle.bitm_tables.specs.Tables.{HasSizes, HasTables, Lists, bits_in}
 use Rattle.bitm_tables.specs.declared.answer.Answer.TheVariants.{Found, Absent, Wrong}
-use Rattle.hash_levels.specs.Levels.{fall_in, place_from}
-use Rattle.hash_levels.specs.Numbers.{AreSizes}
-use Rattle.hash_levels.proofs.lemmas.LevelLemmas.{FallsInside}
-use Rattle.hash_levels.proofs.lemmas.NumberLemmas.{IsOneBefore, place_from-one}
+use Rattle.perfect_hash.specs.Levels.{fall_in, place_from}
+use Rattle.perfect_hash.specs.Numbers.{AreSizes}
+use Rattle.perfect_hash.proofs.lemmas.LevelLemmas.{FallsInside}
+use Rattle.perfect_hash.proofs.lemmas.NumberLemmas.{IsOneBefore, place_from-one}
 use Rattle.perfect_hash.specs.Listed.{IsCode, IsCodeAt, IsNumberTold}
 use Rattle.perfect_hash.specs.Many.{told, AreLevelsInside}
 use Rattle.perfect_hash.specs.Placed.{FitIn}

@@ -9,11 +9,11 @@ use Rattle.bit_lists.specs.Count.{ones_before}
 use Rattle.bitm_tables.specs.Reads.{OnlyReads}
 use Rattle.bitm_tables.specs.Tables.{Lists}
 use Rattle.bitm_tables.specs.declared.source.counts.ReadCounts.{ReadCounts}
-use Rattle.hash_levels.specs.Levels.{place_from, GoesOn}
+use Rattle.perfect_hash.specs.Levels.{place_from, GoesOn}
 use Rattle.perfect_hash.specs.Many.{told, AreLookedUp, IsLookedUp, IsNumberOfPlace}
-use Rattle.hash_levels.specs.Numbers.{number_in, AreSizes}
-use Rattle.hash_levels.proofs.lemmas.NumberLemmas.{IsOneBefore, place_from-one}
-use Rattle.hash_levels.proofs.lemmas.LevelLemmas.{FallsInside}
+use Rattle.perfect_hash.specs.Numbers.{number_in, AreSizes}
+use Rattle.perfect_hash.proofs.lemmas.NumberLemmas.{IsOneBefore, place_from-one}
+use Rattle.perfect_hash.proofs.lemmas.LevelLemmas.{FallsInside}
 
 -- at a level, of the first `count` that wait those before i are looked up, and those of them that go on are the first `kept`
 pub record Midway (fall : ℕ → ℕ → ℕ → ℕ) (b : List Bool) (sizes : List ℕ) (level begin next : ℕ) (hashes places waiting : List ℕ) (kept i count : ℕ) : Type 0 where

@@ -1,9 +1,9 @@
 -- What is said of levels, said of the parts that have them.
 use Rattle.std.proofs.Common.{◌≡◌, ℕ, Bool, List, sym, subst}
 use Rattle.bit_lists.specs.Bits.{bits_of}
-use Rattle.hash_levels.specs.Levels.{fall_in}
-use Rattle.hash_levels.specs.Numbers.{AreLevels, number_in}
-use Rattle.hash_levels.specs.Perfect.{IsMinimalPerfect}
+use Rattle.perfect_hash.specs.Levels.{fall_in}
+use Rattle.perfect_hash.specs.Numbers.{AreLevels, number_in}
+use Rattle.perfect_hash.specs.Perfect.{IsMinimalPerfect}
 use Rattle.perfect_hash.specs.Parts.{Parts, number_at}
 
 -- where levels number the keys, so do the parts that have them

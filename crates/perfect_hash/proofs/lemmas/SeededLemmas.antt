@@ -7,15 +7,15 @@ use Rattle.std.specs.List.{sum}
 use Rattle.bit_lists.specs.Bits.{bits_of, IsShort}
 use Rattle.bit_lists.specs.Count.{ones_before, ones_of}
 use Rattle.bit_lists.proofs.BitLaws.{bits_are_counted, none_before_the_first}
-use Rattle.hash_levels.specs.Inside.{fraction_below, places_inside}
-use Rattle.hash_levels.specs.Levels.{fall_in, left_of, AddsLevel, AreChosen, AreSized, IsLevel, Leave}
-use Rattle.hash_levels.specs.Numbers.{AreLevels}
-use Rattle.hash_levels.specs.Places.{bit_by, place_by, spread, words_for}
-use Rattle.hash_levels.specs.Seeds.{AreBestSeeds, HasBest}
-use Rattle.hash_levels.proofs.lemmas.BuildLemmas.{adds_level, are_sizes, perfect}
-use Rattle.hash_levels.proofs.lemmas.LevelLemmas.{FallsInside}
-use Rattle.hash_levels.proofs.lemmas.NumberLemmas.{numbered}
-use Rattle.hash_levels.proofs.lemmas.PlacingLemmas.{left_of-alike, AreChosen-next, AreSized-next, IsLevel-alike, Leave-next}
+use Rattle.perfect_hash.specs.Inside.{fraction_below, places_inside}
+use Rattle.perfect_hash.specs.Levels.{fall_in, left_of, AddsLevel, AreChosen, AreSized, IsLevel, Leave}
+use Rattle.perfect_hash.specs.Numbers.{AreLevels}
+use Rattle.perfect_hash.specs.Places.{bit_by, place_by, spread, words_for}
+use Rattle.perfect_hash.specs.Seeds.{AreBestSeeds, HasBest}
+use Rattle.perfect_hash.proofs.lemmas.BuildLemmas.{adds_level, are_sizes, perfect}
+use Rattle.perfect_hash.proofs.lemmas.LevelLemmas.{FallsInside}
+use Rattle.perfect_hash.proofs.lemmas.NumberLemmas.{numbered}
+use Rattle.perfect_hash.proofs.lemmas.PlacingLemmas.{left_of-alike, AreChosen-next, AreSized-next, IsLevel-alike, Leave-next}
 use Rattle.perfect_hash.specs.Seeded.{seeds_with, StandFrom}
 use borrow.Rule.Slice.PartMut.{put_mid}
 

@@ -4,7 +4,7 @@ use Rattle.std.proofs.lemmas.Bool.{cases_lt}
 use Rattle.std.specs.List.{All}
 use Rattle.bitm_tables.specs.declared.answer.Answer.TheVariants.{Found}
 use Rattle.elias_fano.specs.Sequence.{Reaches}
-use Rattle.lent_tables.specs.Ranks.{IsRanked}
+use Rattle.tables_view.specs.Ranks.{IsRanked}
 use Rattle.sparse_bits.proofs.lemmas.PositionLemmas.{at_least_place, bits_count, rank_none, rank_some}
 use Rattle.sparse_bits.specs.Positions.{bits_at, ArePlaces}
 

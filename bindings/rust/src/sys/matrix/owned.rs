@@ -1,7 +1,7 @@
 //! A list of numbers in any order and the owner of its block.
 use crate::errors::{made, BuildError, StoredError};
 use crate::sys::held::Held;
-use crate::sys::matrix::{build, width_of, WaveletMatrixView};
+use crate::sys::matrix::{build, width_of, WaveletMatrixView, With};
 use crate::sys::memory::copied;
 use crate::sys::owner::owners_of_blocks;
 use alloc::vec::Vec;
@@ -56,7 +56,11 @@ impl WaveletMatrix {
     /// # Ok::<(), BuildError>(())
     /// ```
     pub fn build_with(numbers: &[u64], width: u32) -> Result<Self, BuildError> {
-        Self::of_block(build(numbers, width, false, None)?, BuildError::TooLong { len: numbers.len() })
+        Self::made(numbers, width, With::default())
+    }
+
+    fn made(numbers: &[u64], width: u32, with: With) -> Result<Self, BuildError> {
+        Self::of_block(build(numbers, width, with, None)?, BuildError::TooLong { len: numbers.len() })
     }
 
     /// Of numbers of at most `width` bits, with quarters: counts of 1 bits for every eight words. The block takes an
@@ -72,11 +76,27 @@ impl WaveletMatrix {
     /// # Ok::<(), bitm_proved::BuildError>(())
     /// ```
     pub fn build_with_quarters(numbers: &[u64], width: u32) -> Result<Self, BuildError> {
-        Self::of_block(build(numbers, width, true, None)?, BuildError::TooLong { len: numbers.len() })
+        Self::made(numbers, width, With { quarters: true, hints: false })
     }
 
-    /// As `build_with`, or as `build_with_quarters`, level by level: `progress(done, total)` is called after each bit
-    /// of the numbers, at last with `width` of `width`. Where it panics, all memory is freed. The block is the same.
+    /// Of numbers of at most `width` bits, with hints, and with quarters or without. Hints are positions of bits, by
+    /// which `select` reads fewer words; the block takes a quarter of the numbers' bits more.
+    ///
+    /// # Errors
+    /// As of `build_with`.
+    ///
+    /// ```
+    /// use bitm_proved::WaveletMatrix;
+    /// let numbers = WaveletMatrix::build_with_hints(&[3, 1, 4, 1], 3, false)?;
+    /// assert_eq!((numbers.select(1, 1), numbers.select(1, 2), numbers.block().len()), (Some(3), None, 88));
+    /// # Ok::<(), bitm_proved::BuildError>(())
+    /// ```
+    pub fn build_with_hints(numbers: &[u64], width: u32, quarters: bool) -> Result<Self, BuildError> {
+        Self::made(numbers, width, With { quarters, hints: true })
+    }
+
+    /// As `build_with`, or with quarters or hints, level by level: `progress(done, total)` is called after each bit of
+    /// the numbers, at last with `width` of `width`. Where it panics, all memory is freed. The block is the same.
     ///
     /// # Errors
     /// As of `build_with`.
@@ -84,7 +104,8 @@ impl WaveletMatrix {
     /// ```
     /// use bitm_proved::WaveletMatrix;
     /// let mut steps = vec![];
-    /// let made = WaveletMatrix::build_with_progress(&[3, 1, 4], 3, false, |done, total| steps.push((done, total)))?;
+    /// let told = |done, total| steps.push((done, total));
+    /// let made = WaveletMatrix::build_with_progress(&[3, 1, 4], 3, false, false, told)?;
     /// assert_eq!((steps, made.block()), (vec![(1, 3), (2, 3), (3, 3)], WaveletMatrix::build(&[3, 1, 4])?.block()));
     /// # Ok::<(), bitm_proved::BuildError>(())
     /// ```
@@ -92,10 +113,11 @@ impl WaveletMatrix {
         numbers: &[u64],
         width: u32,
         quarters: bool,
+        hints: bool,
         mut progress: impl FnMut(usize, usize),
     ) -> Result<Self, BuildError> {
         let otherwise = BuildError::TooLong { len: numbers.len() };
-        Self::of_block(build(numbers, width, quarters, Some(&mut progress))?, otherwise)
+        Self::of_block(build(numbers, width, With { quarters, hints }, Some(&mut progress))?, otherwise)
     }
 }
 

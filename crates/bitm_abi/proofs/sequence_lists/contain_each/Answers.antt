@@ -1,6 +1,6 @@
 -- One more item.
 use Rattle.std.proofs.Common.{slice_index, arith}
-use Rattle.bit_slices.proofs.lemmas.PositionLemmas.{placed_more}
+use Rattle.bit_words.proofs.lemmas.PositionLemmas.{placed_more}
 use Rattle.bitm_abi.specs.Sequence.{IsContained}
 use Rattle.bitm_abi.proofs.sequence_lists.contain_each.Goals as goal
 

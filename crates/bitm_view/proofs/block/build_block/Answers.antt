@@ -7,8 +7,8 @@ use Rattle.bit_lists.specs.Bits.{bits_of}
 use Rattle.bitm_strategies.specs.Density.{clamped_log}
 use Rattle.bitm_tables.specs.Tables.{bits_in, HasSizes, HasTables, Lists}
 use Rattle.bitm_view.specs.Block.{sample_room}
-use Rattle.lent_tables.specs.Samples.{AreSamples}
-use Rattle.lent_tables.specs.Sizes.{lists_of}
+use Rattle.tables_view.specs.Samples.{AreSamples}
+use Rattle.tables_view.specs.Sizes.{lists_of}
 use Rattle.bitm_view.proofs.BlockLemmas.{held, part_written}
 use Rattle.bitm_view.proofs.block.build_block.Goals as goal
 

@@ -1,6 +1,6 @@
 -- A place behind the content says that there are no more; one before its end is the same.
 use Rattle.std.proofs.Common.{ℕ, subst, arith}
-use Rattle.lent_tables.specs.Counting.{Selects}
+use Rattle.tables_view.specs.Counting.{Selects}
 use Rattle.bitm_tables.specs.declared.answer.Answer.{Answer}
 use Rattle.bitm_view.proofs.CutLemmas.{cut_found, cut_none, cut_past, cut_wrong}
 use Rattle.bitm_view.proofs.view.cut.Goals as goal

@@ -1,6 +1,6 @@
 -- The last of some numbers that are at most the value is the one before the place where they end.
 use Rattle.std.proofs.Common.{◌≡◌, ℕ, ◌+◌, ◌-◌, subst, arith}
-use Rattle.elias_fano.specs.LentParts.{parts_with}
+use Rattle.elias_fano.specs.SequenceParts.{parts_with}
 use Rattle.elias_fano.specs.Told.{TellsAtMost}
 use Rattle.elias_fano.proofs.predecessor.last_at_most_by.Goals as goal
 

@@ -6,7 +6,7 @@ use Rattle.elias_fano.proofs.lemmas.BucketLemmas.{bucket-order}
 use Rattle.elias_fano.proofs.lemmas.ItemLemmas.{upper-short}
 use Rattle.elias_fano.proofs.lemmas.ToldLemmas.{told_less}
 use Rattle.elias_fano.specs.Buckets.{CountsTo, CountsBelow, HasEnds}
-use Rattle.elias_fano.specs.LentParts.{parts_with, Holds}
+use Rattle.elias_fano.specs.SequenceParts.{parts_with, Holds}
 use Rattle.elias_fano_view.specs.Lists.{EndsTold}
 use Rattle.elias_fano.specs.Told.{TellsBelow, TellsTo}
 use Rattle.elias_fano_view.proofs.bucket.place_of.Goals as goal

@@ -2,7 +2,7 @@
 use Rattle.std.proofs.Common.{slice_index, sym, subst, ⊎_elim, arith}
 use Rattle.std.proofs.lemmas.Bool.{cases_lt}
 use Rattle.bitm.specs.Tables.{Lists}
-use Rattle.elias_fano.specs.LentParts.{parts_of, AreParts, Holds}
+use Rattle.elias_fano.specs.SequenceParts.{parts_of, AreParts, Holds}
 use Rattle.example_callers.proofs.between.indexes_between.Goals as goal
 
 pub index_from-end-requires : goal.index_from-end-requires

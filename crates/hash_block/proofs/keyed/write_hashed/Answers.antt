@@ -2,7 +2,7 @@
 use Rattle.std.proofs.Common.{ℕ, Option, sym, ap, ◌∙◌}
 use Rattle.bit_lists.specs.Bits.{bits_of}
 use Rattle.bit_lists.specs.Count.{ones_of}
-use Rattle.hash_levels.specs.Perfect.{IsMinimalPerfect}
+use Rattle.perfect_hash.specs.Perfect.{IsMinimalPerfect}
 use Rattle.hash_block.specs.Dictionary.{IsDictionaryOf}
 use Rattle.hash_block.specs.declared.hashing.Added.{Added}
 use Rattle.hash_block.proofs.NumberedLemmas.{renumbered}

@@ -1,6 +1,6 @@
 -- The hash is that of the levels.
 use Rattle.std.proofs.Common.{sym, subst}
-use Rattle.hash_levels.specs.Perfect.{IsMinimalPerfect}
+use Rattle.perfect_hash.specs.Perfect.{IsMinimalPerfect}
 use Rattle.hash_block.specs.Dictionary.{number_of_key, StandAtNumbers}
 use Rattle.hash_block.specs.Parts.{HashParts}
 use Rattle.hash_block.proofs.keyed_parts.write_keys_by.Goals as goal

@@ -10,7 +10,7 @@ returns c =
     let n = length c.args.numbers.now in
     let w = c.args.width in
     ap (λ ws. take (w * n) (bits_of ws))
-    (words-in c.split_at_mut-front.result.0.now c.write_bits.new.words c.split_at_mut-words.result.1.now (matrix_words n w)
+    (words-in c.split_at_mut-front.result.0.now c.write_bits.new.words c.split_at_mut-words.result.1.now c.args.at (matrix_words n w)
     c.split_at_mut-front.ensures.front_len
     (omega (arith, c.write_bits.auto.words, c.split_at_mut-words.ensures.front_len, c.of.ensures.words)))
     ∙ c.write_bits.ensures

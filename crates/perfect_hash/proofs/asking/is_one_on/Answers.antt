@@ -1,7 +1,7 @@
 -- The bit of the word that is read is the bit.
 use Rattle.std.proofs.Common.{◌∙◌, arith}
 use Rattle.bit_lists.proofs.BitLaws.{bits_are_counted}
-use Rattle.hash_levels.proofs.lemmas.WordLemmas.{bit_alone}
+use Rattle.perfect_hash.proofs.lemmas.WordLemmas.{bit_alone}
 use Rattle.perfect_hash.proofs.asking.is_one_on.Goals as goal
 
 pub returns-clause-bit : goal.returns-clause-bit

@@ -1,6 +1,6 @@
 use Rattle.std.proofs.Common.{◌≡◌, ℕ, ◌+◌, ◌*◌, ◌/◌, ◌<◌, ◌≤◌, drop, length, slice_index}
 use Rattle.bitm_tables.specs.Reads.{ReadsAtMost}
-use Rattle.hash_levels.specs.Levels.{fall_in, looked, GoesOn}
+use Rattle.perfect_hash.specs.Levels.{fall_in, looked, GoesOn}
 use Rattle.perfect_hash.proofs.asking.one_by.Given as goal
 
 -- the look-up goes on from here, and for each level a bit was read, and so many seeds

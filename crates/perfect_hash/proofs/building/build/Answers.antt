@@ -1,7 +1,7 @@
 -- Hashes alone say where they fall.
-use Rattle.hash_levels.specs.Places.{words_for}
+use Rattle.perfect_hash.specs.Places.{words_for}
 use Rattle.perfect_hash.specs.declared.building.Refused.{Refused}
-use Rattle.hash_levels.proofs.lemmas.CollideLemmas.{collides_by_hash}
+use Rattle.perfect_hash.proofs.lemmas.CollideLemmas.{collides_by_hash}
 use Rattle.perfect_hash.proofs.building.build.Goals as goal
 
 pub returns-clause-collide_sized : goal.returns-clause-collide_sized

@@ -3,7 +3,7 @@ use Rattle.std.proofs.Common.{◌≡◌, ℕ, length, replicate, slice_index, su
 use Rattle.std.proofs.lemmas.List.{length-take-le}
 use Rattle.bitm_select.specs.Answers.{RankTold}
 use Rattle.bitm_tables.specs.Tables.{Lists}
-use Rattle.hash_levels.specs.Levels.{fall_in}
+use Rattle.perfect_hash.specs.Levels.{fall_in}
 use Rattle.perfect_hash.proofs.lemmas.ListedLemmas.{coded_hash}
 use Rattle.perfect_hash.proofs.listed.number_block_on.Goals as goal
 

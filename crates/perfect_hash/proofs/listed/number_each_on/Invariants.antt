@@ -1,7 +1,7 @@
 use Rattle.std.proofs.Common.{◌≡◌, ℕ, ◌+◌, ◌-◌, ◌*◌, ◌<◌, ◌≤◌, length, slice_index}
 use Rattle.bitm_tables.specs.Reads.{OnlyReads}
 use Rattle.bitm_tables.specs.Tables.{bits_in}
-use Rattle.hash_levels.specs.Levels.{fall_in, place_from}
+use Rattle.perfect_hash.specs.Levels.{fall_in, place_from}
 use Rattle.perfect_hash.specs.Listed.{IsCodeAt}
 use Rattle.perfect_hash.proofs.listed.number_each_on.Given as goal
 

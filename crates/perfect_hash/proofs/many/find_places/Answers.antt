@@ -1,6 +1,6 @@
 -- All wait at first; what was found tells the places once none waits, or after the last level.
 use Rattle.std.proofs.Common.{inl, inr, length, refl, arith}
-use Rattle.hash_levels.specs.Levels.{fall_in}
+use Rattle.perfect_hash.specs.Levels.{fall_in}
 use Rattle.perfect_hash.proofs.lemmas.ManyLemmas.{all_none, last_is_told, looked_up-first, reads_fewer}
 use Rattle.perfect_hash.proofs.many.find_places.Goals as goal
 

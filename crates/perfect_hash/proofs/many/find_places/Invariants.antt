@@ -1,6 +1,6 @@
 use Rattle.std.proofs.Common.{◌≡◌, ℕ, ◌*◌, ◌<◌, ◌≤◌, length, slice_index, sum, take}
 use Rattle.bitm_tables.specs.Reads.{OnlyReads}
-use Rattle.hash_levels.specs.Levels.{fall_in}
+use Rattle.perfect_hash.specs.Levels.{fall_in}
 use Rattle.perfect_hash.specs.Many.{AreLookedUp}
 use Rattle.perfect_hash.proofs.many.find_places.Given as goal
 

@@ -2,7 +2,7 @@
 use Rattle.std.proofs.Common.{ℕ, ◌+◌, ◌∙◌, slice_index, slice_set, subst, sym, arith}
 use Rattle.std.proofs.lemmas.List.{length-set}
 use Rattle.bitm_tables.specs.Tables.{Lists}
-use Rattle.hash_levels.specs.Levels.{fall_in}
+use Rattle.perfect_hash.specs.Levels.{fall_in}
 use Rattle.perfect_hash.specs.Many.{IsLookedUp}
 use Rattle.perfect_hash.proofs.lemmas.ManyLemmas.{Midway, Midway-found, Midway-on}
 use Rattle.perfect_hash.proofs.many.look_at_level.Goals as goal

@@ -1,6 +1,6 @@
 use Rattle.std.proofs.Common.{◌≡◌, ◌+◌, length, slice_index}
 use Rattle.bitm_tables.specs.Reads.{OnlyReads}
-use Rattle.hash_levels.specs.Levels.{fall_in}
+use Rattle.perfect_hash.specs.Levels.{fall_in}
 use Rattle.perfect_hash.proofs.lemmas.ManyLemmas.{Midway}
 use Rattle.perfect_hash.proofs.many.look_at_level.Given as goal
 

@@ -1,7 +1,7 @@
 -- The words and the seeds of the level are written where those of all levels have them.
 use Rattle.std.proofs.Common.{◌≡◌, ◌+◌, ◌-◌, ℕ, List, ◌≤◌, length, length-drop, min, take, drop, sym, subst, arith}
 use Rattle.std.proofs.lemmas.List.{length-take-le}
-use Rattle.hash_levels.specs.Seeds.{AreBestSeeds}
+use Rattle.perfect_hash.specs.Seeds.{AreBestSeeds}
 use Rattle.perfect_hash.proofs.lemmas.SeededLemmas.{left_of-written, written_is, IsLevel-written}
 use Rattle.perfect_hash.proofs.seeds.add_level.Goals as goal
 

@@ -1,6 +1,6 @@
 -- Each turn compares two blocks, and reads the next of a sequence whose block was passed.
 use Rattle.std.proofs.Common.{◌≡◌, ◌+◌, ◌-◌, ◌^◌, ◌<◌, ◌≤◌, ◌⊎◌, inl, inr, ℕ, IsTrue, List, length, refl, sym, ◌∙◌, arith, ⊎_elim, true≢false}
-use Rattle.elias_fano.specs.LentParts.{Holds}
+use Rattle.elias_fano.specs.SequenceParts.{Holds}
 use Rattle.postings.specs.Pair.{pair_from, IsBlockOf}
 use Rattle.postings.specs.Shared.{IsMeeting}
 use Rattle.postings.proofs.MeetLemmas.{both_in, both_more, meeting_at, meeting_ended, meeting_last}

@@ -1,6 +1,6 @@
 use Rattle.std.proofs.Common.{◌≡◌, ◌+◌, ◌-◌, ◌≤◌, ℕ, List, length}
 use Rattle.bit_lists.specs.Kept.{IsKeptFrom}
-use Rattle.elias_fano.specs.LentParts.{Holds}
+use Rattle.elias_fano.specs.SequenceParts.{Holds}
 use Rattle.postings.specs.Pair.{pair_from, IsBlockOf}
 use Rattle.postings.specs.Shared.{IsMeeting}
 use Rattle.postings.proofs.meeting.total_intersect_of_two.Given as goal

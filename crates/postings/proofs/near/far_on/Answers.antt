@@ -2,7 +2,7 @@
 use Rattle.std.proofs.Common.{◌≡◌, ℕ, ◌≤◌, List, true, get_or, sym, ap, subst, arith}
 use Rattle.bit_lists.specs.Count.{count_of, Picks}
 use Rattle.bitm_tables.specs.Tables.{bits_in, HasTables, Lists}
-use Rattle.elias_fano.specs.LentParts.{parts_with, Holds}
+use Rattle.elias_fano.specs.SequenceParts.{parts_with, Holds}
 use Rattle.elias_fano.specs.Parts.{HasOneAt}
 use Rattle.postings.proofs.near.far_on.Goals as goal
 use Rattle.postings.proofs.near.far_on.Goals.{After-item_at_one-number}

@@ -4,7 +4,7 @@ use Rattle.std.proofs.lemmas.Nat.{pow_pos}
 use Rattle.bit_lists.proofs.BitLaws.{bits_are_counted}
 use Rattle.bitm_tables.specs.Tables.{bits_in, Lists}
 use Rattle.elias_fano.specs.Buckets.{CountsTo}
-use Rattle.elias_fano.specs.LentParts.{parts_with, Holds}
+use Rattle.elias_fano.specs.SequenceParts.{parts_with, Holds}
 use Rattle.postings.specs.Spot.{IsBehind, IsNear}
 use Rattle.postings.proofs.SpotLemmas.{less_by_quotient, less_to, ones_after, ones_after_zero}
 use Rattle.postings.proofs.near.near_on.Goals as goal

@@ -2,7 +2,7 @@
 use Rattle.std.proofs.Common.{ℕ, ap, subst, ◌∙◌, arith}
 use Rattle.bit_lists.specs.Bits.{digit_count}
 use Rattle.bitm_tables.specs.Tables.{Lists}
-use Rattle.elias_fano.specs.LentParts.{parts_of, parts_with, Holds}
+use Rattle.elias_fano.specs.SequenceParts.{parts_of, parts_with, Holds}
 use Rattle.elias_fano.specs.Low.{sharing}
 use Rattle.postings.proofs.HeldLemmas.{same_parts}
 use Rattle.postings.specs.Moves.{IsFar}

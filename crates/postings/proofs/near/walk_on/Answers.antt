@@ -5,7 +5,7 @@ use Rattle.bit_lists.proofs.BitLaws.{bits_are_counted}
 use Rattle.bit_lists.specs.Bits.{IsShort}
 use Rattle.bit_lists.specs.Count.{IsFirstFrom, Picks}
 use Rattle.bitm_tables.specs.Tables.{bits_in, Lists}
-use Rattle.elias_fano.specs.LentParts.{parts_with, Holds}
+use Rattle.elias_fano.specs.SequenceParts.{parts_with, Holds}
 use Rattle.elias_fano.specs.Parts.{HasFragment, HasOneAt}
 use Rattle.postings.specs.Spot.{IsBehind}
 use Rattle.postings.proofs.SpotLemmas.{all_less, first_picked, fragment_of, ones_after}

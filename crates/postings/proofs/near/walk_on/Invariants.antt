@@ -1,6 +1,6 @@
 use Rattle.std.proofs.Common.{◌+◌, ◌*◌, ℕ, List}
 use Rattle.bitm_tables.specs.Reads.{OnlyReads}
-use Rattle.elias_fano.specs.LentParts.{parts_with, Holds}
+use Rattle.elias_fano.specs.SequenceParts.{parts_with, Holds}
 use Rattle.elias_fano.specs.Low.{ReadsFragments}
 use Rattle.postings.specs.Spot.{IsBehind}
 use Rattle.postings.proofs.near.walk_on.Given as goal

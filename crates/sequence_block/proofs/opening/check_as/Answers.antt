@@ -1,7 +1,7 @@
 -- The view is that of the sequence in the block.
 use Rattle.std.proofs.Common.{◌≡◌, List, ℕ, SomeIff, Option, sym, subst}
 use Rattle.bitm_block.specs.Header.{IsVerified}
-use Rattle.elias_fano.specs.LentParts.{AreParts, LentParts}
+use Rattle.elias_fano.specs.SequenceParts.{AreParts, SequenceParts}
 use Rattle.sequence_block.specs.Block.{sequence_in, IsBlockOfKind}
 use Rattle.sequence_block.proofs.opening.check_as.Goals as goal
 use Rattle.sequence_block.proofs.opening.check_as.Goals.{After-verify}
@@ -10,13 +10,13 @@ use Rattle.sequence_block.proofs.opening.check_as.Goals.{After-verify}
 opened : (c : After-verify) → IsBlockOfKind c.args.kind c.args.block.now × (c.in-Some-Ok.sequence ≡ sequence_in c.args.block.now)
 opened c =
     let block = c.args.block.now in
-    let P : Option LentParts → Type 0 = λ o. SomeIff o (IsBlockOfKind c.args.kind block) (sequence_in block) in
+    let P : Option SequenceParts → Type 0 = λ o. SomeIff o (IsBlockOfKind c.args.kind block) (sequence_in block) in
     subst P c.in-Some-Ok.is-0 c.open_as.ensures
 
 pub returns-then-verify : goal.returns-then-verify
 returns-then-verify c =
     let is = opened (goal.at.returns-then-verify c).After-verify in
-    let P : LentParts → Type 0 = λ p. AreParts p in
+    let P : SequenceParts → Type 0 = λ p. AreParts p in
     let V : List ℕ → Type 0 = λ words. IsVerified words in (
       λ yes. record {
         sequence_block = is.0;

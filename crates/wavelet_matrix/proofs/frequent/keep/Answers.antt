@@ -3,9 +3,9 @@ use Rattle.std.proofs.Common.{◌≡◌, ℕ, ◌<◌, List, [], ◌∷◌, ◌+
 use Rattle.bitm_bits.proofs.lemmas.AppendLemmas.{written_back}
 use Rattle.std.proofs.lemmas.Slice.Zip.{length-zip}
 use Rattle.std.specs.List.{zip}
-use Rattle.number_lists.specs.Frequent.{AreBest}
-use Rattle.number_lists.proofs.FrequentLemmas.{best-more, best-moved}
-use Rattle.number_lists.proofs.HeapLemmas.{zip-push}
+use Rattle.matrix_levels.specs.Frequent.{AreBest}
+use Rattle.matrix_levels.proofs.FrequentLemmas.{best-more, best-moved}
+use Rattle.matrix_levels.proofs.HeapLemmas.{zip-push}
 use Rattle.wavelet_matrix.proofs.frequent.keep.Goals as goal
 use Rattle.wavelet_matrix.proofs.frequent.keep.Goals.{In_ok-push-2}
 

@@ -2,7 +2,7 @@
 use Rattle.std.proofs.Common.{◌≡◌, ℕ, ◌+◌, ◌<◌, ◌≤◌, List, [], ◌∷◌, ◌++◌, length, take, get_or, sym, ap, ◌∙◌, arith}
 use Rattle.std.proofs.lemmas.List.{length-take-le, take_all, take_more}
 use Rattle.std.specs.List.{zip}
-use Rattle.number_lists.proofs.HeapLemmas.{zip-push}
+use Rattle.matrix_levels.proofs.HeapLemmas.{zip-push}
 use Rattle.wavelet_matrix.proofs.frequent.pairs_of.Goals as goal
 
 more : (us vs : List ℕ) (i : ℕ) → length vs ≡ length us → i < length us

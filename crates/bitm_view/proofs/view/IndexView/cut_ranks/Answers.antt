@@ -3,7 +3,7 @@ use Rattle.std.proofs.Common.{rules, ℕ, slice_index, refl, subst, sym, arith}
 use Rattle.bit_lists.specs.Count.{as_bit}
 use Rattle.bitm_select.specs.Answers.{RankTold}
 use Rattle.bitm_view.specs.Queries.{ranked_by, RanksIn}
-use Rattle.bit_slices.proofs.lemmas.PositionLemmas.{placed_more}
+use Rattle.bit_words.proofs.lemmas.PositionLemmas.{placed_more}
 use Rattle.bitm_view.proofs.view.IndexView.cut_ranks.Goals as goal
 
 pub loop-at-preserved : goal.loop-at-preserved

@@ -2,7 +2,7 @@
 use Rattle.std.proofs.Common.{ap, subst, sym, arith}
 use Rattle.bitm_tables.specs.Tables.{HasSizes, Lists}
 use Rattle.bitm_view.specs.Cut.{Cut, IsSizedCut}
-use Rattle.lent_tables.specs.Counting.{Ranks}
+use Rattle.tables_view.specs.Counting.{Ranks}
 use Rattle.bitm_view.proofs.CodeLemmas.{rank_past}
 use Rattle.bitm_view.proofs.CutLemmas.{cut_counted}
 use Rattle.bitm_view.proofs.view.IndexView.rank_on.Goals as goal

@@ -3,7 +3,7 @@ use Rattle.std.proofs.Common.{ap, subst, sym, arith}
 use Rattle.bit_lists.specs.Count.{as_bit}
 use Rattle.bitm_tables.specs.Tables.{HasSizes, Lists}
 use Rattle.bitm_view.specs.Cut.{Cut, IsSizedCut}
-use Rattle.lent_tables.specs.Counting.{Selects}
+use Rattle.tables_view.specs.Counting.{Selects}
 use Rattle.bitm_view.proofs.view.IndexView.select_on.Goals as goal
 
 pub search_on-requires : goal.search_on-requires

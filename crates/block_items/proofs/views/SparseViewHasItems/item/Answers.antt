@@ -2,7 +2,7 @@
 use Rattle.std.proofs.Common.{◌<◌, true, length, slice_index, arith}
 use Rattle.bit_lists.proofs.BitLaws.{at_most_one_picked}
 use Rattle.sparse_bits.proofs.lemmas.PositionLemmas.{select_some}
-use Rattle.sparse_block.specs.Block.{bits_of}
+use Rattle.sequence_block.specs.SparseBlock.{bits_of}
 use Rattle.block_items.proofs.views.SparseViewHasItems.item.Goals as goal
 
 pub returns-in-Found-clause-answer : goal.returns-in-Found-clause-answer

@@ -5,7 +5,7 @@ use Rattle.bit_lists.proofs.BitLaws.{bits_are_counted}
 use Rattle.bit_lists.proofs.lemmas.PickLemmas.{from-Picks, rank_below}
 use Rattle.bit_lists.specs.Count.{ones_before}
 use Rattle.bitm_tables.specs.Tables.{bits_in, Lists}
-use Rattle.bit_slices.proofs.lemmas.PositionLemmas.{few_before}
+use Rattle.bit_words.proofs.lemmas.PositionLemmas.{few_before}
 use Rattle.elias_fano.proofs.lemmas.UpperLemmas.{ones_are}
 use Rattle.elias_fano.specs.Parts.{ArePartsOf}
 use Rattle.elias_fano_view.proofs.RestLemmas.{masked-rest, rest-ones}

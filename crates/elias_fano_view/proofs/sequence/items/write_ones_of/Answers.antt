@@ -5,7 +5,7 @@ use Rattle.std.proofs.lemmas.Nat.{ones_le_self}
 use Rattle.std.specs.Int.{trailing_zeros}
 use Rattle.bit_lists.specs.Bits.{bits_of}
 use Rattle.bit_lists.specs.Count.{ones_before}
-use Rattle.bit_slices.proofs.lemmas.PositionLemmas.{first_picked, next_counts, placed_more}
+use Rattle.bit_words.proofs.lemmas.PositionLemmas.{first_picked, next_counts, placed_more}
 use Rattle.elias_fano.specs.Parts.{HasOneAt}
 use Rattle.elias_fano_view.proofs.RestLemmas.{first-left, ones-cleared, rest-next}
 use Rattle.elias_fano_view.proofs.sequence.items.write_ones_of.Goals as goal

@@ -1,5 +1,5 @@
 use Rattle.std.proofs.Common.{◌≡◌, ◌-◌, ◌^◌, length, slice_range}
-use Rattle.number_lists.specs.Frequent.{pair_at, IsHeapFrom}
+use Rattle.matrix_levels.specs.Frequent.{pair_at, IsHeapFrom}
 use Rattle.matrix_block.specs.Block.{items_in, HoldsMatrix}
 use Rattle.matrix_block.specs.RangeLists.{AreNarrow, AreTallyCounts}
 use Rattle.matrix_block.proofs.FrequentLemmas.{AreKept}

@@ -1,8 +1,8 @@
 -- The rank of the place that was found is the number.
 use Rattle.std.proofs.Common.{ℕ, List, slice_index, sum, take, ap, ◌∙◌, arith}
-use Rattle.hash_levels.specs.Levels.{fall_in}
+use Rattle.perfect_hash.specs.Levels.{fall_in}
 use Rattle.perfect_hash.specs.Many.{told}
-use Rattle.hash_levels.specs.Numbers.{number_in}
+use Rattle.perfect_hash.specs.Numbers.{number_in}
 use Rattle.perfect_hash.proofs.lemmas.ManyLemmas.{number_is_told, place_inside}
 use Rattle.perfect_hash.proofs.table.PerfectHash.number_block.Goals as goal
 

@@ -2,7 +2,7 @@
 use Rattle.std.proofs.Common.{◌≡◌, ℕ, List, ap, sym, ◌∙◌, subst, arith}
 use Rattle.bit_lists.specs.Bits.{digit_count}
 use Rattle.elias_fano.proofs.lemmas.HintLemmas.{none_lead}
-use Rattle.elias_fano.specs.LentParts.{parts_with, Holds}
+use Rattle.elias_fano.specs.SequenceParts.{parts_with, Holds}
 use Rattle.elias_fano.specs.Low.{sharing, Lows}
 use Rattle.elias_fano.specs.Parts.{IsLow, IsUpper}
 use Rattle.postings.proofs.sequence.Seeker.of.Goals as goal

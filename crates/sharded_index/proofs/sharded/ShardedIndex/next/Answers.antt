@@ -1,7 +1,7 @@
 -- The rank of the position selects the next one.
 use Rattle.std.proofs.Common.{map}
 use Rattle.sharded_index.specs.Joined.{joined}
-use Rattle.lent_tables.proofs.NearestLemmas.{next_of}
+use Rattle.tables_view.proofs.NearestLemmas.{next_of}
 use Rattle.sharded_index.proofs.sharded.ShardedIndex.next.Goals as goal
 
 pub returns-in-Found-clause-counts : goal.returns-in-Found-clause-counts

@@ -2,7 +2,7 @@
 use Rattle.std.proofs.Common.{◌≡◌, ◌≤◌, ℕ, true, length, sym, subst, arith}
 use Rattle.bitm_tables.specs.declared.answer.Answer.{Answer}
 use Rattle.bitm_tables.specs.declared.answer.Answer.TheVariants.{Found}
-use Rattle.lent_tables.specs.Ranks.{IsRanked}
+use Rattle.tables_view.specs.Ranks.{IsRanked}
 use Rattle.sparse_bits.specs.Positions.{bits_at}
 use Rattle.sparse_bits.proofs.lemmas.LookLemmas.{searched_positions}
 use Rattle.sparse_bits.proofs.lemmas.PositionLemmas.{bits_count}

@@ -1,7 +1,7 @@
 -- The number after all that are less comes first.
 use Rattle.std.proofs.Common.{◌^◌, length, slice_range, sym, ap, ◌∙◌, arith}
 use Rattle.matrix_levels.proofs.lemmas.CountLemmas.{length-range}
-use Rattle.number_lists.proofs.DistinctLemmas.{after-inside, coming-first, coming-none, stands-after}
+use Rattle.matrix_levels.proofs.DistinctLemmas.{after-inside, coming-first, coming-none, stands-after}
 use Rattle.wavelet_matrix.proofs.distinct.DistinctValuesIterator.next.Goals as goal
 
 pub returns-then-self-clause-steps : goal.returns-then-self-clause-steps

@@ -1,7 +1,7 @@
 -- At first all numbers of the range are coming.
 use Rattle.std.proofs.Common.{◌-◌, ◌^◌, ◌<◌, slice_range}
 use Rattle.std.proofs.lemmas.List.Elements.{All-take, All-drop}
-use Rattle.number_lists.proofs.DistinctLemmas.{coming-all}
+use Rattle.matrix_levels.proofs.DistinctLemmas.{coming-all}
 use Rattle.wavelet_matrix.proofs.matrix.WaveletMatrix.distinct.Goals as goal
 
 pub returns : goal.returns

@@ -3,9 +3,9 @@ use Rattle.std.proofs.Common.{◌≡◌, ℕ, ◌<◌, List, [], length, slice_r
 use Rattle.std.proofs.lemmas.Iterator.Consumers.{YieldsList-from_first, YieldsList-so_far, YieldsList-turn, YieldsList-end}
 use Rattle.bitm_bits.proofs.lemmas.AppendLemmas.{written_back}
 use Rattle.std.specs.List.{zip}
-use Rattle.number_lists.specs.Frequent.{AreBest, AreMostFrequent}
-use Rattle.number_lists.proofs.FrequentLemmas.{best-moved, best-none, first-are, first-sorted, less-so-far}
-use Rattle.number_lists.proofs.HeapLemmas.{sorted-pairs}
+use Rattle.matrix_levels.specs.Frequent.{AreBest, AreMostFrequent}
+use Rattle.matrix_levels.proofs.FrequentLemmas.{best-moved, best-none, first-are, first-sorted, less-so-far}
+use Rattle.matrix_levels.proofs.HeapLemmas.{sorted-pairs}
 use Rattle.wavelet_matrix.proofs.matrix.WaveletMatrix.top_k.Goals as goal
 
 pub loop-number-init : goal.loop-number-init

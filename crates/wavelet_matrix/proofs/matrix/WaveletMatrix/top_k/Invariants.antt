@@ -1,6 +1,6 @@
 use Rattle.std.proofs.Common.{◌≡◌, ◌≤◌, length}
 use Rattle.std.specs.List.{zip}
-use Rattle.number_lists.specs.Frequent.{pair_at, AreBest, IsHeapFrom}
+use Rattle.matrix_levels.specs.Frequent.{pair_at, AreBest, IsHeapFrom}
 use Rattle.wavelet_matrix.proofs.matrix.WaveletMatrix.top_k.Given as goal
 
 -- those of the pairs that came which go first, in a heap where there is no room for more

@@ -1,6 +1,0 @@
-use Rattle.bit_slices.proofs.lemmas.FillLemmas.{IsFilled}
-use Rattle.bit_slices.proofs.filling.fill.Given as goal
-
--- the numbers so far; the bits after them are as they were
-abbrev pub invariant-loop-index : goal.invariant-loop-index
-invariant-loop-index l = IsFilled l.fn.words l.words l.width l.value l.index

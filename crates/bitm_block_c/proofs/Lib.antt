@@ -1,4 +1,0 @@
-mod CodeLemmas
-mod IndexLemmas
-mod SparseLemmas
-mod TextLemmas

@@ -1,9 +1,0 @@
--- What is answered is told.
-use Rattle.bitm_abi.proofs.ToldLemmas.{told}
-use Rattle.bitm_block_c.specs.Tree.{IsChildAnswer}
-use Rattle.bitm_block_c.proofs.queries.bitm_tree_child.Goals as goal
-
-pub returns-in-Some : goal.returns-in-Some
-returns-in-Some c =
-    told (IsChildAnswer c.args.node c.args.k) _ _ c.in-Some.ensures.1 _ c.in-Some.ensures.0 c.report.result c.args.out.now c.report.new.out _ c.report.ensures
-    (record { inside = c.child.ensures.inside; right = c.child.ensures.answer })

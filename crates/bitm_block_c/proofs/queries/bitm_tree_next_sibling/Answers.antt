@@ -1,9 +1,0 @@
--- What is answered is told.
-use Rattle.bitm_abi.proofs.ToldLemmas.{told}
-use Rattle.bitm_block_c.specs.Tree.{IsNextSiblingAnswer}
-use Rattle.bitm_block_c.proofs.queries.bitm_tree_next_sibling.Goals as goal
-
-pub returns-in-Some : goal.returns-in-Some
-returns-in-Some c =
-    told (IsNextSiblingAnswer c.args.node) _ _ c.in-Some.ensures.1 _ c.in-Some.ensures.0 c.report.result c.args.out.now c.report.new.out _ c.report.ensures
-    (record { inside = c.next_sibling.ensures.inside; right = c.next_sibling.ensures.answer })

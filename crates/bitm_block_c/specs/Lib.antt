@@ -1,6 +1,0 @@
-pub mod Dictionary
-pub mod Section
-pub mod Seeded
-pub mod Sparse
-pub mod Text
-pub mod Tree

@@ -1,3 +1,0 @@
-pub mod HalfLemmas
-pub mod ManyLemmas
-pub mod SideLemmas

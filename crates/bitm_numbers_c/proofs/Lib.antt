@@ -1,0 +1,5 @@
+mod CodeLemmas
+mod RankListLemmas
+pub mod CursorLemmas
+mod SparseLemmas
+mod SparseCodeLemmas

@@ -1,0 +1,3 @@
+pub mod Matrix
+pub mod Cursor
+pub mod Sparse

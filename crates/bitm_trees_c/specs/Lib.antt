@@ -1,0 +1,3 @@
+pub mod Trie
+pub mod Text
+pub mod Tree

@@ -1,9 +1,0 @@
-pub mod KeptLemmas
-pub mod KeptHashes
-pub mod KeptStrings
-pub mod KeptTexts
-pub mod HintsKept
-pub mod KeptTrees
-pub mod KeptSequences
-pub mod KeptSparse
-pub mod KeptMatrices

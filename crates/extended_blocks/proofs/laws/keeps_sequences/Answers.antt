@@ -1,5 +1,0 @@
-use Rattle.extended_blocks.proofs.KeptSequences.{keeps_sequence}
-use Rattle.extended_blocks.proofs.laws.keeps_sequences.Goals as goal
-
-pub returns : goal.returns
-returns c = λ kind block added words new free is. keeps_sequence block added words new free is kind

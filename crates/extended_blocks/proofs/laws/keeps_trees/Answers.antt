@@ -1,5 +1,0 @@
-use Rattle.extended_blocks.proofs.KeptTrees.{keeps_tree}
-use Rattle.extended_blocks.proofs.laws.keeps_trees.Goals as goal
-
-pub returns : goal.returns
-returns c = λ block added words new free is. keeps_tree block added words new is free

@@ -1,0 +1,6 @@
+-- The law is a lemma.
+use Rattle.hash_block.proofs.StringsBlockLemmas.{round_trip}
+use Rattle.hash_block.proofs.strings.building.round_trip.Goals as goal
+
+pub returns : goal.returns
+returns c = round_trip

@@ -1,0 +1,15 @@
+-- One more byte is hashed.
+use Rattle.std.proofs.Common.{refl}
+use Rattle.hash_block.specs.Bytes.{stored_from}
+use Rattle.hash_block.specs.Kinds.{fnv_of}
+use Rattle.hash_block.proofs.HashLemmas.{fnv_more}
+use Rattle.hash_block.proofs.strings.fnv.fnv_stored.Goals as goal
+
+pub loop-j-init : goal.loop-j-init
+unfolding fnv_of
+loop-j-init c = refl
+
+pub loop-j-preserved : goal.loop-j-preserved
+loop-j-preserved c =
+    fnv_more c.args.seed (stored_from c.args.words.now c.args.begin) c.loop-j.j c.loop-j.hash c.byte_at.result c.mix-hash.result c.loop-j.invariant
+    c.byte_at.ensures.value c.mix-hash.ensures

@@ -1,9 +1,0 @@
--- A product is divided by parts.
-use Rattle.std.proofs.Common.{◌-◌, ◌^◌}
-use Rattle.hash_levels.proofs.lemmas.InPlaceLemmas.{level_by_parts}
-use Rattle.hash_levels.proofs.in_place.level_len.Goals as goal
-
-pub returns : goal.returns
-returns c =
-    level_by_parts c.args.percent c.args.keys c.max-percent.result c.saturating_mul-whole.result (2 ^ 64 - 1) c.saturating_add.result c.max-percent.ensures
-    c.saturating_mul-whole.ensures c.saturating_add.ensures

@@ -1,6 +1,0 @@
-use Rattle.std.proofs.Common.{◌-◌}
-use Rattle.lent_levels.proofs.levels.LevelsView.+add_shared_on.Given as goal
-
--- the levels below
-abbrev pub decreases-add_shared_on : goal.decreases-add_shared_on
-decreases-add_shared_on g l = l.self.now.width - l.depth

@@ -1,0 +1,29 @@
+-- The 1 bits before the bit, less those before the level, are those of the level before it.
+use Rattle.std.proofs.Common.{◌≡◌, ◌+◌, ◌*◌, ap, ◌∙◌, arith}
+use Rattle.bit_lists.specs.Bits.{item}
+use Rattle.bit_lists.specs.Count.{ones_before}
+use Rattle.bitm_tables.specs.Tables.{bits_in}
+use Rattle.matrix_levels.specs.Matrix.{numbers_in}
+use Rattle.matrix_levels.proofs.lemmas.MatrixLemmas.{ones-are}
+use Rattle.levels_view.proofs.levels.LevelsView.bit_and_level_ones_on.Goals as goal
+
+pub returns-clause-bit : goal.returns-clause-bit
+returns-clause-bit g c =
+    let b = bits_in (g.T.TableSource.lists c.args.source.now) in
+    c.bit_and_ones_to_on-bit.ensures.bit ∙ ap (λ n. item b (c.args.depth * n + c.args.place)) c.len.ensures.len
+
+pub returns-clause-answer : goal.returns-clause-answer
+returns-clause-answer g c = λ h.
+    let l = c.args.self.now in
+    let lists = g.T.TableSource.lists c.args.source.now in
+    let b = bits_in lists in
+    let d = c.args.depth in
+    let p = c.args.place in
+    let rank : c.bit_and_ones_to_on-bit.result.1 ≡ ones_before b (d * l.len + p) =
+    c.bit_and_ones_to_on-bit.ensures.answer h.indexed.tables h.numbers.quarters_are ∙ ap (λ n. ones_before b (d * n + p)) c.len.ensures.len in
+    omega (
+      arith,
+      rank,
+      c.ones_before_level.ensures,
+      ones-are (numbers_in l lists) l b h.numbers d p c.requires.depth (omega (arith, c.requires.inside)),
+    )

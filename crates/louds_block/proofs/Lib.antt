@@ -1,4 +1,0 @@
-pub mod BlockLemmas
-pub mod CheckLemmas
-pub mod LeadLemmas
-pub mod ViewLemmas

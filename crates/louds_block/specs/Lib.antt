@@ -1,4 +1,0 @@
-pub mod Block
-pub mod Check
-pub mod Error
-pub mod Told

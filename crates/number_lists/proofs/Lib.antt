@@ -1,4 +1,0 @@
-pub mod DistinctLemmas
-pub mod FrequentLemmas
-pub mod HeapLemmas
-pub mod SharedFromLemmas

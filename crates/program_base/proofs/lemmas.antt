@@ -1,0 +1,4 @@
+pub mod LineLemmas
+pub mod NumeralLemmas
+pub mod SessionLineLemmas
+pub mod SessionLemmas

@@ -1,0 +1,14 @@
+pub mod List
+pub mod Order
+pub mod Text
+pub mod Failure
+pub mod Form
+pub mod Known
+pub mod Texts
+pub mod Topic
+pub mod Answer
+pub mod SessionFailure
+pub mod Index
+pub mod Lines
+pub mod Request
+pub mod Session

@@ -1,5 +1,0 @@
-use Rattle.program_blocks.proofs.lemmas.BitsLemmas.{EndSoFar}
-use Rattle.program_blocks.proofs.bits.end_of.Given as goal
-
-abbrev pub invariant-loop-number : goal.invariant-loop-number
-invariant-loop-number l = EndSoFar l.numbers l.number-index l.end

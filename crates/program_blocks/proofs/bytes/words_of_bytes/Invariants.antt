@@ -1,6 +1,0 @@
-use Rattle.std.proofs.Common.{◌≡◌, map, take}
-use Rattle.std.specs.Int.{w64, from_le_bytes}
-use Rattle.program_blocks.proofs.bytes.words_of_bytes.Given as goal
-
-abbrev pub invariant-loop-chunk : goal.invariant-loop-chunk
-invariant-loop-chunk l = l.words.items ≡ map (λ chunk. from_le_bytes w64 chunk) (take l.chunk-index l.chunks)

@@ -1,4 +1,0 @@
-pub mod FormatLemmas
-pub mod InfoLemmas
-pub mod ProgramLemmas
-pub mod SoundLemmas

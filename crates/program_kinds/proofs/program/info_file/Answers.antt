@@ -1,5 +1,0 @@
-use Rattle.program_kinds.proofs.lemmas.ProgramLemmas.{did_info}
-use Rattle.program_kinds.proofs.program.info_file.Goals as goal
-
-pub returns : goal.returns
-returns g c = did_info _ _ _ _ _ _ c.in_ok-file.ensures (rw c.as_slice.ensures.value at c.in_ok-info.ensures.written)

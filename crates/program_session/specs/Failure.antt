@@ -1,8 +1,0 @@
--- What is written of a failure.
-use Rattle.std.specs.Prelude.{ℕ, List, codes}
-use Rattle.program_session.specs.declared.program.Failure.{Failure}
-use Rattle.program_session.specs.declared.program.Failure.TheVariants.{CannotRead, CannotWrite}
-
-abbrev pub failure_text : Failure → List ℕ
-failure_text CannotRead = codes "bitm_vectors: cannot read the file"
-failure_text CannotWrite = codes "bitm_vectors: cannot write"

@@ -1,3 +1,0 @@
-pub mod FindingLemmas
-pub mod LineLemmas
-pub mod ProgramLemmas

@@ -1,5 +1,0 @@
-use Rattle.std.proofs.Common.{length}
-use Rattle.program_texts.proofs.command.+ask_with.Given as goal
-
-abbrev pub decreases-ask_with : goal.decreases-ask_with
-decreases-ask_with l = length l.args.now

@@ -1,4 +1,0 @@
-pub mod FileLemmas
-pub mod LineLemmas
-pub mod NumberingLemmas
-pub mod ProgramLemmas

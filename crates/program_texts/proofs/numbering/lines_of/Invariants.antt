@@ -1,6 +1,0 @@
-use Rattle.std.proofs.Common.{take}
-use Rattle.program_texts.proofs.lemmas.NumberingLemmas.{Numbered}
-use Rattle.program_texts.proofs.numbering.lines_of.Given as goal
-
-abbrev pub invariant-loop-place : goal.invariant-loop-place
-invariant-loop-place l = Numbered (take l.place-index l.places) l.ends l.len l.last l.lines.items

@@ -1,5 +1,0 @@
-use Rattle.program_texts.proofs.lemmas.ProgramLemmas.{did_build}
-use Rattle.program_texts.proofs.program.build_input.Goals as goal
-
-pub returns : goal.returns
-returns g c = did_build _ _ _ _ _ _ c.in_ok-text.ensures (rw c.as_slice.ensures.value at c.in_ok-build.ensures.written)

@@ -1,3 +1,0 @@
-pub mod SeedLemmas
-pub mod MovedLemmas
-pub mod BlockLemmas

@@ -1,4 +1,0 @@
-pub mod Block
-pub mod Error
-pub mod Parts
-pub mod Seeds

@@ -1,7 +1,0 @@
-use Rattle.std.proofs.Common.{◌≡◌, ◌<◌, ◌≤◌, ℕ}
-use Rattle.string_block.specs.Bytes.{byte_of}
-use Rattle.string_block.proofs.bytes.are_zero_from.Given as goal
-
--- the bytes so far are 0
-abbrev pub invariant-loop-k : goal.invariant-loop-k
-invariant-loop-k l = (i : ℕ) → l.first ≤ i → i < l.k → byte_of l.words i ≡ 0

@@ -1,8 +1,0 @@
-use Rattle.std.proofs.Common.{◌≡◌}
-use Rattle.string_block.specs.Bytes.{stored_from}
-use Rattle.string_block.specs.Kinds.{fnv_of}
-use Rattle.string_block.proofs.fnv.fnv_stored.Given as goal
-
--- the hash of the bytes so far
-abbrev pub invariant-loop-j : goal.invariant-loop-j
-invariant-loop-j l = l.hash ≡ fnv_of l.seed (stored_from l.words l.begin) l.j

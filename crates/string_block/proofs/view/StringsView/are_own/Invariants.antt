@@ -1,7 +1,0 @@
-use Rattle.std.proofs.Common.{ℕ, ◌<◌}
-use Rattle.string_block.specs.Parts.{IsOwn}
-use Rattle.string_block.proofs.view.StringsView.are_own.Given as goal
-
--- the strings so far have their numbers
-abbrev pub invariant-loop-v : goal.invariant-loop-v
-invariant-loop-v l = record { own : (k : ℕ) → k < l.v → IsOwn l.self k }

@@ -1,8 +1,0 @@
-pub mod Block
-pub mod Bytes
-pub mod Error
-pub mod Given
-pub mod Kinds
-pub mod Parts
-pub mod Prints
-pub mod SipHash

@@ -1,0 +1,14 @@
+pub mod Block
+pub mod Check
+pub mod Error
+pub mod Told
+pub mod Answers
+pub mod TrieBlock
+pub mod TrieError
+pub mod Labels
+pub mod Building
+pub mod WordsError
+pub mod Levels
+pub mod Room
+pub mod Trie
+pub mod Words

@@ -1,4 +1,0 @@
-pub mod BlockLemmas
-pub mod LabelLemmas
-pub mod RiseLemmas
-pub mod ViewLemmas

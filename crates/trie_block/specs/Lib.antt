@@ -1,4 +1,0 @@
-pub mod Answers
-pub mod Block
-pub mod Error
-pub mod Labels

@@ -1,7 +1,0 @@
-use Rattle.trie_words.specs.Words.{words_in}
-use Rattle.trie_words.proofs.CountLemmas.{IsCounting}
-use Rattle.trie_words.proofs.levels.count_word.Given as goal
-
--- its nodes on the levels so far are counted
-abbrev pub invariant-loop-depth : goal.invariant-loop-depth
-invariant-loop-depth l = IsCounting (words_in l.bytes l.starts) l.levels l.j l.depth

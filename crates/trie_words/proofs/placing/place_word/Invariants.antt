@@ -1,7 +1,0 @@
-use Rattle.trie_words.specs.Words.{words_in}
-use Rattle.trie_words.proofs.PlacingLemmas.{IsPlacing}
-use Rattle.trie_words.proofs.placing.place_word.Given as goal
-
--- its nodes on the levels so far are placed
-abbrev pub invariant-loop-depth : goal.invariant-loop-depth
-invariant-loop-depth l = IsPlacing (words_in l.bytes l.starts) l.next l.labels l.parents l.j l.depth

@@ -1,7 +1,0 @@
-use Rattle.std.proofs.Common.{◌≡◌, ◌+◌}
-use Rattle.trie_words.specs.Words.{added, words_in}
-use Rattle.trie_words.proofs.words.count_nodes.Given as goal
-
--- the root, and the nodes that the words so far add
-abbrev pub invariant-loop-j : goal.invariant-loop-j
-invariant-loop-j l = l.nodes ≡ 1 + added (words_in l.bytes l.starts) l.j
