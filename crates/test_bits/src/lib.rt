@@ -5,8 +5,8 @@
 
 // What is in each file:
 // - `bits`: tests of `bitm_bits`, a file a topic; the name of a test is the sentence that it shows
-// - `digits`: tests of digits in lines
+// - `digit_lines`: tests of digits in lines
 #[cfg(test)]
 mod bits;
 #[cfg(test)]
-mod digits;
+mod digit_lines;

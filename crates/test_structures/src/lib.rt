@@ -4,12 +4,12 @@
 #![tactic(auto)]
 
 // What is in each file:
-// - `postings`: tests of posting lists
+// - `posting_lists`: tests of posting lists
 // - `sequences`: tests of sequences, and of runs of the program `bitm_vectors`
 // - `sparse`: tests of sparse bits, beside a walk over the bits and numbers worked out by hand
 // - `structures`: tests of the structures that stand on an index
 #[cfg(test)]
-mod postings;
+mod posting_lists;
 #[cfg(test)]
 mod sequences;
 #[cfg(test)]

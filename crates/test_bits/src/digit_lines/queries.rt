@@ -1,5 +1,5 @@
 //! Each query of each position and rank beside a walk over the digits.
-use crate::digits::made::{Made, drawn, make_lines};
+use crate::digit_lines::made::{Made, drawn, make_lines};
 use digits::answer::Answer;
 use std::alloc::Global;
 use std::process::Abort;

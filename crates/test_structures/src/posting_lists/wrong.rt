@@ -1,5 +1,5 @@
 //! Merges of cursors that turn out wrong, each at one of its calls.
-use crate::postings::by_hand::LISTS;
+use crate::posting_lists::by_hand::LISTS;
 use elias_fano::Answer;
 use postings::{Merged, SliceCursor, TotalCursor, total_intersect, total_union};
 use std::process::Abort;

@@ -1,5 +1,5 @@
 //! The words of short lists, worked out by hand.
-use crate::digits::made::make_lines;
+use crate::digit_lines::made::make_lines;
 use std::process::Abort;
 use std::test::Fail;
 

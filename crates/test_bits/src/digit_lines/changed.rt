@@ -1,5 +1,5 @@
 //! Counts that were changed: `check` sees each, and no query leads out of the list.
-use crate::digits::made::{Made, drawn, make_lines};
+use crate::digit_lines::made::{Made, drawn, make_lines};
 use digits::answer::Answer;
 use std::process::Abort;
 use std::test::Fail;
