@@ -2,10 +2,10 @@
 -- `#[tactic(auto, using(bitm::proofs::BitLaws::counts_grow))]`.
 use Rattle.std.proofs.Common.{arith}
 use Rattle.bit_lists.specs.Count.{count_before}
-use Rattle.bit_lists.specs.Laws.{ReadAfterWrite, NegatedTwice, SwappedTwice, SwappedWithItself, DigitsBoundPowers, OnesAndZeros, OnesAndZerosOfContent, CountsGrow, CountAfterItem, NoneBeforeTheFirst, AtMostOnePicked, OnePickedForEachRank, NonePickedFromTheCountOn, RankOfPicked, PickedByRank, NextOneIsSelected, PlacesRise, PlacesArePicked, PlacesAreCounted, AllBitsCome, NoBitsCome, BitsComeFromTheFront, BitsComeFromTheBack, EachBitOnce}
+use Rattle.bit_lists.specs.Laws.{ReadAfterWrite, NegatedTwice, SwappedTwice, SwappedWithItself, DigitsBoundPowers, OnesAndZeros, OnesAndZerosOfContent, CountsGrow, CountAfterItem, NoneBeforeTheFirst, AtMostOnePicked, OnePickedForEachRank, NonePickedFromTheCountOn, RankOfPicked, PickedByRank, NextOneIsSelected, PositionsRise, PositionsArePicked, PositionsAreCounted, AllBitsCome, NoBitsCome, BitsComeFromTheFront, BitsComeFromTheBack, EachBitOnce}
 use Rattle.bit_lists.specs.StretchLaws.{ItemOfStretch, CountInStretch, PickedInStretch, PickedBetween, CountIsOfSame, EqualItemsCount, EqualItemsCountForOne, CountsAgree, BitsAreJoined, BitIsDigit, ItemAfterWrite}
-use Rattle.bit_lists.specs.WriteLaws.{BitsAreCounted, PlaceIsInside, WordIsItsBits, ZerosHaveNoOnes, ZerosAreCounted, ZerosAreZero, NoItemsAreZero, LengthIsKept, OneBitIsSet, ItemIsWritten, ItemBesideIsKept, NumberBesideIsKept, CountBeforeIsKept, OneMoreIsSet, OneMoreIsCleared, LastOneIsSet}
-use Rattle.bit_lists.proofs.lemmas.BesideLemmas.{count_before-with_number, counts-cleared, counts-set, item-with_number_beside, item-zeros, number_at-none, number_at-with_number_beside, number_at-word, number_at-zeros, places-set, zeros-counted}
+use Rattle.bit_lists.specs.WriteLaws.{BitsAreCounted, PositionIsInside, WordIsItsBits, ZerosHaveNoOnes, ZerosAreCounted, ZerosAreZero, NoItemsAreZero, LengthIsKept, OneBitIsSet, ItemIsWritten, ItemBesideIsKept, NumberBesideIsKept, CountBeforeIsKept, OneMoreIsSet, OneMoreIsCleared, LastOneIsSet}
+use Rattle.bit_lists.proofs.lemmas.BesideLemmas.{count_before-with_number, counts-cleared, counts-set, item-with_number_beside, item-zeros, number_at-none, number_at-with_number_beside, number_at-word, number_at-zeros, positions-set, zeros-counted}
 use Rattle.bit_lists.proofs.lemmas.BitsLemmas.{item-bits_of, length-bits_of}
 use Rattle.bit_lists.proofs.lemmas.ComingLemmas.{bits_coming_all, bits_coming_first, bits_coming_last, bits_coming_none, bits_coming_parts}
 use Rattle.bit_lists.proofs.lemmas.CountLemmas.{count_before-le, count_before-none, count_before_more, ones_before-add-zeros_before, ones_of-add-zeros_of}
@@ -13,7 +13,7 @@ use Rattle.bit_lists.proofs.lemmas.CutLemmas.{item-stretch, cut_count, cut_pick,
 use Rattle.bit_lists.proofs.lemmas.DigitLemmas.{digit_count-power}
 use Rattle.bit_lists.proofs.lemmas.FlipLemmas.{with_flips-with_flips}
 use Rattle.bit_lists.proofs.lemmas.NumberLemmas.{item-with_number_inside, length-with_number, number_at-with_number, with_number-one}
-use Rattle.bit_lists.proofs.lemmas.PickLemmas.{MatchesFirstOne-selected, Picks-places, Picks-rank, length-places, none_picked, places-rise, same_from_Picks, some_picked}
+use Rattle.bit_lists.proofs.lemmas.PickLemmas.{MatchesFirstOne-selected, Picks-positions, Picks-rank, length-positions, none_picked, positions-rise, same_from_Picks, some_picked}
 use Rattle.bit_lists.proofs.lemmas.SwapLemmas.{with_swapped-itself, with_swapped-with_swapped}
 
 -- a number that was written, and fits its width, is the number that is read there
@@ -36,7 +36,7 @@ swapped_with_itself = with_swapped-itself
 pub digits_bound_powers : DigitsBoundPowers
 digits_bound_powers = digit_count-power
 
--- the ones and the zeros before a place are together as many as the places before it
+-- the ones and the zeros before a position are together as many as the positions before it
 pub ones_and_zeros : OnesAndZeros
 ones_and_zeros = ones_before-add-zeros_before
 
@@ -44,7 +44,7 @@ ones_and_zeros = ones_before-add-zeros_before
 pub ones_and_zeros_of_content : OnesAndZerosOfContent
 ones_and_zeros_of_content = ones_of-add-zeros_of
 
--- no fewer items of a kind stand before a later place
+-- no fewer items of a kind stand before a later position
 pub counts_grow : CountsGrow
 counts_grow = count_before-le
 
@@ -52,49 +52,49 @@ counts_grow = count_before-le
 pub count_after_item : CountAfterItem
 count_after_item = λ b v i l. count_before_more v b i l
 
--- no items stand before the first place
+-- no items stand before the first position
 pub none_before_the_first : NoneBeforeTheFirst
 none_before_the_first = count_before-none
 
--- at most one place has a given bit and a given rank
+-- at most one position has a given bit and a given rank
 pub at_most_one_picked : AtMostOnePicked
 at_most_one_picked = same_from_Picks
 
--- for each rank below the count of a bit, some place has that bit and that rank
+-- for each rank below the count of a bit, some position has that bit and that rank
 pub one_picked_for_each_rank : OnePickedForEachRank
 one_picked_for_each_rank = some_picked
 
--- a rank is at least the count of a bit exactly where no place has that bit and that rank
+-- a rank is at least the count of a bit exactly where no position has that bit and that rank
 pub none_picked_from_the_count_on : NonePickedFromTheCountOn
 none_picked_from_the_count_on = none_picked
 
--- the rank of the place that was selected by a rank is that rank
+-- the rank of the position that was selected by a rank is that rank
 pub rank_of_picked : RankOfPicked
 rank_of_picked = λ b v r p picked. picked.before
 
--- the place selected by the rank of a place, for its own bit, is that place
+-- the position selected by the rank of a position, for its own bit, is that position
 pub picked_by_rank : PickedByRank
 picked_by_rank = λ b v p within is.
     let here = Picks-rank b v p within is in
     (here, λ q there. same_from_Picks b v (count_before b v p) q p there here)
 
--- the rank of a place selects the first one from that place on
+-- the rank of a position selects the first one from that position on
 pub next_one_is_selected : NextOneIsSelected
 next_one_is_selected = MatchesFirstOne-selected
 
--- the places of a bit rise strictly
-pub places_rise : PlacesRise
-places_rise = places-rise
+-- the positions of a bit rise strictly
+pub positions_rise : PositionsRise
+positions_rise = positions-rise
 
--- item k of the places of a bit is the place that is selected by rank k
-pub places_are_picked : PlacesArePicked
-places_are_picked = λ b v k l. Picks-places b v k 0 l
+-- item k of the positions of a bit is the position that is selected by rank k
+pub positions_are_picked : PositionsArePicked
+positions_are_picked = λ b v k l. Picks-positions b v k 0 l
 
--- there are as many places of a bit as the count of that bit
-pub places_are_counted : PlacesAreCounted
-places_are_counted = λ b v. length-places v 0 b
+-- there are as many positions of a bit as the count of that bit
+pub positions_are_counted : PositionsAreCounted
+positions_are_counted = λ b v. length-positions v 0 b
 
--- the bits of the range of all places are all bits
+-- the bits of the range of all positions are all bits
 pub all_bits_come : AllBitsCome
 all_bits_come = bits_coming_all
 
@@ -106,7 +106,7 @@ no_bits_come = bits_coming_none
 pub bits_come_from_the_front : BitsComeFromTheFront
 bits_come_from_the_front = bits_coming_first
 
--- the bits of a range are those of the range before its last place and then the bit there
+-- the bits of a range are those of the range before its last position and then the bit there
 pub bits_come_from_the_back : BitsComeFromTheBack
 bits_come_from_the_back = bits_coming_last
 
@@ -118,9 +118,9 @@ each_bit_once = bits_coming_parts
 pub bits_are_counted : BitsAreCounted
 bits_are_counted = length-bits_of
 
--- a place is inside exactly where its word is
-pub place_is_inside : PlaceIsInside
-place_is_inside = λ words i. (λ inside. omega (arith, inside, length-bits_of words), λ within. omega (arith, within, length-bits_of words))
+-- a position is inside exactly where its word is
+pub position_is_inside : PositionIsInside
+position_is_inside = λ words i. (λ inside. omega (arith, inside, length-bits_of words), λ within. omega (arith, within, length-bits_of words))
 
 -- a word is the number of its 64 bits
 pub word_is_its_bits : WordIsItsBits
@@ -130,7 +130,7 @@ word_is_its_bits = number_at-word
 pub zeros_have_no_ones : ZerosHaveNoOnes
 zeros_have_no_ones = item-zeros
 
--- in words that are 0 no ones are counted, and as many zeros before a place as there are places
+-- in words that are 0 no ones are counted, and as many zeros before a position as there are positions
 pub zeros_are_counted : ZerosAreCounted
 zeros_are_counted = zeros-counted
 
@@ -150,7 +150,7 @@ length_is_kept = length-with_number
 pub one_bit_is_set : OneBitIsSet
 one_bit_is_set = with_number-one
 
--- an item that was written is the digit of the number at its place there
+-- an item that was written is the digit of the number at its position there
 pub item_is_written : ItemIsWritten
 item_is_written = item-with_number_inside
 
@@ -162,7 +162,7 @@ item_beside_is_kept = item-with_number_beside
 pub number_beside_is_kept : NumberBesideIsKept
 number_beside_is_kept = number_at-with_number_beside
 
--- a count up to the place where a write begins is as it was
+-- a count up to the position where a write begins is as it was
 pub count_before_is_kept : CountBeforeIsKept
 count_before_is_kept = count_before-with_number
 
@@ -174,19 +174,19 @@ one_more_is_set = counts-set
 pub one_more_is_cleared : OneMoreIsCleared
 one_more_is_cleared = counts-cleared
 
--- a one that was written after all ones is the last of their places
+-- a one that was written after all ones is the last of their positions
 pub last_one_is_set : LastOneIsSet
-last_one_is_set = places-set
+last_one_is_set = positions-set
 
 -- item i of the items from item k on is item k + i of all
 pub item_of_stretch : ItemOfStretch
 item_of_stretch = item-stretch
 
--- the count before a place of a stretch, and the count before the stretch, are together that before the place
+-- the count before a position of a stretch, and the count before the stretch, are together that before the position
 pub count_in_stretch : CountInStretch
 count_in_stretch = cut_count
 
--- a place is picked in a stretch exactly where it is picked in all, by its rank and those before the stretch
+-- a position is picked in a stretch exactly where it is picked in all, by its rank and those before the stretch
 pub picked_in_stretch : PickedInStretch
 picked_in_stretch = cut_pick
 
@@ -194,7 +194,7 @@ picked_in_stretch = cut_pick
 pub count_is_of_same : CountIsOfSame
 count_is_of_same = same_items
 
--- a rank between those of two places picks a place between them
+-- a rank between those of two positions picks a position between them
 pub picked_between : PickedBetween
 picked_between = rank_between
 
@@ -206,7 +206,7 @@ equal_items_count = run_count
 pub equal_items_count_for_one : EqualItemsCountForOne
 equal_items_count_for_one = run_count_other
 
--- where the items of two lists agree up to a place, so do the counts before it
+-- where the items of two lists agree up to a position, so do the counts before it
 pub counts_agree : CountsAgree
 counts_agree = same_count
 
@@ -224,4 +224,4 @@ item_after_write = written_alone
 
 -- all of them
 pub ruleset laws =
-    (read_after_write, negated_twice, swapped_twice, swapped_with_itself, digits_bound_powers, ones_and_zeros, ones_and_zeros_of_content, counts_grow, count_after_item, none_before_the_first, at_most_one_picked, one_picked_for_each_rank, none_picked_from_the_count_on, rank_of_picked, picked_by_rank, next_one_is_selected, places_rise, places_are_picked, places_are_counted, all_bits_come, no_bits_come, bits_come_from_the_front, bits_come_from_the_back, each_bit_once, bits_are_counted, place_is_inside, word_is_its_bits, zeros_have_no_ones, zeros_are_counted, zeros_are_zero, no_items_are_zero, length_is_kept, one_bit_is_set, item_is_written, item_beside_is_kept, number_beside_is_kept, count_before_is_kept, one_more_is_set, one_more_is_cleared, last_one_is_set, item_of_stretch, count_in_stretch, picked_in_stretch, count_is_of_same, picked_between, equal_items_count, equal_items_count_for_one, counts_agree, bits_are_joined, bit_is_digit, item_after_write)
+    (read_after_write, negated_twice, swapped_twice, swapped_with_itself, digits_bound_powers, ones_and_zeros, ones_and_zeros_of_content, counts_grow, count_after_item, none_before_the_first, at_most_one_picked, one_picked_for_each_rank, none_picked_from_the_count_on, rank_of_picked, picked_by_rank, next_one_is_selected, positions_rise, positions_are_picked, positions_are_counted, all_bits_come, no_bits_come, bits_come_from_the_front, bits_come_from_the_back, each_bit_once, bits_are_counted, position_is_inside, word_is_its_bits, zeros_have_no_ones, zeros_are_counted, zeros_are_zero, no_items_are_zero, length_is_kept, one_bit_is_set, item_is_written, item_beside_is_kept, number_beside_is_kept, count_before_is_kept, one_more_is_set, one_more_is_cleared, last_one_is_set, item_of_stretch, count_in_stretch, picked_in_stretch, count_is_of_same, picked_between, equal_items_count, equal_items_count_for_one, counts_agree, bits_are_joined, bit_is_digit, item_after_write)

@@ -4,7 +4,7 @@
 use Rattle.std.proofs.Common.{◌≡◌, ℕ, ◌+◌, ◌*◌, ◌<◌, ◌≤◌, Bool, true, false, if◌then◌else◌, List, [], ◌∷◌, length, Option, ap, sym, ◌∙◌, arith}
 use Rattle.bit_lists.specs.Bits.{bits_of, digit, item}
 use Rattle.bit_lists.specs.Coming.{all_bits_left, bits_left}
-use Rattle.bit_lists.specs.Count.{ones_before, zeros_before, ones_of, zeros_of, Picks, IsSelect, IsSelectFrom, IsLastTo, MatchesFirstZero, places}
+use Rattle.bit_lists.specs.Count.{ones_before, zeros_before, ones_of, zeros_of, Picks, IsSelect, IsSelectFrom, IsLastTo, MatchesFirstZero, bit_positions}
 use Rattle.bit_lists.specs.Number.{with_number}
 pub use Rattle.bit_lists.proofs.lemmas.BesideLemmas.{item-with_number_beside}
 pub use Rattle.bit_lists.proofs.lemmas.BitsLemmas.{bits_of-nil, item-bits_of, length-bits_of}
@@ -13,7 +13,7 @@ pub use Rattle.bit_lists.proofs.lemmas.CountLemmas.{few_ones, ones_before-add-ze
 use Rattle.bit_lists.proofs.lemmas.CountLemmas.{count_before-none, count_before-le}
 pub use Rattle.bit_lists.proofs.lemmas.NumberLemmas.{length-with_number, number_at-lt, with_number-one}
 use Rattle.bit_lists.proofs.lemmas.NumberLemmas.{item-with_number_below, item-with_number_inside, item-with_number_above, number_at-with_number}
-pub use Rattle.bit_lists.proofs.lemmas.PickLemmas.{Picks-places, length-places, rank_below}
+pub use Rattle.bit_lists.proofs.lemmas.PickLemmas.{Picks-positions, length-positions, rank_below}
 use Rattle.bit_lists.proofs.lemmas.PickLemmas.{count_before_after, Picks-rank, MatchesFirstZero-selected, IsLastTo-Picks, none_to, IsSelectFrom-selected}
 
 -- a rank that picked a one is below the number of ones: the condition of `select` after an answer of `try_select`
@@ -38,15 +38,15 @@ picked_by_its_rank b = Picks-rank b true
 pub zero_picked_by_its_rank : (b : List Bool) (p : ℕ) → p < length b → item b p ≡ false → Picks b false (zeros_before b p) p
 zero_picked_by_its_rank b p = Picks-rank b false p
 
--- there are as many places of ones as ones
-pub places_counted : (b : List Bool) → length (places true 0 b) ≡ ones_of b
-places_counted b = length-places true 0 b
+-- there are as many positions of ones as ones
+pub positions_counted : (b : List Bool) → length (bit_positions true 0 b) ≡ ones_of b
+positions_counted b = length-positions true 0 b
 
 -- and the first zero
 pub next_zero : (b : List Bool) (s : ℕ) (o : Option ℕ) → IsSelect b false (zeros_before b s) o → MatchesFirstZero b s o
 next_zero = MatchesFirstZero-selected
 
--- one less than the rank after a place picks the last one up to it
+-- one less than the rank after a position picks the last one up to it
 pub last_one : (b : List Bool) (s r p : ℕ) → s < length b → ones_before b (s + 1) ≡ r + 1 → Picks b true r p → IsLastTo b true s p
 last_one b = IsLastTo-Picks b true
 
@@ -54,7 +54,7 @@ last_one b = IsLastTo-Picks b true
 pub last_zero : (b : List Bool) (s r p : ℕ) → s < length b → zeros_before b (s + 1) ≡ r + 1 → Picks b false r p → IsLastTo b false s p
 last_zero b = IsLastTo-Picks b false
 
--- no ones before the next place: none up to this one
+-- no ones before the next position: none up to this one
 pub no_one_to : (b : List Bool) (s i : ℕ) → s < length b → ones_before b (s + 1) ≡ 0 → i ≤ s → item b i ≡ false
 no_one_to b = none_to b true
 
@@ -62,7 +62,7 @@ no_one_to b = none_to b true
 pub no_zero_to : (b : List Bool) (s i : ℕ) → s < length b → zeros_before b (s + 1) ≡ 0 → i ≤ s → item b i ≡ true
 no_zero_to b = none_to b false
 
--- the rank of a place and k more select the one with k between
+-- the rank of a position and k more select the one with k between
 pub one_from : (b : List Bool) (s k : ℕ) (o : Option ℕ) → IsSelect b true (ones_before b s + k) o → IsSelectFrom b true s k o
 one_from b = IsSelectFrom-selected b true
 
@@ -70,7 +70,7 @@ one_from b = IsSelectFrom-selected b true
 pub zero_from : (b : List Bool) (s k : ℕ) (o : Option ℕ) → IsSelect b false (zeros_before b s + k) o → IsSelectFrom b false s k o
 zero_from b = IsSelectFrom-selected b false
 
--- no fewer ones stand before a later place
+-- no fewer ones stand before a later position
 pub ones_grow : (b : List Bool) (i j : ℕ) → i ≤ j → ones_before b i ≤ ones_before b j
 ones_grow b = count_before-le b true
 
@@ -102,8 +102,8 @@ all_bits_come = bits_coming_all
 pub ruleset after_writes =
     (length-bits_of, length-with_number, item-with_number_below, item-with_number_above, bit_written, number_at-with_number)
 
--- how many places or ones there are, and that these are no more than bits
-pub ruleset counts = (places_counted, few_ones)
+-- how many positions or ones there are, and that these are no more than bits
+pub ruleset counts = (positions_counted, few_ones)
 
 -- going over all bits one by one
 pub ruleset bit_by_bit = (ones_of_first, ones_of_nothing, all_bits_come, few_ones)

@@ -7,8 +7,8 @@ pub mod DigitLemmas
 pub mod FlipLemmas
 pub mod NumberLemmas
 pub mod PickLemmas
-pub mod PlaceFromLemmas
-pub mod PlaceLemmas
+pub mod PositionFromLemmas
+pub mod PositionLemmas
 pub mod ReadLemmas
 pub mod SetLemmas
 pub mod SwapLemmas

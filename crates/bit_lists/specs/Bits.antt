@@ -24,7 +24,7 @@ bits_of words = map (bit_of words) (range_with_len 0 (64 * length words))
 abbrev pub item : List Bool → ℕ → Bool
 item b i = slice_index_or b i false
 
--- few enough words that places of bits, and their number, fit a `usize` with room to spare
+-- few enough words that positions of bits, and their number, fit a `usize` with room to spare
 abbrev pub IsShort : List ℕ → Type 0
 IsShort words = length words < 2 ^ 58
 

@@ -3,7 +3,7 @@ use Rattle.std.specs.Prelude.{◌≡◌, ℕ, ◌+◌, ◌-◌, ◌*◌, ◌^◌
 use Rattle.std.specs.List.Sorted.{IsStrictlyIncreasing}
 use Rattle.bit_lists.specs.Bits.{bits_of, item, digit_count}
 use Rattle.bit_lists.specs.Coming.{bits_coming}
-use Rattle.bit_lists.specs.Count.{ones_before, ones_of, zeros_before, zeros_of, count_before, IsSelect, MatchesFirstOne, Picks, is_same, places}
+use Rattle.bit_lists.specs.Count.{ones_before, ones_of, zeros_before, zeros_of, count_before, IsSelect, MatchesFirstOne, Picks, is_same, bit_positions}
 use Rattle.bit_lists.specs.Number.{number_at, with_number, with_swapped}
 use Rattle.bit_lists.specs.Window.{with_flips}
 
@@ -34,7 +34,7 @@ DigitsBoundPowers = (n k : ℕ) → (digit_count n ≤ k) ↔ (n < 2 ^ k)
 
 -- ---- counts
 
--- each item before a place is a one or a zero
+-- each item before a position is a one or a zero
 abbrev pub OnesAndZeros : Type 0
 OnesAndZeros = (b : List Bool) (i : ℕ) → i ≤ length b → ones_before b i + zeros_before b i ≡ i
 
@@ -44,7 +44,7 @@ OnesAndZerosOfContent =
     (words : List ℕ)
     → ones_of (bits_of words) + zeros_of (bits_of words) ≡ 64 * length words
 
--- no fewer items of a kind stand before a later place
+-- no fewer items of a kind stand before a later position
 abbrev pub CountsGrow : Type 0
 CountsGrow = (b : List Bool) (v : Bool) (i j : ℕ) → i ≤ j → count_before b v i ≤ count_before b v j
 
@@ -54,21 +54,21 @@ CountAfterItem =
     (b : List Bool) (v : Bool) (i : ℕ) → i < length b
     → count_before b v (i + 1) ≡ count_before b v i + (if is_same v (item b i) then 1 else 0)
 
--- no items stand before the first place
+-- no items stand before the first position
 abbrev pub NoneBeforeTheFirst : Type 0
 NoneBeforeTheFirst = (b : List Bool) (v : Bool) → count_before b v 0 ≡ 0
 
 -- ---- what a rank picks
 
--- no two places are picked for one rank
+-- no two positions are picked for one rank
 abbrev pub AtMostOnePicked : Type 0
 AtMostOnePicked = (b : List Bool) (v : Bool) (r p q : ℕ) → Picks b v r p → Picks b v r q → p ≡ q
 
--- some place is picked for each rank below the count
+-- some position is picked for each rank below the count
 abbrev pub OnePickedForEachRank : Type 0
 OnePickedForEachRank = (b : List Bool) (v : Bool) (r : ℕ) → r < count_before b v (length b) → (p : ℕ) × Picks b v r p
 
--- no place is picked exactly for the ranks from the count on
+-- no position is picked exactly for the ranks from the count on
 abbrev pub NonePickedFromTheCountOn : Type 0
 NonePickedFromTheCountOn =
     (b : List Bool) (v : Bool) (r : ℕ) → (count_before b v (length b) ≤ r) ↔ ((p : ℕ) → ¬ (Picks b v r p))
@@ -77,29 +77,29 @@ NonePickedFromTheCountOn =
 abbrev pub RankOfPicked : Type 0
 RankOfPicked = (b : List Bool) (v : Bool) (r p : ℕ) → Picks b v r p → count_before b v p ≡ r
 
--- the rank of a place picks that place and no other
+-- the rank of a position picks that position and no other
 abbrev pub PickedByRank : Type 0
 PickedByRank =
     (b : List Bool) (v : Bool) (p : ℕ) → p < length b → item b p ≡ v
     → Picks b v (count_before b v p) p × ((q : ℕ) → Picks b v (count_before b v p) q → q ≡ p)
 
--- the rank of a place selects the first one from there on
+-- the rank of a position selects the first one from there on
 abbrev pub NextOneIsSelected : Type 0
 NextOneIsSelected = (b : List Bool) (s : ℕ) (o : Option ℕ) → s ≤ length b → IsSelect b true (ones_before b s) o → MatchesFirstOne b s o
 
--- ---- the places of a kind
+-- ---- the positions of a kind
 
--- the places rise strictly
-abbrev pub PlacesRise : Type 0
-PlacesRise = (b : List Bool) (v : Bool) → IsStrictlyIncreasing (places v 0 b)
+-- the positions rise strictly
+abbrev pub PositionsRise : Type 0
+PositionsRise = (b : List Bool) (v : Bool) → IsStrictlyIncreasing (bit_positions v 0 b)
 
--- item k of the places is what rank k picks
-abbrev pub PlacesArePicked : Type 0
-PlacesArePicked = (b : List Bool) (v : Bool) (k : ℕ) → k < length (places v 0 b) → Picks b v k (slice_index (places v 0 b) k)
+-- item k of the positions is what rank k picks
+abbrev pub PositionsArePicked : Type 0
+PositionsArePicked = (b : List Bool) (v : Bool) (k : ℕ) → k < length (bit_positions v 0 b) → Picks b v k (slice_index (bit_positions v 0 b) k)
 
--- there are as many places as bits of the kind
-abbrev pub PlacesAreCounted : Type 0
-PlacesAreCounted = (b : List Bool) (v : Bool) → length (places v 0 b) ≡ count_before b v (length b)
+-- there are as many positions as bits of the kind
+abbrev pub PositionsAreCounted : Type 0
+PositionsAreCounted = (b : List Bool) (v : Bool) → length (bit_positions v 0 b) ≡ count_before b v (length b)
 
 -- ---- the bits of a range
 
@@ -107,7 +107,7 @@ PlacesAreCounted = (b : List Bool) (v : Bool) → length (places v 0 b) ≡ coun
 abbrev pub AllBitsCome : Type 0
 AllBitsCome = (words : List ℕ) → bits_coming words 0 (64 * length words) ≡ bits_of words
 
--- no bit comes of a range without places, reversed or not
+-- no bit comes of a range without positions, reversed or not
 abbrev pub NoBitsCome : Type 0
 NoBitsCome = (words : List ℕ) (start end : ℕ) → end ≤ start → bits_coming words start end ≡ []
 
@@ -117,7 +117,7 @@ BitsComeFromTheFront =
     (words : List ℕ) (start end : ℕ) → start < end → end ≤ 64 * length words
     → bits_coming words start end ≡ item (bits_of words) start ∷ bits_coming words (start + 1) end
 
--- the bits of the range before its last place, and then the bit there
+-- the bits of the range before its last position, and then the bit there
 abbrev pub BitsComeFromTheBack : Type 0
 BitsComeFromTheBack =
     (words : List ℕ) (start end : ℕ) → start < end → end ≤ 64 * length words

@@ -19,7 +19,7 @@ with_number b begin len v = take begin b ++ low_digits len v ++ drop (begin + le
 abbrev pub with_number_if : Bool → List Bool → ℕ → ℕ → ℕ → List Bool
 with_number_if taken b begin len v = if taken then with_number b begin len v else b
 
--- b with fragments i and j of this width in each other's place
+-- b with fragments i and j of this width in each other's position
 abbrev pub with_swapped : List Bool → ℕ → ℕ → ℕ → List Bool
 with_swapped b i j width =
     with_number (with_number b (i * width) width (number_at b (j * width) width)) (j * width) width (number_at b (i * width) width)
@@ -36,6 +36,6 @@ IsFalseOrAlready b i v = (item b i ≡ false) ⊎ (item b i ≡ v)
 abbrev pub IsInRange : List ℕ → ℕ → ℕ → Type 0
 IsInRange words begin len = (begin < 64 * length words) × (begin + len ≤ 64 * length words)
 
--- fragment k of this width begins at a place that a `usize` names, and is in range
+-- fragment k of this width begins at a position that a `usize` names, and is in range
 abbrev pub IsFragmentInRange : List ℕ → ℕ → ℕ → Type 0
 IsFragmentInRange words k width = (k * width < 2 ^ 64) × IsInRange words (k * width) width

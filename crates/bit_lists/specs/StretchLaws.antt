@@ -13,13 +13,13 @@ stretch b k n = take n (drop k b)
 abbrev pub ItemOfStretch : Type 0
 ItemOfStretch = (b : List Bool) (k n i : ℕ) → i < n → item (stretch b k n) i ≡ item b (k + i)
 
--- the count before a place of a stretch, and the count before the stretch, are that before the place
+-- the count before a position of a stretch, and the count before the stretch, are that before the position
 abbrev pub CountInStretch : Type 0
 CountInStretch =
     (b : List Bool) (v : Bool) (k n i : ℕ) → k + n ≤ length b → i ≤ n
     → count_before b v k + count_before (stretch b k n) v i ≡ count_before b v (k + i)
 
--- a place is picked in a stretch exactly where it is in the whole, by its rank and those before the stretch
+-- a position is picked in a stretch exactly where it is in the whole, by its rank and those before the stretch
 abbrev pub PickedInStretch : Type 0
 PickedInStretch =
     (b : List Bool) (v : Bool) (k n r p : ℕ) → k + n ≤ length b → p < n
@@ -29,7 +29,7 @@ PickedInStretch =
 abbrev pub CountIsOfSame : Type 0
 CountIsOfSame = (b : List Bool) (v : Bool) (i : ℕ) → count_before b v i ≡ count_by (is_same v) (take i b)
 
--- a rank between those of two places picks a place between them
+-- a rank between those of two positions picks a position between them
 abbrev pub PickedBetween : Type 0
 PickedBetween =
     (b : List Bool) (v : Bool) (from to r p : ℕ) → count_before b v from ≤ r → r < count_before b v to → Picks b v r p
@@ -47,7 +47,7 @@ EqualItemsCountForOne =
     (b : List Bool) (v : Bool) (p n : ℕ) → p + n ≤ length b → ((i : ℕ) → p ≤ i → i < p + n → item b i ≡ v)
     → count_before b (not v) (p + n) ≡ count_before b (not v) p
 
--- where items agree up to a place, so do the counts before it
+-- where items agree up to a position, so do the counts before it
 abbrev pub CountsAgree : Type 0
 CountsAgree =
     (b c : List Bool) (v : Bool) (k : ℕ) → k ≤ length b → k ≤ length c → ((i : ℕ) → i < k → item b i ≡ item c i)

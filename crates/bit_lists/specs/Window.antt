@@ -6,7 +6,7 @@ use Rattle.bit_lists.specs.Bits.{low_digits}
 abbrev pub reach_of : ℕ → ℕ → ℕ
 reach_of begin len = if nat_le (begin % 64 + len) 64 then 64 - begin % 64 else 64
 
--- the items of b, negated where the item of ds at the same place is true
+-- the items of b, negated where the item of ds at the same position is true
 abbrev pub negate_where : List Bool → List Bool → List Bool
 negate_where [] b = b
 negate_where (d ∷ ds) [] = []

@@ -2,7 +2,7 @@
 -- `laws`.
 use Rattle.std.specs.Prelude.{◌≡◌, ℕ, ◌+◌, ◌*◌, ◌/◌, ◌^◌, ◌<◌, ◌≤◌, ◌↔◌, ◌⊎◌, Bool, true, false, List, [], ◌∷◌, ◌++◌, length, slice_index, replicate, slice_set, if◌then◌else◌}
 use Rattle.bit_lists.specs.Bits.{digit, bits_of, item}
-use Rattle.bit_lists.specs.Count.{ones_before, zeros_before, count_before, places}
+use Rattle.bit_lists.specs.Count.{ones_before, zeros_before, count_before, bit_positions}
 use Rattle.bit_lists.specs.Number.{number_at, with_number}
 
 -- ---- words
@@ -11,9 +11,9 @@ use Rattle.bit_lists.specs.Number.{number_at, with_number}
 abbrev pub BitsAreCounted : Type 0
 BitsAreCounted = (words : List ℕ) → length (bits_of words) ≡ 64 * length words
 
--- a place is inside exactly where its word is
-abbrev pub PlaceIsInside : Type 0
-PlaceIsInside = (words : List ℕ) (i : ℕ) → (i < length (bits_of words)) ↔ (i / 64 < length words)
+-- a position is inside exactly where its word is
+abbrev pub PositionIsInside : Type 0
+PositionIsInside = (words : List ℕ) (i : ℕ) → (i < length (bits_of words)) ↔ (i / 64 < length words)
 
 -- word k is the number of its 64 bits
 abbrev pub WordIsItsBits : Type 0
@@ -27,7 +27,7 @@ WordIsItsBits =
 abbrev pub ZerosHaveNoOnes : Type 0
 ZerosHaveNoOnes = (count i : ℕ) → item (bits_of (replicate count 0)) i ≡ false
 
--- so no ones are counted in them, and each place before i is that of a zero
+-- so no ones are counted in them, and each position before i is that of a zero
 abbrev pub ZerosAreCounted : Type 0
 ZerosAreCounted =
     (count i : ℕ) → i ≤ 64 * count
@@ -78,17 +78,17 @@ CountBeforeIsKept =
 -- after a zero that was made a one there is one one more, and one zero less
 abbrev pub OneMoreIsSet : Type 0
 OneMoreIsSet =
-    (b : List Bool) (place i : ℕ) → place < i → i ≤ length b → item b place ≡ false
-    → (ones_before (with_number b place 1 1) i ≡ ones_before b i + 1) × (zeros_before (with_number b place 1 1) i + 1 ≡ zeros_before b i)
+    (b : List Bool) (position i : ℕ) → position < i → i ≤ length b → item b position ≡ false
+    → (ones_before (with_number b position 1 1) i ≡ ones_before b i + 1) × (zeros_before (with_number b position 1 1) i + 1 ≡ zeros_before b i)
 
 -- after a one that was made a zero there is one one less, and one zero more
 abbrev pub OneMoreIsCleared : Type 0
 OneMoreIsCleared =
-    (b : List Bool) (place i : ℕ) → place < i → i ≤ length b → item b place ≡ true
-    → (ones_before (with_number b place 1 0) i + 1 ≡ ones_before b i) × (zeros_before (with_number b place 1 0) i ≡ zeros_before b i + 1)
+    (b : List Bool) (position i : ℕ) → position < i → i ≤ length b → item b position ≡ true
+    → (ones_before (with_number b position 1 0) i + 1 ≡ ones_before b i) × (zeros_before (with_number b position 1 0) i ≡ zeros_before b i + 1)
 
 -- a one that was written after all ones is the last of them
 abbrev pub LastOneIsSet : Type 0
 LastOneIsSet =
-    (b : List Bool) (place : ℕ) → place < length b → ((i : ℕ) → place ≤ i → item b i ≡ false)
-    → places true 0 (with_number b place 1 1) ≡ places true 0 b ++ place ∷ []
+    (b : List Bool) (position : ℕ) → position < length b → ((i : ℕ) → position ≤ i → item b i ≡ false)
+    → bit_positions true 0 (with_number b position 1 1) ≡ bit_positions true 0 b ++ position ∷ []

@@ -6,7 +6,7 @@ ghost use Rattle.bit_lists.specs.Laws.{OnesAndZeros, OnesAndZerosOfContent, Coun
 ghost use Rattle.bit_lists.specs.Laws.{NoneBeforeTheFirst};
 ghost use Rattle.bit_lists.specs.Laws.{AtMostOnePicked, OnePickedForEachRank, NonePickedFromTheCountOn};
 ghost use Rattle.bit_lists.specs.Laws.{RankOfPicked, PickedByRank, NextOneIsSelected};
-ghost use Rattle.bit_lists.specs.Laws.{PlacesRise, PlacesArePicked, PlacesAreCounted};
+ghost use Rattle.bit_lists.specs.Laws.{PositionsRise, PositionsArePicked, PositionsAreCounted};
 ghost use Rattle.bit_lists.specs.Laws.{AllBitsCome, NoBitsCome, BitsComeFromTheFront, BitsComeFromTheBack, EachBitOnce};
 
 mod stretches;
@@ -20,7 +20,7 @@ pub use stretches::{
 pub use writes::{
     bits_are_counted, count_before_is_kept, item_beside_is_kept, item_is_written, last_one_is_set,
     length_is_kept, no_items_are_zero, number_beside_is_kept, one_bit_is_set, one_more_is_cleared,
-    one_more_is_set, place_is_inside, word_is_its_bits, zeros_are_counted, zeros_are_zero,
+    one_more_is_set, position_is_inside, word_is_its_bits, zeros_are_counted, zeros_are_zero,
     zeros_have_no_ones,
 };
 
@@ -120,21 +120,21 @@ pub fn next_one_is_selected()
 {}
 
 /// The positions of a bit rise strictly.
-#[tactic(auto, using(crate::proofs::BitLaws::places_rise))]
-pub fn places_rise()
-    ensures { PlacesRise }
+#[tactic(auto, using(crate::proofs::BitLaws::positions_rise))]
+pub fn positions_rise()
+    ensures { PositionsRise }
 {}
 
 /// Item `k` of the positions of a bit is the position that is selected by rank `k`.
-#[tactic(auto, using(crate::proofs::BitLaws::places_are_picked))]
-pub fn places_are_picked()
-    ensures { PlacesArePicked }
+#[tactic(auto, using(crate::proofs::BitLaws::positions_are_picked))]
+pub fn positions_are_picked()
+    ensures { PositionsArePicked }
 {}
 
 /// There are as many positions of a bit as the count of that bit.
-#[tactic(auto, using(crate::proofs::BitLaws::places_are_counted))]
-pub fn places_are_counted()
-    ensures { PlacesAreCounted }
+#[tactic(auto, using(crate::proofs::BitLaws::positions_are_counted))]
+pub fn positions_are_counted()
+    ensures { PositionsAreCounted }
 {}
 
 /// The bits of the range of all positions are all bits.

@@ -2,7 +2,7 @@
 use Rattle.std.proofs.Common.{◌≡◌, true, false, [], ◌∷◌, refl, take}
 use Rattle.bit_lists.specs.Bits.{low_digits, bits_of, item, digit_count}
 use Rattle.bit_words.specs.Bytes.{byte_bits_of, byte_window, with_window}
-use Rattle.bit_lists.specs.Count.{ones_before, zeros_before, places}
+use Rattle.bit_lists.specs.Count.{ones_before, zeros_before, bit_positions}
 use Rattle.bit_lists.specs.Number.{number_of_bits, number_at, with_number}
 use Rattle.bit_lists.specs.Window.{reach_of, with_flips}
 
@@ -14,21 +14,21 @@ bit_100_of_32_words : item (bits_of (0 ∷ 0x10_0000_0000 ∷ [])) 100 ≡ true
 unfolding bits_of
 bit_100_of_32_words = refl
 
-ones_before_a_place : ones_before (bits_of (13 ∷ 6 ∷ [])) 66 ≡ 4
+ones_before_a_position : ones_before (bits_of (13 ∷ 6 ∷ [])) 66 ≡ 4
 unfolding ones_before bits_of
-ones_before_a_place = refl
+ones_before_a_position = refl
 
 ones_past_the_end_are_all : ones_before (bits_of (13 ∷ 6 ∷ [])) 1000 ≡ 5
 unfolding ones_before bits_of
 ones_past_the_end_are_all = refl
 
-zeros_before_a_place : zeros_before (bits_of (13 ∷ 6 ∷ [])) 128 ≡ 123
+zeros_before_a_position : zeros_before (bits_of (13 ∷ 6 ∷ [])) 128 ≡ 123
 unfolding zeros_before bits_of
-zeros_before_a_place = refl
+zeros_before_a_position = refl
 
-places_of_ones_rise : places true 0 (bits_of (13 ∷ 6 ∷ [])) ≡ 0 ∷ 2 ∷ 3 ∷ 65 ∷ 66 ∷ []
+positions_of_ones_rise : bit_positions true 0 (bits_of (13 ∷ 6 ∷ [])) ≡ 0 ∷ 2 ∷ 3 ∷ 65 ∷ 66 ∷ []
 unfolding bits_of
-places_of_ones_rise = refl
+positions_of_ones_rise = refl
 
 reads_over_a_word_border : number_at (bits_of (0x4000_0000_0000_0000 ∷ 1 ∷ [])) 62 3 ≡ 5
 unfolding number_at number_of_bits bits_of

@@ -8,6 +8,6 @@ combined (suc zero) x y = x || y
 combined (suc (suc zero)) x y = if y then not x else x
 combined (suc (suc (suc op))) x y = x && not y
 
--- whether i is a place of the range
+-- whether i is a position of the range
 abbrev pub in_range : ℕ → ℕ → ℕ → Bool
 in_range from to i = nat_le from i && nat_lt i to

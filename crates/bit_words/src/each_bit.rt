@@ -97,8 +97,8 @@ impl<'bv> Iterator for BitIterator<'bv> {
         ensures steps { GivesFirst self.old result self.new }
         ensures goes { MakesProgress (λ _. ⊤) (item_count bits_left) self.old result self.new }
     {
-        let place = self.range.next()?;
-        Some(get_bit(self.words, place))
+        let position = self.range.next()?;
+        Some(get_bit(self.words, position))
     }
 
     #[inline]
@@ -121,8 +121,8 @@ impl<'bv> DoubleEndedIterator for BitIterator<'bv> {
         ensures steps { GivesLast self.old result self.new }
         ensures goes { MakesProgress (λ _. ⊤) (item_count bits_left) self.old result self.new }
     {
-        let place = self.range.next_back()?;
-        Some(get_bit(self.words, place))
+        let position = self.range.next_back()?;
+        Some(get_bit(self.words, position))
     }
 }
 

@@ -11,7 +11,7 @@
 // - `fragments`: reads and writes of fragments
 // - `masks`: numbers whose lowest bits are set, the number of binary digits, and division that rounds up
 // - `nearest`: the first 0 bit from a position on, and the last 1 bit or 0 bit up to a position
-// - `places`: iterators over the positions of 1 bits and of 0 bits
+// - `positions`: iterators over the positions of 1 bits and of 0 bits
 // - `ranges`: counts and writes of ranges
 // - `reading`: reads of bits and numbers
 // - `successive`: calls that advance the position or index that they take
@@ -26,7 +26,7 @@ mod finding;
 mod fragments;
 mod masks;
 mod nearest;
-mod places;
+mod positions;
 mod ranges;
 mod reading;
 pub mod slices;
@@ -39,4 +39,4 @@ pub use each_bit::BitIterator;
 pub use masks::{
     bits_to_store, ceiling_div, n_lowest_bits, n_lowest_bits_0_64, n_lowest_bits_1_64,
 };
-pub use places::{BitBIterator, BitOnesIterator, BitZerosIterator};
+pub use positions::{BitBIterator, BitOnesIterator, BitZerosIterator};

@@ -8,18 +8,18 @@ use crate::combining::{AND_NOT, OR, XOR, combined};
 use crate::masks::{n_lowest_bits, n_lowest_bits_0_64};
 use broadword::count_bit_ones;
 
-/// How many 1 bits the word of `place` has before it; none is read where `place` is the first of a word.
+/// How many 1 bits the word of `position` has before it; none is read where `position` is the first of a word.
 #[inline(always)]
-fn ones_in_word(words: &[u64], place: usize) -> usize
-    requires { place ≤ 64 * length words.now }
-    ensures { ones_before (bits_of words.now) place
-        ≡ ones_before (bits_of words.now) (64 * (place / 64)) + result }
+fn ones_in_word(words: &[u64], position: usize) -> usize
+    requires { position ≤ 64 * length words.now }
+    ensures { ones_before (bits_of words.now) position
+        ≡ ones_before (bits_of words.now) (64 * (position / 64)) + result }
 {
-    let offset = (place % 64) as u8;
+    let offset = (position % 64) as u8;
     if offset == 0 {
         return 0;
     }
-    (words[place / 64] & n_lowest_bits(offset)).count_ones() as usize
+    (words[position / 64] & n_lowest_bits(offset)).count_ones() as usize
 }
 
 /// How many of the bits from `from` on and before `to` are 1.

@@ -8,26 +8,26 @@ ghost use Rattle.bit_lists.specs.Window.{reach_of};
 use crate::masks::{n_lowest_bits, n_lowest_bits_0_64};
 use tuning::WORDS_READ_IN_PAIRS;
 
-/// The bit at `place`.
+/// The bit at `position`.
 ///
 /// # Conditions
 /// The position is inside.
 #[inline(always)]
 #[tactic(auto, using(bit_lists::proofs::lemmas::BitsLemmas::item_tested))]
-pub fn get_bit(words: &[u64], place: usize) -> bool
-    requires { place < 64 * length words.now }
-    ensures { result ≡ item (bits_of words.now) place }
+pub fn get_bit(words: &[u64], position: usize) -> bool
+    requires { position < 64 * length words.now }
+    ensures { result ≡ item (bits_of words.now) position }
 {
-    words[place / 64] & (1u64 << (place % 64)) != 0
+    words[position / 64] & (1u64 << (position % 64)) != 0
 }
 
-/// The bit at `place`; `None` exactly where that position is outside.
+/// The bit at `position`; `None` exactly where that position is outside.
 #[inline(always)]
-pub fn try_get_bit(words: &[u64], place: usize) -> Option<bool>
-    ensures { SomeIff result (place < 64 * length words.now) (item (bits_of words.now) place) }
+pub fn try_get_bit(words: &[u64], position: usize) -> Option<bool>
+    ensures { SomeIff result (position < 64 * length words.now) (item (bits_of words.now) position) }
 {
-    if place / 64 < words.len() {
-        Some(get_bit(words, place))
+    if position / 64 < words.len() {
+        Some(get_bit(words, position))
     } else {
         None
     }

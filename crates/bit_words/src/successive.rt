@@ -9,19 +9,19 @@ use crate::fragments::{get_fragment, init_fragment, set_fragment, xor_fragment};
 use crate::reading::{get_bit, get_bits};
 use crate::writing::{init_bit, init_bits, set_bit_to, set_bits, xor_bits};
 
-/// The bit at `place`, which moves on by one.
+/// The bit at `position`, which moves on by one.
 ///
 /// # Conditions
 /// The position is inside; there are fewer than 2^58 words.
 #[inline(always)]
-pub fn get_successive_bit(words: &[u64], place: &mut usize) -> bool
-    requires inside { place.old < 64 * length words.now }
+pub fn get_successive_bit(words: &[u64], position: &mut usize) -> bool
+    requires inside { position.old < 64 * length words.now }
     requires short { IsShort words.now }
-    ensures bit { result ≡ item (bits_of words.now) place.old }
-    ensures advances { place.new ≡ place.old + 1 }
+    ensures bit { result ≡ item (bits_of words.now) position.old }
+    ensures advances { position.new ≡ position.old + 1 }
 {
-    let bit = get_bit(words, *place);
-    *place += 1;
+    let bit = get_bit(words, *position);
+    *position += 1;
     bit
 }
 
@@ -62,37 +62,37 @@ pub fn get_successive_fragment(words: &[u64], index: &mut usize, s: u8) -> u64
     fragment
 }
 
-/// Makes the bit at `place` equal to `value`; `place` moves on by one.
+/// Makes the bit at `position` equal to `value`; `position` moves on by one.
 ///
 /// # Conditions
 /// The position is inside; there are fewer than 2^58 words.
 #[inline(always)]
-pub fn set_successive_bit_to(words: &mut [u64], place: &mut usize, value: bool)
-    requires inside { place.old < 64 * length words.old }
+pub fn set_successive_bit_to(words: &mut [u64], position: &mut usize, value: bool)
+    requires inside { position.old < 64 * length words.old }
     requires short { IsShort words.old }
     ensures after { bits_of words.new
-        ≡ with_number (bits_of words.old) place.old 1 (if value then 1 else 0) }
-    ensures advances { place.new ≡ place.old + 1 }
+        ≡ with_number (bits_of words.old) position.old 1 (if value then 1 else 0) }
+    ensures advances { position.new ≡ position.old + 1 }
 {
-    set_bit_to(words, *place, value);
-    *place += 1;
+    set_bit_to(words, *position, value);
+    *position += 1;
 }
 
-/// Makes the bit at `place`, which is 0 or already `value`, equal to `value`; `place` moves on by one.
+/// Makes the bit at `position`, which is 0 or already `value`, equal to `value`; `position` moves on by one.
 ///
 /// # Conditions
 /// The position is inside; its bit is 0 or already `value`; there are fewer than 2^58 words.
 #[inline(always)]
-pub fn init_successive_bit(words: &mut [u64], place: &mut usize, value: bool)
-    requires inside { place.old < 64 * length words.old }
-    requires clear { IsFalseOrAlready (bits_of words.old) place.old value }
+pub fn init_successive_bit(words: &mut [u64], position: &mut usize, value: bool)
+    requires inside { position.old < 64 * length words.old }
+    requires clear { IsFalseOrAlready (bits_of words.old) position.old value }
     requires short { IsShort words.old }
     ensures after { bits_of words.new
-        ≡ with_number (bits_of words.old) place.old 1 (if value then 1 else 0) }
-    ensures advances { place.new ≡ place.old + 1 }
+        ≡ with_number (bits_of words.old) position.old 1 (if value then 1 else 0) }
+    ensures advances { position.new ≡ position.old + 1 }
 {
-    init_bit(words, *place, value);
-    *place += 1;
+    init_bit(words, *position, value);
+    *position += 1;
 }
 
 /// Replaces the `len` bits from `begin` on by the number `v`, lowest first; `begin` moves on by `len`.

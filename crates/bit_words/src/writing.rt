@@ -18,99 +18,101 @@ fn set_bits_to(word: &mut u64, value: u64, mask: u64)
     *word |= value;
 }
 
-/// Makes the bit at `place` equal to `value`.
+/// Makes the bit at `position` equal to `value`.
 ///
 /// # Conditions
 /// The position is inside.
 #[inline(always)]
-pub fn set_bit_to(words: &mut [u64], place: usize, value: bool)
-    requires { place < 64 * length words.old }
-    ensures { bits_of words.new ≡ with_number (bits_of words.old) place 1 (if value then 1 else 0) }
+pub fn set_bit_to(words: &mut [u64], position: usize, value: bool)
+    requires { position < 64 * length words.old }
+    ensures { bits_of words.new ≡ with_number (bits_of words.old) position 1 (if value then 1 else 0) }
 {
-    let offset = place % 64;
+    let offset = position % 64;
     set_bits_to(
-        &mut words[place / 64],
+        &mut words[position / 64],
         (value as u64) << offset,
         1u64 << offset,
     );
 }
 
-/// Makes the bit at `place` 1.
+/// Makes the bit at `position` 1.
 ///
 /// # Conditions
 /// The position is inside.
 #[inline(always)]
 #[tactic(auto, using(crate::proofs::lemmas::WriteLemmas::bit_set))]
-pub fn set_bit(words: &mut [u64], place: usize)
-    requires { place < 64 * length words.old }
-    ensures { bits_of words.new ≡ with_number (bits_of words.old) place 1 1 }
+pub fn set_bit(words: &mut [u64], position: usize)
+    requires { position < 64 * length words.old }
+    ensures { bits_of words.new ≡ with_number (bits_of words.old) position 1 1 }
 {
-    words[place / 64] |= 1u64 << (place % 64);
+    words[position / 64] |= 1u64 << (position % 64);
 }
 
-/// Makes the bit at `place` 0.
+/// Makes the bit at `position` 0.
 ///
 /// # Conditions
 /// The position is inside.
 #[inline(always)]
 #[tactic(auto, using(crate::proofs::lemmas::WriteLemmas::bit_cleared))]
-pub fn clear_bit(words: &mut [u64], place: usize)
-    requires { place < 64 * length words.old }
-    ensures { bits_of words.new ≡ with_number (bits_of words.old) place 1 0 }
+pub fn clear_bit(words: &mut [u64], position: usize)
+    requires { position < 64 * length words.old }
+    ensures { bits_of words.new ≡ with_number (bits_of words.old) position 1 0 }
 {
-    words[place / 64] &= !(1u64 << (place % 64));
+    words[position / 64] &= !(1u64 << (position % 64));
 }
 
-/// Makes the bit at `place` equal to `value`, as `set_bit_to` does. Answers false exactly where the position is past
+/// Makes the bit at `position` equal to `value`, as `set_bit_to` does. Answers false exactly where the position is past
 /// the end, and nothing is written then.
 #[inline(always)]
-pub fn try_set_bit_to(words: &mut [u64], place: usize, value: bool) -> bool
-    ensures done { IsTrue result ↔ (place < 64 * length words.old) }
+pub fn try_set_bit_to(words: &mut [u64], position: usize, value: bool) -> bool
+    ensures done { IsTrue result ↔ (position < 64 * length words.old) }
     ensures value { IsTrue result → bits_of words.new
-        ≡ with_number (bits_of words.old) place 1 (if value then 1 else 0) }
+        ≡ with_number (bits_of words.old) position 1 (if value then 1 else 0) }
     ensures kept { result ≡ false → words.new ≡ words.old }
 {
-    if place / 64 >= words.len() {
+    if position / 64 >= words.len() {
         return false;
     }
-    set_bit_to(words, place, value);
+    set_bit_to(words, position, value);
     true
 }
 
-/// Makes the bit at `place` 1. Answers false exactly where the position is past the end, and nothing is written then.
+/// Makes the bit at `position` 1. Answers false exactly where the position is past the end, and nothing is written
+/// then.
 #[inline(always)]
-pub fn try_set_bit(words: &mut [u64], place: usize) -> bool
-    ensures done { IsTrue result ↔ (place < 64 * length words.old) }
+pub fn try_set_bit(words: &mut [u64], position: usize) -> bool
+    ensures done { IsTrue result ↔ (position < 64 * length words.old) }
     ensures value { IsTrue result
-        → bits_of words.new ≡ with_number (bits_of words.old) place 1 1 }
+        → bits_of words.new ≡ with_number (bits_of words.old) position 1 1 }
     ensures kept { result ≡ false → words.new ≡ words.old }
 {
-    try_set_bit_to(words, place, true)
+    try_set_bit_to(words, position, true)
 }
 
-/// Makes the bit at `place` 0. Answers false exactly where the position is past the end, and nothing is written then.
+/// Makes the bit at `position` 0. Answers false exactly where the position is past the end, and nothing is written
+/// then.
 #[inline(always)]
-pub fn try_clear_bit(words: &mut [u64], place: usize) -> bool
-    ensures done { IsTrue result ↔ (place < 64 * length words.old) }
+pub fn try_clear_bit(words: &mut [u64], position: usize) -> bool
+    ensures done { IsTrue result ↔ (position < 64 * length words.old) }
     ensures value { IsTrue result
-        → bits_of words.new ≡ with_number (bits_of words.old) place 1 0 }
+        → bits_of words.new ≡ with_number (bits_of words.old) position 1 0 }
     ensures kept { result ≡ false → words.new ≡ words.old }
 {
-    try_set_bit_to(words, place, false)
+    try_set_bit_to(words, position, false)
 }
 
-/// Makes the bit at `place`, which is 0 or already `value`, equal to `value`.
+/// Makes the bit at `position`, which is 0 or already `value`, equal to `value`.
 ///
 /// # Conditions
 /// The position is inside; its bit is 0 or already `value`.
 #[inline(always)]
 #[tactic(auto, using(crate::proofs::lemmas::InitLemmas::bit_joined))]
-pub fn init_bit(words: &mut [u64], place: usize, value: bool)
-    requires inside { place < 64 * length words.old }
-    requires clear { IsFalseOrAlready (bits_of words.old) place value }
-    ensures { bits_of words.new ≡ with_number (bits_of words.old) place 1 (if value then 1 else 0) }
+pub fn init_bit(words: &mut [u64], position: usize, value: bool)
+    requires inside { position < 64 * length words.old }
+    requires clear { IsFalseOrAlready (bits_of words.old) position value }
+    ensures { bits_of words.new ≡ with_number (bits_of words.old) position 1 (if value then 1 else 0) }
 {
-    words[place / 64] |= (value as u64) << (place % 64);
+    words[position / 64] |= (value as u64) << (position % 64);
 }
 
 /// Replaces the `len` bits from `begin` on by the number `v`, lowest first; the mask has the `len` lowest bits set.

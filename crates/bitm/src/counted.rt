@@ -86,7 +86,7 @@ impl<'a, I: Select> Counted<'a, I> {
     /// The position of the 1 bit with rank `rank`; `None` exactly where there is none. One more selection is made.
     #[inline(always)]
     pub(crate) fn try_select(&mut self, rank: usize) -> Option<usize>
-        ensures place { IsSelect (I.bits self.old.value) true rank result }
+        ensures position { IsSelect (I.bits self.old.value) true rank result }
         ensures counted { self.new ≡ one_more_selection self.old }
     {
         self.selections.read_word();
@@ -100,7 +100,7 @@ impl<'a, I: Select> Counted<'a, I> {
     #[inline(always)]
     pub(crate) fn select(&mut self, rank: usize) -> usize
         requires { rank < ones_of (I.bits self.old.value) }
-        ensures place { Picks (I.bits self.old.value) true rank result }
+        ensures position { Picks (I.bits self.old.value) true rank result }
         ensures counted { self.new ≡ one_more_selection self.old }
     {
         self.selections.read_word();
@@ -112,7 +112,7 @@ impl<'a, I: Select0> Counted<'a, I> {
     /// The position of the 0 bit with rank `rank`; `None` exactly where there is none. One more selection is made.
     #[inline(always)]
     pub(crate) fn try_select0(&mut self, rank: usize) -> Option<usize>
-        ensures place { IsSelect (I.bits self.old.value) false rank result }
+        ensures position { IsSelect (I.bits self.old.value) false rank result }
         ensures counted { self.new ≡ one_more_selection self.old }
     {
         self.selections.read_word();
@@ -126,7 +126,7 @@ impl<'a, I: Select0> Counted<'a, I> {
     #[inline(always)]
     pub(crate) fn select0(&mut self, rank: usize) -> usize
         requires { rank < zeros_of (I.bits self.old.value) }
-        ensures place { Picks (I.bits self.old.value) false rank result }
+        ensures position { Picks (I.bits self.old.value) false rank result }
         ensures counted { self.new ≡ one_more_selection self.old }
     {
         self.selections.read_word();

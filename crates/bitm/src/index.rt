@@ -236,13 +236,13 @@ impl<S: SelectForRank101111, S0: Select0ForRank101111, BV: AsSlice<u64>> Rank
 impl<S: SelectForRank101111, S0: Select0ForRank101111, BV: AsSlice<u64>> Access
     for RankSelect101111<S, S0, BV> {
     #[inline(always)]
-    fn try_get_bit(&self, place: usize) -> Option<bool> {
-        bit_on(&mut self.probe(), place)
+    fn try_get_bit(&self, position: usize) -> Option<bool> {
+        bit_on(&mut self.probe(), position)
     }
 
     #[inline(always)]
-    fn bit_and_rank(&self, place: usize) -> (bool, usize) {
-        match bit_and_rank_on(&mut self.probe(), place) {
+    fn bit_and_rank(&self, position: usize) -> (bool, usize) {
+        match bit_and_rank_on(&mut self.probe(), position) {
             Some(both) => both,
             None => unreachable!(),
         }
@@ -261,7 +261,7 @@ impl<S: SelectForRank101111, S0: Select0ForRank101111, BV: AsSlice<u64>> Select
     #[inline(always)]
     fn select(&self, rank: usize) -> usize {
         match self.try_select(rank) {
-            Some(place) => place,
+            Some(position) => position,
             None => unreachable!(),
         }
     }
@@ -279,7 +279,7 @@ impl<S: SelectForRank101111, S0: Select0ForRank101111, BV: AsSlice<u64>> Select0
     #[inline(always)]
     fn select0(&self, rank: usize) -> usize {
         match self.try_select0(rank) {
-            Some(place) => place,
+            Some(position) => position,
             None => unreachable!(),
         }
     }

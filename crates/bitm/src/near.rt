@@ -33,8 +33,8 @@ pub fn near_zero_on<const WORDS: usize, T: TableSource>(
             return None;
         }
         let word = source.word(at);
-        if let Some(place) = words::find_bit_zero(&[word], start % 64) {
-            return Some(64 * at + place);
+        if let Some(position) = words::find_bit_zero(&[word], start % 64) {
+            return Some(64 * at + position);
         }
         start = 64 * at + 64;
     }

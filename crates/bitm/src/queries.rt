@@ -8,7 +8,7 @@ pub trait HasBits {
     /// The bits of the value.
     ghost bits: { Self → List Bool };
 
-    /// The number of bits. It fits `usize`, so `place + 1` does for each position `place` of a bit.
+    /// The number of bits. It fits `usize`, so `position + 1` does for each position `position` of a bit.
     fn len(&self) -> usize
         ensures { result ≡ length (Self.bits self.now) };
 }
@@ -88,37 +88,37 @@ pub trait Rank: HasBits {
 
 /// Access: the value of a bit, alone or with its rank. Succinct structures need it beside rank and selection.
 pub trait Access: Rank {
-    /// The bit at position `place`; `None` exactly where there is no such bit.
-    fn try_get_bit(&self, place: usize) -> Option<bool>
-        ensures { SomeIff result (place < length (Self.bits self.now))
-            (item (Self.bits self.now) place) };
+    /// The bit at position `position`; `None` exactly where there is no such bit.
+    fn try_get_bit(&self, position: usize) -> Option<bool>
+        ensures { SomeIff result (position < length (Self.bits self.now))
+            (item (Self.bits self.now) position) };
 
-    /// The bit at position `place`.
+    /// The bit at position `position`.
     ///
     /// # Conditions
     /// There is such a bit.
     #[inline(always)]
-    fn get_bit(&self, place: usize) -> bool
-        requires { place < length (Self.bits self.now) }
-        ensures { result ≡ item (Self.bits self.now) place }
+    fn get_bit(&self, position: usize) -> bool
+        requires { position < length (Self.bits self.now) }
+        ensures { result ≡ item (Self.bits self.now) position }
     {
-        match self.try_get_bit(place) {
+        match self.try_get_bit(position) {
             Some(bit) => bit,
             None => unreachable!(),
         }
     }
 
-    /// The bit at position `place`, and the number of 1 bits before it.
+    /// The bit at position `position`, and the number of 1 bits before it.
     ///
     /// # Conditions
     /// There is such a bit.
     #[inline(always)]
-    fn bit_and_rank(&self, place: usize) -> (bool, usize)
-        requires { place < length (Self.bits self.now) }
-        ensures bit { result.0 ≡ item (Self.bits self.now) place }
-        ensures rank { result.1 ≡ ones_before (Self.bits self.now) place }
+    fn bit_and_rank(&self, position: usize) -> (bool, usize)
+        requires { position < length (Self.bits self.now) }
+        ensures bit { result.0 ≡ item (Self.bits self.now) position }
+        ensures rank { result.1 ≡ ones_before (Self.bits self.now) position }
     {
-        (self.get_bit(place), self.rank(place))
+        (self.get_bit(position), self.rank(position))
     }
 
     /// The number of 1 bits among the first `from` bits, and among the first `to` bits.
@@ -152,7 +152,7 @@ pub trait Select: HasBits {
         ensures { Picks (Self.bits self.now) true rank result }
     {
         match self.try_select(rank) {
-            Some(place) => place,
+            Some(position) => position,
             None => unreachable!(),
         }
     }
@@ -186,7 +186,7 @@ pub trait Select0: HasBits {
         ensures { Picks (Self.bits self.now) false rank result }
     {
         match self.try_select0(rank) {
-            Some(place) => place,
+            Some(position) => position,
             None => unreachable!(),
         }
     }

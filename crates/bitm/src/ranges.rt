@@ -69,66 +69,66 @@ pub fn zeros_between<I: Rank>(index: &I, start: usize, end: usize) -> usize
 /// `next_one`, by one rank and one selection in a value that counts them.
 #[tactic(auto, using(bit_lists::proofs::BitLaws::next_one_is_selected))]
 #[inline(always)]
-fn next_one_in<I: Rank + Select>(counted: &mut Counted<'_, I>, place: usize) -> Option<usize>
-    requires { place ≤ length (I.bits counted.old.value) }
-    ensures answer { MatchesFirstOne (I.bits counted.old.value) place result }
+fn next_one_in<I: Rank + Select>(counted: &mut Counted<'_, I>, position: usize) -> Option<usize>
+    requires { position ≤ length (I.bits counted.old.value) }
+    ensures answer { MatchesFirstOne (I.bits counted.old.value) position result }
     ensures queries { QueriesAtMost counted.old counted.new 1 1 }
 {
-    let rank = counted.rank(place);
+    let rank = counted.rank(position);
     counted.try_select(rank)
 }
 
-/// The position of the first 1 bit at `place` or after it; `None` exactly where there is none.
+/// The position of the first 1 bit at `position` or after it; `None` exactly where there is none.
 ///
 /// # Conditions
-/// There are at least `place` bits.
+/// There are at least `position` bits.
 /// # Cost
 /// A rank and a selection.
 #[inline(always)]
-pub fn next_one<I: Rank + Select>(index: &I, place: usize) -> Option<usize>
-    requires { place ≤ length (I.bits index.now) }
-    ensures { MatchesFirstOne (I.bits index.now) place result }
+pub fn next_one<I: Rank + Select>(index: &I, position: usize) -> Option<usize>
+    requires { position ≤ length (I.bits index.now) }
+    ensures { MatchesFirstOne (I.bits index.now) position result }
 {
-    next_one_in(&mut Counted::new(index), place)
+    next_one_in(&mut Counted::new(index), position)
 }
 
 /// `next_zero`, by one rank and one selection in a value that counts them.
 #[tactic(auto, using(bitm_bits::proofs::Callers::next_zero))]
 #[inline(always)]
-fn next_zero_in<I: Rank + Select0>(counted: &mut Counted<'_, I>, place: usize) -> Option<usize>
-    requires { place ≤ length (I.bits counted.old.value) }
-    ensures answer { MatchesFirstZero (I.bits counted.old.value) place result }
+fn next_zero_in<I: Rank + Select0>(counted: &mut Counted<'_, I>, position: usize) -> Option<usize>
+    requires { position ≤ length (I.bits counted.old.value) }
+    ensures answer { MatchesFirstZero (I.bits counted.old.value) position result }
     ensures queries { QueriesAtMost counted.old counted.new 1 1 }
 {
-    let rank = counted.rank0(place);
+    let rank = counted.rank0(position);
     counted.try_select0(rank)
 }
 
-/// The position of the first 0 bit at `place` or after it; `None` exactly where there is none.
+/// The position of the first 0 bit at `position` or after it; `None` exactly where there is none.
 ///
 /// # Conditions
-/// There are at least `place` bits.
+/// There are at least `position` bits.
 /// # Cost
 /// A rank and a selection.
 #[inline(always)]
-pub fn next_zero<I: Rank + Select0>(index: &I, place: usize) -> Option<usize>
-    requires { place ≤ length (I.bits index.now) }
-    ensures { MatchesFirstZero (I.bits index.now) place result }
+pub fn next_zero<I: Rank + Select0>(index: &I, position: usize) -> Option<usize>
+    requires { position ≤ length (I.bits index.now) }
+    ensures { MatchesFirstZero (I.bits index.now) position result }
 {
-    next_zero_in(&mut Counted::new(index), place)
+    next_zero_in(&mut Counted::new(index), position)
 }
 
 /// `previous_one`, by one rank and one selection in a value that counts them.
 #[tactic(auto, using(bitm_bits::proofs::Callers::last_one, bitm_bits::proofs::Callers::no_one_to, bitm_bits::proofs::Callers::ones_grow))]
 #[inline(always)]
-fn previous_one_in<I: Rank + Select>(counted: &mut Counted<'_, I>, place: usize) -> Option<usize>
-    requires { place < length (I.bits counted.old.value) }
-    ensures answer { MatchesLast (I.bits counted.old.value) true place result }
+fn previous_one_in<I: Rank + Select>(counted: &mut Counted<'_, I>, position: usize) -> Option<usize>
+    requires { position < length (I.bits counted.old.value) }
+    ensures answer { MatchesLast (I.bits counted.old.value) true position result }
     ensures queries { QueriesAtMost counted.old counted.new 1 1 }
 {
-    // The number of bits fits `usize`, so `place + 1` does.
+    // The number of bits fits `usize`, so `position + 1` does.
     let _len = counted.len();
-    let count = counted.rank(place + 1);
+    let count = counted.rank(position + 1);
     if count == 0 {
         None
     } else {
@@ -136,31 +136,34 @@ fn previous_one_in<I: Rank + Select>(counted: &mut Counted<'_, I>, place: usize)
     }
 }
 
-/// The position of the last 1 bit at `place` or before it; `None` exactly where there is none.
+/// The position of the last 1 bit at `position` or before it; `None` exactly where there is none.
 ///
 /// # Conditions
-/// There are more than `place` bits.
+/// There are more than `position` bits.
 /// # Cost
 /// A rank and a selection.
 #[inline(always)]
-pub fn previous_one<I: Rank + Select>(index: &I, place: usize) -> Option<usize>
-    requires { place < length (I.bits index.now) }
-    ensures { MatchesLast (I.bits index.now) true place result }
+pub fn previous_one<I: Rank + Select>(index: &I, position: usize) -> Option<usize>
+    requires { position < length (I.bits index.now) }
+    ensures { MatchesLast (I.bits index.now) true position result }
 {
-    previous_one_in(&mut Counted::new(index), place)
+    previous_one_in(&mut Counted::new(index), position)
 }
 
 /// `previous_zero`, by one rank and one selection in a value that counts them.
 #[tactic(auto, using(bitm_bits::proofs::Callers::last_zero, bitm_bits::proofs::Callers::no_zero_to, bitm_bits::proofs::Callers::zeros_grow))]
 #[inline(always)]
-fn previous_zero_in<I: Rank + Select0>(counted: &mut Counted<'_, I>, place: usize) -> Option<usize>
-    requires { place < length (I.bits counted.old.value) }
-    ensures answer { MatchesLast (I.bits counted.old.value) false place result }
+fn previous_zero_in<I: Rank + Select0>(
+    counted: &mut Counted<'_, I>,
+    position: usize,
+) -> Option<usize>
+    requires { position < length (I.bits counted.old.value) }
+    ensures answer { MatchesLast (I.bits counted.old.value) false position result }
     ensures queries { QueriesAtMost counted.old counted.new 1 1 }
 {
-    // The number of bits fits `usize`, so `place + 1` does.
+    // The number of bits fits `usize`, so `position + 1` does.
     let _len = counted.len();
-    let count = counted.rank0(place + 1);
+    let count = counted.rank0(position + 1);
     if count == 0 {
         None
     } else {
@@ -168,18 +171,18 @@ fn previous_zero_in<I: Rank + Select0>(counted: &mut Counted<'_, I>, place: usiz
     }
 }
 
-/// The position of the last 0 bit at `place` or before it; `None` exactly where there is none.
+/// The position of the last 0 bit at `position` or before it; `None` exactly where there is none.
 ///
 /// # Conditions
-/// There are more than `place` bits.
+/// There are more than `position` bits.
 /// # Cost
 /// A rank and a selection.
 #[inline(always)]
-pub fn previous_zero<I: Rank + Select0>(index: &I, place: usize) -> Option<usize>
-    requires { place < length (I.bits index.now) }
-    ensures { MatchesLast (I.bits index.now) false place result }
+pub fn previous_zero<I: Rank + Select0>(index: &I, position: usize) -> Option<usize>
+    requires { position < length (I.bits index.now) }
+    ensures { MatchesLast (I.bits index.now) false position result }
 {
-    previous_zero_in(&mut Counted::new(index), place)
+    previous_zero_in(&mut Counted::new(index), position)
 }
 
 /// `select_from`, by one rank and one selection in a value that counts them.
@@ -187,34 +190,34 @@ pub fn previous_zero<I: Rank + Select0>(index: &I, place: usize) -> Option<usize
 #[inline(always)]
 fn select_from_in<I: Rank + Select>(
     counted: &mut Counted<'_, I>,
-    place: usize,
+    position: usize,
     k: usize,
 ) -> Option<usize>
-    requires { place ≤ length (I.bits counted.old.value) }
-    ensures answer { IsSelectFrom (I.bits counted.old.value) true place k result }
+    requires { position ≤ length (I.bits counted.old.value) }
+    ensures answer { IsSelectFrom (I.bits counted.old.value) true position k result }
     ensures queries { QueriesAtMost counted.old counted.new 1 1 }
 {
     // The number of bits fits `usize`, so a sum that does not is greater than it.
     let _len = counted.len();
-    match counted.rank(place).checked_add(k) {
+    match counted.rank(position).checked_add(k) {
         Some(rank) => counted.try_select(rank),
         None => None,
     }
 }
 
-/// The position of the 1 bit from `place` on with exactly `k` 1 bits between `place` and it; `None` exactly where there
-/// is none.
+/// The position of the 1 bit from `position` on with exactly `k` 1 bits between `position` and it; `None` exactly where
+/// there is none.
 ///
 /// # Conditions
-/// There are at least `place` bits.
+/// There are at least `position` bits.
 /// # Cost
 /// A rank and a selection.
 #[inline(always)]
-pub fn select_from<I: Rank + Select>(index: &I, place: usize, k: usize) -> Option<usize>
-    requires { place ≤ length (I.bits index.now) }
-    ensures { IsSelectFrom (I.bits index.now) true place k result }
+pub fn select_from<I: Rank + Select>(index: &I, position: usize, k: usize) -> Option<usize>
+    requires { position ≤ length (I.bits index.now) }
+    ensures { IsSelectFrom (I.bits index.now) true position k result }
 {
-    select_from_in(&mut Counted::new(index), place, k)
+    select_from_in(&mut Counted::new(index), position, k)
 }
 
 /// `select0_from`, by one rank and one selection in a value that counts them.
@@ -222,32 +225,32 @@ pub fn select_from<I: Rank + Select>(index: &I, place: usize, k: usize) -> Optio
 #[inline(always)]
 fn select0_from_in<I: Rank + Select0>(
     counted: &mut Counted<'_, I>,
-    place: usize,
+    position: usize,
     k: usize,
 ) -> Option<usize>
-    requires { place ≤ length (I.bits counted.old.value) }
-    ensures answer { IsSelectFrom (I.bits counted.old.value) false place k result }
+    requires { position ≤ length (I.bits counted.old.value) }
+    ensures answer { IsSelectFrom (I.bits counted.old.value) false position k result }
     ensures queries { QueriesAtMost counted.old counted.new 1 1 }
 {
     // The number of bits fits `usize`, so a sum that does not is greater than it.
     let _len = counted.len();
-    match counted.rank0(place).checked_add(k) {
+    match counted.rank0(position).checked_add(k) {
         Some(rank) => counted.try_select0(rank),
         None => None,
     }
 }
 
-/// The position of the 0 bit from `place` on with exactly `k` 0 bits between `place` and it; `None` exactly where there
-/// is none.
+/// The position of the 0 bit from `position` on with exactly `k` 0 bits between `position` and it; `None` exactly where
+/// there is none.
 ///
 /// # Conditions
-/// There are at least `place` bits.
+/// There are at least `position` bits.
 /// # Cost
 /// A rank and a selection.
 #[inline(always)]
-pub fn select0_from<I: Rank + Select0>(index: &I, place: usize, k: usize) -> Option<usize>
-    requires { place ≤ length (I.bits index.now) }
-    ensures { IsSelectFrom (I.bits index.now) false place k result }
+pub fn select0_from<I: Rank + Select0>(index: &I, position: usize, k: usize) -> Option<usize>
+    requires { position ≤ length (I.bits index.now) }
+    ensures { IsSelectFrom (I.bits index.now) false position k result }
 {
-    select0_from_in(&mut Counted::new(index), place, k)
+    select0_from_in(&mut Counted::new(index), position, k)
 }

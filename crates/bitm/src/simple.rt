@@ -183,8 +183,8 @@ impl<BV: AsSlice<u64>> Rank for RankSimple<BV> {
 impl<BV: AsSlice<u64>> Access for RankSimple<BV> {
     #[tactic(auto, using(bit_lists::proofs::BitLaws::bits_are_counted))]
     #[inline(always)]
-    fn try_get_bit(&self, place: usize) -> Option<bool> {
-        words::try_get_bit(self.content.as_slice(), place)
+    fn try_get_bit(&self, position: usize) -> Option<bool> {
+        words::try_get_bit(self.content.as_slice(), position)
     }
 }
 

@@ -3,25 +3,25 @@ use Rattle.std.proofs.Common.{◌≡◌, ℕ, ◌-◌, ◌^◌, ◌<◌, ◌≤�
 use Rattle.bit_lists.proofs.lemmas.CountLemmas.{few_ones}
 use Rattle.bit_lists.proofs.lemmas.BitsLemmas.{length-bits_of}
 use Rattle.bit_lists.specs.Count.{ones_of}
-use Rattle.bitm_select.specs.Answers.{told_in}
+use Rattle.bitm_select.specs.Answers.{list_code}
 use Rattle.bitm_tables.specs.Tables.{Lists, bits_in}
 use Rattle.bitm_tables.specs.declared.answer.Answer.{Answer}
 use Rattle.bitm_tables.specs.declared.answer.Answer.TheVariants.{Found, Absent, Wrong}
-use Rattle.bitm_view.proofs.CodeLemmas.{selected_place}
+use Rattle.bitm_view.proofs.CodeLemmas.{selected_position}
 use Rattle.bitm_view.specs.Queries.{ranked_by}
 use Rattle.perfect_hash.specs.Levels.{fall_in}
 use Rattle.perfect_hash.specs.Numbers.{number_in}
-use Rattle.perfect_hash.specs.Places.{place_by, place_in}
+use Rattle.perfect_hash.specs.Positions.{position_by, position_in}
 use Rattle.perfect_hash.specs.Asking.{IsBelow, IsNumbered}
-use Rattle.perfect_hash.specs.Listed.{IsNumberTold, IsTotal}
+use Rattle.perfect_hash.specs.Listed.{IsNumberClaimed, IsTotal}
 use Rattle.bitm_abi.specs.Hash.{fall_of, HashLists, IsHashNumber, IsHashOf}
 
 -- where hashes fall without seeds, and with some
-pub falls_plain : (seeds : List ℕ) → length seeds ≡ 0 → fall_of seeds ≡ (λ _. place_in)
+pub falls_plain : (seeds : List ℕ) → length seeds ≡ 0 → fall_of seeds ≡ (λ _. position_in)
 falls_plain [] none = refl
 falls_plain (seed ∷ seeds) none = absurd (omega (arith, none))
 
-pub falls_by : (seeds : List ℕ) → 0 < length seeds → fall_of seeds ≡ place_by seeds
+pub falls_by : (seeds : List ℕ) → 0 < length seeds → fall_of seeds ≡ position_by seeds
 falls_by [] some = absurd (omega (arith, some))
 falls_by (seed ∷ seeds) some = refl
 
@@ -31,8 +31,8 @@ below_more m n Absent l below = tt
 below_more m n Wrong l below = tt
 
 -- a code that is below a limit stands for its answer
-coded : (limit : ℕ) (answer : Answer ℕ) → limit ≤ 2 ^ 64 - 2 → IsBelow limit answer → ranked_by (told_in answer) ≡ answer
-coded limit (Found p) most below = selected_place p (omega (arith, below, most))
+coded : (limit : ℕ) (answer : Answer ℕ) → limit ≤ 2 ^ 64 - 2 → IsBelow limit answer → ranked_by (list_code answer) ≡ answer
+coded limit (Found p) most below = selected_position p (omega (arith, below, most))
 coded limit Absent most below = refl
 coded limit Wrong most below = refl
 
@@ -53,9 +53,9 @@ module _ (h : HashLists) (by : ℕ → ℕ → ℕ → ℕ → ℕ) (same : fall
   total_is answer total = below_limit h.keys answer (omega arith) (λ right. right.enough) total
 
   -- whatever the number of keys, no number is a code
-  pub told_is : (limit n : ℕ) → limit ≡ min h.keys (2 ^ 64 - 2) → IsNumberTold by h.sizes limit lists hash n → IsHashNumber h hash (ranked_by n)
-  told_is limit n limit_is told =
-      subst (IsHashNumber h hash) (sym (ap ranked_by told.told ∙ coded limit told.answer (omega (arith, limit_is)) told.is.below))
-      (below_limit limit told.answer (omega (arith, limit_is))
+  pub claimed_is : (limit n : ℕ) → limit ≡ min h.keys (2 ^ 64 - 2) → IsNumberClaimed by h.sizes limit lists hash n → IsHashNumber h hash (ranked_by n)
+  claimed_is limit n limit_is claimed =
+      subst (IsHashNumber h hash) (sym (ap ranked_by claimed.claimed ∙ coded limit claimed.answer (omega (arith, limit_is)) claimed.is.below))
+      (below_limit limit claimed.answer (omega (arith, limit_is))
       (λ right. omega (arith, limit_is, right.enough, few_ones h.lists.words, right.sized.short, length-bits_of h.lists.words))
-      told.is)
+      claimed.is)

@@ -1,4 +1,4 @@
 pub mod HashLemmas
 pub mod ListedLemmas
 pub mod StoredLemmas
-pub mod ToldLemmas
+pub mod ClaimedLemmas

@@ -3,12 +3,12 @@ use Rattle.std.proofs.Common.{◌≡◌, ℕ, ◌↔◌, Bool, true, false, IsTr
 use Rattle.std.proofs.lemmas.Bool.{false≢true}
 use Rattle.std.specs.List.{Contains}
 use Rattle.elias_fano.specs.SequenceParts.{Holds, SequenceParts}
-use Rattle.elias_fano.specs.Told.{TellsLess}
+use Rattle.elias_fano.specs.Claims.{ClaimsLess}
 use Rattle.bitm_abi.specs.Sequence.{IsContained}
 
 -- a truth is 0 or 1
 pub contained_as : (value : ℕ) (parts : SequenceParts) (n : ℕ) (is : Bool) → (is ≡ true → n ≡ 1) → (is ≡ false → n ≡ 0)
-    → (p : ℕ) × TellsLess parts value p × (p ≡ parts.len → is ≡ false)
+    → (p : ℕ) × ClaimsLess parts value p × (p ≡ parts.len → is ≡ false)
     → ((xs : List ℕ) → Holds xs parts → IsTrue is ↔ Contains xs value) → IsContained value parts n
 contained_as value parts n true one zero less answer =
     let is : n ≡ 1 = one refl in

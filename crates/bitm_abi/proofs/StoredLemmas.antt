@@ -69,7 +69,7 @@ same_stored h k mark kind len width size ones_log2 zeros_log2 words upper lower 
     let all : anew h ≡ anew k = cc in
     all
 
--- two headers with the same lengths, both with each part at its place, are one
+-- two headers with the same lengths, both with each part at its position, are one
 pub same_layout : (h k : Stored) → IsLaidOut h → IsLaidOut k → IsAlike k h → h ≡ k
 same_layout h k a b same =
     let words : h.words ≡ k.words = same_span h.words k.words (cc (a.words, b.words)) (sym same.words) in
@@ -91,7 +91,7 @@ same_layout h k a b same =
     same_stored h k mark same_kind same_len same_width size same_ones same_zeros words upper lower low
     starts starts0 samples samples0 checksum
 
--- what is equal to a header with each part at its place is one
+-- what is equal to a header with each part at its position is one
 pub moved : (h k : Stored) → h ≡ k → IsLaidOut k → IsLaidOut h
 moved h k same l = subst (λ (x : Stored). IsLaidOut x) (sym same) l
 

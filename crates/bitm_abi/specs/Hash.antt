@@ -7,7 +7,7 @@ use Rattle.tables_view.specs.Sizes.{lists_of}
 use Rattle.perfect_hash.specs.Asking.{IsBelow, IsNumbered}
 use Rattle.perfect_hash.specs.Levels.{fall_in}
 use Rattle.perfect_hash.specs.Numbers.{number_in, AreSizes}
-use Rattle.perfect_hash.specs.Places.{place_by, place_in}
+use Rattle.perfect_hash.specs.Positions.{position_by, position_in}
 use Rattle.bitm_abi.specs.declared.hash.Hash.{Hash}
 use Rattle.bitm_abi.specs.declared.hash.SeededHash.{SeededHash}
 
@@ -35,8 +35,8 @@ pub record CanBeHash (h : HashLists) : Type 0 where
 
 -- where hashes fall: by seeds, or by their bits alone where there are none
 abbrev pub fall_of : List ℕ → ℕ → ℕ → ℕ → ℕ → ℕ
-fall_of [] = λ _. place_in
-fall_of (seed ∷ seeds) = place_by (seed ∷ seeds)
+fall_of [] = λ _. position_in
+fall_of (seed ∷ seeds) = position_by (seed ∷ seeds)
 
 -- the number of a hash in these levels
 abbrev pub hash_number : HashLists → ℕ → Option ℕ

@@ -5,9 +5,9 @@ use Rattle.bitm_tables.specs.declared.answer.Answer.{Answer}
 use Rattle.bitm_tables.specs.Tables.{HasSizes, Lists}
 use Rattle.bitm_view.specs.Queries.{selected_by}
 use Rattle.tables_view.specs.Sizes.{lists_of}
-use Rattle.elias_fano.specs.Answers.{IsPlaceOf, IsPredecessorOf}
+use Rattle.elias_fano.specs.Answers.{IsIndexIn, IsPredecessorOf}
 use Rattle.elias_fano.specs.SequenceParts.{parts_of, with_hints, AreHeldParts, HasLengths, SequenceParts}
-use Rattle.elias_fano.specs.Told.{ClaimAtMost, ClaimLess, IfLast}
+use Rattle.elias_fano.specs.Claims.{ClaimAtMost, ClaimLess, IfLast}
 use Rattle.elias_fano_view.specs.declared.lists.ListAnswer.{ListAnswer}
 use Rattle.elias_fano_view.specs.declared.lists.ListAnswer.TheVariants.{All, AbsentAt, WrongAt, WrongLength}
 use Rattle.elias_fano_view.specs.declared.sizes.Sizes.{Sizes}
@@ -34,16 +34,16 @@ abbrev pub sought_by : ℕ → Answer ℕ
 sought_by = selected_by
 
 -- how far a list of n indices was answered, and why no farther: a status, and the number before and after the call
-abbrev pub IsListTold : ListAnswer → ℕ → ℕ → ℕ → ℕ → Type 0
-IsListTold All n status old new = (status ≡ 0) × (new ≡ n)
-IsListTold (AbsentAt k) n status old new = (status ≡ 1) × (new ≡ k)
-IsListTold (WrongAt k) n status old new = (status ≡ 3) × (new ≡ k)
-IsListTold WrongLength n status old new = (status ≡ 2) × (new ≡ old)
+abbrev pub IsListReported : ListAnswer → ℕ → ℕ → ℕ → ℕ → Type 0
+IsListReported All n status old new = (status ≡ 0) × (new ≡ n)
+IsListReported (AbsentAt k) n status old new = (status ≡ 1) × (new ≡ k)
+IsListReported (WrongAt k) n status old new = (status ≡ 3) × (new ≡ k)
+IsListReported WrongLength n status old new = (status ≡ 2) × (new ≡ old)
 
 -- the predecessor of value: the index of the last number that is at most value; whatever the parts hold, they claim
 -- that all numbers up to that index are at most value, or that none is where the answer is that there is none
 pub record FindsLast (value len width : ℕ) (low : List ℕ) (upper : Lists) (hints : List ℕ) (answer : Answer ℕ) : Type 0 where
-  pub inside : IsPlaceOf len answer
+  pub inside : IsIndexIn len answer
   pub most : IfLast answer (ClaimAtMost len width low upper value)
   pub counts : (xs : List ℕ) → AreHeldParts xs len width low upper hints → IsPredecessorOf xs value answer
 

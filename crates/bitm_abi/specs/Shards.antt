@@ -7,12 +7,12 @@ use Rattle.bitm_tables.specs.Tables.{HasTables}
 use Rattle.bitm_abi.specs.Index.{cut_of}
 use Rattle.bitm_abi.specs.declared.index.Index.{Index}
 use Rattle.bitm_abi.specs.declared.shards.Prefixes.{Prefixes}
-use Rattle.bitm_abi.specs.declared.shards.ShardPlace.{ShardPlace}
+use Rattle.bitm_abi.specs.declared.shards.ShardLocation.{ShardLocation}
 use Rattle.bitm_abi.specs.declared.shards.Shards.{Shards}
 use Rattle.sharded_index.specs.Prefixes.{prefixes_of, ArePrefixes, HasLengths, Prefixes as Counts}
 use Rattle.sharded_index.specs.declared.counts.Kind.{Kind}
 use Rattle.sharded_index.specs.declared.counts.Kind.TheVariants.{Positions, Zeros, Ones}
-use Rattle.sharded_index.specs.declared.counts.Place.{Place}
+use Rattle.sharded_index.specs.declared.counts.Location.{Location}
 use Rattle.sharded_index.specs.declared.sharded.ShardedIndex.{ShardedIndex}
 
 -- the numbers of prefix counts
@@ -55,7 +55,7 @@ kind_in_c (suc (suc zero)) = Some Positions
 kind_in_c (suc (suc (suc n))) = None
 
 -- what is written for C says of the answer
-abbrev pub answer_from_c : Answer ShardPlace → Answer Place
-answer_from_c (Found place) = Found (record { shard = place.shard; within = place.within })
+abbrev pub answer_from_c : Answer ShardLocation → Answer Location
+answer_from_c (Found location) = Found (record { shard = location.shard; within = location.within })
 answer_from_c Absent = Absent
 answer_from_c Wrong = Wrong

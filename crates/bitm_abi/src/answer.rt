@@ -21,7 +21,7 @@ pub const UNSORTED: u32 = 4;
 
 /// Writes the number that was found, if one was.
 #[inline(always)]
-pub fn tell<T: Copy>(found: Option<T>, out: &mut T) -> u32
+pub fn report_option<T: Copy>(found: Option<T>, out: &mut T) -> u32
     ensures { MatchOption found ((result ≡ 1) × (out.new ≡ out.old))
         (λ n. (result ≡ 0) × (out.new ≡ n)) }
 {

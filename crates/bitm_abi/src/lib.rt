@@ -36,7 +36,9 @@ mod sequence_lists;
 mod shards;
 mod tree;
 
-pub use answer::{BAD_SIZE, NONE, OK, UNSORTED, WRONG, as_number, done, report, report_both, tell};
+pub use answer::{
+    BAD_SIZE, NONE, OK, UNSORTED, WRONG, as_number, done, report, report_both, report_option,
+};
 pub use counts::{ListCounts, code_of, report_list};
 pub use hash::{Hash, PerfectHashView, SeededHash};
 pub use hash_blocks::{hash_at, hash_view};
@@ -47,7 +49,7 @@ pub use lengths::{has_bits, has_bytes, has_counted_bits, has_range};
 pub use matrix::Matrix;
 pub use rooms::{is_log, most_samples};
 pub use samples::{Samples, narrow_log2, samples_room};
-pub use sequence::{Sequence, SequenceLens, tell_list};
+pub use sequence::{Sequence, SequenceLens, report_list_answer};
 pub use sequence_lists::{contains_list, last_at_most_list};
-pub use shards::{Prefixes, ShardPlace, Shards, in_c, kind_of};
+pub use shards::{Prefixes, ShardLocation, Shards, in_c, kind_of};
 pub use tree::Tree;

@@ -1,6 +1,6 @@
 //! A sequence as C passes it, and as the library takes it.
 ghost use Rattle.std.specs.Prelude.{SomeIff};
-ghost use Rattle.bitm_abi.specs.Sequence.{sequence_parts, IsListTold, IsSequenceSized};
+ghost use Rattle.bitm_abi.specs.Sequence.{sequence_parts, IsListReported, IsSequenceSized};
 
 use crate::answer::{BAD_SIZE, NONE, OK, WRONG};
 use elias_fano_view::{ListAnswer, SequenceView};
@@ -59,8 +59,8 @@ impl<'a> Sequence<'a> {
 
 /// Reports how many numbers of a list were written, and by the status why no more.
 #[inline(always)]
-pub fn tell_list(answer: ListAnswer, len: usize, written: &mut usize) -> u32
-    ensures { IsListTold answer len result written.old written.new }
+pub fn report_list_answer(answer: ListAnswer, len: usize, written: &mut usize) -> u32
+    ensures { IsListReported answer len result written.old written.new }
 {
     let (count, status) = match answer {
         ListAnswer::All => (len, OK),

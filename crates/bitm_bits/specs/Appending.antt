@@ -3,7 +3,7 @@ use Rattle.std.specs.Prelude.{◌≡◌, ℕ, ◌+◌, ◌≤◌, false, List, l
 use Rattle.std.specs.Int.{div_ceil}
 use Rattle.bit_lists.specs.Bits.{bits_of, item}
 
--- the words are as few as have n bits, and all bits from place n on are zeros
+-- the words are as few as have n bits, and all bits from position n on are zeros
 abbrev pub AreFilledTo : List ℕ → ℕ → Type 0
 AreFilledTo words n = (length words ≡ div_ceil n 64) × ((p : ℕ) → n ≤ p → item (bits_of words) p ≡ false)
 

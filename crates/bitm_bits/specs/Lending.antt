@@ -17,7 +17,7 @@ abbrev pub ReplacesIf : {A : Type 0} → Bool → (A → List ℕ) → A → A �
 ReplacesIf taken words old new begin len v =
     bits_of (words new) ≡ with_number_if taken (bits_of (words old)) begin len v
 
--- each bit from begin on that is reached by len bits and at whose place v has a one is negated, and all others are as
+-- each bit from begin on that is reached by len bits and at whose position v has a one is negated, and all others are as
 -- they were
 abbrev pub Negates : {A : Type 0} → (A → List ℕ) → A → A → ℕ → ℕ → ℕ → Type 0
 Negates words old new begin len v = bits_of (words new) ≡ with_flips (bits_of (words old)) begin len v

@@ -2,7 +2,7 @@
 ghost use Rattle.std.specs.Prelude.{◌≡◌, ◌+◌, ◌*◌, ◌^◌, ◌<◌, ◌≤◌, ℕ, List, length, SomeIff, true, false};
 ghost use Rattle.bit_lists.specs.Bits.{bits_of, item, IsShort};
 ghost use Rattle.bit_lists.specs.Coming.{all_bits_left};
-ghost use Rattle.bit_lists.specs.Count.{ones_of, zeros_of, places, HasOneFrom, HasOneTo};
+ghost use Rattle.bit_lists.specs.Count.{ones_of, zeros_of, bit_positions, HasOneFrom, HasOneTo};
 ghost use Rattle.bit_lists.specs.Count.{IsFirstOneFrom, IsFirstOneOrEnd, IsLastOneTo, MatchesFirstOne};
 ghost use Rattle.bit_lists.specs.Number.{number_at, IsInRange, IsFragmentInRange};
 ghost use Rattle.bit_lists.specs.Window.{reach_of};
@@ -28,44 +28,44 @@ pub trait BitAccess {
     /// The words.
     ghost words: { Self → List ℕ };
 
-    /// The bit at `place`.
+    /// The bit at `position`.
     ///
     /// # Conditions
     /// The position is inside.
-    fn get_bit(&self, place: usize) -> bool
-        requires { place < 64 * length (words self.now) }
-        ensures { result ≡ item (bits_of (words self.now)) place };
+    fn get_bit(&self, position: usize) -> bool
+        requires { position < 64 * length (words self.now) }
+        ensures { result ≡ item (bits_of (words self.now)) position };
 
-    /// The bit at `place`, as `get_bit`.
+    /// The bit at `position`, as `get_bit`.
     ///
     /// # Conditions
     /// The position is inside.
     #[inline(always)]
-    fn get_bit_unchecked(&self, place: usize) -> bool
-        requires { place < 64 * length (words self.now) }
-        ensures { result ≡ item (bits_of (words self.now)) place }
+    fn get_bit_unchecked(&self, position: usize) -> bool
+        requires { position < 64 * length (words self.now) }
+        ensures { result ≡ item (bits_of (words self.now)) position }
     {
-        self.get_bit(place)
+        self.get_bit(position)
     }
 
-    /// The bit at `place`; `None` exactly where that position is outside.
-    fn try_get_bit(&self, place: usize) -> Option<bool>
-        ensures { SomeIff result (place < 64 * length (words self.now))
-            (item (bits_of (words self.now)) place) };
+    /// The bit at `position`; `None` exactly where that position is outside.
+    fn try_get_bit(&self, position: usize) -> Option<bool>
+        ensures { SomeIff result (position < 64 * length (words self.now))
+            (item (bits_of (words self.now)) position) };
 
-    /// The bit at `place`, which moves on by one.
+    /// The bit at `position`, which moves on by one.
     ///
     /// # Conditions
     /// The position is inside; there are fewer than 2^58 words.
-    fn get_successive_bit(&self, place: &mut usize) -> bool
-        requires inside { place.old < 64 * length (words self.now) }
+    fn get_successive_bit(&self, position: &mut usize) -> bool
+        requires inside { position.old < 64 * length (words self.now) }
         requires short { IsShort (words self.now) }
-        ensures bit { result ≡ item (bits_of (words self.now)) place.old }
-        ensures advances { place.new ≡ place.old + 1 };
+        ensures bit { result ≡ item (bits_of (words self.now)) position.old }
+        ensures advances { position.new ≡ position.old + 1 };
 
     /// Does nothing: a caller may name a position that it reads soon, inside or not.
     #[inline(always)]
-    fn prefetch_bit(&self, _place: usize) {}
+    fn prefetch_bit(&self, _position: usize) {}
 
     /// The bits from `begin` to the end of the word, or 64 of them where `len` bits cross that end, as a number, lowest
     /// first.
@@ -252,7 +252,7 @@ pub trait BitAccess {
     /// There are fewer than 2^58 words.
     fn bit_ones(&self) -> BitOnesIterator<'_>
         requires { IsShort (words self.now) }
-        ensures { result ≡ places true 0 (bits_of (words self.now)) };
+        ensures { result ≡ bit_positions true 0 (bits_of (words self.now)) };
 
     /// The positions of the 0 bits, rising.
     ///
@@ -260,7 +260,7 @@ pub trait BitAccess {
     /// There are fewer than 2^58 words.
     fn bit_zeros(&self) -> BitZerosIterator<'_>
         requires { IsShort (words self.now) }
-        ensures { result ≡ places false 0 (bits_of (words self.now)) };
+        ensures { result ≡ bit_positions false 0 (bits_of (words self.now)) };
 
     /// All bits, from either end.
     ///

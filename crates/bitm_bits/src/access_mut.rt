@@ -32,130 +32,130 @@ pub trait BitAccessMut: BitAccess {
     /// The name of the borrow: values with one name give out the same slice.
     ghost lender: { Self → ℕ };
 
-    /// Makes the bit at `place` equal to `value`.
+    /// Makes the bit at `position` equal to `value`.
     ///
     /// # Conditions
     /// The position is inside.
-    fn set_bit_to(&mut self, place: usize, value: bool)
-        requires { place < 64 * length (Self.words self.old) }
+    fn set_bit_to(&mut self, position: usize, value: bool)
+        requires { position < 64 * length (Self.words self.old) }
         ensures same { LendsSame Self.lender Self.words self.old self.new }
-        ensures after { Replaces Self.words self.old self.new place 1 (if value then 1 else 0) };
+        ensures after { Replaces Self.words self.old self.new position 1 (if value then 1 else 0) };
 
     /// As `set_bit_to`, under the same conditions.
     #[inline(always)]
-    fn set_bit_to_unchecked(&mut self, place: usize, value: bool)
-        requires { place < 64 * length (Self.words self.old) }
+    fn set_bit_to_unchecked(&mut self, position: usize, value: bool)
+        requires { position < 64 * length (Self.words self.old) }
         ensures same { LendsSame Self.lender Self.words self.old self.new }
-        ensures after { Replaces Self.words self.old self.new place 1 (if value then 1 else 0) }
+        ensures after { Replaces Self.words self.old self.new position 1 (if value then 1 else 0) }
     {
-        self.set_bit_to(place, value);
+        self.set_bit_to(position, value);
     }
 
-    /// Makes the bit at `place` 1.
+    /// Makes the bit at `position` 1.
     ///
     /// # Conditions
     /// The position is inside.
-    fn set_bit(&mut self, place: usize)
-        requires { place < 64 * length (Self.words self.old) }
+    fn set_bit(&mut self, position: usize)
+        requires { position < 64 * length (Self.words self.old) }
         ensures same { LendsSame Self.lender Self.words self.old self.new }
-        ensures after { Replaces Self.words self.old self.new place 1 1 };
+        ensures after { Replaces Self.words self.old self.new position 1 1 };
 
     /// As `set_bit`, under the same conditions.
     #[inline(always)]
-    fn set_bit_unchecked(&mut self, place: usize)
-        requires { place < 64 * length (Self.words self.old) }
+    fn set_bit_unchecked(&mut self, position: usize)
+        requires { position < 64 * length (Self.words self.old) }
         ensures same { LendsSame Self.lender Self.words self.old self.new }
-        ensures after { Replaces Self.words self.old self.new place 1 1 }
+        ensures after { Replaces Self.words self.old self.new position 1 1 }
     {
-        self.set_bit(place);
+        self.set_bit(position);
     }
 
-    /// Makes the bit at `place` 0.
+    /// Makes the bit at `position` 0.
     ///
     /// # Conditions
     /// The position is inside.
-    fn clear_bit(&mut self, place: usize)
-        requires { place < 64 * length (Self.words self.old) }
+    fn clear_bit(&mut self, position: usize)
+        requires { position < 64 * length (Self.words self.old) }
         ensures same { LendsSame Self.lender Self.words self.old self.new }
-        ensures after { Replaces Self.words self.old self.new place 1 0 };
+        ensures after { Replaces Self.words self.old self.new position 1 0 };
 
     /// As `clear_bit`, under the same conditions.
     #[inline(always)]
-    fn clear_bit_unchecked(&mut self, place: usize)
-        requires { place < 64 * length (Self.words self.old) }
+    fn clear_bit_unchecked(&mut self, position: usize)
+        requires { position < 64 * length (Self.words self.old) }
         ensures same { LendsSame Self.lender Self.words self.old self.new }
-        ensures after { Replaces Self.words self.old self.new place 1 0 }
+        ensures after { Replaces Self.words self.old self.new position 1 0 }
     {
-        self.clear_bit(place);
+        self.clear_bit(position);
     }
 
-    /// Makes the bit at `place`, which is 0 or already `value`, equal to `value`.
+    /// Makes the bit at `position`, which is 0 or already `value`, equal to `value`.
     ///
     /// # Conditions
     /// The position is inside; its bit is 0 or already `value`.
-    fn init_bit(&mut self, place: usize, value: bool)
-        requires inside { place < 64 * length (Self.words self.old) }
-        requires clear { IsFalseOrAlready (bits_of (Self.words self.old)) place value }
+    fn init_bit(&mut self, position: usize, value: bool)
+        requires inside { position < 64 * length (Self.words self.old) }
+        requires clear { IsFalseOrAlready (bits_of (Self.words self.old)) position value }
         ensures same { LendsSame Self.lender Self.words self.old self.new }
-        ensures after { Replaces Self.words self.old self.new place 1 (if value then 1 else 0) };
+        ensures after { Replaces Self.words self.old self.new position 1 (if value then 1 else 0) };
 
     /// As `init_bit`, under the same conditions.
     #[inline(always)]
-    fn init_bit_unchecked(&mut self, place: usize, value: bool)
-        requires inside { place < 64 * length (Self.words self.old) }
-        requires clear { IsFalseOrAlready (bits_of (Self.words self.old)) place value }
+    fn init_bit_unchecked(&mut self, position: usize, value: bool)
+        requires inside { position < 64 * length (Self.words self.old) }
+        requires clear { IsFalseOrAlready (bits_of (Self.words self.old)) position value }
         ensures same { LendsSame Self.lender Self.words self.old self.new }
-        ensures after { Replaces Self.words self.old self.new place 1 (if value then 1 else 0) }
+        ensures after { Replaces Self.words self.old self.new position 1 (if value then 1 else 0) }
     {
-        self.init_bit(place, value);
+        self.init_bit(position, value);
     }
 
-    /// Makes the bit at `place` equal to `value`; `place` moves on by one.
+    /// Makes the bit at `position` equal to `value`; `position` moves on by one.
     ///
     /// # Conditions
     /// The position is inside; there are fewer than 2^58 words.
-    fn set_successive_bit_to(&mut self, place: &mut usize, value: bool)
-        requires inside { place.old < 64 * length (Self.words self.old) }
+    fn set_successive_bit_to(&mut self, position: &mut usize, value: bool)
+        requires inside { position.old < 64 * length (Self.words self.old) }
         requires short { IsShort (Self.words self.old) }
         ensures same { LendsSame Self.lender Self.words self.old self.new }
-        ensures after { Replaces Self.words self.old self.new place.old 1 (if value then 1 else 0) }
-        ensures advances { place.new ≡ place.old + 1 };
+        ensures after { Replaces Self.words self.old self.new position.old 1 (if value then 1 else 0) }
+        ensures advances { position.new ≡ position.old + 1 };
 
     /// As `set_successive_bit_to`, under the same conditions.
     #[inline(always)]
-    fn set_successive_bit_to_unchecked(&mut self, place: &mut usize, value: bool)
-        requires inside { place.old < 64 * length (Self.words self.old) }
+    fn set_successive_bit_to_unchecked(&mut self, position: &mut usize, value: bool)
+        requires inside { position.old < 64 * length (Self.words self.old) }
         requires short { IsShort (Self.words self.old) }
         ensures same { LendsSame Self.lender Self.words self.old self.new }
-        ensures after { Replaces Self.words self.old self.new place.old 1 (if value then 1 else 0) }
-        ensures advances { place.new ≡ place.old + 1 }
+        ensures after { Replaces Self.words self.old self.new position.old 1 (if value then 1 else 0) }
+        ensures advances { position.new ≡ position.old + 1 }
     {
-        self.set_successive_bit_to(place, value);
+        self.set_successive_bit_to(position, value);
     }
 
-    /// Makes the bit at `place`, which is 0 or already `value`, equal to `value`; `place` moves on by one.
+    /// Makes the bit at `position`, which is 0 or already `value`, equal to `value`; `position` moves on by one.
     ///
     /// # Conditions
     /// The position is inside; its bit is 0 or already `value`; there are fewer than 2^58 words.
-    fn init_successive_bit(&mut self, place: &mut usize, value: bool)
-        requires inside { place.old < 64 * length (Self.words self.old) }
-        requires clear { IsFalseOrAlready (bits_of (Self.words self.old)) place.old value }
+    fn init_successive_bit(&mut self, position: &mut usize, value: bool)
+        requires inside { position.old < 64 * length (Self.words self.old) }
+        requires clear { IsFalseOrAlready (bits_of (Self.words self.old)) position.old value }
         requires short { IsShort (Self.words self.old) }
         ensures same { LendsSame Self.lender Self.words self.old self.new }
-        ensures after { Replaces Self.words self.old self.new place.old 1 (if value then 1 else 0) }
-        ensures advances { place.new ≡ place.old + 1 };
+        ensures after { Replaces Self.words self.old self.new position.old 1 (if value then 1 else 0) }
+        ensures advances { position.new ≡ position.old + 1 };
 
     /// As `init_successive_bit`, under the same conditions.
     #[inline(always)]
-    fn init_successive_bit_unchecked(&mut self, place: &mut usize, value: bool)
-        requires inside { place.old < 64 * length (Self.words self.old) }
-        requires clear { IsFalseOrAlready (bits_of (Self.words self.old)) place.old value }
+    fn init_successive_bit_unchecked(&mut self, position: &mut usize, value: bool)
+        requires inside { position.old < 64 * length (Self.words self.old) }
+        requires clear { IsFalseOrAlready (bits_of (Self.words self.old)) position.old value }
         requires short { IsShort (Self.words self.old) }
         ensures same { LendsSame Self.lender Self.words self.old self.new }
-        ensures after { Replaces Self.words self.old self.new place.old 1 (if value then 1 else 0) }
-        ensures advances { place.new ≡ place.old + 1 }
+        ensures after { Replaces Self.words self.old self.new position.old 1 (if value then 1 else 0) }
+        ensures advances { position.new ≡ position.old + 1 }
     {
-        self.init_successive_bit(place, value);
+        self.init_successive_bit(position, value);
     }
 
     /// Replaces the `len` bits from `begin` on by the number `v`, lowest first.

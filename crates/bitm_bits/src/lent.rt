@@ -9,18 +9,18 @@ impl BitAccess for &[u64] {
     ghost words = { λ s. s.now };
 
     #[inline(always)]
-    fn get_bit(&self, place: usize) -> bool {
-        words::get_bit(*self, place)
+    fn get_bit(&self, position: usize) -> bool {
+        words::get_bit(*self, position)
     }
 
     #[inline(always)]
-    fn try_get_bit(&self, place: usize) -> Option<bool> {
-        words::try_get_bit(*self, place)
+    fn try_get_bit(&self, position: usize) -> Option<bool> {
+        words::try_get_bit(*self, position)
     }
 
     #[inline(always)]
-    fn get_successive_bit(&self, place: &mut usize) -> bool {
-        words::get_successive_bit(*self, place)
+    fn get_successive_bit(&self, position: &mut usize) -> bool {
+        words::get_successive_bit(*self, position)
     }
 
     #[inline(always)]
@@ -128,18 +128,18 @@ impl BitAccess for &mut [u64] {
     ghost words = { λ s. s.now };
 
     #[inline(always)]
-    fn get_bit(&self, place: usize) -> bool {
-        words::get_bit(&**self, place)
+    fn get_bit(&self, position: usize) -> bool {
+        words::get_bit(&**self, position)
     }
 
     #[inline(always)]
-    fn try_get_bit(&self, place: usize) -> Option<bool> {
-        words::try_get_bit(&**self, place)
+    fn try_get_bit(&self, position: usize) -> Option<bool> {
+        words::try_get_bit(&**self, position)
     }
 
     #[inline(always)]
-    fn get_successive_bit(&self, place: &mut usize) -> bool {
-        words::get_successive_bit(&**self, place)
+    fn get_successive_bit(&self, position: &mut usize) -> bool {
+        words::get_successive_bit(&**self, position)
     }
 
     #[inline(always)]
@@ -247,33 +247,33 @@ impl BitAccessMut for &mut [u64] {
     ghost lender = { λ s. s.ghost_name };
 
     #[inline(always)]
-    fn set_bit_to(&mut self, place: usize, value: bool) {
-        words::set_bit_to(&mut **self, place, value);
+    fn set_bit_to(&mut self, position: usize, value: bool) {
+        words::set_bit_to(&mut **self, position, value);
     }
 
     #[inline(always)]
-    fn set_bit(&mut self, place: usize) {
-        words::set_bit(&mut **self, place);
+    fn set_bit(&mut self, position: usize) {
+        words::set_bit(&mut **self, position);
     }
 
     #[inline(always)]
-    fn clear_bit(&mut self, place: usize) {
-        words::clear_bit(&mut **self, place);
+    fn clear_bit(&mut self, position: usize) {
+        words::clear_bit(&mut **self, position);
     }
 
     #[inline(always)]
-    fn init_bit(&mut self, place: usize, value: bool) {
-        words::init_bit(&mut **self, place, value);
+    fn init_bit(&mut self, position: usize, value: bool) {
+        words::init_bit(&mut **self, position, value);
     }
 
     #[inline(always)]
-    fn set_successive_bit_to(&mut self, place: &mut usize, value: bool) {
-        words::set_successive_bit_to(&mut **self, place, value);
+    fn set_successive_bit_to(&mut self, position: &mut usize, value: bool) {
+        words::set_successive_bit_to(&mut **self, position, value);
     }
 
     #[inline(always)]
-    fn init_successive_bit(&mut self, place: &mut usize, value: bool) {
-        words::init_successive_bit(&mut **self, place, value);
+    fn init_successive_bit(&mut self, position: &mut usize, value: bool) {
+        words::init_successive_bit(&mut **self, position, value);
     }
 
     #[inline(always)]

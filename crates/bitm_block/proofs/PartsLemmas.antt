@@ -85,7 +85,7 @@ is_of_kind h ss block head_is sections_are n few =
           ∙ sym (get_or-map role first i no_section 0 (omega (arith, less, length-map first role)));
     }
 
--- the sections of a sealed block are the words that stood in their places
+-- the sections of a sealed block are the words that stood at their positions
 module _ (h : Head) (ss : List Section) (old new : List ℕ) (sealed : IsSealed h ss old new) where
   pub count_is : count_in new ≡ length ss
   count_is = sym (sections_len new) ∙ ap length sealed.sections_are

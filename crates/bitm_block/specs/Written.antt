@@ -48,7 +48,7 @@ block_of head sections words =
     ++ (directory_of sections words ++ body_of sections words)
 
 -- the new words are a block of version 4 with these numbers and sections, of which each has the words that stood in its
--- place
+-- position
 pub record IsSealed (head : Head) (sections : List Section) (old new : List ℕ) : Type 0 where
   pub is_block : IsBlock new
   pub verified : IsVerified new

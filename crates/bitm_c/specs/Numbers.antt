@@ -2,7 +2,7 @@
 use Rattle.std.specs.Prelude.{◌≡◌, ◌≢◌, ℕ, ◌≤◌, ◌↔◌, ◌⊎◌, List}
 use Rattle.std.specs.List.{Contains}
 use Rattle.elias_fano.specs.SequenceParts.{Holds}
-use Rattle.elias_fano.specs.Told.{TellsLess}
+use Rattle.elias_fano.specs.Claims.{ClaimsLess}
 use Rattle.bitm_abi.specs.Sequence.{sequence_parts, IsPredecessor, IsSequenceSized}
 use Rattle.bitm_abi.specs.Status.{Exported}
 use Rattle.bitm_abi.specs.declared.sequence.Sequence.{Sequence}
@@ -17,6 +17,6 @@ pub record ContainsAnswered (sequence : Sequence) (value status old new : ℕ) :
   pub bad : ¬ (IsSequenceSized sequence) → status ≡ 2
   pub good : IsSequenceSized sequence → (status ≡ 0) ⊎ (status ≡ 3)
   pub truth : status ≡ 0 → new ≤ 1
-  pub less : status ≡ 0 → (p : ℕ) × TellsLess (sequence_parts sequence) value p × (p ≡ sequence.len → new ≡ 0)
-  pub told : IsSequenceSized sequence → (xs : List ℕ) → Holds xs (sequence_parts sequence) → status ≡ 0
+  pub less : status ≡ 0 → (p : ℕ) × ClaimsLess (sequence_parts sequence) value p × (p ≡ sequence.len → new ≡ 0)
+  pub claimed : IsSequenceSized sequence → (xs : List ℕ) → Holds xs (sequence_parts sequence) → status ≡ 0
   pub right : (xs : List ℕ) → Holds xs (sequence_parts sequence) → status ≡ 0 → (new ≡ 1) ↔ Contains xs value

@@ -22,7 +22,7 @@ PreviousAnswered v c from = Exported (IsSizedCut c) (PreviousIn v c from)
 
 -- the positions of the bits v from a position on, as many as the list has room for: the list before and after the call,
 -- whose rest keeps its values, and how many were written
-pub record PlacesWritten (v : Bool) (b : List Bool) (from : ℕ) (old new : List ℕ) (written : ℕ) : Type 0 where
+pub record PositionsWritten (v : Bool) (b : List Bool) (from : ℕ) (old new : List ℕ) (written : ℕ) : Type 0 where
   pub number : written ≡ min (length old) (count_of b v - count_before b v from)
-  pub places : (j : ℕ) → j < written → Picks b v (count_before b v from + j) (slice_index new j)
+  pub positions : (j : ℕ) → j < written → Picks b v (count_before b v from + j) (slice_index new j)
   pub behind : (j : ℕ) → written ≤ j → slice_index new j ≡ slice_index old j

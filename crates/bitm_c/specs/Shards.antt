@@ -9,10 +9,10 @@ use Rattle.sharded_index.specs.Prefixes.{claimed_in_all, ArePrefixes, HasLengths
 use Rattle.sharded_index.specs.Shards.{IfFoundHasBit, IsOfRank}
 use Rattle.sharded_index.specs.declared.counts.Kind.{Kind}
 use Rattle.sharded_index.specs.declared.counts.Kind.TheVariants.{Positions}
-use Rattle.sharded_index.specs.declared.counts.Place.{Place}
+use Rattle.sharded_index.specs.declared.counts.Location.{Location}
 use Rattle.bitm_abi.specs.Shards.{answer_from_c, counts_in, shard_bits, AreRightShards, HasShards}
 use Rattle.bitm_abi.specs.Status.{Exported}
-use Rattle.bitm_abi.specs.declared.shards.ShardPlace.{ShardPlace}
+use Rattle.bitm_abi.specs.declared.shards.ShardLocation.{ShardLocation}
 use Rattle.bitm_abi.specs.declared.shards.Shards.{Shards}
 
 -- of a rank: a count is at most the position, over any prefix counts and tables; where they are right it is counting
@@ -44,12 +44,12 @@ pub record HasTellableShards (shards : Shards) : Type 0 where
   pub few : claimed_in_all Positions (counts_in shards.counts) < 2 ^ 64 - 2
 
 -- of the shard that holds a number: what the prefix counts claim; where they are those of some bits, it is so
-pub record FindsShard (of : Kind) (counts : Counts) (number : ℕ) (answer : Answer Place) : Type 0 where
+pub record FindsShard (of : Kind) (counts : Counts) (number : ℕ) (answer : Answer Location) : Type 0 where
   pub claimed : IsClaimedBy of counts number answer
   pub right : (bs : List (List Bool)) → ArePrefixes bs counts → IsShardFound of bs number answer
 
 -- the same for a number of C, which may stand for no kind
-abbrev pub FindAnswered : Option Kind → Counts → ℕ → ℕ → ShardPlace → ShardPlace → Type 0
+abbrev pub FindAnswered : Option Kind → Counts → ℕ → ℕ → ShardLocation → ShardLocation → Type 0
 FindAnswered None counts number status old new = (status ≡ 2) × (new ≡ old)
 FindAnswered (Some of) counts number status old new =
     Exported (HasLengths counts) (λ answer. FindsShard of counts number (answer_from_c answer)) status old new

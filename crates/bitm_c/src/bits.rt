@@ -8,7 +8,7 @@ ghost use Rattle.bitm_abi.specs.Lengths.{HasBits};
 
 use bit_words::slices::{fragment_in, number_in, set_fragment_in, set_number_in};
 use bit_words::words;
-use bitm_abi::{BAD_SIZE, NONE, OK, done, has_bits, tell};
+use bitm_abi::{BAD_SIZE, NONE, OK, done, has_bits, report_option};
 
 /// The bit at `position`, as 0 or 1.
 #[unsafe(no_mangle)]
@@ -74,7 +74,7 @@ pub extern "C" fn bitm_bits_get_number(
     if !has_bits(words, bits_len) {
         return BAD_SIZE;
     }
-    tell(number_in(words, bits_len, begin, width), out)
+    report_option(number_in(words, bits_len, begin, width), out)
 }
 
 /// Replaces the `width` bits from `begin` on by the lowest bits of `value`, lowest first; 0 to 64 bits.
@@ -116,7 +116,7 @@ pub extern "C" fn bitm_bits_get_fragment(
     if !has_bits(words, bits_len) {
         return BAD_SIZE;
     }
-    tell(fragment_in(words, bits_len, index, width), out)
+    report_option(fragment_in(words, bits_len, index, width), out)
 }
 
 /// Replaces number `index` of an array of numbers of `width` bits by the lowest bits of `value`; 0 to 64 bits.

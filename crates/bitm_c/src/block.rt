@@ -52,7 +52,7 @@ pub extern "C" fn bitm_stored_build(
         zeros_log2 out.new.samples0.len out.new }
     ensures block { result ≡ 0 → IsIndexBlock words.now bits_len ones_log2 zeros_log2 to.new upper.new
         lower.new starts.new starts0.new samples.new out.new.samples.len out.new.samples0.len }
-    ensures place { result ≡ 0 → out.new.samples0.at
+    ensures position { result ≡ 0 → out.new.samples0.at
         ≡ out.new.samples.at + 4 * zeros_from out.new.samples.len }
     ensures unchanged { result ≢ 0 → (result ≡ 2) × (to.new ≡ to.old) × (upper.new ≡ upper.old)
         × (lower.new ≡ lower.old) × (starts.new ≡ starts.old) × (starts0.new ≡ starts0.old)

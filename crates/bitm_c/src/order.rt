@@ -3,7 +3,7 @@ ghost use Rattle.std.specs.Prelude.{◌≡◌, ◌≢◌, ℕ};
 ghost use Rattle.bit_lists.specs.First.{IsFirst};
 ghost use Rattle.elias_fano_view.specs.Order.{IsAboveAt, IsFallAt};
 
-use bitm_abi::tell;
+use bitm_abi::report_option;
 use elias_fano_view::{first_above, first_fall};
 
 /// The index of the first number that is less than the number before it or, if `strictly`, equal to it.
@@ -13,7 +13,7 @@ pub extern "C" fn bitm_numbers_unsorted(numbers: &[u64], strictly: bool, out: &m
     ensures none { result ≢ 0 → (i : ℕ) → ¬ (IsFallAt numbers.now strictly i) }
     ensures kept { result ≢ 0 → (result ≡ 1) × (out.new ≡ out.old) }
 {
-    tell(first_fall(numbers, strictly), out)
+    report_option(first_fall(numbers, strictly), out)
 }
 
 /// The index of the first number above `most`.
@@ -23,5 +23,5 @@ pub extern "C" fn bitm_numbers_above(numbers: &[u64], most: u64, out: &mut usize
     ensures none { result ≢ 0 → (i : ℕ) → ¬ (IsAboveAt numbers.now most i) }
     ensures kept { result ≢ 0 → (result ≡ 1) × (out.new ≡ out.old) }
 {
-    tell(first_above(numbers, most), out)
+    report_option(first_above(numbers, most), out)
 }

@@ -3,7 +3,7 @@ ghost use Rattle.std.specs.Prelude.{◌≡◌, ◌≢◌, ◌<◌, ◌↔◌, �
 ghost use Rattle.bit_lists.specs.Count.{count_of};
 ghost use Rattle.bitm_view.specs.Cut.{bits_of_cut, IsSizedCut};
 ghost use Rattle.bitm_view.specs.Queries.{ranked_by, selected_by, RanksIn, SelectsIn};
-ghost use Rattle.bitm_c.specs.Queries.{PlacesWritten};
+ghost use Rattle.bitm_c.specs.Queries.{PositionsWritten};
 ghost use Rattle.bitm_abi.specs.Index.{cut_of};
 ghost use Rattle.bitm_abi.specs.Lists.{AreAnswersCounted};
 
@@ -95,7 +95,7 @@ pub extern "C" fn bitm_index_positions(
 ) -> u32
     ensures ok { (result ≡ 0) ↔ IsSizedCut (cut_of index.now) }
     ensures positions { result ≡ 0
-        → PlacesWritten one (bits_of_cut (cut_of index.now)) from out.old out.new written.new }
+        → PositionsWritten one (bits_of_cut (cut_of index.now)) from out.old out.new written.new }
     ensures kept { result ≢ 0 → (result ≡ 2) × (out.new ≡ out.old)
         × (written.new ≡ written.old) }
 {
@@ -103,9 +103,9 @@ pub extern "C" fn bitm_index_positions(
         return BAD_SIZE;
     };
     *written = if one {
-        view.places_from::<1>(from, out)
+        view.positions_from::<1>(from, out)
     } else {
-        view.places_from::<0>(from, out)
+        view.positions_from::<0>(from, out)
     };
     OK
 }

@@ -8,7 +8,7 @@ ghost use Rattle.bitm_abi.specs.Lengths.{HasBits, HasCountedBits};
 
 use bit_words::slices::{count_in, count_range_in, next_in, positions_in, previous_in};
 use bit_words::words;
-use bitm_abi::{BAD_SIZE, NONE, OK, has_bits, has_counted_bits, tell};
+use bitm_abi::{BAD_SIZE, NONE, OK, has_bits, has_counted_bits, report_option};
 use tables_view::clear_from;
 
 /// The number of 1 bits, or of 0 bits, among the first `bits_len` bits.
@@ -65,7 +65,7 @@ pub extern "C" fn bitm_bits_next(
     if !has_counted_bits(words, bits_len) {
         return BAD_SIZE;
     }
-    tell(next_in(words, bits_len, one, from), out)
+    report_option(next_in(words, bits_len, one, from), out)
 }
 
 /// The greatest position up to `from` of a 1 bit, or of a 0 bit; `from` may be past the end.
@@ -82,7 +82,7 @@ pub extern "C" fn bitm_bits_previous(
     if !has_counted_bits(words, bits_len) {
         return BAD_SIZE;
     }
-    tell(previous_in(words, bits_len, one, from), out)
+    report_option(previous_in(words, bits_len, one, from), out)
 }
 
 /// Writes the positions of the 1 bits, or 0 bits, from `from` on, in rising order, until none is left or `out` is full,

@@ -7,11 +7,11 @@ ghost use Rattle.elias_fano.specs.SequenceParts.{parts_of, AreParts, Holds};
 ghost use Rattle.bit_lists.specs.Kept.{IsKeptFrom};
 ghost use Rattle.elias_fano_view.specs.Lists.{AreItems};
 ghost use Rattle.elias_fano_view.specs.Sizes.{sizes_of, HasPartRoom, IsLargest};
-ghost use Rattle.bitm_c.specs.Sequence.{ItemAnswered, PlaceAnswered};
+ghost use Rattle.bitm_c.specs.Sequence.{ItemAnswered, PositionAnswered};
 ghost use Rattle.bitm_abi.specs.Lists.{IsStopped};
 ghost use Rattle.bitm_abi.specs.Sequence.{sequence_parts, sizes_in_c, IsSequenceSized};
 
-use bitm_abi::{BAD_SIZE, OK, Sequence, SequenceLens, UNSORTED, WRONG, report, tell_list};
+use bitm_abi::{BAD_SIZE, OK, Sequence, SequenceLens, UNSORTED, WRONG, report, report_list_answer};
 use elias_fano_view::{BuildError, Sizes, build};
 
 /// Writes the lengths of the parts of a sequence of `len` numbers whose last and largest is `largest`.
@@ -99,7 +99,7 @@ pub extern "C" fn bitm_sequence_first_at_least(
     value: u64,
     out: &mut usize,
 ) -> u32
-    ensures { PlaceAnswered sequence.now value result out.old out.new }
+    ensures { PositionAnswered sequence.now value result out.old out.new }
 {
     match sequence.lent() {
         Some(lent) => report(lent.first_at_least(value), out),
@@ -132,7 +132,7 @@ pub extern "C" fn bitm_sequence_get_list(
     ensures behind { result ≢ 2 → IsKeptFrom written.new out.old out.new }
 {
     match sequence.lent() {
-        Some(lent) => tell_list(lent.get_list(indices, out), indices.len(), written),
+        Some(lent) => report_list_answer(lent.get_list(indices, out), indices.len(), written),
         None => BAD_SIZE,
     }
 }

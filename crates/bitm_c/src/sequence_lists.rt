@@ -1,6 +1,6 @@
 //! Lists of queries of a sequence. Each answer is what the single call gives, by the codes of lists.
 ghost use Rattle.std.specs.Prelude.{◌≡◌, ◌≢◌, ◌<◌, ◌-◌, ◌↔◌, ℕ, length, slice_index};
-ghost use Rattle.elias_fano_view.specs.Lists.{PlaceTold};
+ghost use Rattle.elias_fano_view.specs.Lists.{IsIndexCode};
 ghost use Rattle.bitm_abi.specs.Lists.{AreAnswersCounted};
 ghost use Rattle.bitm_abi.specs.Sequence.{sequence_parts, sought_by, IsContained, IsPredecessor, IsSequenceSized};
 
@@ -19,7 +19,7 @@ pub extern "C" fn bitm_sequence_first_at_least_list(
     ensures unchanged { result ≢ 0 → (result ≡ 2) × (out.new ≡ out.old)
         × (counts.new ≡ counts.old) }
     ensures successors { result ≡ 0 → (j : ℕ) → j < length values.now
-        → PlaceTold (sequence_parts sequence.now) (slice_index values.now j) (slice_index out.new j) }
+        → IsIndexCode (sequence_parts sequence.now) (slice_index values.now j) (slice_index out.new j) }
     ensures counts { result ≡ 0 → AreAnswersCounted out.new counts.new }
 {
     let Some(lent) = sequence.lent() else {

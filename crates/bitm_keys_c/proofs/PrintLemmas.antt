@@ -12,7 +12,7 @@ use Rattle.bit_lists.proofs.BitLaws.{number_beside_is_kept, read_after_write}
 use Rattle.bit_lists.proofs.lemmas.BitsLemmas.{length-bits_of}
 use Rattle.bit_words.specs.First.{first_bits}
 use Rattle.perfect_hash.specs.Dictionary.{print_at}
-use Rattle.bitm_select.specs.Answers.{place_in}
+use Rattle.bitm_select.specs.Answers.{position_in}
 use Rattle.bitm_tables.specs.declared.answer.Answer.{Answer}
 use Rattle.bitm_tables.specs.declared.answer.Answer.TheVariants.{Found, Absent, Wrong}
 use Rattle.bitm_abi.specs.Hash.{hash_number, HashLists, IsHashNumber, IsHashOf}
@@ -157,11 +157,11 @@ pub set_more : (h : HashLists) (hashes key_prints first old new : List ℕ) (wid
 set_more h hashes key_prints first old new width m all is same before one =
     let a = one.answer in
     let answers : ℕ → Answer ℕ = more before.answer m a in
-    let f : ℕ → Option ℕ = λ j. place_in (before.answer j) in
-    let g : ℕ → Option ℕ = λ j. place_in (answers j) in
-    let alike : (j : ℕ) → j < m → f j ≡ g j = λ j less. ap place_in (sym (more_old before.answer m a j less)) in
+    let f : ℕ → Option ℕ = λ j. position_in (before.answer j) in
+    let g : ℕ → Option ℕ = λ j. position_in (answers j) in
+    let alike : (j : ℕ) → j < m → f j ≡ g j = λ j less. ap position_in (sym (more_old before.answer m a j less)) in
     let writes : WritesPrint (g m) width (slice_index key_prints m) old new is =
-    subst (λ (b : Answer ℕ). WritesPrint (place_in b) width (slice_index key_prints m) old new is) (sym (more_new before.answer m a)) one.writes in
+    subst (λ (b : Answer ℕ). WritesPrint (position_in b) width (slice_index key_prints m) old new is) (sym (more_new before.answer m a)) one.writes in
     record {
       answer = answers;
       hashed = λ j below.
@@ -181,24 +181,24 @@ set_more h hashes key_prints first old new width m all is same before one =
 -- where the parts are those of a hash, the answers are the numbers
 module _ (h : HashLists) (hashes key_prints old new : List ℕ) (width m : ℕ) (good : Type 0) (is : AreSet h hashes key_prints old new width m good)
     (right : IsHashOf h) where
-  by_number : (o : Option ℕ) (a : Answer ℕ) → IsNumbered o a → place_in a ≡ o
+  by_number : (o : Option ℕ) (a : Answer ℕ) → IsNumbered o a → position_in a ≡ o
   by_number o (Found n) e = sym e
   by_number o Absent e = sym e
   by_number o Wrong e = absurd e
 
-  are_numbers : (j : ℕ) → j < m → place_in (is.answer j) ≡ number_of_key_in h hashes j
+  are_numbers : (j : ℕ) → j < m → position_in (is.answer j) ≡ number_of_key_in h hashes j
   are_numbers j below = by_number (number_of_key_in h hashes j) (is.answer j) ((is.hashed j below).counts right)
 
   pub set_written : ArePrintsWritten (number_of_key_in h hashes) key_prints new width m
-  set_written = written_alike (λ j. place_in (is.answer j)) (number_of_key_in h hashes) m are_numbers key_prints new width is.written
+  set_written = written_alike (λ j. position_in (is.answer j)) (number_of_key_in h hashes) m are_numbers key_prints new width is.written
 
   pub set_kept : ArePrintsKept (number_of_key_in h hashes) old new width m
-  set_kept = kept_alike (λ j. place_in (is.answer j)) (number_of_key_in h hashes) m are_numbers old new width is.kept
+  set_kept = kept_alike (λ j. position_in (is.answer j)) (number_of_key_in h hashes) m are_numbers old new width is.kept
 
   pub set_room : good ↔ HaveRoom (number_of_key_in h hashes) old width m
   set_room = (
-    λ done. room_alike (λ j. place_in (is.answer j)) (number_of_key_in h hashes) m are_numbers old width (is.room.0 done),
-    λ room. is.room.1 (room_back (λ j. place_in (is.answer j)) (number_of_key_in h hashes) m are_numbers old width room),
+    λ done. room_alike (λ j. position_in (is.answer j)) (number_of_key_in h hashes) m are_numbers old width (is.room.0 done),
+    λ room. is.room.1 (room_back (λ j. position_in (is.answer j)) (number_of_key_in h hashes) m are_numbers old width room),
   )
 
 -- and the status says whether each key has a number, and room for its fingerprint

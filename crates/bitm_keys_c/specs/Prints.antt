@@ -2,7 +2,7 @@
 use Rattle.std.specs.Prelude.{◌≡◌, ◌↔◌, ⊤, ℕ, ◌+◌, ◌*◌, ◌%◌, ◌^◌, ◌<◌, ◌≤◌, Bool, false, List, Option, Some, length, slice_index, IsSomeAnd, IsTrue, MatchOption}
 use Rattle.bit_lists.specs.Bits.{bits_of}
 use Rattle.bit_lists.specs.Number.{with_number}
-use Rattle.bitm_select.specs.Answers.{place_in}
+use Rattle.bitm_select.specs.Answers.{position_in}
 use Rattle.bitm_tables.specs.declared.answer.Answer.{Answer}
 use Rattle.bitm_tables.specs.declared.answer.Answer.TheVariants.{Found, Absent, Wrong}
 use Rattle.perfect_hash.specs.Dictionary.{print_at}
@@ -72,9 +72,9 @@ HaveRoom number prints width m = (j : ℕ) → j < m → MatchOption (number j) 
 pub record AreSet (h : HashLists) (hashes key_prints old new : List ℕ) (width m : ℕ) (good : Type 0) : Type 0 where
   pub answer : ℕ → Answer ℕ
   pub hashed : (j : ℕ) → j < m → IsHashNumber h (slice_index hashes j) (answer j)
-  pub written : ArePrintsWritten (λ j. place_in (answer j)) key_prints new width m
-  pub kept : ArePrintsKept (λ j. place_in (answer j)) old new width m
-  pub room : good ↔ HaveRoom (λ j. place_in (answer j)) old width m
+  pub written : ArePrintsWritten (λ j. position_in (answer j)) key_prints new width m
+  pub kept : ArePrintsKept (λ j. position_in (answer j)) old new width m
+  pub room : good ↔ HaveRoom (λ j. position_in (answer j)) old width m
 
 -- what the write of a key's fingerprint leaves, and whether it was written
 pub record WritesPrint (number : Option ℕ) (width print : ℕ) (old new : List ℕ) (is : Bool) : Type 0 where
@@ -87,4 +87,4 @@ pub record WritesPrint (number : Option ℕ) (width print : ℕ) (old new : List
 pub record SetsPrint (h : HashLists) (hash width print : ℕ) (old new : List ℕ) (is : Bool) : Type 0 where
   pub answer : Answer ℕ
   pub hashed : IsHashNumber h hash answer
-  pub writes : WritesPrint (place_in answer) width print old new is
+  pub writes : WritesPrint (position_in answer) width print old new is

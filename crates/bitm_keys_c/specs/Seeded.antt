@@ -3,7 +3,7 @@ use Rattle.std.specs.Prelude.{◌≡◌, ℕ, ◌*◌, List, drop, length, slice
 use Rattle.bitm_block.specs.Header.{begin_in}
 use Rattle.hash_block.specs.SeededBlock.{IsSeededBlock}
 
--- as many bytes as those of a block's section of seeds, at its place
+-- as many bytes as those of a block's section of seeds, at its position
 abbrev pub seed_bytes : List ℕ → List ℕ → List ℕ
 seed_bytes block bytes = take (slice_index block 30) (drop (8 * begin_in block 3) bytes)
 

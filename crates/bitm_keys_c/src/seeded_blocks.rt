@@ -52,7 +52,7 @@ pub extern "C" fn bitm_hash_block_build_seeded(
 
 /// The seeds of a block among as many bytes as it has.
 #[inline(always)]
-#[tactic(auto, using(hash_block::proofs::MovedLemmas::seeds_place))]
+#[tactic(auto, using(hash_block::proofs::MovedLemmas::seeds_position))]
 fn seeds_of<'a>(block: &[u64], bytes: &'a [u8]) -> &'a [u8]
     requires { CanBeOpened block.now bytes.now }
     ensures { result.now ≡ seed_bytes block.now bytes.now }

@@ -2,7 +2,7 @@
 use Rattle.std.proofs.Common.{◌≡◌, ℕ, ◌-◌, ◌^◌, ◌<◌, arith}
 use Rattle.bitm_tables.specs.declared.answer.Answer.{Answer}
 use Rattle.bitm_tables.specs.declared.answer.Answer.TheVariants.{Found, Absent, Wrong}
-use Rattle.elias_fano.specs.Answers.{IsPlaceOf}
+use Rattle.elias_fano.specs.Answers.{IsIndexIn}
 use Rattle.tables_view.specs.Ranks.{IsCountWithin}
 use Rattle.bitm_abi.specs.Status.{IsFoundBelow}
 
@@ -17,7 +17,7 @@ module _ (n : ℕ) (short : n < 2 ^ 64 - 2) where
   count_code i Absent h = tt
   count_code i Wrong h = tt
 
-  pub place_code : (answer : Answer ℕ) → IsPlaceOf n answer → IsFoundBelow (2 ^ 64 - 2) answer
-  place_code (Found p) h = omega (arith, h, short)
-  place_code Absent h = tt
-  place_code Wrong h = tt
+  pub position_code : (answer : Answer ℕ) → IsIndexIn n answer → IsFoundBelow (2 ^ 64 - 2) answer
+  position_code (Found p) h = omega (arith, h, short)
+  position_code Absent h = tt
+  position_code Wrong h = tt

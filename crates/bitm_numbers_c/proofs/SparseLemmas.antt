@@ -4,7 +4,7 @@ use Rattle.std.proofs.lemmas.Bool.{cases_eq}
 use Rattle.std.specs.Prelude.{Result, Ok, Err, IfErr, IfOk, IsErrOf}
 use Rattle.bitm_block.specs.Layout.{end_of}
 use Rattle.sequence_block.specs.Block.{sections_of}
-use Rattle.sparse_bits.specs.Positions.{ArePlaces}
+use Rattle.sparse_bits.specs.Positions.{AreBitPositions}
 use Rattle.sequence_block.specs.SparseBlock.{CanHold}
 use Rattle.sequence_block.specs.declared.sparse.error.BuildError.{BuildError}
 use Rattle.sequence_block.specs.declared.sparse.error.BuildError.TheVariants.{TooLong, WrongLength}
@@ -14,9 +14,9 @@ no_error {V = V} v e is = subst (λ (r : Result V BuildError). IfErr r (λ _. �
 
 pub can_hold : {V : Type 0} (r : Result V BuildError) (xs : List ℕ) (n : ℕ) (block : List ℕ) → (2 ^ 56 ≤ length xs → IsErrOf r TooLong)
     → ((length xs < 2 ^ 56) × (length block ≢ end_of (sections_of xs)) → IsErrOf r WrongLength)
-    → IfOk r (λ _. ArePlaces n 0 xs → CanHold xs n block)
+    → IfOk r (λ _. AreBitPositions n 0 xs → CanHold xs n block)
 can_hold (Err e) xs n block long other = tt
-can_hold (Ok v) xs n block long other = λ places.
+can_hold (Ok v) xs n block long other = λ positions.
     let not_long : ¬ (2 ^ 56 ≤ length xs) = λ h. no_error v TooLong (long h) in
     let short : length xs < 2 ^ 56 = omega (arith, not_long) in
     let room : length block ≡ end_of (sections_of xs) =
@@ -24,4 +24,4 @@ can_hold (Ok v) xs n block long other = λ places.
       | inl is ↦ is
       | inr is_not ↦ absurd (no_error v WrongLength (other (short, is_not)))
     ] in
-    record { short = short; places = places; room = room }
+    record { short = short; positions = positions; room = room }

@@ -4,7 +4,7 @@ use Rattle.bitm_tables.specs.declared.answer.Answer.{Answer}
 use Rattle.bitm_abi.specs.Sequence.{sequence_parts, IsSequenceSized}
 use Rattle.bitm_abi.specs.Status.{truth_of, Exported, IsFoundBelow}
 use Rattle.bitm_select.specs.Answers.{IsFoundFrom, IsSelected}
-use Rattle.elias_fano.specs.Answers.{IsPlaceOf}
+use Rattle.elias_fano.specs.Answers.{IsIndexIn}
 use Rattle.tables_view.specs.Nearest.{IsNext, IsPrevious}
 use Rattle.tables_view.specs.Ranks.{IsCountWithin, IsRanked}
 use Rattle.sparse_bits.specs.Answers.{IsBitOf, IsBitWithin}
@@ -42,7 +42,7 @@ IsRankIn one position parts = FindsRank one position parts.len (λ xs. HoldsOnes
 
 -- the position of the bit of a kind with a rank, likewise: that of a bit
 pub record FindsSelect (one : Bool) (rank n : ℕ) (holds : List ℕ → Type 0) (answer : Answer ℕ) : Type 0 where
-  pub inside : IsPlaceOf n answer
+  pub inside : IsIndexIn n answer
   pub right : (xs : List ℕ) → holds xs → IsSelected (bits_at n 0 xs) one rank answer
 
 abbrev pub IsSelectIn : Bool → ℕ → SparseParts → Answer ℕ → Type 0

@@ -3,7 +3,7 @@ pub mod RecordLemmas
 pub mod SearchLemmas
 pub mod SelectedLemmas
 pub mod SoughtLemmas
-pub mod ToldLemmas
+pub mod ClaimedLemmas
 pub use Rattle.bitm_tables.proofs.lemmas.EntryLemmas
 pub use Rattle.bitm_tables.proofs.lemmas.LengthLemmas
 pub use Rattle.bitm_tables.proofs.lemmas.RankLemmas

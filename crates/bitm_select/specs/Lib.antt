@@ -1,6 +1,6 @@
 pub mod Answers
 pub mod Search
-pub mod Told
+pub mod Claims
 pub use Rattle.bit_lists.specs.Bits
 pub use Rattle.bit_lists.specs.Count
 pub use Rattle.bit_lists.specs.Number

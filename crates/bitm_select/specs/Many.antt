@@ -4,7 +4,7 @@ use Rattle.bit_lists.specs.Count.{as_bit, ones_before, Picks}
 use Rattle.bitm_tables.specs.Entry.{before_in_part, entries_from, less}
 use Rattle.bitm_select.specs.Search.{entry_in, sought_in, IsLastPart, IsWord}
 use Rattle.bitm_tables.specs.Tables.{HasTables, Lists}
-use Rattle.bitm_select.specs.Told.{told_entry, told_part, told_to}
+use Rattle.bitm_select.specs.Claims.{claimed_entry, claimed_part, claimed_to}
 use Rattle.bitm_select.specs.declared.many.loaded.InRecord.{InRecord}
 use Rattle.bitm_select.specs.declared.many.query.Query.{Query}
 use Rattle.bitm_select.specs.declared.many.ranks.Begun.{Begun}
@@ -15,14 +15,14 @@ RanksEach b indices ranks = (k : ℕ) → k < length indices → slice_index ran
 
 -- position k is that of the bit v with rank k
 abbrev pub PicksEach : List Bool → Bool → List ℕ → List ℕ → Type 0
-PicksEach b v ranks places = (k : ℕ) → k < length ranks → Picks b v (slice_index ranks k) (slice_index places k)
+PicksEach b v ranks positions = (k : ℕ) → k < length ranks → Picks b v (slice_index ranks k) (slice_index positions k)
 
 -- the sought bit of this rank is in the last upper block with at most that many such bits before it, and has rank rest
 -- there; the last entry of the upper block with at most rest such bits before it is among the 2^size from entry `at` on
 pub record IsNarrowed (bit : ℕ) (lists : Lists) (rank rest at size : ℕ) : Type 0 where
   pub part : ℕ
   pub low : ℕ
-  pub place : at ≡ entry_in part low
+  pub position : at ≡ entry_in part low
   pub last : IsLastPart (sought_in bit lists.words) (length lists.upper) rank part
   pub total : rank ≡ ones_before (sought_in bit lists.words) (part * 2 ^ 32) + rest
   pub inside : low < entries_from (length lists.lower) part
@@ -38,8 +38,8 @@ pub record IsInPart (v : Bool) (lists : Lists) (rank : ℕ) (query : Query) (siz
   pub there : part < length lists.upper
   pub from : part * 2 ^ 21 ≤ query.entry
   pub to : query.entry + 2 ^ size ≤ (part + 1) * 2 ^ 21
-  pub fits : told_part v lists part < 2 ^ 64
-  pub rest : query.rest ≡ less rank (told_part v lists part)
+  pub fits : claimed_part v lists part < 2 ^ 64
+  pub rest : query.rest ≡ less rank (claimed_part v lists part)
 
 -- a query is at an entry of an upper block, and where the tables are those of the words it is on its way to the bit of
 -- the rank
@@ -63,7 +63,7 @@ pub record AreInside (bit : ℕ) (lists : Lists) (ranks : List ℕ) (queries : L
   pub each : (k : ℕ) (d : Query) → k < length ranks → IsInside bit lists (slice_index ranks k) (slice_index_or queries k d) size
 
 -- a basic block is block k of an entry, and its rest is the rank there by what the tables claim, as a number of 64 bits
-pub record IsToldRecord (v : Bool) (lists : Lists) (rank : ℕ) (at : InRecord) : Type 0 where
+pub record IsClaimedRecord (v : Bool) (lists : Lists) (rank : ℕ) (at : InRecord) : Type 0 where
   pub part : ℕ
   pub entry : ℕ
   pub k : ℕ
@@ -73,13 +73,13 @@ pub record IsToldRecord (v : Bool) (lists : Lists) (rank : ℕ) (at : InRecord) 
   pub to : entry < (part + 1) * 2 ^ 21
   pub few : k < 4
   pub first : at.first ≡ entry * 32 + k * 8
-  pub total : (told_part v lists part + told_to (told_entry v lists entry) k + at.rest) % 2 ^ 64 ≡ rank % 2 ^ 64
+  pub total : (claimed_part v lists part + claimed_to (claimed_entry v lists entry) k + at.rest) % 2 ^ 64 ≡ rank % 2 ^ 64
 
 -- the sought bit of this rank, if there is one, is in the basic block from word first on and has rank rest there, if
 -- the tables are those of the words; word is the first of the basic block
 pub record IsInRecord (bit : ℕ) (lists : Lists) (rank : ℕ) (at : InRecord) : Type 0 where
   pub fits : at.first < 2 ^ 60
-  pub told : IsToldRecord (as_bit bit) lists rank at
+  pub claimed : IsClaimedRecord (as_bit bit) lists rank at
   pub word_is : at.first < length lists.words → IsWord (sought_in bit lists.words) at.first at.word
   pub total : HasTables lists → rank ≡ ones_before (sought_in bit lists.words) (64 * at.first) + at.rest
   pub next : HasTables lists → at.first + 8 < length lists.words → rank < ones_before (sought_in bit lists.words) (64 * (at.first + 8))

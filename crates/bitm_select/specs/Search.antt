@@ -6,7 +6,7 @@ use Rattle.bit_lists.specs.Number.{number_at}
 use Rattle.bitm_tables.specs.Entry.{before_in_part, lower_entry}
 pub use Rattle.bitm_tables.specs.Entry.{entries_from, negation, padded_bits}
 use Rattle.bitm_tables.specs.Tables.{HasTables, Lists}
-use Rattle.bitm_select.specs.Told.{told_entry}
+use Rattle.bitm_select.specs.Claims.{claimed_entry}
 use Rattle.bitm_select.specs.declared.search.entry_range.EntryRange.{EntryRange}
 
 -- the bits of which 1 bits are sought: the padded bits, all negated where v is false, so that a missing bit of the last
@@ -76,7 +76,7 @@ pub record IsLastFound (bit : ℕ) (lists : Lists) (part r : ℕ) (found : ℕ �
   pub inside : found.0 < entries_from (length lists.lower) part
   pub last : HasTables lists → IsLastEntry (sought_in bit lists.words) (length lists.lower) part r found.0
   pub entry : HasTables lists → found.1 ≡ lower_entry (sought_in bit lists.words) (entry_in part found.0)
-  pub told : found.1 ≡ told_entry (as_bit bit) lists (entry_in part found.0)
+  pub claimed : found.1 ≡ claimed_entry (as_bit bit) lists (entry_in part found.0)
 
 -- a range of the entries of an upper block, and what the table claims that its first entry packs, unless that is the
 -- first of the upper block; where the tables are those of the words, the last entry with at most r bits of the kind
@@ -85,7 +85,7 @@ pub record IsRange (bit : ℕ) (lists : Lists) (part r : ℕ) (range : EntryRang
   pub some : 0 < range.left
   pub within : range.low + range.left ≤ entries_from (length lists.lower) part
   pub among : HasTables lists → IsEntryAmong (sought_in bit lists.words) (length lists.lower) part r range.low range.left
-  pub packed : 0 < range.low → range.packed ≡ told_entry (as_bit bit) lists (entry_in part range.low)
+  pub packed : 0 < range.low → range.packed ≡ claimed_entry (as_bit bit) lists (entry_in part range.low)
 
 -- the number of sought bits in an upper block before its entry j
 abbrev pub items_to : ℕ → List Bool → ℕ → ℕ → ℕ

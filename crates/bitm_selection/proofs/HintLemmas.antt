@@ -58,16 +58,16 @@ only_hint v b k p q picks is =
     same_from_Picks b v (128 * k) q p (is.some (rank_below b v (128 * k) p here)) here
 
 -- a bit that is found near a hint, which leads to no bit where there is none, has the rank
-pub found_near : (words hints : List ℕ) (v : Bool) (at from rest rank place : ℕ) (o : Option ℕ) → AreHints v words hints → 0 < length hints
+pub found_near : (words hints : List ℕ) (v : Bool) (at from rest rank position : ℕ) (o : Option ℕ) → AreHints v words hints → 0 < length hints
     → IsHint v (bits_of words) at from → ((r : ℕ) → Picks (bits_of words) v r from → IfSome o (Picks (bits_of words) v (r + rest)))
-    → (length (bits_of words) ≤ from → o ≡ None) → o ≡ Some place → 128 * at + rest ≡ rank → Picks (bits_of words) v rank place
-found_near words hints v at from rest rank place o are some is near outside found sum =
+    → (length (bits_of words) ≤ from → o ≡ None) → o ≡ Some position → 128 * at + rest ≡ rank → Picks (bits_of words) v rank position
+found_near words hints v at from rest rank position o are some is near outside found sum =
     let b = bits_of words in
     ⊎_elim
     (λ below.
-    let here : IfSome (Some place) (Picks b v (128 * at + rest)) =
+    let here : IfSome (Some position) (Picks b v (128 * at + rest)) =
     subst (λ (z : Option ℕ). IfSome z (Picks b v (128 * at + rest))) found (near (128 * at) (is.some below)) in
-    subst (λ (r : ℕ). Picks b v r place) sum here)
+    subst (λ (r : ℕ). Picks b v r position) sum here)
     (λ past.
     let none : o ≡ None = outside (omega (arith, is.none past, are.short some, length-bits_of words)) in
     let never : ⊥ = subst (λ (z : Option ℕ). MatchOption z ⊥ (λ _. ⊤)) (sym found ∙ none) tt in

@@ -110,7 +110,7 @@ impl<S: SelectForRank101111, S0: Select0ForRank101111, BV: AsSlice<u64>> Finds
     fn one<T: TableSource>(&self, _source: &mut T, rank: usize) -> Answer<usize> {
         let _own = self.probe();
         match self.try_select(rank) {
-            Some(place) => Answer::Found(place),
+            Some(position) => Answer::Found(position),
             None => Answer::Absent,
         }
     }
@@ -120,7 +120,7 @@ impl<S: SelectForRank101111, S0: Select0ForRank101111, BV: AsSlice<u64>> Finds
     fn zero<T: TableSource>(&self, _source: &mut T, rank: usize) -> Answer<usize> {
         let _own = self.probe();
         match self.try_select0(rank) {
-            Some(place) => Answer::Found(place),
+            Some(position) => Answer::Found(position),
             None => Answer::Absent,
         }
     }

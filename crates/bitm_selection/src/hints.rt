@@ -5,7 +5,7 @@ ghost use Rattle.std.specs.Prelude.{IsTrue, None, IfSome, count_ones, drop, leng
 ghost use Rattle.bit_lists.specs.Bits.{digit_count, item};
 ghost use Rattle.bit_lists.specs.Count.{as_bit, count_of, Picks};
 ghost use Rattle.bitm_select.specs.Answers.{HasBit, IsSelected};
-ghost use Rattle.bitm_select.specs.Told.{TellsNone};
+ghost use Rattle.bitm_select.specs.Claims.{ClaimsNone};
 ghost use Rattle.bitm_tables.specs.Answers.{IfAbsent};
 ghost use Rattle.bitm_tables.specs.Reads.{OnlyReads};
 ghost use Rattle.bitm_tables.specs.Tables.{bits_in, HasSizes, HasTables, IsIndexed};
@@ -145,7 +145,7 @@ fn far_on<const BIT: u8, T: TableSource>(source: &mut T, rank: usize) -> Answer<
     ensures bit { HasBit (bits_in (T.lists source.old)) (as_bit BIT) result }
     ensures answer { HasTables (T.lists source.old)
         → IsSelected (bits_in (T.lists source.old)) (as_bit BIT) rank result }
-    ensures none { IfAbsent result (TellsNone (as_bit BIT) (T.lists source.old) rank) }
+    ensures none { IfAbsent result (ClaimsNone (as_bit BIT) (T.lists source.old) rank) }
     ensures reads { OnlyReads T.lists T.reads source.old source.new
         (digit_count (length (T.lists source.old).upper) + 1) 23 8 }
 {
@@ -179,7 +179,7 @@ pub fn hinted_select_on<const BIT: u8, T: TableSource>(
     ensures answer { HasTables (T.lists source.old)
         → AreHints (as_bit BIT) (T.lists source.old).words hints.now
         → IsSelected (bits_in (T.lists source.old)) (as_bit BIT) rank result }
-    ensures none { IfAbsent result (TellsNone (as_bit BIT) (T.lists source.old) rank) }
+    ensures none { IfAbsent result (ClaimsNone (as_bit BIT) (T.lists source.old) rank) }
     ensures reads { OnlyReads T.lists T.reads source.old source.new
         (digit_count (length (T.lists source.old).upper) + 1) 23 17 }
 {
@@ -188,7 +188,7 @@ pub fn hinted_select_on<const BIT: u8, T: TableSource>(
         return far_on::<BIT, T>(source, rank);
     }
     match near_on::<BIT, T>(source, hint_at(hints, at), rank % BITS_PER_HINT) {
-        Some(place) => Answer::Found(place),
+        Some(position) => Answer::Found(position),
         None => far_on::<BIT, T>(source, rank),
     }
 }
@@ -205,7 +205,7 @@ fn hint_on<const BIT: u8, T: TableSource>(source: &mut T, at: usize) -> u64
     ensures same { T.lists source.new ≡ T.lists source.old }
 {
     match binary_select_on::<BIT, T>(source, at * BITS_PER_HINT) {
-        Some(place) => place as u64,
+        Some(position) => position as u64,
         None => NO_BIT,
     }
 }

@@ -3,7 +3,7 @@ use Rattle.std.specs.Prelude.{◌≡◌, ℕ, ◌+◌, ◌-◌, ◌*◌, ◌/◌
 use Rattle.std.specs.Int.{div_ceil}
 use Rattle.std.specs.List.{range_with_len}
 use Rattle.bit_lists.specs.Bits.{bits_of, digit, digit_count, IsShort}
-use Rattle.bit_lists.specs.Count.{ones_of, ones_before, count_before, count_of, as_bit, places}
+use Rattle.bit_lists.specs.Count.{ones_of, ones_before, count_before, count_of, as_bit, bit_positions}
 use Rattle.bitm_tables.specs.Reads.{ReadsAtMost}
 use Rattle.bitm_select.specs.Search.{sought_in, IsLastPart}
 use Rattle.bitm_tables.specs.Tables.{AreTablesOf, Lists}
@@ -25,23 +25,23 @@ part_of b k = take (2 ^ 32) (drop (k * 2 ^ 32) b)
 abbrev pub rank_in : List Bool → Bool → ℕ → ℕ → ℕ
 rank_in b v rank k = rank - count_before b v (k * 2 ^ 32)
 
--- the part of place p
+-- the part of position p
 abbrev pub part_at : ℕ → ℕ
 part_at p = p / 2 ^ 32
 
--- the entry of place p, counted from the start of its part
+-- the entry of position p, counted from the start of its part
 abbrev pub entry_at : ℕ → ℕ
 entry_at p = p % 2 ^ 32 / 2048
 
 -- ---- samples of one part c
 
 -- the position of the bit v with rank t, or the length where there is none
-unfoldable pub place : List Bool → Bool → ℕ → ℕ
-place c v t = slice_index_or (places v 0 c) t (length c)
+unfoldable pub position : List Bool → Bool → ℕ → ℕ
+position c v t = slice_index_or (bit_positions v 0 c) t (length c)
 
 -- the entry of 2048 bits that has item number t
 abbrev pub entry_of : List Bool → Bool → ℕ → ℕ
-entry_of c v t = place c v t / 2048
+entry_of c v t = position c v t / 2048
 
 -- the distance in entries from item number t to item number q, kept as at most 2047, and 0 where there is no item q
 abbrev pub distance : List Bool → Bool → ℕ → ℕ → ℕ
@@ -141,7 +141,7 @@ pub record WalkedOut (c : List Bool) (v : Bool) (d r uppers : ℕ) (early late :
   pub walked : first_item d r < count_of c v → WalkedTo c v d r (div_ceil (length c) 2048 - 1) uppers early late
   pub nothing : count_of c v ≤ first_item d r → ReadsAtMost early late uppers 0 0
 
--- the reads of a selection by rank that found a place, or none
+-- the reads of a selection by rank that found a position, or none
 abbrev pub SampledReads : List Bool → Bool → ℕ → ℕ → Option ℕ → ReadCounts → ReadCounts → Type 0
 SampledReads b v d rank result early late =
     let uppers = digit_count (parts b) + 1 in

@@ -33,13 +33,13 @@ const SCALES: [u64; 4] = [0, 1 << 10, 1 << 21, 1 << 32];
 /// variable number and needs no branch for the first block.
 ///
 /// # Conditions
-/// `place` is below 4.
+/// `position` is below 4.
 #[inline(always)]
-pub fn ones_to_record(entry: u64, place: usize) -> usize
-    requires { place < 4 }
-    ensures { result ≡ entry / 2 ^ (11 * (3 - place)) / 2 ^ 32 % 2 ^ 11 }
+pub fn ones_to_record(entry: u64, position: usize) -> usize
+    requires { position < 4 }
+    ensures { result ≡ entry / 2 ^ (11 * (3 - position)) / 2 ^ 32 % 2 ^ 11 }
 {
-    ((entry >> 32) * SCALES[place] >> 32 & 0x7FF) as usize
+    ((entry >> 32) * SCALES[position] >> 32 & 0x7FF) as usize
 }
 
 /// Lower entry `at` of the negated bits, from the entry of the bits: the greatest value of each field less the field.
@@ -53,7 +53,7 @@ pub fn ones_to_record(entry: u64, place: usize) -> usize
 pub fn complement_entry(entry: u64, at: usize) -> u64
     ensures value { FieldsFit entry at → result ≡ greatest_entry at - entry }
     ensures fields { FieldsFit entry at → FieldsAddUp entry result at }
-    ensures told { result ≡ less (greatest_entry at) entry }
+    ensures claimed { result ≡ less (greatest_entry at) entry }
     ensures negation { (b : List Bool) → IsEntryOf b at entry
         → result ≡ lower_entry (negation (padded_bits b)) at }
     ensures zeros { (b : List Bool) → IsEntryOf b at entry

@@ -202,7 +202,7 @@ pub fn rank_by_quarters_on<T: TableSource>(source: &mut T, quarters: &[u64], ind
     ones_by_quarters_on(source, quarters, index)
 }
 
-/// The bit at position `place` of the source's words, and the number of 1 bits before it where its tables and the
+/// The bit at position `position` of the source's words, and the number of 1 bits before it where its tables and the
 /// quarters match the words, any number otherwise.
 ///
 /// # Conditions
@@ -218,22 +218,22 @@ pub fn rank_by_quarters_on<T: TableSource>(source: &mut T, quarters: &[u64], ind
 pub fn bit_and_ones_by_quarters_on<T: TableSource>(
     source: &mut T,
     quarters: &[u64],
-    place: usize,
+    position: usize,
 ) -> (bool, usize)
     requires sized { HasSizes (T.lists source.old) }
-    requires inside { place < length (bits_in (T.lists source.old)) }
-    requires quarters { place < 512 * length quarters.now }
-    ensures bit { result.0 ≡ item (bits_in (T.lists source.old)) place }
+    requires inside { position < length (bits_in (T.lists source.old)) }
+    requires quarters { position < 512 * length quarters.now }
+    ensures bit { result.0 ≡ item (bits_in (T.lists source.old)) position }
     ensures answer { HasTables (T.lists source.old)
         → AreQuartersOf (bits_in (T.lists source.old)) quarters.now
-        → result.1 ≡ ones_before (bits_in (T.lists source.old)) place }
+        → result.1 ≡ ones_before (bits_in (T.lists source.old)) position }
     ensures reads { OnlyReads T.lists T.reads source.old source.new 1 0 2 }
 {
-    let (word, ones) = word_and_ones(source, quarters[place / RECORD_BITS], place);
-    bit_and_ones_before(word, ones, place)
+    let (word, ones) = word_and_ones(source, quarters[position / RECORD_BITS], position);
+    bit_and_ones_before(word, ones, position)
 }
 
-/// The bit at position `place` of the source's words, and the number of 1 bits before it.
+/// The bit at position `position` of the source's words, and the number of 1 bits before it.
 ///
 /// # Conditions
 /// There is such a bit, the words are fewer than 2^58, and the source's tables and the quarters match the words.
@@ -243,14 +243,14 @@ pub fn bit_and_ones_by_quarters_on<T: TableSource>(
 pub fn bit_and_rank_by_quarters_on<T: TableSource>(
     source: &mut T,
     quarters: &[u64],
-    place: usize,
+    position: usize,
 ) -> (bool, usize)
     requires indexed { IsIndexed (T.lists source.old) }
     requires quarters { AreQuartersOf (bits_in (T.lists source.old)) quarters.now }
-    requires inside { place < length (bits_in (T.lists source.old)) }
-    ensures bit { result.0 ≡ item (bits_in (T.lists source.old)) place }
-    ensures ones { result.1 ≡ ones_before (bits_in (T.lists source.old)) place }
+    requires inside { position < length (bits_in (T.lists source.old)) }
+    ensures bit { result.0 ≡ item (bits_in (T.lists source.old)) position }
+    ensures ones { result.1 ≡ ones_before (bits_in (T.lists source.old)) position }
     ensures reads { OnlyReads T.lists T.reads source.old source.new 1 0 2 }
 {
-    bit_and_ones_by_quarters_on(source, quarters, place)
+    bit_and_ones_by_quarters_on(source, quarters, position)
 }

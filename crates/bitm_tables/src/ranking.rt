@@ -171,22 +171,22 @@ pub fn ones_to_part<T: TableSource>(source: &mut T, part: usize) -> usize
     }
 }
 
-/// The bit at position `place` of the source's words; `None` exactly where there is no such bit. The tables may hold
+/// The bit at position `position` of the source's words; `None` exactly where there is no such bit. The tables may hold
 /// anything.
 ///
 /// # Cost
 /// At most one word is read.
 #[tactic(auto, using(bit_lists::proofs::BitLaws::bits_are_counted, bit_lists::proofs::lemmas::BitsLemmas::item_tested))]
 #[inline(always)]
-pub fn bit_on<T: TableSource>(source: &mut T, place: usize) -> Option<bool>
-    ensures answer { SomeIff result (place < length (bits_in (T.lists source.old)))
-        (item (bits_in (T.lists source.old)) place) }
+pub fn bit_on<T: TableSource>(source: &mut T, position: usize) -> Option<bool>
+    ensures answer { SomeIff result (position < length (bits_in (T.lists source.old)))
+        (item (bits_in (T.lists source.old)) position) }
     ensures reads { OnlyReads T.lists T.reads source.old source.new 0 0 1 }
 {
-    if place / 64 >= source.words_len() {
+    if position / 64 >= source.words_len() {
         return None;
     }
-    Some(source.word(place / 64) & (1u64 << (place % 64)) != 0)
+    Some(source.word(position / 64) & (1u64 << (position % 64)) != 0)
 }
 
 /// The number of 1 bits among the first `index` bits of the source's words; `None` exactly where there are fewer bits.
@@ -266,25 +266,25 @@ fn word_and_ones<T: TableSource>(source: &mut T, last: usize) -> (u64, usize)
     (word, to_part.wrapping_add(in_part))
 }
 
-/// The bit at position `place` of the source's words, and the number of 1 bits before it; `None` exactly where there is
-/// no such bit.
+/// The bit at position `position` of the source's words, and the number of 1 bits before it; `None` exactly where there
+/// is no such bit.
 ///
 /// # Conditions
 /// The source's tables match its words, which are fewer than 2^58.
 /// # Cost
 /// At most one upper entry, one lower entry and the eight words of the bit's basic block are read.
 #[inline(always)]
-pub fn bit_and_rank_on<T: TableSource>(source: &mut T, place: usize) -> Option<(bool, usize)>
+pub fn bit_and_rank_on<T: TableSource>(source: &mut T, position: usize) -> Option<(bool, usize)>
     requires { IsIndexed (T.lists source.old) }
     ensures answer { let b = bits_in (T.lists source.old) in
-        MatchOption result (length b ≤ place)
-        (λ r. (place < length b) × (r.0 ≡ item b place) × (r.1 ≡ ones_before b place)) }
+        MatchOption result (length b ≤ position)
+        (λ r. (position < length b) × (r.0 ≡ item b position) × (r.1 ≡ ones_before b position)) }
     ensures reads { OnlyReads T.lists T.reads source.old source.new 1 1 8 }
 {
-    total_bit_and_rank_on(source, place)
+    total_bit_and_rank_on(source, position)
 }
 
-/// The bit at position `place` of the source's words, and the number of 1 bits before it where its tables match the
+/// The bit at position `position` of the source's words, and the number of 1 bits before it where its tables match the
 /// words, any number otherwise; `None` exactly where there is no such bit, whatever the tables hold.
 ///
 /// # Conditions
@@ -297,33 +297,36 @@ pub fn bit_and_rank_on<T: TableSource>(source: &mut T, place: usize) -> Option<(
 /// ```
 #[tactic(auto, using(bit_lists::proofs::BitLaws::bits_are_counted, bit_lists::proofs::lemmas::BitsLemmas::item_tested))]
 #[inline(always)]
-pub fn total_bit_and_rank_on<T: TableSource>(source: &mut T, place: usize) -> Option<(bool, usize)>
+pub fn total_bit_and_rank_on<T: TableSource>(
+    source: &mut T,
+    position: usize,
+) -> Option<(bool, usize)>
     requires { HasSizes (T.lists source.old) }
     ensures bit { let b = bits_in (T.lists source.old) in
-        MatchOption result (length b ≤ place) (λ r. (place < length b) × (r.0 ≡ item b place)) }
+        MatchOption result (length b ≤ position) (λ r. (position < length b) × (r.0 ≡ item b position)) }
     ensures ones { HasTables (T.lists source.old)
-        → IfSome result (λ r. r.1 ≡ ones_before (bits_in (T.lists source.old)) place) }
+        → IfSome result (λ r. r.1 ≡ ones_before (bits_in (T.lists source.old)) position) }
     ensures reads { OnlyReads T.lists T.reads source.old source.new 1 1 8 }
 {
-    if place / 64 >= source.words_len() {
+    if position / 64 >= source.words_len() {
         return None;
     }
-    let (word, ones) = word_and_ones(source, place);
-    Some(bit_and_ones_before(word, ones, place))
+    let (word, ones) = word_and_ones(source, position);
+    Some(bit_and_ones_before(word, ones, position))
 }
 
-/// The bit at position `place` from the word that has it, and the number of 1 bits before it from the number of 1 bits
-/// up to and including it; from any other word and number, any answer.
+/// The bit at position `position` from the word that has it, and the number of 1 bits before it from the number of 1
+/// bits up to and including it; from any other word and number, any answer.
 ///
 /// The word is shifted as `ones_through` shifts it, once for both, and the bit is then its highest.
 #[tactic(auto, using(crate::proofs::lemmas::RankLemmas::item_shifted))]
 #[inline(always)]
-pub(crate) fn bit_and_ones_before(word: u64, ones: usize, place: usize) -> (bool, usize)
-    ensures bit { (ws : List ℕ) → place < 64 * length ws → word ≡ slice_index ws (place / 64)
-        → result.0 ≡ item (bits_of ws) place }
-    ensures ones { (ws : List ℕ) → IsShort ws → place < 64 * length ws → word ≡ slice_index ws (place / 64)
-        → ones ≡ ones_before (bits_of ws) (place + 1) → result.1 ≡ ones_before (bits_of ws) place }
+pub(crate) fn bit_and_ones_before(word: u64, ones: usize, position: usize) -> (bool, usize)
+    ensures bit { (ws : List ℕ) → position < 64 * length ws → word ≡ slice_index ws (position / 64)
+        → result.0 ≡ item (bits_of ws) position }
+    ensures ones { (ws : List ℕ) → IsShort ws → position < 64 * length ws → word ≡ slice_index ws (position / 64)
+        → ones ≡ ones_before (bits_of ws) (position + 1) → result.1 ≡ ones_before (bits_of ws) position }
 {
-    let bit = word << (63 - place % 64) >> 63 != 0;
+    let bit = word << (63 - position % 64) >> 63 != 0;
     (bit, ones.wrapping_sub(bit as usize))
 }

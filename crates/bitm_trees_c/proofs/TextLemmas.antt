@@ -1,4 +1,4 @@
--- Where all letters are written that there is room for, the status alone tells how many; and where bytes are answered, a
+-- Where all letters are written that there is room for, the status alone shows how many; and where bytes are answered, a
 -- letter is one.
 use Rattle.std.proofs.Common.{◌≡◌, ℕ, ◌⊎◌, ◌<◌, ◌≤◌, List, length, inl, inr, refl, sym, subst, arith}
 use Rattle.std.specs.Prelude.{⊤, Option, Some, None}
@@ -21,17 +21,17 @@ module _ (text_of : TextParts → List ℕ) (width_of : TextParts → ℕ) (from
   by_status status n (inr (inr three)) h = subst (OfStatus (length out)) (sym three) (subst (OfStatus n) three h)
 
 -- what the library says of the letters over what is lent, which is what the view has
-pub part_told : (text_of : TextParts → List ℕ) (width_of : TextParts → ℕ) (from : ℕ) (out : List ℕ) (lent view : TextParts) → lent ≡ view → (sized : Type 0) → sized → (status old new : ℕ) (answer : Answer ℕ)
+pub part_claimed : (text_of : TextParts → List ℕ) (width_of : TextParts → ℕ) (from : ℕ) (out : List ℕ) (lent view : TextParts) → lent ≡ view → (sized : Type 0) → sized → (status old new : ℕ) (answer : Answer ℕ)
     → IsReported answer status old new → IsPartIn text_of width_of from out lent answer
     → Exported sized (IsPartIn text_of width_of from out view) status (length out) (length out)
-part_told text_of width_of from out lent view same sized fits status old new answer is holds =
-    let told = by_status text_of width_of from out lent status new is.good (subst (IsPartIn text_of width_of from out lent) (sym is.is) holds) in
+part_claimed text_of width_of from out lent view same sized fits status old new answer is holds =
+    let claimed = by_status text_of width_of from out lent status new is.good (subst (IsPartIn text_of width_of from out lent) (sym is.is) holds) in
     record {
       bad = λ no. absurd (no fits);
       fits = λ _. fits;
       good = λ _. is.good;
       kept = λ _. refl;
-      answer = λ _. subst (λ l. IsPartIn text_of width_of from out l (answer_of status (length out))) same told;
+      answer = λ _. subst (λ l. IsPartIn text_of width_of from out l (answer_of status (length out))) same claimed;
     }
 
 abbrev IsGiven : {T : Type 0} → Option T → Type 0

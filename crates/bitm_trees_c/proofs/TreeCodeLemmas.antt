@@ -1,23 +1,23 @@
 -- A node that is found and a degree is no code.
 use Rattle.std.proofs.Common.{◌≡◌, ℕ, ◌-◌, ◌^◌, ◌<◌, refl, sym, ap, ◌∙◌, subst, arith}
-use Rattle.bitm_select.specs.Answers.{told_in}
+use Rattle.bitm_select.specs.Answers.{list_code}
 use Rattle.bitm_tables.specs.declared.answer.Answer.{Answer}
 use Rattle.bitm_tables.specs.declared.answer.Answer.TheVariants.{Found, Absent, Wrong}
-use Rattle.bitm_view.proofs.CodeLemmas.{selected_place}
+use Rattle.bitm_view.proofs.CodeLemmas.{selected_position}
 use Rattle.bitm_view.specs.Queries.{selected_by}
 use Rattle.louds.specs.Answers.{IsChildWithin, IsDegreeWithin, IsParentWithin}
-use Rattle.tree_block.specs.Told.{IsCodeOf}
+use Rattle.tree_block.specs.Codes.{IsCodeOf}
 use Rattle.bitm_abi.specs.Status.{IsFoundBelow}
 
 -- the code of an answer stands for it
-told_back : (answer : Answer ℕ) → IsFoundBelow (2 ^ 64 - 2) answer → selected_by (told_in answer) ≡ answer
-told_back (Found n) below = selected_place n below
-told_back Absent below = refl
-told_back Wrong below = refl
+claimed_back : (answer : Answer ℕ) → IsFoundBelow (2 ^ 64 - 2) answer → selected_by (list_code answer) ≡ answer
+claimed_back (Found n) below = selected_position n below
+claimed_back Absent below = refl
+claimed_back Wrong below = refl
 
 pub coded : (P : Answer ℕ → Type 0) (n : ℕ) → ((answer : Answer ℕ) → P answer → IsFoundBelow (2 ^ 64 - 2) answer) → IsCodeOf P n
     → P (selected_by n)
-coded P n below c = subst P (sym (ap selected_by c.code ∙ told_back c.answer (below c.answer c.holds))) c.holds
+coded P n below c = subst P (sym (ap selected_by c.code ∙ claimed_back c.answer (below c.answer c.holds))) c.holds
 
 module _ (n : ℕ) (short : n < 2 ^ 60) (i : ℕ) where
   pub parent_code : (answer : Answer ℕ) → IsParentWithin n i answer → IsFoundBelow (2 ^ 64 - 2) answer

@@ -7,7 +7,7 @@ use Rattle.bitm_abi.specs.declared.tree.Tree.{Tree}
 use Rattle.louds.specs.Counted.{degrees_in}
 use Rattle.louds.specs.Answers.{IsChildRankOf, IsChildRankWithin, IsLeafOf, IsLeafWithin, IsNextSiblingOf, IsNextSiblingWithin, IsPreviousSiblingOf, IsPreviousSiblingWithin}
 use Rattle.tree_block.specs.Block.{HasLengths, HoldsIn, TreeParts}
-pub use Rattle.tree_block.specs.Told.{without_hints, IsChildAnswer, IsDegree, IsParent}
+pub use Rattle.tree_block.specs.Codes.{without_hints, IsChildAnswer, IsDegree, IsParent}
 use Rattle.bitm_trees_c.specs.declared.tree_lists.Asked.{Asked}
 use Rattle.bitm_trees_c.specs.declared.tree_lists.Asked.TheVariants.{Parent, Degree}
 

@@ -6,7 +6,7 @@ ghost use Rattle.louds.specs.Tree.{IsMisfit, IsTree};
 ghost use Rattle.tree_block.specs.Block.{tree_in, tree_sections, CanHold, HoldsTree, IsBlockOf, IsTreeBlock};
 ghost use Rattle.bitm_abi.specs.Tree.{tree_parts};
 
-use bitm_abi::{BAD_SIZE, OK, Tree, WRONG, tell};
+use bitm_abi::{BAD_SIZE, OK, Tree, WRONG, report_option};
 use louds::misfit;
 use tree_block::{BuildError, LoudsView, build, size};
 
@@ -50,7 +50,7 @@ pub extern "C" fn bitm_tree_misfit(degrees: &[usize], out: &mut usize) -> u32
     ensures status { (result ≡ 0) ⊎ (result ≡ 1) }
     ensures kept { result ≢ 0 → out.new ≡ out.old }
 {
-    tell(misfit(degrees), out)
+    report_option(misfit(degrees), out)
 }
 
 /// Opens a block: writes the tree that queries take. What the words and tables hold is not looked at.

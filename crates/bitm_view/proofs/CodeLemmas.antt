@@ -4,7 +4,7 @@ use Rattle.std.proofs.lemmas.Bool.{cases_eq, cases_lt}
 use Rattle.std.proofs.lemmas.List.{length-take-le}
 use Rattle.bit_lists.proofs.lemmas.BitsLemmas.{length-bits_of}
 use Rattle.bit_lists.specs.Count.{count_of}
-use Rattle.bitm_select.specs.Answers.{RankTold, SelectTold}
+use Rattle.bitm_select.specs.Answers.{IsRankCode, IsSelectCode}
 use Rattle.bitm_tables.specs.Tables.{bits_in}
 use Rattle.bitm_tables.specs.declared.answer.Answer.{Answer}
 use Rattle.bitm_tables.specs.declared.answer.Answer.TheVariants.{Found, Absent, Wrong}
@@ -14,8 +14,8 @@ use Rattle.bitm_view.specs.Queries.{ranked_by, selected_by, RanksIn, SelectsIn}
 use Rattle.tables_view.specs.Counting.{Selects}
 
 -- a number that is no code stands for itself
-pub selected_place : (n : ℕ) → n < 2 ^ 64 - 2 → selected_by n ≡ Found n
-selected_place n below =
+pub selected_position : (n : ℕ) → n < 2 ^ 64 - 2 → selected_by n ≡ Found n
+selected_position n below =
     ap (λ (e : Bool). if e then Absent else if nat_eq n (2 ^ 64 - 2) then Wrong else Found n)
     (ne_eqb n (2 ^ 64 - 1) (λ e. omega (arith, e, below)))
     ∙ ap (λ (e : Bool). if e then Wrong else Found n) (ne_eqb n (2 ^ 64 - 2) (λ e. omega (arith, e, below)))
@@ -28,45 +28,45 @@ module _ (v : Bool) (c : Cut) (sized : IsSizedCut c) where
   pub rank_past : (i : ℕ) → c.len < i → RanksIn v c i Absent
   rank_past i past = record { within = past; counts = λ t. omega (arith, past, length-take-le c.len (bits_in c.lists) sized.within) }
 
-  pub rank_said : (i : ℕ) → i ≤ c.len → (n : ℕ) → RankTold v c.lists i n → n < 2 ^ 64 → RanksIn v c i (ranked_by n)
-  rank_said i inside n told fits =
+  pub rank_said : (i : ℕ) → i ≤ c.len → (n : ℕ) → IsRankCode v c.lists i n → n < 2 ^ 64 → RanksIn v c i (ranked_by n)
+  rank_said i inside n claimed fits =
       let within : i ≤ length (bits_in c.lists) = omega (arith, inside, sized.within) in
       elim (cases_lt n (2 ^ 64 - 2)) [
         | inl below ↦
-            subst (λ (r : Answer ℕ). RanksIn v c i r) (sym (selected_place n below))
+            subst (λ (r : Answer ℕ). RanksIn v c i r) (sym (selected_position n below))
             (cut_counted v c sized.within i inside (Found n)
-            (record { within = (within, told.most below); counts = λ t. (within, (told.count t within).1) }))
+            (record { within = (within, claimed.most below); counts = λ t. (within, (claimed.count t within).1) }))
         | inr above ↦
             elim (cases_eq n (2 ^ 64 - 1)) [
-              | inl e ↦ absurd (omega (arith, told.none.0 e, within))
+              | inl e ↦ absurd (omega (arith, claimed.none.0 e, within))
               | inr not ↦
                   let e : n ≡ 2 ^ 64 - 2 = omega (arith, fits, above, not) in
                   subst (λ (m : ℕ). RanksIn v c i (ranked_by m)) (sym e)
-                  (record { within = inside; counts = λ t. omega (arith, (told.count t within).0, e) })
+                  (record { within = inside; counts = λ t. omega (arith, (claimed.count t within).0, e) })
             ]
       ]
 
-  module _ (r n : ℕ) (told : SelectTold v c.lists r n) where
-    -- a place that was found
-    place : n < 2 ^ 64 - 2 → Selects v c.lists r (Found n)
-    place below = record {
-      bit = told.bit below;
+  module _ (r n : ℕ) (claimed : IsSelectCode v c.lists r n) where
+    -- a position that was found
+    position : n < 2 ^ 64 - 2 → Selects v c.lists r (Found n)
+    position below = record {
+      bit = claimed.bit below;
       counts =
           λ t.
           elim (cases_lt r (count_of (bits_in c.lists) v)) [
-            | inl some ↦ told.some t some
-            | inr past ↦ absurd (omega (arith, told.none t past, below))
+            | inl some ↦ claimed.some t some
+            | inr past ↦ absurd (omega (arith, claimed.none t past, below))
           ];
       absent = tt;
     }
 
-    pub place_said : n < c.len → SelectsIn v c r (selected_by n)
-    place_said inside =
+    pub position_said : n < c.len → SelectsIn v c r (selected_by n)
+    position_said inside =
         let below = few n (omega (arith, inside, sized.within)) in
-        subst (λ (s : Answer ℕ). SelectsIn v c r s) (sym (selected_place n below)) (cut_found v c sized.within r n inside (place below))
+        subst (λ (s : Answer ℕ). SelectsIn v c r s) (sym (selected_position n below)) (cut_found v c sized.within r n inside (position below))
 
     pub past_said : c.len ≤ n → n < 2 ^ 64 - 2 → SelectsIn v c r Absent
-    past_said behind below = cut_past v c sized.within r n behind (place below)
+    past_said behind below = cut_past v c sized.within r n behind (position below)
 
     none : n ≡ 2 ^ 64 - 1 → Selects v c.lists r Absent
     none e = record {
@@ -74,10 +74,10 @@ module _ (v : Bool) (c : Cut) (sized : IsSizedCut c) where
       counts =
           λ t.
           elim (cases_lt r (count_of (bits_in c.lists) v)) [
-            | inl some ↦ absurd (omega (arith, few n (omega (arith, (told.some t some).inside)), e))
+            | inl some ↦ absurd (omega (arith, few n (omega (arith, (claimed.some t some).inside)), e))
             | inr past ↦ past
           ];
-      absent = told.absent e;
+      absent = claimed.absent e;
     }
 
     wrong : n ≡ 2 ^ 64 - 2 → Selects v c.lists r Wrong
@@ -86,8 +86,8 @@ module _ (v : Bool) (c : Cut) (sized : IsSizedCut c) where
       counts =
           λ t.
           elim (cases_lt r (count_of (bits_in c.lists) v)) [
-            | inl some ↦ absurd (omega (arith, few n (omega (arith, (told.some t some).inside)), e))
-            | inr past ↦ absurd (omega (arith, told.none t past, e))
+            | inl some ↦ absurd (omega (arith, few n (omega (arith, (claimed.some t some).inside)), e))
+            | inr past ↦ absurd (omega (arith, claimed.none t past, e))
           ];
       absent = tt;
     }

@@ -1,4 +1,4 @@
--- The first items of a list of bits: their counts are those of all, and a place that all have is one of
+-- The first items of a list of bits: their counts are those of all, and a position that all have is one of
 -- them or behind them.
 use Rattle.std.proofs.Common.{◌≡◌, ℕ, ◌+◌, ◌<◌, ◌≤◌, Bool, true, false, List, length, take, inl, inr, sym, ap, ◌∙◌, arith}
 use Rattle.std.proofs.lemmas.List.{get_or-take, length-take-le}
@@ -18,7 +18,7 @@ module _ (b : List Bool) (v : Bool) (len : ℕ) (within : len ≤ length b) wher
   long : length (take len b) ≡ len
   long = length-take-le len b within
 
-  -- counts before a place of them
+  -- counts before a position of them
   cut_count : (i : ℕ) → i ≤ len → count_before (take len b) v i ≡ count_before b v i
   cut_count i inside =
       same_count (take len b) b v i (omega (arith, inside, long)) (omega (arith, inside, within))
@@ -28,7 +28,7 @@ module _ (b : List Bool) (v : Bool) (len : ℕ) (within : len ≤ length b) wher
   pub cut_total : count_of (take len b) v ≡ count_before b v len
   cut_total = ap (count_before (take len b) v) long ∙ cut_count len (omega arith)
 
-  -- a place before their end
+  -- a position before their end
   cut_bit : (p : ℕ) → p < len → item b p ≡ v → (p < length (take len b)) × (item (take len b) p ≡ v)
   cut_bit p inside is = (omega (arith, inside, long), get_or-take len b p _ inside ∙ is)
 
@@ -39,7 +39,7 @@ module _ (b : List Bool) (v : Bool) (len : ℕ) (within : len ≤ length b) wher
     before = cut_count p (omega (arith, inside)) ∙ picked.before;
   }
 
-  -- a place behind them has no fewer before it than they have
+  -- a position behind them has no fewer before it than they have
   cut_behind : (r p : ℕ) → len ≤ p → Picks b v r p → count_of (take len b) v ≤ r
   cut_behind r p behind picked = omega (arith, cut_total, count_before-le b v len p behind, picked.before)
 
@@ -69,7 +69,7 @@ module _ (v : Bool) (c : Cut) (within : IsWithin c) where
   cut_counted i inside Wrong is = record { within = inside; counts = λ t. is.counts t }
 
   module _ (r : ℕ) where
-    -- a place before their end is one of theirs
+    -- a position before their end is one of theirs
     pub cut_found : (p : ℕ) → p < c.len → Selects v c.lists r (Found p) → SelectsIn v c r (Found p)
     cut_found p inside is = record {
       bit = cut_bit (bits_in c.lists) v c.len within p inside is.bit.1;
@@ -82,7 +82,7 @@ module _ (v : Bool) (c : Cut) (within : IsWithin c) where
     cut_past p behind is = record {
       bit = tt;
       counts = λ t. cut_behind (bits_in c.lists) v c.len within r p behind (is.counts t);
-      absent = inr (record { place = p; behind = behind; inside = is.bit.0; bit = is.bit.1 });
+      absent = inr (record { position = p; behind = behind; inside = is.bit.0; bit = is.bit.1 });
     }
 
     -- and so does none among all

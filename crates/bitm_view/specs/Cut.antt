@@ -2,7 +2,7 @@
 use Rattle.std.specs.Prelude.{◌≡◌, ℕ, ◌<◌, ◌≤◌, ◌⊎◌, Bool, List, length, take}
 use Rattle.bit_lists.specs.Bits.{item}
 use Rattle.bitm_tables.specs.Tables.{HasSizes, Lists, bits_in}
-use Rattle.bitm_select.specs.Told.{TellsNone}
+use Rattle.bitm_select.specs.Claims.{ClaimsNone}
 use Rattle.tables_view.specs.Samples.{not_sampled, SampleLists}
 
 -- words and their tables, how many of the bits belong to the bit vector, and the samples of 1 bits and of 0 bits
@@ -35,15 +35,15 @@ IsSizedCut c = AreListsSized c.lists c.len
 
 -- a list has an item v from index n on
 pub record HasItemFrom (v : Bool) (b : List Bool) (n : ℕ) : Type 0 where
-  pub place : ℕ
-  pub behind : n ≤ place
-  pub inside : place < length b
-  pub bit : item b place ≡ v
+  pub position : ℕ
+  pub behind : n ≤ position
+  pub inside : position < length b
+  pub bit : item b position ≡ v
 
 -- the words have a bit v after the bit vector
 abbrev pub HasBitBehind : Bool → Cut → Type 0
 HasBitBehind v c = HasItemFrom v (bits_in c.lists) c.len
 
 -- tables and words claim at most r bits v in all, or the words have one after the bit vector
-abbrev pub TellsNoneOf : Bool → Cut → ℕ → Type 0
-TellsNoneOf v c r = TellsNone v c.lists r ⊎ HasBitBehind v c
+abbrev pub ClaimsNoneOf : Bool → Cut → ℕ → Type 0
+ClaimsNoneOf v c r = ClaimsNone v c.lists r ⊎ HasBitBehind v c

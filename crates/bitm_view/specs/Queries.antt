@@ -4,13 +4,13 @@ use Rattle.bitm_select.specs.Answers.{HasBit, IsFoundFrom}
 use Rattle.bitm_tables.specs.Tables.{HasTables}
 use Rattle.bitm_tables.specs.declared.answer.Answer.{Answer}
 use Rattle.bitm_tables.specs.declared.answer.Answer.TheVariants.{Found, Absent, Wrong}
-use Rattle.bitm_view.specs.Cut.{Cut, bits_of_cut, TellsNoneOf}
+use Rattle.bitm_view.specs.Cut.{Cut, bits_of_cut, ClaimsNoneOf}
 use Rattle.tables_view.specs.Counting.{IsCounting, IsSelection}
 use Rattle.tables_view.specs.Nearest.{IsNext, IsPrevious}
 
 -- a selection among the bits of the bit vector
 abbrev pub SelectsIn : Bool → Cut → ℕ → Answer ℕ → Type 0
-SelectsIn v c rank = IsSelection (bits_of_cut c) v (HasTables c.lists) (TellsNoneOf v c rank) rank
+SelectsIn v c rank = IsSelection (bits_of_cut c) v (HasTables c.lists) (ClaimsNoneOf v c rank) rank
 
 -- a rank among them
 abbrev pub RanksIn : Bool → Cut → ℕ → Answer ℕ → Type 0

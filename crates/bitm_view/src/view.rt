@@ -4,7 +4,7 @@ ghost use Rattle.bit_lists.specs.Bits.{digit_count};
 ghost use Rattle.bit_lists.specs.Count.{count_before, count_of, as_bit, Picks};
 ghost use Rattle.bitm_tables.specs.Tables.{HasTables, bits_in};
 ghost use Rattle.bitm_tables.specs.Answers.{IfAbsent};
-ghost use Rattle.bitm_view.specs.Cut.{bits_of_cut, cut_at, Cut, IsWithin, TellsNoneOf};
+ghost use Rattle.bitm_view.specs.Cut.{bits_of_cut, cut_at, Cut, IsWithin, ClaimsNoneOf};
 ghost use Rattle.bitm_view.specs.Queries.{RanksIn, SelectsIn};
 ghost use Rattle.tables_view.specs.Counting.{Selects};
 ghost use Rattle.tables_view.specs.Ranks.{IsCountWithin, IsRanked};
@@ -30,9 +30,9 @@ fn cut(selected: Answer<usize>, len: usize) -> Answer<usize>
         → Selects v c.lists r selected → SelectsIn v c r result }
 {
     match selected {
-        Answer::Found(place) => {
-            if place < len {
-                Answer::Found(place)
+        Answer::Found(position) => {
+            if position < len {
+                Answer::Found(position)
             } else {
                 Answer::Absent
             }
@@ -201,7 +201,7 @@ impl<'a> IndexView<'a> {
     pub fn select<const BIT: u8>(&self, rank: usize) -> Answer<usize>
         ensures bit { HasBit (bits_of_cut self.now) (as_bit BIT) result }
         ensures counts { HasTables self.now.lists → IsSelected (bits_of_cut self.now) (as_bit BIT) rank result }
-        ensures absent { IfAbsent result (TellsNoneOf (as_bit BIT) self.now rank) }
+        ensures absent { IfAbsent result (ClaimsNoneOf (as_bit BIT) self.now rank) }
     {
         let source = &mut self.tables.probe();
         let samples = *self.samples::<BIT>();
@@ -244,11 +244,11 @@ impl<'a> IndexView<'a> {
     ///
     /// # Cost
     /// The cost of `bit_words::slices::positions_in`.
-    pub fn places_from<const BIT: u8>(&self, from: usize, out: &mut [usize]) -> usize
+    pub fn positions_from<const BIT: u8>(&self, from: usize, out: &mut [usize]) -> usize
         ensures number { let b = bits_of_cut self.now in result ≡ min (length out.old)
             (count_of b (as_bit BIT) - count_before b (as_bit BIT) from) }
         ensures len { length out.new ≡ length out.old }
-        ensures places { let b = bits_of_cut self.now in (j : ℕ) → j < result
+        ensures positions { let b = bits_of_cut self.now in (j : ℕ) → j < result
             → Picks b (as_bit BIT) (count_before b (as_bit BIT) from + j) (slice_index out.new j) }
         ensures kept { (j : ℕ) → result ≤ j → slice_index out.new j ≡ slice_index out.old j }
     {

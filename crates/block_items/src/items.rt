@@ -2,7 +2,7 @@
 ghost use Rattle.std.specs.Prelude.{◌≡◌, ◌-◌, ◌≤◌, ℕ, List, length, IfSome};
 ghost use Rattle.std.specs.Iterator.{at_most, UpTo};
 ghost use Rattle.std.specs.Iterator.SizeHint.{IsWithinCount};
-ghost use Rattle.elias_fano.specs.Answers.{IsItem, IsOfPlace};
+ghost use Rattle.elias_fano.specs.Answers.{IsItem, IsOfIndex};
 ghost use Rattle.block_items.specs.Coming.{Gives, Left};
 
 use bitm_tables::answer::Answer;
@@ -26,7 +26,7 @@ pub trait HasItems {
     /// The item at an index. Whatever the block holds, the answer is `Absent` exactly where there is no such item.
     /// Where it holds a list, the answer is never `Wrong`.
     fn item(&self, index: usize) -> Answer<u64>
-        ensures inside { IsOfPlace (announced self.now) index result }
+        ensures inside { IsOfIndex (announced self.now) index result }
         ensures answer { (xs : List ℕ) → holds xs self.now → IsItem xs index result };
 
     /// The items in their order: where the block holds a list, all of it; else no more than are announced.

@@ -188,7 +188,7 @@ pub fn select64(n: u64, rank: u8) -> u8
     ensures picked { Picks (low_digits 64 n) true rank result }
 {
     let ranks = ranks_left(n, rank);
-    let place = 8 * (bytes_at_most(byte_sums(n) << 8, rank) - 1);
-    let left = ((ranks >> place) & 0x3F) as u8;
-    place + select_in_byte(((n >> place) & 0xFF) as u8, left)
+    let position = 8 * (bytes_at_most(byte_sums(n) << 8, rank) - 1);
+    let left = ((ranks >> position) & 0x3F) as u8;
+    position + select_in_byte(((n >> position) & 0xFF) as u8, left)
 }

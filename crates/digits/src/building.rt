@@ -9,14 +9,14 @@ ghost use Rattle.digits.specs.Tables.{HasDigitSizes, HasDigitTables};
 use crate::counting::{counts_in_line, next_number};
 use crate::sizes::{DIGITS_PER_LINE, LINES_PER_ENTRY, WORDS_PER_LINE};
 
-/// The two bits from bit `place` on of number `at`, and 0 where there is no such number.
+/// The two bits from bit `position` on of number `at`, and 0 where there is no such number.
 #[inline(always)]
-fn digit_of_number(numbers: &[u64], at: usize, place: u8) -> u64
-    requires { place < 64 }
-    ensures { result ≡ digit_from place (slice_index numbers.now at) }
+fn digit_of_number(numbers: &[u64], at: usize, position: u8) -> u64
+    requires { position < 64 }
+    ensures { result ≡ digit_from position (slice_index numbers.now at) }
 {
     if at < numbers.len() {
-        numbers[at] >> place & 3
+        numbers[at] >> position & 3
     } else {
         0
     }
@@ -24,19 +24,19 @@ fn digit_of_number(numbers: &[u64], at: usize, place: u8) -> u64
 
 /// The low bits and the high bits of the digits of `count` numbers from number `from` on, lowest first; 0 after them.
 #[inline(always)]
-fn bits_of_digits(numbers: &[u64], from: usize, count: usize, place: u8) -> (u64, u64)
-    requires place { place < 64 }
+fn bits_of_digits(numbers: &[u64], from: usize, count: usize, position: u8) -> (u64, u64)
+    requires position { position < 64 }
     requires count { count ≤ 64 }
     requires near { from < 2 ^ 63 }
     ensures digits { (y : ℕ) → y < count → bit_at result.0 y + 2 * bit_at result.1 y
-        ≡ digit_from place (slice_index numbers.now (from + y)) }
+        ≡ digit_from position (slice_index numbers.now (from + y)) }
     ensures low { (y : ℕ) → count ≤ y → y < 64 → bit_at result.0 y ≡ 0 }
     ensures high { (y : ℕ) → count ≤ y → y < 64 → bit_at result.1 y ≡ 0 }
 {
     let mut low = 0;
     let mut high = 0;
     for at in 0..count {
-        let digit = digit_of_number(numbers, from + at, place);
+        let digit = digit_of_number(numbers, from + at, position);
         low |= (digit & 1) << at;
         high |= (digit >> 1) << at;
     }
@@ -44,15 +44,15 @@ fn bits_of_digits(numbers: &[u64], from: usize, count: usize, place: u8) -> (u64
 }
 
 /// Writes 64 digits of a line, or its last 32.
-fn write_part(numbers: &[u64], place: u8, lines: &mut [u64], line: usize, part: usize)
-    requires place { place < 64 }
+fn write_part(numbers: &[u64], position: u8, lines: &mut [u64], line: usize, part: usize)
+    requires position { position < 64 }
     requires short { IsShort lines.old }
     requires inside { 8 * line + 8 ≤ length lines.old }
     requires part { part < 4 }
     ensures len { length lines.new ≡ length lines.old }
     ensures digits { (y : ℕ) → y < 64 → 64 * part + y < 224
         → bit_at (low_word lines.new line part) y + 2 * bit_at (high_word lines.new line part) y
-        ≡ digit_from place (slice_index numbers.now (224 * line + 64 * part + y)) }
+        ≡ digit_from position (slice_index numbers.now (224 * line + 64 * part + y)) }
     ensures low { (k j : ℕ) → j < 4 → 4 * k + j < 4 * line + part
         → low_word lines.new k j ≡ low_word lines.old k j }
     ensures high { (k j : ℕ) → j < 4 → 4 * k + j < 4 * line + part
@@ -60,7 +60,7 @@ fn write_part(numbers: &[u64], place: u8, lines: &mut [u64], line: usize, part: 
 {
     let from = DIGITS_PER_LINE * line + 64 * part;
     let count = (DIGITS_PER_LINE - 64 * part).min(64);
-    let (low, high) = bits_of_digits(numbers, from, count, place);
+    let (low, high) = bits_of_digits(numbers, from, count, position);
     let at = WORDS_PER_LINE * line + 1 + 2 * part;
     if part < 3 {
         lines[at] = low;
@@ -70,16 +70,16 @@ fn write_part(numbers: &[u64], place: u8, lines: &mut [u64], line: usize, part: 
     }
 }
 
-/// Writes the digits of all lines: the two bits from bit `place` on of each number, and 0 after the last number.
-fn write_digits(numbers: &[u64], place: u8, lines: &mut [u64])
-    requires place { place < 64 }
+/// Writes the digits of all lines: the two bits from bit `position` on of each number, and 0 after the last number.
+fn write_digits(numbers: &[u64], position: u8, lines: &mut [u64])
+    requires position { position < 64 }
     requires short { IsShort lines.old }
     ensures len { length lines.new ≡ length lines.old }
     ensures digits { (i : ℕ) → i < 224 * (length lines.old / 8)
-        → digit_of lines.new i ≡ digit_from place (slice_index numbers.now i) }
+        → digit_of lines.new i ≡ digit_from position (slice_index numbers.now i) }
 {
     for part in 0..4 * (lines.len() / WORDS_PER_LINE) {
-        write_part(numbers, place, &mut *lines, part / 4, part % 4);
+        write_part(numbers, position, &mut *lines, part / 4, part % 4);
     }
 }
 
@@ -138,8 +138,8 @@ fn write_counts(lines: &mut [u64], table: &mut [u64])
     }
 }
 
-/// Writes the digits of numbers as lines and their table: digit i is made of bits `place` and `place` + 1 of number i.
-/// What both slices held is overwritten. Digits after the last one, up to the end of its line, are 0.
+/// Writes the digits of numbers as lines and their table: digit i is made of bits `position` and `position` + 1 of
+/// number i. What both slices held is overwritten. Digits after the last one, up to the end of its line, are 0.
 ///
 /// # Conditions
 /// Lines and table have the sizes that `have_sizes` tests for this number of digits. The bit is one of a number's 64.
@@ -149,15 +149,15 @@ fn write_counts(lines: &mut [u64], table: &mut [u64])
 /// ```
 /// build(&[9, 4, 7], 1, &mut lines, &mut table);   // the digits 0, 2, 3
 /// ```
-pub fn build(numbers: &[u64], place: u8, lines: &mut [u64], table: &mut [u64])
-    requires place { place < 64 }
+pub fn build(numbers: &[u64], position: u8, lines: &mut [u64], table: &mut [u64])
+    requires position { position < 64 }
     requires sizes { HasDigitSizes (digit_lists lines.old table.old (length numbers.now)) }
     ensures sizes { HasDigitSizes (digit_lists lines.new table.new (length numbers.now)) }
     ensures digits { digits_in (digit_lists lines.new table.new (length numbers.now))
-        ≡ map (digit_from place) numbers.now }
+        ≡ map (digit_from position) numbers.now }
     ensures rest { (i : ℕ) → length numbers.now ≤ i → slice_index (digits_of lines.new) i ≡ 0 }
     ensures tables { HasDigitTables (digit_lists lines.new table.new (length numbers.now)) }
 {
-    write_digits(numbers, place, &mut *lines);
+    write_digits(numbers, position, &mut *lines);
     write_counts(lines, table);
 }

@@ -53,25 +53,30 @@ pub(crate) fn field_of(word: u64, digit: u8) -> u64
     word >> (16 * digit) & 0xFFFF
 }
 
-/// How many more digits are `digit` before position `place` of the open line than before its position 128, as a number
-/// of 64 bits that wraps below 0.
+/// How many more digits are `digit` before position `position` of the open line than before its position 128, as a
+/// number of 64 bits that wraps below 0.
 ///
 /// # Cost
 /// Four words of the line are read (evident from the code).
 #[inline(always)]
-pub(crate) fn from_middle<S: DigitSource>(source: &S, line: usize, digit: u8, place: usize) -> u64
+pub(crate) fn from_middle<S: DigitSource>(
+    source: &S,
+    line: usize,
+    digit: u8,
+    position: usize,
+) -> u64
     requires short { IsShort (S.lists source.now).lines }
     requires open { (S.reads source.now).opened ≡ Some line }
     requires inside { 8 * line + 8 ≤ length (S.lists source.now).lines }
     requires digit { digit < 4 }
-    requires place { place < 224 }
+    requires position { position < 224 }
     ensures { let digits = digits_of (S.lists source.now).lines in
         (digits_before digit digits (224 * line + 128) + result) % 2 ^ 64
-        ≡ digits_before digit digits (224 * line + place) }
+        ≡ digits_before digit digits (224 * line + position) }
 {
-    let half = place >> 7;
+    let half = position >> 7;
     let turned = (half as u64).wrapping_sub(1);
-    let (one, two) = masks(place % 128);
+    let (one, two) = masks(position % 128);
     let low_one = source.word(line, 4 * half + 1);
     let high_one = source.word(line, 4 * half + 2);
     let low_two = source.word(line, 4 * half + 3);
@@ -82,23 +87,23 @@ pub(crate) fn from_middle<S: DigitSource>(source: &S, line: usize, digit: u8, pl
     (count ^ turned).wrapping_sub(turned)
 }
 
-/// The digit at position `place` of the open line.
+/// The digit at position `position` of the open line.
 ///
 /// # Cost
 /// Two words of the line are read, which are one for its last 32 digits (evident from the code).
 #[inline(always)]
-pub(crate) fn digit_at<S: DigitSource>(source: &S, line: usize, place: usize) -> u8
+pub(crate) fn digit_at<S: DigitSource>(source: &S, line: usize, position: usize) -> u8
     requires short { IsShort (S.lists source.now).lines }
     requires open { (S.reads source.now).opened ≡ Some line }
     requires inside { 8 * line + 8 ≤ length (S.lists source.now).lines }
-    requires place { place < 224 }
-    ensures value { result ≡ digit_in (S.lists source.now).lines line place }
+    requires position { position < 224 }
+    ensures value { result ≡ digit_in (S.lists source.now).lines line position }
     ensures few { result < 4 }
 {
-    let part = place >> 6;
+    let part = position >> 6;
     let last = part / 3;
     let low = source.word(line, 1 + 2 * part);
     let high = source.word(line, 2 + 2 * part - last) >> (32 * last);
-    let bit = place % 64;
+    let bit = position % 64;
     ((low >> bit & 1) | (high >> bit & 1) << 1) as u8
 }

@@ -40,7 +40,12 @@ fn matches_of_part<S: DigitSource>(source: &S, line: usize, part: usize, digit: 
 
 /// The position in the open line of the digit with `rank` digits `digit` before it there; `None` exactly where the line
 /// has no more than `rank` of them.
-fn place_in_line<S: DigitSource>(source: &S, line: usize, digit: u8, rank: usize) -> Option<usize>
+fn position_in_line<S: DigitSource>(
+    source: &S,
+    line: usize,
+    digit: u8,
+    rank: usize,
+) -> Option<usize>
     requires short { IsShort (S.lists source.now).lines }
     requires open { (S.reads source.now).opened ≡ Some line }
     requires inside { 8 * line + 8 ≤ length (S.lists source.now).lines }
@@ -151,10 +156,10 @@ pub fn digit_select_on<S: DigitSource>(source: &mut S, digit: u8, rank: usize) -
     let line = last_line(source, entry, before, digit, rank);
     source.open(line);
     let in_line = rank.wrapping_sub(rank_from(source, before, line, digit, 0));
-    let Some(place) = place_in_line(source, line, digit, in_line) else {
+    let Some(position) = position_in_line(source, line, digit, in_line) else {
         return Answer::Wrong;
     };
-    let found = DIGITS_PER_LINE * line + place;
+    let found = DIGITS_PER_LINE * line + position;
     if found < source.digits_len() {
         Answer::Found(found)
     } else {

@@ -28,16 +28,16 @@ pub trait DigitSource {
         ensures counted { reads self.new ≡ line_read line (reads self.old) }
         ensures same { lists self.new ≡ lists self.old };
 
-    /// Word `place` of line `line`.
+    /// Word `position` of line `line`.
     ///
     /// # Conditions
     /// The line is the open one, there is such a word, and there are fewer than 2^58 words.
-    fn word(&self, line: usize, place: usize) -> u64
+    fn word(&self, line: usize, position: usize) -> u64
         requires open { (reads self.now).opened ≡ Some line }
         requires short { IsShort (lists self.now).lines }
         requires inside { 8 * line + 8 ≤ length (lists self.now).lines }
-        requires place { place < 8 }
-        ensures { result ≡ slice_index (lists self.now).lines (8 * line + place) };
+        requires position { position < 8 }
+        ensures { result ≡ slice_index (lists self.now).lines (8 * line + position) };
 
     /// Number `at` of the table; one more number is read.
     ///
@@ -121,8 +121,8 @@ impl<'a> DigitSource for DigitProbe<'a> {
     }
 
     #[inline(always)]
-    fn word(&self, line: usize, place: usize) -> u64 {
-        self.lines[8 * line + place]
+    fn word(&self, line: usize, position: usize) -> u64 {
+        self.lines[8 * line + position]
     }
 
     #[inline(always)]

@@ -12,5 +12,5 @@ pub mod SelectionReadLemmas
 pub mod SequenceLemmas
 pub mod SizeLemmas
 pub mod SplitLemmas
-pub mod ToldLemmas
+pub mod ClaimedLemmas
 pub mod UpperLemmas

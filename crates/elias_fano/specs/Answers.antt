@@ -7,20 +7,20 @@ use Rattle.bitm_tables.specs.declared.answer.Answer.{Answer}
 use Rattle.bitm_tables.specs.declared.answer.Answer.TheVariants.{Found, Absent, Wrong}
 
 -- Absent exactly where n items have no item i
-abbrev pub IsOfPlace : ℕ → ℕ → Answer ℕ → Type 0
-IsOfPlace n i (Found x) = i < n
-IsOfPlace n i Absent = n ≤ i
-IsOfPlace n i Wrong = i < n
+abbrev pub IsOfIndex : ℕ → ℕ → Answer ℕ → Type 0
+IsOfIndex n i (Found x) = i < n
+IsOfIndex n i Absent = n ≤ i
+IsOfIndex n i Wrong = i < n
 
 -- item i, and Absent exactly where there is none
 abbrev pub IsItem : List ℕ → ℕ → Answer ℕ → Type 0
 IsItem xs i = Right (λ x. (i < length xs) × (x ≡ slice_index xs i)) (length xs ≤ i)
 
 -- an index that is found is one of n
-abbrev pub IsPlaceOf : ℕ → Answer ℕ → Type 0
-IsPlaceOf n (Found p) = p < n
-IsPlaceOf n Absent = ⊤
-IsPlaceOf n Wrong = ⊤
+abbrev pub IsIndexIn : ℕ → Answer ℕ → Type 0
+IsIndexIn n (Found p) = p < n
+IsIndexIn n Absent = ⊤
+IsIndexIn n Wrong = ⊤
 
 -- the successor of v: the least index whose item is at least v, and Absent exactly where each item is less
 abbrev pub IsSuccessorOf : List ℕ → ℕ → Answer ℕ → Type 0

@@ -6,7 +6,7 @@ use Rattle.bitm_tables.specs.Tables.{HasTables, Lists}
 use Rattle.bitm_tables.specs.Entry.{less}
 use Rattle.elias_fano.specs.Buckets.{BeginsAt, CountsBelow}
 use Rattle.elias_fano.specs.Parts.{width_of, IsUpper}
-use Rattle.elias_fano.specs.Told.{TellsBelow, TellsTo}
+use Rattle.elias_fano.specs.Claims.{ClaimsBelow, ClaimsTo}
 use Rattle.bitm_tables.specs.declared.source.counts.ReadCounts.{ReadCounts}
 use Rattle.bitm_tables.specs.Answers.{Right}
 use Rattle.bitm_tables.specs.declared.answer.Answer.{Answer}
@@ -25,10 +25,10 @@ IsBegin xs l b h = Right (λ p. BeginsAt b h p) (CountsBelow xs l h (length xs))
 
 -- what words and tables claim by it, whatever they hold: how many of n numbers have high bits of less than h; for
 -- Absent, that all have, so that all have high bits of at most h
-abbrev pub TellsBegin : Lists → ℕ → ℕ → Answer ℕ → Type 0
-TellsBegin lists n h (Found p) = TellsBelow lists n h (less p h)
-TellsBegin lists n h Absent = TellsBelow lists n h n × TellsTo lists n h n
-TellsBegin lists n h Wrong = ⊤
+abbrev pub ClaimsBegin : Lists → ℕ → ℕ → Answer ℕ → Type 0
+ClaimsBegin lists n h (Found p) = ClaimsBelow lists n h (less p h)
+ClaimsBegin lists n h Absent = ClaimsBelow lists n h n × ClaimsTo lists n h n
+ClaimsBegin lists n h Wrong = ⊤
 
 -- what a search in the tables reads at most, with so many lower entries and words
 abbrev pub searched : ℕ → ℕ → Lists → ReadCounts

@@ -3,17 +3,17 @@ use Rattle.std.specs.Prelude.{◌≡◌, ℕ, ◌+◌, ◌*◌, ◌<◌, ◌≤�
 use Rattle.std.specs.List.Sorted.{IsNonDecreasing}
 use Rattle.bit_lists.specs.Bits.{bits_of}
 use Rattle.bit_lists.specs.Count.{ones_before, Picks}
-use Rattle.elias_fano.specs.Parts.{upper_place, width_of, low_words_of, upper_words_of, IsUpper, ArePartsOf, items_of}
+use Rattle.elias_fano.specs.Parts.{upper_position, width_of, low_words_of, upper_words_of, IsUpper, ArePartsOf, items_of}
 use Rattle.elias_fano.specs.Sequence.{Reaches}
 
 -- ---- sequences
 
--- an item is at least v exactly from the first such place on
+-- an item is at least v exactly from the first such position on
 abbrev pub ReachedFromThere : Type 0
 ReachedFromThere =
     (xs : List ℕ) (v i j : ℕ) → IsNonDecreasing xs → Reaches xs v i → j < length xs → (v ≤ slice_index xs j) ↔ (i ≤ j)
 
--- the first place that reaches an item is the least place of an item equal to it
+-- the first position that reaches an item is the least position of an item equal to it
 abbrev pub FirstOfEqual : Type 0
 FirstOfEqual =
     (xs : List ℕ) (i k : ℕ) → IsNonDecreasing xs → i < length xs → Reaches xs (slice_index xs i) k
@@ -26,11 +26,11 @@ abbrev pub OneForEachItem : Type 0
 OneForEachItem =
     (xs : List ℕ) (l : ℕ) (upper : List ℕ) → IsUpper xs l upper → ones_before (bits_of upper) (length (bits_of upper)) ≡ length xs
 
--- rank i picks the place of item i there
+-- rank i picks the position of item i there
 abbrev pub ItemsArePicked : Type 0
 ItemsArePicked =
     (xs : List ℕ) (l : ℕ) (upper : List ℕ) (i p : ℕ) → IsUpper xs l upper → i < length xs
-    → Picks (bits_of upper) true i p → p ≡ upper_place xs l i
+    → Picks (bits_of upper) true i p → p ≡ upper_position xs l i
 
 -- the parts of a sequence hold its items and no others
 abbrev pub PartsHoldItems : Type 0

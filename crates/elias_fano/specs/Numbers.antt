@@ -2,9 +2,9 @@
 use Rattle.std.specs.Prelude.{◌≡◌, ℕ, ◌-◌, ◌*◌, ◌<◌, ◌≤◌, List, length, take, drop}
 use Rattle.bit_lists.specs.Bits.{bits_of}
 use Rattle.bit_lists.specs.Count.{ones_before}
-use Rattle.elias_fano.specs.Parts.{upper_place, upper_places, width_of, ArePartsOf, IsUpper}
+use Rattle.elias_fano.specs.Parts.{upper_position, upper_positions, width_of, ArePartsOf, IsUpper}
 
--- the items of a range of places
+-- the items of a range of positions
 abbrev pub items_left : List ℕ → ℕ → ℕ → List ℕ
 items_left xs start end = take (end - start) (drop start xs)
 
@@ -19,6 +19,6 @@ pub record IsCursor (xs : List ℕ) (n l : ℕ) (low upper : List ℕ) (start en
   pub order : start ≤ end
   pub within : end ≤ n
   pub room : limit ≤ 64 * length upper
-  pub ones : coming ≡ drop start (upper_places xs l n)
-  pub left : (j : ℕ) → j < end → upper_place xs l j < limit
-  pub after : (j : ℕ) → end ≤ j → j < n → limit ≤ upper_place xs l j
+  pub ones : coming ≡ drop start (upper_positions xs l n)
+  pub left : (j : ℕ) → j < end → upper_position xs l j < limit
+  pub after : (j : ℕ) → end ≤ j → j < n → limit ≤ upper_position xs l j

@@ -17,13 +17,13 @@ HasFall xs = (k : ℕ) × (k + 1 < length xs) × (slice_index xs (k + 1) < slice
 abbrev pub largest : List ℕ → ℕ
 largest xs = slice_index xs (length xs - 1)
 
--- i is the least place whose item is at least v
+-- i is the least position whose item is at least v
 pub record Reaches (xs : List ℕ) (v i : ℕ) : Type 0 where
   pub inside : i < length xs
   pub at_least : v ≤ slice_index xs i
   pub before : (j : ℕ) → j < i → slice_index xs j < v
 
--- the least place whose item is at least v, and None exactly where each item is less
+-- the least position whose item is at least v, and None exactly where each item is less
 abbrev pub IsFirstAtLeast : List ℕ → ℕ → Option ℕ → Type 0
 IsFirstAtLeast xs v o = MatchOption o (All (λ x. x < v) xs) (Reaches xs v)
 
@@ -33,12 +33,12 @@ pub record ReachesTo (xs : List ℕ) (v c : ℕ) : Type 0 where
   pub below : (j : ℕ) → j < c → slice_index xs j ≤ v
   pub above : (j : ℕ) → c ≤ j → j < length xs → v < slice_index xs j
 
--- i is the greatest place whose item is at most v
+-- i is the greatest position whose item is at most v
 pub record StaysWithin (xs : List ℕ) (v i : ℕ) : Type 0 where
   pub inside : i < length xs
   pub at_most : slice_index xs i ≤ v
   pub after : (j : ℕ) → i < j → j < length xs → v < slice_index xs j
 
--- the greatest place whose item is at most v, and None exactly where each item is more
+-- the greatest position whose item is at most v, and None exactly where each item is more
 abbrev pub IsLastAtMost : List ℕ → ℕ → Option ℕ → Type 0
 IsLastAtMost xs v o = MatchOption o (All (λ x. v < x) xs) (StaysWithin xs v)

@@ -3,4 +3,4 @@
 
 pub use crate::checking::is_rising;
 pub use crate::making::{largest_of, low_width, write_low, write_upper};
-pub use crate::searching::{count_at_zero, item_at_one, join_digits, place_in_bucket};
+pub use crate::searching::{count_at_zero, index_in_bucket, item_at_one, join_digits};

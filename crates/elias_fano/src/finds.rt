@@ -5,16 +5,16 @@ ghost use Rattle.std.specs.Prelude.{◌≡◌, ◌≢◌, ◌+◌, ◌-◌, ◌^
 ghost use Rattle.std.specs.Prelude.{IfSome, IsSomeAnd};
 ghost use Rattle.bit_lists.specs.Bits.{digit_count};
 ghost use Rattle.bitm_select.specs.Answers.{HasBit, IsFoundFrom, IsSelected};
-ghost use Rattle.bitm_select.specs.Told.{TellsNone};
+ghost use Rattle.bitm_select.specs.Claims.{ClaimsNone};
 ghost use Rattle.bitm_tables.specs.Answers.{IfAbsent};
 ghost use Rattle.bitm_tables.specs.declared.answer.Answer.TheVariants.{Absent};
 ghost use Rattle.bitm_tables.specs.declared.source.counts.ReadCounts.{ReadCounts};
 ghost use Rattle.bitm_tables.specs.Reads.{none_read, OnlyReads, ReadsAtMost};
 ghost use Rattle.bitm_tables.specs.Tables.{bits_in, HasSizes, HasTables, Lists};
 ghost use Rattle.elias_fano.specs.Buckets.{BeginsAt, CountsTo};
-ghost use Rattle.elias_fano.specs.Ends.{searched, HoldsHigh, IsBegin, TellsBegin};
+ghost use Rattle.elias_fano.specs.Ends.{searched, HoldsHigh, IsBegin, ClaimsBegin};
 ghost use Rattle.elias_fano.specs.Parts.{IsUpper};
-ghost use Rattle.elias_fano.specs.Told.{TellsTo};
+ghost use Rattle.elias_fano.specs.Claims.{ClaimsTo};
 
 use crate::searching::count_at_zero;
 use bitm::{Select, Select0, near_zero_on};
@@ -48,7 +48,7 @@ pub(crate) trait FindsEnds<T: TableSource> {
     ghost finds: { Self → Lists → Type 0 };
 
     /// Whether its answers are what words and tables claim, whatever these hold.
-    ghost tells: { Type 0 };
+    ghost claims: { Type 0 };
 
     /// Whether it reads nothing of no numbers, and of one number for one end only.
     ghost spares: { Type 0 };
@@ -69,7 +69,7 @@ pub(crate) trait FindsEnds<T: TableSource> {
         ensures begin { (xs : List ℕ) (l : ℕ) → HoldsHigh xs n l (T.lists source.old)
             → finds self.now (T.lists source.old)
             → IsBegin xs l (bits_in (T.lists source.old)) above result }
-        ensures told { tells → TellsBegin (T.lists source.old) n above result }
+        ensures claimed { claims → ClaimsBegin (T.lists source.old) n above result }
         ensures first { above ≡ 0 → source.new ≡ source.old }
         ensures none { spares → n ≡ 0 → (result ≡ Absent) × (source.new ≡ source.old) }
         ensures reads { let most = most (T.lists source.old) in
@@ -87,7 +87,7 @@ pub(crate) trait FindsEnds<T: TableSource> {
             → finds self.now (T.lists source.old)
             → BeginsAt (bits_in (T.lists source.old)) above begin
             → IsSomeAnd result (CountsTo xs l above) }
-        ensures told { tells → IfSome result (TellsTo (T.lists source.old) n above) }
+        ensures claimed { claims → IfSome result (ClaimsTo (T.lists source.old) n above) }
         ensures alone { spares → n ≡ 1 → 0 < above → source.new ≡ source.old }
         ensures reads { let most = most_end (T.lists source.old) in
             OnlyReads T.lists T.reads source.old source.new most.upper most.lower most.words }
@@ -104,7 +104,7 @@ fn zero_on<const TESTS: u8, T: TableSource>(source: &mut T, rank: usize) -> Answ
     ensures answer { HasTables (T.lists source.old)
         → IsSelected (bits_in (T.lists source.old)) false rank result }
     ensures none { TESTS ≢ 0
-        → IfAbsent result (TellsNone false (T.lists source.old) rank) }
+        → IfAbsent result (ClaimsNone false (T.lists source.old) rank) }
     ensures reads { OnlyReads T.lists T.reads source.old source.new
         (digit_count (length (T.lists source.old).upper) + 1) 23 8 }
 {
@@ -118,12 +118,12 @@ pub(crate) fn begin_behind(zero: Answer<usize>) -> Answer<usize>
     ensures begin { (xs : List ℕ) (l : ℕ) (lists : Lists) (above : ℕ) → IsUpper xs l lists.words
         → 0 < above → IsSelected (bits_in lists) false (above - 1) zero
         → IsBegin xs l (bits_in lists) above result }
-    ensures told { (lists : Lists) (n above : ℕ) → 0 < above → above < 2 ^ 64
+    ensures claimed { (lists : Lists) (n above : ℕ) → 0 < above → above < 2 ^ 64
         → HasBit (bits_in lists) false zero
-        → IfAbsent zero (TellsNone false lists (above - 1)) → TellsBegin lists n above result }
+        → IfAbsent zero (ClaimsNone false lists (above - 1)) → ClaimsBegin lists n above result }
 {
     match zero {
-        Answer::Found(place) => Answer::Found(place + 1),
+        Answer::Found(position) => Answer::Found(position + 1),
         Answer::Absent => Answer::Absent,
         Answer::Wrong => Answer::Wrong,
     }
@@ -137,11 +137,11 @@ pub(crate) fn count_to(zero: Answer<usize>, n: usize, above: usize) -> Option<us
     ensures count { (xs : List ℕ) (l : ℕ) (lists : Lists) → IsUpper xs l lists.words
         → n ≡ length xs → IsSelected (bits_in lists) false above zero
         → IsSomeAnd result (CountsTo xs l above) }
-    ensures told { (lists : Lists) → HasBit (bits_in lists) false zero
-        → IfAbsent zero (TellsNone false lists above) → IfSome result (TellsTo lists n above) }
+    ensures claimed { (lists : Lists) → HasBit (bits_in lists) false zero
+        → IfAbsent zero (ClaimsNone false lists above) → IfSome result (ClaimsTo lists n above) }
 {
     match zero {
-        Answer::Found(place) => count_at_zero(place, above, n),
+        Answer::Found(position) => count_at_zero(position, above, n),
         Answer::Absent => Some(n),
         Answer::Wrong => None,
     }
@@ -166,7 +166,7 @@ impl<const TESTS: u8, T: TableSource> FindsOne<T> for BySearch<TESTS> {
 impl<const TESTS: u8, T: TableSource> FindsEnds<T> for BySearch<TESTS> {
     ghost finds = { λ _ _. ⊤ };
 
-    ghost tells = { TESTS ≢ 0 };
+    ghost claims = { TESTS ≢ 0 };
 
     ghost spares = { TESTS ≡ 0 };
 
@@ -214,7 +214,7 @@ impl<'a, T: TableSource, I: Select> FindsOne<T> for ByIndex<'a, I> {
     fn one(&self, _source: &mut T, rank: usize) -> Answer<usize> {
         let _len = self.index.len();
         match self.index.try_select(rank) {
-            Some(place) => Answer::Found(place),
+            Some(position) => Answer::Found(position),
             None => Answer::Absent,
         }
     }
@@ -223,7 +223,7 @@ impl<'a, T: TableSource, I: Select> FindsOne<T> for ByIndex<'a, I> {
 impl<'a, T: TableSource, I: Select0> FindsEnds<T> for ByIndex<'a, I> {
     ghost finds = { λ by lists. I.bits by.index.now ≡ bits_in lists };
 
-    ghost tells = { ⊥ };
+    ghost claims = { ⊥ };
 
     ghost spares = { ⊥ };
 
@@ -238,7 +238,7 @@ impl<'a, T: TableSource, I: Select0> FindsEnds<T> for ByIndex<'a, I> {
             return Answer::Found(0);
         }
         match self.index.try_select0(above - 1) {
-            Some(place) => Answer::Found(place + 1),
+            Some(position) => Answer::Found(position + 1),
             None => Answer::Absent,
         }
     }

@@ -3,16 +3,16 @@ ghost use Rattle.std.specs.Prelude.{◌≡◌, ◌+◌, ◌*◌, ◌↔◌, ⊤,
 ghost use Rattle.std.specs.List.{Contains};
 ghost use Rattle.bit_lists.specs.Bits.{digit_count};
 ghost use Rattle.bitm_select.specs.Answers.{HasBit, IsSelected};
-ghost use Rattle.bitm_select.specs.Told.{TellsNone};
+ghost use Rattle.bitm_select.specs.Claims.{ClaimsNone};
 ghost use Rattle.bitm_selection.specs.Hints.{AreHints};
 ghost use Rattle.bitm_tables.specs.Answers.{IfAbsent};
 ghost use Rattle.bitm_tables.specs.Reads.{OnlyReads};
 ghost use Rattle.bitm_tables.specs.Tables.{bits_in, HasSizes, HasTables};
-ghost use Rattle.elias_fano.specs.Answers.{IsItem, IsOfPlace, IsPlaceOf, IsPredecessorOf, IsSuccessorOf};
+ghost use Rattle.elias_fano.specs.Answers.{IsItem, IsOfIndex, IsIndexIn, IsPredecessorOf, IsSuccessorOf};
 ghost use Rattle.elias_fano.specs.Ends.{searched};
 ghost use Rattle.elias_fano.specs.SequenceParts.{parts_with, with_hints, HasLengths, Holds};
 ghost use Rattle.elias_fano.specs.Low.{sharing, ReadsFragments};
-ghost use Rattle.elias_fano.specs.Told.{IfLast, IfPlace, TellsAtMost, TellsLess};
+ghost use Rattle.elias_fano.specs.Claims.{IfLast, IfIndex, ClaimsAtMost, ClaimsLess};
 
 use crate::finds::{FindsEnds, FindsOne, NEAR, begin_behind, count_to};
 use crate::low::LowDigits;
@@ -32,7 +32,7 @@ fn hinted_zero_on<T: TableSource>(source: &mut T, hints: &[u64], rank: usize) ->
     ensures answer { HasTables (T.lists source.old)
         → AreHints false (T.lists source.old).words hints.now
         → IsSelected (bits_in (T.lists source.old)) false rank result }
-    ensures none { IfAbsent result (TellsNone false (T.lists source.old) rank) }
+    ensures none { IfAbsent result (ClaimsNone false (T.lists source.old) rank) }
     ensures reads { OnlyReads T.lists T.reads source.old source.new
         (digit_count (length (T.lists source.old).upper) + 1) 23 17 }
 {
@@ -60,7 +60,7 @@ impl<'a, T: TableSource> FindsOne<T> for ByHints<'a> {
 impl<'a, T: TableSource> FindsEnds<T> for ByHints<'a> {
     ghost finds = { λ by lists. AreHints false lists.words by.hints.zeros.now };
 
-    ghost tells = { ⊤ };
+    ghost claims = { ⊤ };
 
     ghost spares = { ⊥ };
 
@@ -109,7 +109,7 @@ pub fn hinted_item_on<T: TableSource>(
 ) -> Answer<u64>
     requires lengths { HasLengths (with_hints hints.now (parts_with n low.old (T.lists source.old))) }
     requires sized { HasSizes (T.lists source.old) }
-    ensures inside { IsOfPlace n at result }
+    ensures inside { IsOfIndex n at result }
     ensures answer { (xs : List ℕ)
         → Holds xs (with_hints hints.now (parts_with n low.old (T.lists source.old)))
         → IsItem xs at result }
@@ -146,8 +146,8 @@ pub fn hinted_first_at_least_on<T: TableSource>(
 ) -> Answer<usize>
     requires lengths { HasLengths (with_hints hints.now (parts_with n low.old (T.lists source.old))) }
     requires sized { HasSizes (T.lists source.old) }
-    ensures inside { IsPlaceOf n result }
-    ensures told { IfPlace n result (TellsLess (parts_with n low.old (T.lists source.old)) v) }
+    ensures inside { IsIndexIn n result }
+    ensures claimed { IfIndex n result (ClaimsLess (parts_with n low.old (T.lists source.old)) v) }
     ensures answer { (xs : List ℕ)
         → Holds xs (with_hints hints.now (parts_with n low.old (T.lists source.old)))
         → IsSuccessorOf xs v result }
@@ -184,8 +184,8 @@ pub fn hinted_last_at_most_on<T: TableSource>(
 ) -> Answer<usize>
     requires lengths { HasLengths (with_hints hints.now (parts_with n low.old (T.lists source.old))) }
     requires sized { HasSizes (T.lists source.old) }
-    ensures inside { IsPlaceOf n result }
-    ensures told { IfLast result (TellsAtMost (parts_with n low.old (T.lists source.old)) v) }
+    ensures inside { IsIndexIn n result }
+    ensures claimed { IfLast result (ClaimsAtMost (parts_with n low.old (T.lists source.old)) v) }
     ensures answer { (xs : List ℕ)
         → Holds xs (with_hints hints.now (parts_with n low.old (T.lists source.old)))
         → IsPredecessorOf xs v result }
@@ -224,8 +224,8 @@ pub fn hinted_contains_on<T: TableSource>(
     ensures answer { (xs : List ℕ)
         → Holds xs (with_hints hints.now (parts_with n low.old (T.lists source.old)))
         → IsSomeAnd result (λ is. IsTrue is ↔ Contains xs v) }
-    ensures told { IfSome result (λ is. (p : ℕ)
-        × TellsLess (parts_with n low.old (T.lists source.old)) v p × (p ≡ n → is ≡ false)) }
+    ensures claimed { IfSome result (λ is. (p : ℕ)
+        × ClaimsLess (parts_with n low.old (T.lists source.old)) v p × (p ≡ n → is ≡ false)) }
     ensures reads { OnlyReads T.lists T.reads source.old source.new
         (2 * (digit_count (length (T.lists source.old).upper) + 1)) (2 * 23) 42 }
     ensures fragments { ReadsFragments low.old low.new (digit_count n + 1) }

@@ -1,7 +1,7 @@
 //! The queries of a sequence, whoever holds it.
 ghost use Rattle.std.specs.Prelude.{◌≡◌, ◌↔◌, ◌^◌, ◌<◌, ℕ, List, length, IsSomeAnd, IsTrue};
 ghost use Rattle.std.specs.List.{Contains};
-ghost use Rattle.elias_fano.specs.Answers.{IsItem, IsOfPlace, IsPlaceOf, IsSuccessorOf};
+ghost use Rattle.elias_fano.specs.Answers.{IsItem, IsOfIndex, IsIndexIn, IsSuccessorOf};
 
 use crate::predecessor::contains_by;
 use crate::searching::{first_at_least_by, item_by};
@@ -26,13 +26,13 @@ pub trait Items {
     /// Number `i`. Whatever is held, the answer is `Absent` exactly where there is no such number; where it is numbers
     /// in order, never `Wrong`.
     fn item(&self, i: usize) -> Answer<u64>
-        ensures inside { IsOfPlace (len self.now) i result }
+        ensures inside { IsOfIndex (len self.now) i result }
         ensures answer { (xs : List ℕ) → holds xs self.now → IsItem xs i result };
 
     /// The least index whose number is at least `v`. Whatever is held, it is an index of a number; where it is numbers
     /// in order, the answer is `Absent` exactly where each is less, and never `Wrong`.
     fn successor(&self, v: u64) -> Answer<usize>
-        ensures inside { IsPlaceOf (len self.now) result }
+        ensures inside { IsIndexIn (len self.now) result }
         ensures answer { (xs : List ℕ) → holds xs self.now → IsSuccessorOf xs v result };
 
     /// Whether `v` is one of the numbers; where it is numbers in order, never `None`.

@@ -21,10 +21,10 @@ pub struct Numbers<'a> {
     width: u8,
     // How many numbers the sequence has.
     len: usize,
-    // The places of the numbers that are left.
+    // The positions of the numbers that are left.
     start: usize,
     end: usize,
-    // The places of the ones from that of number `start` on.
+    // The positions of the ones from that of number `start` on.
     ones: BitOnesIterator<'a>,
     // The bit of the upper words before which the ones of the numbers that are left stand.
     limit: usize,
@@ -74,7 +74,7 @@ impl<'a> Numbers<'a> {
             len,
             start,
             end: len,
-            ones: BitOnesIterator::from_place(upper, first),
+            ones: BitOnesIterator::from_position(upper, first),
             limit: upper.len() * 64,
             at_once: numbers_at_once(width),
             ahead: Ahead::nothing(start),
@@ -90,13 +90,13 @@ impl<'a> Numbers<'a> {
             return None;
         }
         let at = self.start;
-        let place = match self.ones.next() {
-            Some(place) => place,
+        let position = match self.ones.next() {
+            Some(position) => position,
             None => unreachable!(),
         };
         self.start = at + 1;
         self.ahead = Ahead::nothing(at + 1);
-        Some(item_at_one(place, &mut LowDigits::new(self.low, self.width), at))
+        Some(item_at_one(position, &mut LowDigits::new(self.low, self.width), at))
     }
 }
 
@@ -117,8 +117,8 @@ impl<'a> Iterator for Numbers<'a> {
         let Some(ahead) = look_ahead(self.low, width, self.at_once, at, self.end, self.ahead) else {
             return None;
         };
-        let place = match self.ones.next() {
-            Some(place) => place,
+        let position = match self.ones.next() {
+            Some(position) => position,
             None => unreachable!(),
         };
         let lowest = ahead.digits & n_lowest_bits(width);
@@ -127,7 +127,7 @@ impl<'a> Iterator for Numbers<'a> {
             until: ahead.until,
             digits: ahead.digits >> width,
         };
-        Some(((place.wrapping_sub(at) as u64) << width).wrapping_add(lowest))
+        Some(((position.wrapping_sub(at) as u64) << width).wrapping_add(lowest))
     }
 
     #[inline]
@@ -150,10 +150,10 @@ impl<'a> DoubleEndedIterator for Numbers<'a> {
             return None;
         }
         let at = self.end - 1;
-        let place = words::rfind_bit_one_unchecked(self.upper, self.limit - 1);
-        let number = item_at_one(place, &mut LowDigits::new(self.low, self.width), at);
+        let position = words::rfind_bit_one_unchecked(self.upper, self.limit - 1);
+        let number = item_at_one(position, &mut LowDigits::new(self.low, self.width), at);
         self.end = at;
-        self.limit = place;
+        self.limit = position;
         self.ahead.until = self.ahead.until.min(at);
         Some(number)
     }

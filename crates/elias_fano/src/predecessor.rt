@@ -4,11 +4,11 @@ ghost use Rattle.std.specs.List.{Contains};
 ghost use Rattle.bit_lists.specs.Bits.{digit_count};
 ghost use Rattle.bitm_tables.specs.Reads.{OnlyReads};
 ghost use Rattle.bitm_tables.specs.Tables.{HasSizes};
-ghost use Rattle.elias_fano.specs.Answers.{IsPlaceOf, IsPredecessorOf};
+ghost use Rattle.elias_fano.specs.Answers.{IsIndexIn, IsPredecessorOf};
 ghost use Rattle.elias_fano.specs.SequenceParts.{parts_with, HasLengths, Holds};
 ghost use Rattle.elias_fano.specs.Low.{sharing, ReadsFragments};
 ghost use Rattle.elias_fano.specs.Sequence.{ReachesTo};
-ghost use Rattle.elias_fano.specs.Told.{IfLast, TellsAtMost, TellsLess};
+ghost use Rattle.elias_fano.specs.Claims.{IfLast, ClaimsAtMost, ClaimsLess};
 
 use crate::finds::FindsEnds;
 use crate::low::LowDigits;
@@ -29,8 +29,8 @@ fn count_at_most<T: TableSource, F: FindsEnds<T>>(
     requires lengths { HasLengths (parts_with n low.old (T.lists source.old)) }
     requires sized { HasSizes (T.lists source.old) }
     ensures within { IfSome result (λ c. c ≤ n) }
-    ensures told { F.tells → IfSome result
-        (TellsAtMost (parts_with n low.old (T.lists source.old)) v) }
+    ensures claimed { F.claims → IfSome result
+        (ClaimsAtMost (parts_with n low.old (T.lists source.old)) v) }
     ensures reaches { (xs : List ℕ) → Holds xs (parts_with n low.old (T.lists source.old))
         → F.finds finder.now (T.lists source.old) → IsSomeAnd result (ReachesTo xs v) }
     ensures reads { let most = F.most (T.lists source.old) in
@@ -46,7 +46,7 @@ fn count_at_most<T: TableSource, F: FindsEnds<T>>(
         return Some(n);
     }
     match first_at_least_by(source, finder, low, n, v + 1) {
-        Answer::Found(place) => Some(place),
+        Answer::Found(position) => Some(position),
         Answer::Absent => Some(n),
         Answer::Wrong => None,
     }
@@ -69,9 +69,9 @@ pub(crate) fn last_at_most_by<T: TableSource, F: FindsEnds<T>>(
 ) -> Answer<usize>
     requires lengths { HasLengths (parts_with n low.old (T.lists source.old)) }
     requires sized { HasSizes (T.lists source.old) }
-    ensures inside { IsPlaceOf n result }
-    ensures told { F.tells
-        → IfLast result (TellsAtMost (parts_with n low.old (T.lists source.old)) v) }
+    ensures inside { IsIndexIn n result }
+    ensures claimed { F.claims
+        → IfLast result (ClaimsAtMost (parts_with n low.old (T.lists source.old)) v) }
     ensures answer { (xs : List ℕ) → Holds xs (parts_with n low.old (T.lists source.old))
         → F.finds finder.now (T.lists source.old) → IsPredecessorOf xs v result }
     ensures reads { let most = F.most (T.lists source.old) in
@@ -93,9 +93,9 @@ pub(crate) fn last_at_most_by<T: TableSource, F: FindsEnds<T>>(
 /// The greatest index whose number is at most `v` (the predecessor), of the `n` numbers whose parts are the low bits
 /// and the source's words.
 ///
-/// Whatever the parts hold, an index that is found is below `n`, and by the parts (`TellsAtMost`) the numbers up to `v`
-/// end after it, or at index 0 for `Absent`. Where they form a sequence, with the tables of its upper words, it is the
-/// right one, `Absent` is answered exactly where each number is more, and `Wrong` never.
+/// Whatever the parts hold, an index that is found is below `n`, and by the parts (`ClaimsAtMost`) the numbers up to
+/// `v` end after it, or at index 0 for `Absent`. Where they form a sequence, with the tables of its upper words, it is
+/// the right one, `Absent` is answered exactly where each number is more, and `Wrong` never.
 ///
 /// # Conditions
 /// As of `total_item_on`.
@@ -109,8 +109,8 @@ pub fn total_last_at_most_on<T: TableSource>(
 ) -> Answer<usize>
     requires lengths { HasLengths (parts_with n low.old (T.lists source.old)) }
     requires sized { HasSizes (T.lists source.old) }
-    ensures inside { IsPlaceOf n result }
-    ensures told { IfLast result (TellsAtMost (parts_with n low.old (T.lists source.old)) v) }
+    ensures inside { IsIndexIn n result }
+    ensures claimed { IfLast result (ClaimsAtMost (parts_with n low.old (T.lists source.old)) v) }
     ensures answer { (xs : List ℕ) → Holds xs (parts_with n low.old (T.lists source.old))
         → IsPredecessorOf xs v result }
     ensures reads { OnlyReads T.lists T.reads source.old source.new
@@ -144,8 +144,8 @@ pub(crate) fn contains_by<T: TableSource, F: FindsEnds<T>>(
     ensures answer { (xs : List ℕ) → Holds xs (parts_with n low.old (T.lists source.old))
         → F.finds finder.now (T.lists source.old)
         → IsSomeAnd result (λ is. IsTrue is ↔ Contains xs v) }
-    ensures told { F.tells → IfSome result (λ is. (p : ℕ)
-        × TellsLess (parts_with n low.old (T.lists source.old)) v p × (p ≡ n → is ≡ false)) }
+    ensures claimed { F.claims → IfSome result (λ is. (p : ℕ)
+        × ClaimsLess (parts_with n low.old (T.lists source.old)) v p × (p ≡ n → is ≡ false)) }
     ensures reads { let most = F.most (T.lists source.old) in
         let end = F.most_end (T.lists source.old) in
         OnlyReads T.lists T.reads source.old source.new (most.upper + end.upper)
@@ -169,7 +169,7 @@ pub(crate) fn contains_by<T: TableSource, F: FindsEnds<T>>(
 /// Whether `v` is one of the `n` numbers whose parts are the low bits and the source's words.
 ///
 /// `None` is answered only where the parts do not form a sequence with the tables of its upper words; with any other
-/// answer it is by the parts (`TellsLess`) where the numbers less than `v` end, and it is false where that is at `n`.
+/// answer it is by the parts (`ClaimsLess`) where the numbers less than `v` end, and it is false where that is at `n`.
 ///
 /// # Conditions
 /// As of `total_item_on`.
@@ -188,8 +188,8 @@ pub fn total_contains_on<T: TableSource>(
     requires sized { HasSizes (T.lists source.old) }
     ensures answer { (xs : List ℕ) → Holds xs (parts_with n low.old (T.lists source.old))
         → IsSomeAnd result (λ is. IsTrue is ↔ Contains xs v) }
-    ensures told { IfSome result (λ is. (p : ℕ)
-        × TellsLess (parts_with n low.old (T.lists source.old)) v p × (p ≡ n → is ≡ false)) }
+    ensures claimed { IfSome result (λ is. (p : ℕ)
+        × ClaimsLess (parts_with n low.old (T.lists source.old)) v p × (p ≡ n → is ≡ false)) }
     ensures reads { OnlyReads T.lists T.reads source.old source.new
         (2 * (digit_count (length (T.lists source.old).upper) + 1)) (2 * 23) (2 * 8) }
     ensures fragments { ReadsFragments low.old low.new (digit_count n + 1) }

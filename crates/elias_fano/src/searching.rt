@@ -8,12 +8,12 @@ ghost use Rattle.bit_lists.specs.Count.{Picks};
 ghost use Rattle.bitm_tables.specs.Reads.{OnlyReads, ReadsAtMost};
 ghost use Rattle.bitm_tables.specs.Tables.{HasSizes};
 ghost use Rattle.bitm_tables.specs.Entry.{less};
-ghost use Rattle.elias_fano.specs.Answers.{IsItem, IsOfPlace, IsPlaceOf, IsSuccessorOf};
+ghost use Rattle.elias_fano.specs.Answers.{IsItem, IsOfIndex, IsIndexIn, IsSuccessorOf};
 ghost use Rattle.elias_fano.specs.Buckets.{CountsBelow, CountsTo, HasEnds, LowsRise, Splits};
 ghost use Rattle.elias_fano.specs.SequenceParts.{parts_with, HasLengths, Holds};
 ghost use Rattle.elias_fano.specs.Low.{fragment, joined_item, sharing, HasFragments, ReadsFragments};
 ghost use Rattle.elias_fano.specs.Parts.{ArePartsOf, HasFragment, HasOneAt, IsUpper};
-ghost use Rattle.elias_fano.specs.Told.{IfPlace, PartsAt, TellsLess};
+ghost use Rattle.elias_fano.specs.Claims.{IfIndex, PartsAt, ClaimsLess};
 
 use crate::finds::{BySearch, FindsEnds, FindsOne};
 use crate::low::LowDigits;
@@ -43,8 +43,8 @@ pub fn join_digits(above: usize, low: &mut LowDigits<'_>, at: usize) -> u64
     ((above as u64) << width).wrapping_add(low.fragment(at))
 }
 
-/// Number `at` of a sequence, whose 1 bit in the upper vector is at `place`: as many 0 bits are before that position as
-/// the number says above its low bits.
+/// Number `at` of a sequence, whose 1 bit in the upper vector is at `position`: as many 0 bits are before that position
+/// as the number says above its low bits.
 ///
 /// # Conditions
 /// There is fragment `at`, in words that may hold anything. Where they are not the low words of a sequence, or the
@@ -52,13 +52,13 @@ pub fn join_digits(above: usize, low: &mut LowDigits<'_>, at: usize) -> u64
 /// # Cost
 /// At most one fragment of the low bits is read.
 #[inline(always)]
-pub fn item_at_one(place: usize, low: &mut LowDigits<'_>, at: usize) -> u64
+pub fn item_at_one(position: usize, low: &mut LowDigits<'_>, at: usize) -> u64
     requires { HasFragment low.old.words at low.old.width }
     ensures item { (xs : List ℕ) (n : ℕ) (upper : List ℕ)
-        → HasOneAt xs n low.old.width low.old.words upper at place → result ≡ slice_index xs at }
+        → HasOneAt xs n low.old.width low.old.words upper at position → result ≡ slice_index xs at }
     ensures fragments { ReadsFragments low.old low.new 1 }
 {
-    join_digits(place.wrapping_sub(at), low, at)
+    join_digits(position.wrapping_sub(at), low, at)
 }
 
 /// Number `at` of the `n` numbers whose parts are the low bits and the source's words, with the 1 bit that `finder`
@@ -78,7 +78,7 @@ pub(crate) fn item_by<T: TableSource, F: FindsOne<T>>(
 ) -> Answer<u64>
     requires lengths { HasLengths (parts_with n low.old (T.lists source.old)) }
     requires sized { HasSizes (T.lists source.old) }
-    ensures inside { IsOfPlace n at result }
+    ensures inside { IsOfIndex n at result }
     ensures answer { (xs : List ℕ) → Holds xs (parts_with n low.old (T.lists source.old))
         → F.finds finder.now (T.lists source.old) → IsItem xs at result }
     ensures reads { let most = F.most (T.lists source.old) in
@@ -89,7 +89,7 @@ pub(crate) fn item_by<T: TableSource, F: FindsOne<T>>(
         return Answer::Absent;
     }
     match finder.one(source, at) {
-        Answer::Found(place) => Answer::Found(item_at_one(place, low, at)),
+        Answer::Found(position) => Answer::Found(item_at_one(position, low, at)),
         Answer::Absent => Answer::Wrong,
         Answer::Wrong => Answer::Wrong,
     }
@@ -115,7 +115,7 @@ pub fn total_item_on<T: TableSource>(
 ) -> Answer<u64>
     requires lengths { HasLengths (parts_with n low.old (T.lists source.old)) }
     requires sized { HasSizes (T.lists source.old) }
-    ensures inside { IsOfPlace n at result }
+    ensures inside { IsOfIndex n at result }
     ensures answer { (xs : List ℕ) → Holds xs (parts_with n low.old (T.lists source.old))
         → IsItem xs at result }
     ensures reads { OnlyReads T.lists T.reads source.old source.new
@@ -125,16 +125,16 @@ pub fn total_item_on<T: TableSource>(
     item_by(source, &WITH_TESTS, low, n, at)
 }
 
-/// How many items have a number at most `above` above their low bits, where the 0 bit of that number stands at `place`;
-/// `None` only where it does not.
+/// How many items have a number at most `above` above their low bits, where the 0 bit of that number stands at
+/// `position`; `None` only where it does not.
 #[inline(always)]
-pub fn count_at_zero(place: usize, above: usize, n: usize) -> Option<usize>
+pub fn count_at_zero(position: usize, above: usize, n: usize) -> Option<usize>
     ensures within { IfSome result (λ c. c ≤ n) }
-    ensures is { IfSome result (λ c. c ≡ less place above) }
+    ensures is { IfSome result (λ c. c ≡ less position above) }
     ensures count { (xs : List ℕ) (l : ℕ) (upper : List ℕ) → IsUpper xs l upper → n ≡ length xs
-        → Picks (bits_of upper) false above place → IsSomeAnd result (CountsTo xs l above) }
+        → Picks (bits_of upper) false above position → IsSomeAnd result (CountsTo xs l above) }
 {
-    let count = place.wrapping_sub(above);
+    let count = position.wrapping_sub(above);
     if count <= n { Some(count) } else { None }
 }
 
@@ -151,7 +151,7 @@ fn split_low(low: &mut LowDigits<'_>, first: usize, end: usize, rest: u64) -> us
     requires some { HasFragments low.old end }
     requires order { first ≤ end }
     requires fits { rest < 2 ^ low.old.width }
-    ensures told { PartsAt (fragment low.old) low.old.width first end rest result }
+    ensures claimed { PartsAt (fragment low.old) low.old.width first end rest result }
     ensures splits { LowsRise low.old first end → Splits (fragment low.old) first end rest result }
     ensures none { low.old.width ≡ 0 → low.new ≡ low.old }
     ensures fragments { ReadsFragments low.old low.new (digit_count (end - first)) }
@@ -194,7 +194,7 @@ fn low_part(low: &LowDigits<'_>, v: u64) -> u64
 /// At most one fragment for each binary digit of how many numbers share the high bits of `v`; in parts that form no
 /// sequence, for each binary digit of `n`.
 #[inline(always)]
-pub fn place_in_bucket(
+pub fn index_in_bucket(
     low: &mut LowDigits<'_>,
     n: usize,
     first: usize,
@@ -203,8 +203,8 @@ pub fn place_in_bucket(
 ) -> Answer<usize>
     requires some { HasFragments low.old n }
     requires end { end ≤ n }
-    ensures inside { IsPlaceOf n result }
-    ensures told { let w = low.old.width in IfPlace n result
+    ensures inside { IsIndexIn n result }
+    ensures claimed { let w = low.old.width in IfIndex n result
         (PartsAt (fragment low.old) w first end (v % 2 ^ w)) }
     ensures answer { (xs upper : List ℕ) → ArePartsOf xs n low.old.width low.old.words upper
         → HasEnds xs low.old.width v first end → IsSuccessorOf xs v result }
@@ -217,9 +217,9 @@ pub fn place_in_bucket(
         return Answer::Wrong;
     }
     let rest = low_part(low, v);
-    let place = split_low(low, first, end, rest);
-    if place < n {
-        Answer::Found(place)
+    let position = split_low(low, first, end, rest);
+    if position < n {
+        Answer::Found(position)
     } else {
         Answer::Absent
     }
@@ -243,7 +243,7 @@ pub(crate) fn is_in_bucket(
     v: u64,
 ) -> Option<bool>
     requires { HasFragments low.old end }
-    ensures told { let w = low.old.width in IfSome result (λ is. (p : ℕ)
+    ensures claimed { let w = low.old.width in IfSome result (λ is. (p : ℕ)
         × PartsAt (fragment low.old) w first end (v % 2 ^ w) p × (p ≡ end → is ≡ false)) }
     ensures answer { (xs : List ℕ) (n : ℕ) (upper : List ℕ)
         → ArePartsOf xs n low.old.width low.old.words upper
@@ -256,11 +256,11 @@ pub(crate) fn is_in_bucket(
         return None;
     }
     let sought = low_part(low, v);
-    let place = split_low(low, first, end, sought);
-    if place == end {
+    let position = split_low(low, first, end, sought);
+    if position == end {
         return Some(false);
     }
-    Some(low.width() == 0 || low.fragment(place) == sought)
+    Some(low.width() == 0 || low.fragment(position) == sought)
 }
 
 /// The least index whose number is at least `v` (the successor), of the `n` numbers whose parts are the low bits and
@@ -283,9 +283,9 @@ pub(crate) fn first_at_least_by<T: TableSource, F: FindsEnds<T>>(
 ) -> Answer<usize>
     requires lengths { HasLengths (parts_with n low.old (T.lists source.old)) }
     requires sized { HasSizes (T.lists source.old) }
-    ensures inside { IsPlaceOf n result }
-    ensures told { F.tells
-        → IfPlace n result (TellsLess (parts_with n low.old (T.lists source.old)) v) }
+    ensures inside { IsIndexIn n result }
+    ensures claimed { F.claims
+        → IfIndex n result (ClaimsLess (parts_with n low.old (T.lists source.old)) v) }
     ensures answer { (xs : List ℕ) → Holds xs (parts_with n low.old (T.lists source.old))
         → F.finds finder.now (T.lists source.old) → IsSuccessorOf xs v result }
     ensures reads { let most = F.most (T.lists source.old) in
@@ -309,10 +309,10 @@ pub(crate) fn first_at_least_by<T: TableSource, F: FindsEnds<T>>(
     };
     let first = begin.wrapping_sub(above);
     if width == 0 {
-        return place_in_bucket(low, n, first, n, v);
+        return index_in_bucket(low, n, first, n, v);
     }
     match finder.end(source, n, above, begin) {
-        Some(end) => place_in_bucket(low, n, first, end, v),
+        Some(end) => index_in_bucket(low, n, first, end, v),
         None => Answer::Wrong,
     }
 }
@@ -320,7 +320,7 @@ pub(crate) fn first_at_least_by<T: TableSource, F: FindsEnds<T>>(
 /// The least index whose number is at least `v` (the successor), of the `n` numbers whose parts are the low bits and
 /// the source's words.
 ///
-/// Whatever the parts hold, an index that is found is below `n`, and by the parts (`TellsLess`) the numbers less than
+/// Whatever the parts hold, an index that is found is below `n`, and by the parts (`ClaimsLess`) the numbers less than
 /// `v` end there, or at `n` for `Absent`. Where they form a sequence, with the tables of its upper words, it is the
 /// right one, `Absent` is answered exactly where each number is less, and `Wrong` never.
 ///
@@ -339,8 +339,8 @@ pub fn total_first_at_least_on<T: TableSource>(
 ) -> Answer<usize>
     requires lengths { HasLengths (parts_with n low.old (T.lists source.old)) }
     requires sized { HasSizes (T.lists source.old) }
-    ensures inside { IsPlaceOf n result }
-    ensures told { IfPlace n result (TellsLess (parts_with n low.old (T.lists source.old)) v) }
+    ensures inside { IsIndexIn n result }
+    ensures claimed { IfIndex n result (ClaimsLess (parts_with n low.old (T.lists source.old)) v) }
     ensures answer { (xs : List ℕ) → Holds xs (parts_with n low.old (T.lists source.old))
         → IsSuccessorOf xs v result }
     ensures reads { OnlyReads T.lists T.reads source.old source.new

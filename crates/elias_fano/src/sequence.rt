@@ -225,39 +225,39 @@ impl<S: SelectForRank101111, S0: Select0ForRank101111> Sequence<S, S0> {
         self.numbers(0, 0)
     }
 
-    /// The numbers from index `place` on.
+    /// The numbers from index `index` on.
     ///
     /// # Conditions
     /// There is a number at that index, or it is the number of all.
     /// # Cost
     /// One selection, and none where no number is left; then as `iter`.
     #[inline]
-    pub fn iter_from(&self, place: usize) -> Numbers<'_>
-        requires { place ≤ length self.now.items }
-        ensures { result ≡ drop place self.now.items }
+    pub fn iter_from(&self, index: usize) -> Numbers<'_>
+        requires { index ≤ length self.now.items }
+        ensures { result ≡ drop index self.now.items }
     {
-        self.numbers(place, self.first_bit(place))
+        self.numbers(index, self.first_bit(index))
     }
 
-    /// The numbers from index `place` on, where as many 1 bits stand before bit `first` of the upper words.
+    /// The numbers from index `index` on, where as many 1 bits stand before bit `first` of the upper words.
     #[inline(always)]
-    fn numbers(&self, place: usize, first: usize) -> Numbers<'_>
-        requires order { place ≤ length self.now.items }
-        requires first { HasBefore self.now.items place first }
-        ensures { result ≡ drop place self.now.items }
+    fn numbers(&self, index: usize, first: usize) -> Numbers<'_>
+        requires order { index ≤ length self.now.items }
+        requires first { HasBefore self.now.items index first }
+        ensures { result ≡ drop index self.now.items }
     {
         let (low, upper) = (self.low_words(), self.upper_words());
-        Numbers::new(low, upper, self.width, self.len, place, first)
+        Numbers::new(low, upper, self.width, self.len, index, first)
     }
 
-    /// A bit of the upper words before which the 1 bits of the numbers before `place` stand, and no others.
+    /// A bit of the upper words before which the 1 bits of the numbers before `index` stand, and no others.
     #[inline(always)]
-    fn first_bit(&self, place: usize) -> usize
-        requires { place ≤ length self.now.items }
-        ensures { HasBefore self.now.items place result }
+    fn first_bit(&self, index: usize) -> usize
+        requires { index ≤ length self.now.items }
+        ensures { HasBefore self.now.items index result }
     {
-        if place < self.len {
-            self.upper.select(place)
+        if index < self.len {
+            self.upper.select(index)
         } else {
             self.upper_words().len() * 64
         }

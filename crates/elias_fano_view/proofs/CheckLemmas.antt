@@ -6,16 +6,16 @@ use Rattle.std.proofs.lemmas.List.FromFn.{length-map-range_with_len, get_or-map-
 use Rattle.std.proofs.lemmas.Nat.{div-mul-add, mod-mul-add, pow-add, mul-add-lt}
 use Rattle.std.proofs.Math.Nat.{mul-le-mul_right}
 use Rattle.std.specs.Int.{div_ceil}
-use Rattle.bit_lists.proofs.BitLaws.{bits_are_counted, ones_and_zeros, at_most_one_picked, places_are_picked, places_are_counted}
+use Rattle.bit_lists.proofs.BitLaws.{bits_are_counted, ones_and_zeros, at_most_one_picked, positions_are_picked, positions_are_counted}
 use Rattle.bit_lists.proofs.lemmas.NumberLemmas.{number_at-lt}
 use Rattle.bit_lists.proofs.lemmas.PickLemmas.{rank_below}
 use Rattle.bit_lists.specs.Bits.{bits_of, item}
-use Rattle.bit_lists.specs.Count.{ones_of, places, Picks}
+use Rattle.bit_lists.specs.Count.{ones_of, bit_positions, Picks}
 use Rattle.bit_lists.specs.Number.{number_at}
 use Rattle.elias_fano.proofs.lemmas.ItemLemmas.{held-is}
-use Rattle.elias_fano.proofs.lemmas.UpperLemmas.{places_are}
+use Rattle.elias_fano.proofs.lemmas.UpperLemmas.{positions_are}
 use Rattle.elias_fano.specs.Low.{unread, HasFragments}
-use Rattle.elias_fano.specs.Parts.{width_at, upper_place, upper_places, items_of, ArePartsOf}
+use Rattle.elias_fano.specs.Parts.{width_at, upper_position, upper_positions, items_of, ArePartsOf}
 use Rattle.elias_fano.specs.Sequence.{largest, IsSequence}
 use Rattle.elias_fano_view.specs.Checks.{held_item, AreFirstNumbers}
 use Rattle.elias_fano_view.specs.Sizes.{upper_words_at}
@@ -42,31 +42,31 @@ module _ (a w f : ℕ) (narrow : w ≤ 63) (low : f < 2 ^ w) where
 -- ---- the number of a 1 bit
 
 module _ (l : ℕ) (low words : List ℕ) where
-  -- item i of the places is what rank i picks
-  pub place_of_pick : (i p : ℕ) → Picks (bits_of words) true i p → get_or (places true 0 (bits_of words)) i 0 ≡ p
-  place_of_pick i p one =
+  -- item i of the positions is what rank i picks
+  pub position_of_pick : (i p : ℕ) → Picks (bits_of words) true i p → get_or (bit_positions true 0 (bits_of words)) i 0 ≡ p
+  position_of_pick i p one =
       let b = bits_of words in
-      let some : i < length (places true 0 b) = omega (arith, places_are_counted b true, rank_below b true i p one) in
-      at_most_one_picked b true i _ p (places_are_picked b true i some) one
+      let some : i < length (bit_positions true 0 b) = omega (arith, positions_are_counted b true, rank_below b true i p one) in
+      at_most_one_picked b true i _ p (positions_are_picked b true i some) one
 
   pub held_of_pick : (i p : ℕ) → Picks (bits_of words) true i p
       → held_item l low words i ≡ (p - i) * 2 ^ l + number_at (bits_of low) (i * l) l
-  held_of_pick i p one = ap (λ q. (q - i) * 2 ^ l + number_at (bits_of low) (i * l) l) (place_of_pick i p one)
+  held_of_pick i p one = ap (λ q. (q - i) * 2 ^ l + number_at (bits_of low) (i * l) l) (position_of_pick i p one)
 
 -- ---- what is held of a sequence
 
 module _ (xs : List ℕ) (n l : ℕ) (low words : List ℕ) (h : ArePartsOf xs n l low words) where
   pub held_is : (i : ℕ) → i < n → held_item l low words i ≡ get_or xs i 0
   held_is i less =
-      let some : i < length (places true 0 (bits_of words)) = omega (arith, places_are xs l words h.upper_is, h.count) in
+      let some : i < length (bit_positions true 0 (bits_of words)) = omega (arith, positions_are xs l words h.upper_is, h.count) in
       held-is xs n l low words i _ record {
         parts = h;
         inside = less;
-        one = places_are_picked (bits_of words) true i some;
+        one = positions_are_picked (bits_of words) true i some;
       }
 
   pub ones-all : ones_of (bits_of words) ≡ n
-  ones-all = omega (arith, places_are_counted (bits_of words) true, places_are xs l words h.upper_is, h.count)
+  ones-all = omega (arith, positions_are_counted (bits_of words) true, positions_are xs l words h.upper_is, h.count)
 
   -- the last number is the largest
   pub last-largest : (last : ℕ) → AreFirstNumbers l low words n last → last ≡ largest xs
@@ -111,19 +111,19 @@ module _ (n l last : ℕ) (low words : List ℕ) (fragments : HasFragments (unre
       let room : (i + 1) * l ≤ n * l = mul-le-mul_right l (let e : i + 1 ≤ n = omega arith in e) in
       number_at-lt (bits_of low) (i * l) l (omega (arith, bits_are_counted low, fragments.inside))
 
-  -- a one has at least as many places before it as ones
-  place-after : (i : ℕ) → i < n → i ≤ get_or (places true 0 (bits_of words)) i 0
-  place-after i less =
+  -- a one has at least as many positions before it as ones
+  position-after : (i : ℕ) → i < n → i ≤ get_or (bit_positions true 0 (bits_of words)) i 0
+  position-after i less =
       let b = bits_of words in
-      let one = places_are_picked b true i (omega (arith, places_are_counted b true, ones)) in
-      omega (arith, ones_and_zeros b (get_or (places true 0 b) i 0) (omega (arith, one.inside)), one.before)
+      let one = positions_are_picked b true i (omega (arith, positions_are_counted b true, ones)) in
+      omega (arith, ones_and_zeros b (get_or (bit_positions true 0 b) i 0) (omega (arith, one.inside)), one.before)
 
-  upper_at : (i : ℕ) → i < n → get_or (places true 0 (bits_of words)) i 0 ≡ upper_place ys l i
+  upper_at : (i : ℕ) → i < n → get_or (bit_positions true 0 (bits_of words)) i 0 ≡ upper_position ys l i
   upper_at i less =
-      let p = get_or (places true 0 (bits_of words)) i 0 in
+      let p = get_or (bit_positions true 0 (bits_of words)) i 0 in
       let above : get_or ys i 0 / 2 ^ l ≡ p - i =
       ap (λ x. x / 2 ^ l) (at i 0 less) ∙ div-mul-add (p - i) (2 ^ l) (number_at (bits_of low) (i * l) l) (fragment-small i less) in
-      omega (arith, above, place-after i less)
+      omega (arith, above, position-after i less)
 
   largest-last : largest ys ≡ last
   largest-last =
@@ -156,18 +156,18 @@ module _ (n l last : ℕ) (low words : List ℕ) (fragments : HasFragments (unre
       fragments = λ i less.
           let inside : i < n = omega (arith, less, len) in
           sym (ap (λ x. x % 2 ^ l) (at i 0 inside)
-          ∙ mod-mul-add (get_or (places true 0 (bits_of words)) i 0 - i) (2 ^ l) (number_at (bits_of low) (i * l) l) (fragment-small i inside));
+          ∙ mod-mul-add (get_or (bit_positions true 0 (bits_of words)) i 0 - i) (2 ^ l) (number_at (bits_of low) (i * l) l) (fragment-small i inside));
       after = λ p past. zeros p (omega (arith, past, ap (λ k. k * l) len));
     };
     upper_is = record {
       words = sym count ∙ ap (λ k. upper_words_at k last l) (sym len) ∙ ap (λ u. upper_words_at (length ys) u l) (sym largest-last);
       ones =
-          let total : length (places true 0 (bits_of words)) ≡ n = omega (arith, places_are_counted (bits_of words) true, ones) in
-          same_number_lists (places true 0 (bits_of words)) (upper_places ys l (length ys))
-          (total ∙ sym (length-map-range_with_len (upper_place ys l) 0 (length ys) ∙ len))
+          let total : length (bit_positions true 0 (bits_of words)) ≡ n = omega (arith, positions_are_counted (bits_of words) true, ones) in
+          same_number_lists (bit_positions true 0 (bits_of words)) (upper_positions ys l (length ys))
+          (total ∙ sym (length-map-range_with_len (upper_position ys l) 0 (length ys) ∙ len))
           (λ i less.
           let inside : i < n = omega (arith, less, total) in
           upper_at i inside
-          ∙ sym (get_or-map-range_with_len (upper_place ys l) 0 (length ys) i i 0 (omega (arith, inside, len)) (omega arith)));
+          ∙ sym (get_or-map-range_with_len (upper_position ys l) 0 (length ys) i i 0 (omega (arith, inside, len)) (omega arith)));
     };
   }

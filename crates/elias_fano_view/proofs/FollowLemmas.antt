@@ -6,13 +6,13 @@ use Rattle.std.proofs.lemmas.Nat.{and_mask}
 use Rattle.std.proofs.lemmas.Nat.Bits.{bit_at_above, bit_at_and, bit_at_or, bit_at-lt}
 use Rattle.std.proofs.Math.Nat.{mul-le-mul_right}
 use Rattle.std.specs.Int.{bit_at}
-use Rattle.bit_lists.proofs.BitLaws.{places_are_counted, places_are_picked}
+use Rattle.bit_lists.proofs.BitLaws.{positions_are_counted, positions_are_picked}
 use Rattle.bit_lists.proofs.lemmas.BitsLemmas.{item-bits_of_at, length-bits_of}
 use Rattle.bit_lists.proofs.lemmas.CountLemmas.{count_before-le, ones_before_more, ones_before-bits_of_in_word}
 use Rattle.bit_lists.proofs.lemmas.PickLemmas.{Picks-rank, rank_below, same_from_Picks}
 use Rattle.bit_lists.proofs.lemmas.WordLemmas.{truth, bit_at-shl, bit_at-shl_below}
 use Rattle.bit_lists.specs.Bits.{bits_of, digit, item}
-use Rattle.bit_lists.specs.Count.{ones_before, places, Picks}
+use Rattle.bit_lists.specs.Count.{ones_before, bit_positions, Picks}
 use Rattle.elias_fano.specs.Low.{unread, HasFragments}
 use Rattle.elias_fano.specs.Parts.{HasFragment}
 use Rattle.elias_fano_view.specs.Checks.{FollowsOne}
@@ -122,42 +122,42 @@ fragments-fewer low l n m h less =
 -- ---- all of a word
 
 module _ (w : ℕ) where
-  -- place i of a word's 1 bits is a digit of it
-  pub place-is : (i : ℕ) → i < length (places true 0 (bits_of (w ∷ []))) → (get_or (places true 0 (bits_of (w ∷ []))) i 0 < 64)
-      × (digit w (get_or (places true 0 (bits_of (w ∷ []))) i 0) ≡ true)
-  place-is i less =
+  -- position i of a word's 1 bits is a digit of it
+  pub position-is : (i : ℕ) → i < length (bit_positions true 0 (bits_of (w ∷ []))) → (get_or (bit_positions true 0 (bits_of (w ∷ []))) i 0 < 64)
+      × (digit w (get_or (bit_positions true 0 (bits_of (w ∷ []))) i 0) ≡ true)
+  position-is i less =
       let b = bits_of (w ∷ []) in
-      let p = get_or (places true 0 b) i 0 in
-      let one = places_are_picked b true i less in
+      let p = get_or (bit_positions true 0 b) i 0 in
+      let one = positions_are_picked b true i less in
       let low : p < 64 = omega (arith, one.inside, length-bits_of (w ∷ [])) in
       (low, sym (item-bits_of_at (w ∷ []) p 0 p (omega arith) low (omega arith)) ∙ one.item)
 
-  -- and each such digit has its place among them
-  pub place-of : (j : ℕ) → j < 64 → digit w j ≡ true
-      → (ones_before (bits_of (w ∷ [])) j < length (places true 0 (bits_of (w ∷ []))))
-      × (get_or (places true 0 (bits_of (w ∷ []))) (ones_before (bits_of (w ∷ [])) j) 0 ≡ j)
-  place-of j low one =
+  -- and each such digit has its position among them
+  pub position-of : (j : ℕ) → j < 64 → digit w j ≡ true
+      → (ones_before (bits_of (w ∷ [])) j < length (bit_positions true 0 (bits_of (w ∷ []))))
+      × (get_or (bit_positions true 0 (bits_of (w ∷ []))) (ones_before (bits_of (w ∷ [])) j) 0 ≡ j)
+  position-of j low one =
       let b = bits_of (w ∷ []) in
       let here : item b j ≡ true = item-bits_of_at (w ∷ []) j 0 j (omega arith) low (omega arith) ∙ one in
       let pick : Picks b true (ones_before b j) j = Picks-rank b true j (omega (arith, length-bits_of (w ∷ []))) here in
-      let some : ones_before b j < length (places true 0 b) = omega (arith, places_are_counted b true, rank_below b true _ j pick) in
-      (some, same_from_Picks b true (ones_before b j) _ j (places_are_picked b true (ones_before b j) some) pick)
+      let some : ones_before b j < length (bit_positions true 0 b) = omega (arith, positions_are_counted b true, rank_below b true _ j pick) in
+      (some, same_from_Picks b true (ones_before b j) _ j (positions_are_picked b true (ones_before b j) some) pick)
 
 -- the digits of a word say which bits of word k follow another
 abbrev pub FollowAt : List ℕ → ℕ → ℕ → Type 0
 FollowAt words k after = (j : ℕ) → j < 64 → (digit after j ≡ true) ↔ FollowsOne (bits_of words) (64 * k + j)
 
--- p is place m of such digits, so bit p of word k follows another
+-- p is position m of such digits, so bit p of word k follows another
 pub record IsFollower (words : List ℕ) (k after m p : ℕ) : Type 0 where
-  pub place : p ≡ get_or (places true 0 (bits_of (after ∷ []))) m 0
+  pub position : p ≡ get_or (bit_positions true 0 (bits_of (after ∷ []))) m 0
   pub low : p < 64
   pub follows : FollowsOne (bits_of words) (64 * k + p)
 
 pub follower-met : (words : List ℕ) (k after m p : ℕ) → FollowAt words k after
-    → (m < length (places true 0 (bits_of (after ∷ [])))) × (p ≡ get_or (places true 0 (bits_of (after ∷ []))) m p) → IsFollower words k after m p
+    → (m < length (bit_positions true 0 (bits_of (after ∷ [])))) × (p ≡ get_or (bit_positions true 0 (bits_of (after ∷ []))) m p) → IsFollower words k after m p
 follower-met words k after m p are there =
-    let ps = places true 0 (bits_of (after ∷ [])) in
+    let ps = bit_positions true 0 (bits_of (after ∷ [])) in
     let is : p ≡ get_or ps m 0 = there.1 ∙ get_or_default ps m p 0 there.0 in
-    let at = place-is after m there.0 in
+    let at = position-is after m there.0 in
     let low : p < 64 = omega (arith, is, at.0) in
-    record { place = is; low = low; follows = (are p low).0 (ap (digit after) is ∙ at.1) }
+    record { position = is; low = low; follows = (are p low).0 (ap (digit after) is ∙ at.1) }

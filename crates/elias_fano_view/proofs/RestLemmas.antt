@@ -137,10 +137,10 @@ module _ (words : List ℕ) (s q rest : ℕ) (h : IsRestFrom words s q rest) whe
           is = item-bits_of_at words (64 * q + t) q t refl lowest.0 h.inside ∙ ap (λ x. eqb x 1) (sym (digit-is t late) ∙ lowest.1);
           least = λ i from before.
               let j = i - 64 * q in
-              let place : i ≡ 64 * q + j = omega (arith, from, h.begin) in
-              let less : j < t = omega (arith, place, before) in
-              item-bits_of_at words i q j place (omega (arith, less, lowest.0)) h.inside
-              ∙ ap (λ x. eqb x 1) (sym (digit-is j (omega (arith, place, from))) ∙ lowest.2 j less);
+              let position : i ≡ 64 * q + j = omega (arith, from, h.begin) in
+              let less : j < t = omega (arith, position, before) in
+              item-bits_of_at words i q j position (omega (arith, less, lowest.0)) h.inside
+              ∙ ap (λ x. eqb x 1) (sym (digit-is j (omega (arith, position, from))) ∙ lowest.2 j less);
         }
 
     -- and without it the bits after it are left

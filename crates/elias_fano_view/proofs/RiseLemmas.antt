@@ -5,7 +5,7 @@ use Rattle.std.proofs.Math.Nat.{mul-le-mul_right}
 use Rattle.std.specs.Cmp.Derive.{both_true}
 use Rattle.std.specs.List.Sorted.{IsStrictlyIncreasing}
 use Rattle.std.specs.Prelude.{MatchOption, SomeIff}
-use Rattle.bit_lists.proofs.BitLaws.{bits_are_counted, ones_and_zeros, places_are_counted, places_are_picked}
+use Rattle.bit_lists.proofs.BitLaws.{bits_are_counted, ones_and_zeros, positions_are_counted, positions_are_picked}
 use Rattle.bit_lists.proofs.lemmas.BitsLemmas.{length-bits_of}
 use Rattle.bit_lists.proofs.lemmas.CountLemmas.{count_before-le, ones_before_more, ones_before-bits_of_in_word}
 use Rattle.bit_lists.proofs.lemmas.NumberLemmas.{number_at-lt}
@@ -13,11 +13,11 @@ use Rattle.bit_lists.proofs.lemmas.PickLemmas.{Picks-rank, from-Picks, rank_belo
 use Rattle.bit_lists.proofs.lemmas.WordLemmas.{truth}
 use Rattle.bit_lists.proofs.Callers.{last_one}
 use Rattle.bit_lists.specs.Bits.{bits_of, item}
-use Rattle.bit_lists.specs.Count.{ones_before, ones_of, places, HasOneTo, IsLastTo, Picks}
+use Rattle.bit_lists.specs.Count.{ones_before, ones_of, bit_positions, HasOneTo, IsLastTo, Picks}
 use Rattle.elias_fano.specs.Low.{unread, HasFragments}
 use Rattle.elias_fano.specs.Parts.{ArePartsOf}
 use Rattle.elias_fano_view.proofs.CheckLemmas.{held_is, held_of_pick, ones-all}
-use Rattle.elias_fano_view.proofs.FollowLemmas.{place-is, place-of, FollowAt}
+use Rattle.elias_fano_view.proofs.FollowLemmas.{position-is, position-of, FollowAt}
 use Rattle.elias_fano_view.specs.Checks.{held_item, low_item, AreFirstNumbers, FollowsOne, NeighboursRise}
 
 both_are : (a b : Bool) → (a && b) ≡ true → (a ≡ true) × (b ≡ true)
@@ -44,13 +44,13 @@ module _ (gap l : ℕ) (low words : List ℕ) where
   module _ (k after : ℕ) where
     -- they rise at the first m of these bits
     abbrev pub AreMet : ℕ → Type 0
-    AreMet m = (i : ℕ) → i < m → RisesAt (64 * k + get_or (places true 0 (bits_of (after ∷ []))) i 0)
+    AreMet m = (i : ℕ) → i < m → RisesAt (64 * k + get_or (bit_positions true 0 (bits_of (after ∷ []))) i 0)
 
     pub met-none : AreMet 0
     met-none i less = absurd (omega arith)
 
     -- and at one more
-    pub met-step : (m p : ℕ) (so_far here : Bool) → p ≡ get_or (places true 0 (bits_of (after ∷ []))) m 0 → (so_far ≡ true) ↔ AreMet m
+    pub met-step : (m p : ℕ) (so_far here : Bool) → p ≡ get_or (bit_positions true 0 (bits_of (after ∷ []))) m 0 → (so_far ≡ true) ↔ AreMet m
         → (here ≡ true) ↔ RisesAt (64 * k + p) → ((so_far && here) ≡ true) ↔ AreMet (m + 1)
     met-step m p so_far here is before one = (
       λ both i less.
@@ -58,24 +58,24 @@ module _ (gap l : ℕ) (low words : List ℕ) where
           ⊎_elim (λ early. before.0 parts.0 i early)
           (λ late.
           let same : m ≡ i = omega arith in
-          subst (λ q. RisesAt (64 * k + q)) (is ∙ ap (λ t. get_or (places true 0 (bits_of (after ∷ []))) t 0) same) (one.0 parts.1))
+          subst (λ q. RisesAt (64 * k + q)) (is ∙ ap (λ t. get_or (bit_positions true 0 (bits_of (after ∷ []))) t 0) same) (one.0 parts.1))
           (cases_lt i m),
       λ all. both_true (before.1 (λ i less. all i (omega arith)))
           (one.1 (subst (λ q. RisesAt (64 * k + q)) (sym is) (all m (omega arith)))),
     )
 
-    pub met-all : FollowAt words k after → AreMet (length (places true 0 (bits_of (after ∷ [])))) → NeighboursRise gap l low words (64 * k) (64 * (k + 1))
+    pub met-all : FollowAt words k after → AreMet (length (bit_positions true 0 (bits_of (after ∷ [])))) → NeighboursRise gap l low words (64 * k) (64 * (k + 1))
     met-all are all p from less follows =
         let there : p ≡ 64 * k + (p - 64 * k) = omega arith in
         let small : p - 64 * k < 64 = omega arith in
         let one = (are (p - 64 * k) small).1 (subst (FollowsOne (bits_of words)) there follows) in
-        let found = place-of after (p - 64 * k) small one in
+        let found = position-of after (p - 64 * k) small one in
         subst RisesAt (ap (λ j. 64 * k + j) found.1 ∙ sym there) (all _ found.0)
 
-    pub all-met : FollowAt words k after → NeighboursRise gap l low words (64 * k) (64 * (k + 1)) → AreMet (length (places true 0 (bits_of (after ∷ []))))
+    pub all-met : FollowAt words k after → NeighboursRise gap l low words (64 * k) (64 * (k + 1)) → AreMet (length (bit_positions true 0 (bits_of (after ∷ []))))
     all-met are h i less =
-        let is = place-is after i less in
-        h (64 * k + get_or (places true 0 (bits_of (after ∷ []))) i 0) (omega arith) (omega (arith, is.0)) ((are _ is.0).0 is.1)
+        let is = position-is after i less in
+        h (64 * k + get_or (bit_positions true 0 (bits_of (after ∷ []))) i 0) (omega arith) (omega (arith, is.0)) ((are _ is.0).0 is.1)
 
 -- ---- word after word
 
@@ -114,8 +114,8 @@ last-same b s p q h g =
 
 module _ (gap n l : ℕ) (low words : List ℕ) (small : gap ≤ 1) (fragments : HasFragments (unread low l) n) (ones : ones_of (bits_of words) ≡ n)
     (rise : NeighboursRise gap l low words 0 (64 * length words)) where
-  pick : (i : ℕ) → i < n → Picks (bits_of words) true i (get_or (places true 0 (bits_of words)) i 0)
-  pick i less = places_are_picked (bits_of words) true i (omega (arith, places_are_counted (bits_of words) true, ones))
+  pick : (i : ℕ) → i < n → Picks (bits_of words) true i (get_or (bit_positions true 0 (bits_of words)) i 0)
+  pick i less = positions_are_picked (bits_of words) true i (omega (arith, positions_are_counted (bits_of words) true, ones))
 
   low-small : (i : ℕ) → i < n → low_item l low i < 2 ^ l
   low-small i less =
@@ -125,8 +125,8 @@ module _ (gap n l : ℕ) (low words : List ℕ) (small : gap ≤ 1) (fragments :
   pub held-next : (i : ℕ) → i + 1 < n → held_item l low words i + gap ≤ held_item l low words (i + 1)
   held-next i less =
       let b = bits_of words in
-      let p = get_or (places true 0 b) i 0 in
-      let q = get_or (places true 0 b) (i + 1) 0 in
+      let p = get_or (bit_positions true 0 b) i 0 in
+      let q = get_or (bit_positions true 0 b) (i + 1) 0 in
       let here = pick i (omega arith) in
       let there = pick (i + 1) less in
       let late : i ≤ p = omega (arith, ones_and_zeros b p (omega (arith, here.inside)), here.before) in
@@ -173,12 +173,12 @@ module _ (gap n l : ℕ) (low words : List ℕ) (small : gap ≤ 1) (fragments :
     pub one-to : HasOneTo (bits_of words) (length words * 64 - 1)
     one-to =
         let one = pick (n - 1) (omega arith) in
-        (get_or (places true 0 (bits_of words)) (n - 1) 0, omega (arith, one.inside, length-bits_of words), one.item)
+        (get_or (bit_positions true 0 (bits_of words)) (n - 1) 0, omega (arith, one.inside, length-bits_of words), one.item)
 
     pub last-picked : (p : ℕ) → IsLastTo (bits_of words) true (length words * 64 - 1) p → Picks (bits_of words) true (n - 1) p
     last-picked p h =
         let b = bits_of words in
-        let q = get_or (places true 0 b) (n - 1) 0 in
+        let q = get_or (bit_positions true 0 b) (n - 1) 0 in
         let one : Picks b true (n - 1) q = pick (n - 1) (omega arith) in
         let s = length words * 64 - 1 in
         let within : s < length b = omega (arith, words-some, length-bits_of words) in
@@ -226,10 +226,10 @@ sequence-rise xs n l low words h =
     let order = h.sequence.rising i (i + 1) 0 (omega arith) (omega (arith, less, h.count)) in omega (arith, order))
 
 -- an option that is the number where it is small
-pub told : (o : Option ℕ) (small : Type 0) (number : ℕ) (A : Type 0) (B : ℕ → Type 0) → SomeIff o small number → (¬ small → A) → (small → B number)
+pub claimed : (o : Option ℕ) (small : Type 0) (number : ℕ) (A : Type 0) (B : ℕ → Type 0) → SomeIff o small number → (¬ small → A) → (small → B number)
     → MatchOption o A B
-told None small number A B h large right = large h
-told (Some x) small number A B h large right = subst B (sym h.1) (right h.0)
+claimed None small number A B h large right = large h
+claimed (Some x) small number A B h large right = subst B (sym h.1) (right h.0)
 
 -- numbers of a sequence rise strictly exactly where their neighbours do
 pub strictly-rise : (xs : List ℕ) (n l : ℕ) (low words : List ℕ) → ArePartsOf xs n l low words → HasFragments (unread low l) n → (r : Bool)

@@ -1,7 +1,7 @@
 -- The numbers that two vectors hold, and whether those rise that have the same high bits.
 use Rattle.std.specs.Prelude.{◌≡◌, ℕ, ◌+◌, ◌-◌, ◌*◌, ◌^◌, ◌<◌, ◌≤◌, Bool, true, List, slice_index}
 use Rattle.bit_lists.specs.Bits.{bits_of, item}
-use Rattle.bit_lists.specs.Count.{ones_before, places}
+use Rattle.bit_lists.specs.Count.{ones_before, bit_positions}
 use Rattle.bit_lists.specs.Number.{number_at}
 
 -- the low bits of number j, l of them
@@ -10,7 +10,7 @@ low_item l low j = number_at (bits_of low) (j * l) l
 
 -- number j: its high bits, followed by its low bits
 abbrev pub held_item : ℕ → List ℕ → List ℕ → ℕ → ℕ
-held_item l low words j = (slice_index (places true 0 (bits_of words)) j - j) * 2 ^ l + low_item l low j
+held_item l low words j = (slice_index (bit_positions true 0 (bits_of words)) j - j) * 2 ^ l + low_item l low j
 
 -- the first k numbers do not fall, each is below 2^64, and the last of them is `last`, which is 0 where there is none
 pub record AreFirstNumbers (l : ℕ) (low words : List ℕ) (k last : ℕ) : Type 0 where

@@ -13,4 +13,4 @@ pub use Rattle.elias_fano.specs.SequenceParts
 pub use Rattle.elias_fano.specs.Low
 pub use Rattle.elias_fano.specs.Parts
 pub use Rattle.elias_fano.specs.Sequence
-pub use Rattle.elias_fano.specs.Told
+pub use Rattle.elias_fano.specs.Claims

@@ -2,21 +2,21 @@
 //! with the high bits of the value.
 ghost use Rattle.std.specs.Prelude.{◌≡◌, ◌-◌, ◌/◌, ◌^◌, ◌<◌, ◌≤◌, ℕ, List, length, slice_index, false, IsSomeAnd};
 ghost use Rattle.std.specs.Prelude.{IfSome};
-ghost use Rattle.bitm_select.specs.Answers.{SelectTold};
+ghost use Rattle.bitm_select.specs.Answers.{IsSelectCode};
 ghost use Rattle.bit_lists.specs.Bits.{digit_count, IsShort};
 ghost use Rattle.bitm_tables.specs.Tables.{HasTables, Lists};
 ghost use Rattle.elias_fano.specs.Buckets.{CountsTo, CountsBelow};
 ghost use Rattle.elias_fano.specs.Parts.{IsUpper};
-ghost use Rattle.elias_fano.specs.Answers.{IsPlaceOf, IsSuccessorOf};
+ghost use Rattle.elias_fano.specs.Answers.{IsIndexIn, IsSuccessorOf};
 ghost use Rattle.elias_fano.specs.SequenceParts.{parts_with, Holds};
-ghost use Rattle.elias_fano_view.specs.Lists.{EndsTold};
+ghost use Rattle.elias_fano_view.specs.Lists.{AreEndCodes};
 ghost use Rattle.elias_fano.specs.Low.{sharing, HasFragments, ReadsFragments};
-ghost use Rattle.elias_fano.specs.Told.{IfPlace, TellsBelow, TellsLess, TellsTo};
+ghost use Rattle.elias_fano.specs.Claims.{IfIndex, ClaimsBelow, ClaimsLess, ClaimsTo};
 
 use bitm_select::search::selected::{NO_ANSWER, WRONG_TABLES};
 use bitm_tables::answer::Answer;
 use elias_fano::LowDigits;
-use elias_fano::building::{count_at_zero, place_in_bucket};
+use elias_fano::building::{count_at_zero, index_in_bucket};
 
 /// Writes the high bits of each value less `less`, or 0 where that is negative.
 #[inline(always)]
@@ -32,47 +32,47 @@ pub(crate) fn rank_each(values: &[u64], width: u8, less: usize, ranks: &mut [usi
     }
 }
 
-/// The number of items whose high bits are at most `above`, from the code `told` of the 0 bit that ends their bucket;
-/// `None` only where the parts are wrong.
+/// The number of items whose high bits are at most `above`, from the code `code` of the 0 bit that ends their
+/// bucket; `None` only where the parts are wrong.
 #[inline(always)]
-fn count_to(told: usize, above: usize, n: usize) -> Option<usize>
+fn count_to(code: usize, above: usize, n: usize) -> Option<usize>
     ensures within { IfSome result (λ c. c ≤ n) }
-    ensures told { (upper : Lists) → SelectTold false upper above told
-        → IfSome result (TellsTo upper n above) }
+    ensures claimed { (upper : Lists) → IsSelectCode false upper above code
+        → IfSome result (ClaimsTo upper n above) }
     ensures count { (xs : List ℕ) (l : ℕ) (upper : Lists) → IsUpper xs l upper.words
-        → HasTables upper → IsShort upper.words → n ≡ length xs → SelectTold false upper above told
+        → HasTables upper → IsShort upper.words → n ≡ length xs → IsSelectCode false upper above code
         → IsSomeAnd result (CountsTo xs l above) }
 {
-    if told == NO_ANSWER {
+    if code == NO_ANSWER {
         return Some(n);
     }
-    if told == WRONG_TABLES {
+    if code == WRONG_TABLES {
         return None;
     }
-    count_at_zero(told, above, n)
+    count_at_zero(code, above, n)
 }
 
 /// The number of items whose high bits are less than `above`, as `count_to` finds it.
 #[inline(always)]
-fn count_below(told: usize, above: usize, n: usize) -> Option<usize>
+fn count_below(code: usize, above: usize, n: usize) -> Option<usize>
     ensures within { IfSome result (λ c. c ≤ n) }
-    ensures told { (upper : Lists) → (0 < above → SelectTold false upper (above - 1) told)
-        → IfSome result (TellsBelow upper n above) }
+    ensures claimed { (upper : Lists) → (0 < above → IsSelectCode false upper (above - 1) code)
+        → IfSome result (ClaimsBelow upper n above) }
     ensures count { (xs : List ℕ) (l : ℕ) (upper : Lists) → IsUpper xs l upper.words
         → HasTables upper → IsShort upper.words → n ≡ length xs
-        → (0 < above → SelectTold false upper (above - 1) told)
+        → (0 < above → IsSelectCode false upper (above - 1) code)
         → IsSomeAnd result (CountsBelow xs l above) }
 {
     if above == 0 {
         return Some(0);
     }
-    count_to(told, above - 1, n)
+    count_to(code, above - 1, n)
 }
 
 /// The successor of `v` among `n` numbers: the least index whose number is at least `v`. `begin` and `end` code the 0
-/// bits at the ends of its bucket. Reads the low bits of as many numbers as `place_in_bucket` does.
+/// bits at the ends of its bucket. Reads the low bits of as many numbers as `index_in_bucket` does.
 #[inline(always)]
-pub(crate) fn place_of(
+pub(crate) fn index_of(
     low: &mut LowDigits<'_>,
     n: usize,
     v: u64,
@@ -80,14 +80,14 @@ pub(crate) fn place_of(
     end: usize,
 ) -> Answer<usize>
     requires { HasFragments low.old n }
-    ensures inside { IsPlaceOf n result }
-    ensures told { (upper : Lists) → EndsTold (parts_with n low.old upper) v begin end
-        → IfPlace n result (TellsLess (parts_with n low.old upper) v) }
+    ensures inside { IsIndexIn n result }
+    ensures claimed { (upper : Lists) → AreEndCodes (parts_with n low.old upper) v begin end
+        → IfIndex n result (ClaimsLess (parts_with n low.old upper) v) }
     ensures answer { (xs : List ℕ) (upper : Lists) → Holds xs (parts_with n low.old upper)
-        → EndsTold (parts_with n low.old upper) v begin end → IsSuccessorOf xs v result }
+        → AreEndCodes (parts_with n low.old upper) v begin end → IsSuccessorOf xs v result }
     ensures fragments { ReadsFragments low.old low.new (digit_count n) }
     ensures shared { (xs : List ℕ) (upper : Lists) → Holds xs (parts_with n low.old upper)
-        → EndsTold (parts_with n low.old upper) v begin end
+        → AreEndCodes (parts_with n low.old upper) v begin end
         → ReadsFragments low.old low.new (digit_count (sharing xs low.old.width v)) }
 {
     let width = low.width();
@@ -96,10 +96,10 @@ pub(crate) fn place_of(
         return Answer::Wrong;
     };
     if width == 0 {
-        return place_in_bucket(low, n, first, n, v);
+        return index_in_bucket(low, n, first, n, v);
     }
     let Some(last) = count_to(end, above, n) else {
         return Answer::Wrong;
     };
-    place_in_bucket(low, n, first, last, v)
+    index_in_bucket(low, n, first, last, v)
 }

@@ -13,16 +13,16 @@ use bit_words::words;
 use elias_fano::LowDigits;
 use elias_fano::building::join_digits;
 
-/// Number `at`, whose 1 bit is at position `place`, if it is below 2^64.
+/// Number `at`, whose 1 bit is at position `position`, if it is below 2^64.
 #[inline(always)]
-fn number_of(place: usize, low: &mut LowDigits<'_>, at: usize) -> Option<u64>
+fn number_of(position: usize, low: &mut LowDigits<'_>, at: usize) -> Option<u64>
     requires fragment { HasFragment low.old.words at low.old.width }
-    requires order { at ≤ place }
-    ensures number { let number = joined_item (place - at) low.old at in
+    requires order { at ≤ position }
+    ensures number { let number = joined_item (position - at) low.old at in
         SomeIff result (number < 2 ^ 64) number }
     ensures fragments { ReadsFragments low.old low.new 1 }
 {
-    let above = place - at;
+    let above = position - at;
     if above as u64 > u64::MAX >> low.width() {
         return None;
     }
@@ -44,8 +44,8 @@ fn last_of(words: &[u64], low: &[u64], width: u8, n: usize) -> Option<u64>
     if n == 0 {
         return Some(0);
     }
-    let place = words::rfind_bit_one_unchecked(words, words.len() * 64 - 1);
-    number_of(place, &mut LowDigits::new(low, width), n - 1)
+    let position = words::rfind_bit_one_unchecked(words, words.len() * 64 - 1);
+    number_of(position, &mut LowDigits::new(low, width), n - 1)
 }
 
 /// Whether these are the parts of some sequence. One pass over the words of the high bits; low bits are read only of

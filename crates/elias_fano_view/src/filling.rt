@@ -30,11 +30,11 @@ fn write_tested(words: &mut [u64], items: &[u64], width: u8) -> bool
     ensures all { IsTrue result }
 {
     for i in 0..items.len() {
-        let place = (items[i] >> width) as usize + i;
-        if place / 64 >= words.len() {
+        let position = (items[i] >> width) as usize + i;
+        if position / 64 >= words.len() {
             return false;
         }
-        set_bit(words, place);
+        set_bit(words, position);
     }
     true
 }

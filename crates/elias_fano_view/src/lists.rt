@@ -2,8 +2,8 @@
 ghost use Rattle.std.specs.Prelude.{◌≡◌, ◌<◌, ◌↔◌, ℕ, IsTrue, List, length, slice_index, false};
 ghost use Rattle.elias_fano.specs.SequenceParts.{Holds};
 ghost use Rattle.bit_lists.specs.Kept.{IsKeptFrom};
-ghost use Rattle.elias_fano_view.specs.Lists.{written_count, AreItems, EndsTold, IsListed, IsNeverWrong};
-ghost use Rattle.elias_fano_view.specs.Lists.{PlaceTold};
+ghost use Rattle.elias_fano_view.specs.Lists.{written_count, AreItems, AreEndCodes, IsListed, IsNeverWrong};
+ghost use Rattle.elias_fano_view.specs.Lists.{IsIndexCode};
 
 use crate::sequence::SequenceView;
 use bitm_select::search::selected::{NO_ANSWER, WRONG_TABLES};
@@ -27,20 +27,20 @@ pub enum ListAnswer {
 impl<'a> SequenceView<'a> {
     /// Writes the number at each index of the list, up to the first that is not found: what `get` answers where the
     /// parts form a sequence. In other parts a number may differ from the answer of `get`.
-    pub fn get_list(&self, places: &[usize], out: &mut [u64]) -> ListAnswer
-        ensures listed { IsListed self.now.len places.now (length out.old) result }
-        ensures told { (xs : List ℕ) → Holds xs self.now
-            → AreItems xs places.now (written_count (length places.now) result) out.new }
+    pub fn get_list(&self, indices: &[usize], out: &mut [u64]) -> ListAnswer
+        ensures listed { IsListed self.now.len indices.now (length out.old) result }
+        ensures claimed { (xs : List ℕ) → Holds xs self.now
+            → AreItems xs indices.now (written_count (length indices.now) result) out.new }
         ensures right { (xs : List ℕ) → Holds xs self.now → IsNeverWrong result }
-        ensures kept { IsKeptFrom (written_count (length places.now) result) out.old out.new }
+        ensures kept { IsKeptFrom (written_count (length indices.now) result) out.old out.new }
     {
-        if out.len() != places.len() {
+        if out.len() != indices.len() {
             return ListAnswer::WrongLength;
         }
         let mut ones = [0; SELECTIONS_SIDE_BY_SIDE];
-        for at in 0..places.len() {
-            self.select_ahead(places, at, &mut ones);
-            match self.item_told(places[at], ones[at % SELECTIONS_SIDE_BY_SIDE]) {
+        for at in 0..indices.len() {
+            self.select_ahead(indices, at, &mut ones);
+            match self.item_by_code(indices[at], ones[at % SELECTIONS_SIDE_BY_SIDE]) {
                 Answer::Found(number) => out[at] = number,
                 Answer::Absent => return ListAnswer::AbsentAt(at),
                 Answer::Wrong => return ListAnswer::WrongAt(at),
@@ -54,8 +54,8 @@ impl<'a> SequenceView<'a> {
     /// `first_at_least`. Returns false, and writes nothing, exactly where `out` is not as long as `values`.
     pub fn first_at_least_list(&self, values: &[u64], out: &mut [usize]) -> bool
         ensures room { IsTrue result ↔ length out.old ≡ length values.now }
-        ensures told { IsTrue result → (j : ℕ) → j < length values.now
-            → PlaceTold self.now (slice_index values.now j) (slice_index out.new j) }
+        ensures claimed { IsTrue result → (j : ℕ) → j < length values.now
+            → IsIndexCode self.now (slice_index values.now j) (slice_index out.new j) }
         ensures kept { result ≡ false → out.new ≡ out.old }
     {
         if out.len() != values.len() {
@@ -70,7 +70,7 @@ impl<'a> SequenceView<'a> {
                 begins[at % SELECTIONS_SIDE_BY_SIDE],
                 ends[at % SELECTIONS_SIDE_BY_SIDE],
             );
-            out[at] = self.first_told(values[at], begin, end);
+            out[at] = self.first_code(values[at], begin, end);
         }
         true
     }
@@ -78,13 +78,13 @@ impl<'a> SequenceView<'a> {
     /// The code of the successor of `v`, from the codes of the 0 bits at the ends of its bucket: an index, `NO_ANSWER`
     /// or `WRONG_TABLES`.
     #[inline(always)]
-    fn first_told(&self, v: u64, begin: usize, end: usize) -> usize
-        requires { EndsTold self.now v begin end }
-        ensures { PlaceTold self.now v result }
+    fn first_code(&self, v: u64, begin: usize, end: usize) -> usize
+        requires { AreEndCodes self.now v begin end }
+        ensures { IsIndexCode self.now v result }
     {
         let _ = self.len(); // its clause makes the limit of the length known to the proof
-        match self.place_told(v, begin, end) {
-            Answer::Found(place) => place,
+        match self.index_by_codes(v, begin, end) {
+            Answer::Found(index) => index,
             Answer::Absent => NO_ANSWER,
             Answer::Wrong => WRONG_TABLES,
         }

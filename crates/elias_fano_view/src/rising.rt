@@ -60,8 +60,8 @@ fn rise_in_word(words: &[u64], k: usize, ones: usize, low: &[u64], width: u8, ga
     let word = words[k];
     let after = followers(words, k);
     let mut rise = true;
-    for place in BitOnesIterator::new(&[after]) {
-        let at = ones + (word & n_lowest_bits(place as u8)).count_ones() as usize;
+    for position in BitOnesIterator::new(&[after]) {
+        let at = ones + (word & n_lowest_bits(position as u8)).count_ones() as usize;
         rise &= rises_at(low, width, at, gap);
     }
     rise

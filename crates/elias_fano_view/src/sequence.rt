@@ -2,20 +2,20 @@
 ghost use Rattle.std.specs.Prelude.{◌≡◌, ◌+◌, ◌*◌, ◌/◌, ◌^◌, ◌<◌, ◌≤◌, ◌↔◌, ℕ, SomeIff};
 ghost use Rattle.std.specs.Prelude.{IsTrue, List, length, slice_index, true};
 ghost use Rattle.std.specs.List.Sorted.{IsStrictlyIncreasing};
-ghost use Rattle.bitm_select.specs.Answers.{SelectTold};
+ghost use Rattle.bitm_select.specs.Answers.{IsSelectCode};
 ghost use Rattle.bitm_selection.specs.Hints.{Lead};
 ghost use Rattle.bitm_tables.specs.Tables.{HasTables, Lists};
 ghost use Rattle.elias_fano.specs.Parts.{HasFragment};
-ghost use Rattle.elias_fano.specs.Answers.{IsItem, IsOfPlace, IsPlaceOf, IsSuccessorOf};
+ghost use Rattle.elias_fano.specs.Answers.{IsItem, IsOfIndex, IsIndexIn, IsSuccessorOf};
 ghost use Rattle.elias_fano.specs.SequenceParts.{parts_of, parts_with, with_hints, AreParts, HasLengths, Holds};
-ghost use Rattle.elias_fano_view.specs.Lists.{AreAhead, AreZerosAhead, EndsTold, ZeroTold};
+ghost use Rattle.elias_fano_view.specs.Lists.{AreAhead, AreZerosAhead, AreEndCodes, IsZeroCode};
 ghost use Rattle.elias_fano.specs.Low.{unread, ReadsFragments};
-ghost use Rattle.elias_fano.specs.Told.{IfPlace, TellsLess};
+ghost use Rattle.elias_fano.specs.Claims.{IfIndex, ClaimsLess};
 
 mod finding;
 mod items;
 
-use crate::bucket::{place_of, rank_each};
+use crate::bucket::{index_of, rank_each};
 use crate::checking::are_parts;
 use crate::rising::rise_among;
 use bitm_select::search::selected::WRONG_TABLES;
@@ -27,22 +27,22 @@ use std::marker::Model;
 use tables_view::TablesView;
 use tuning::SELECTIONS_SIDE_BY_SIDE;
 
-/// Number `place` of `n`, from the code `one` of the position of its 1 bit. Reads the low bits of at most one number.
+/// Number `index` of `n`, from the code `one` of the position of its 1 bit. Reads the low bits of at most one number.
 #[inline(always)]
-fn item_of(low: &mut LowDigits<'_>, n: usize, place: usize, one: usize) -> Answer<u64>
-    requires { place < n → HasFragment low.old.words place low.old.width }
-    ensures inside { IsOfPlace n place result }
+fn item_of(low: &mut LowDigits<'_>, n: usize, index: usize, one: usize) -> Answer<u64>
+    requires { index < n → HasFragment low.old.words index low.old.width }
+    ensures inside { IsOfIndex n index result }
     ensures answer { (xs : List ℕ) (upper : Lists) → Holds xs (parts_with n low.old upper)
-        → SelectTold true upper place one → IsItem xs place result }
+        → IsSelectCode true upper index one → IsItem xs index result }
     ensures fragments { ReadsFragments low.old low.new 1 }
 {
-    if place >= n {
+    if index >= n {
         return Answer::Absent;
     }
     if one >= WRONG_TABLES {
         return Answer::Wrong;
     }
-    Answer::Found(item_at_one(one, low, place))
+    Answer::Found(item_at_one(one, low, index))
 }
 
 /// The borrowed parts of a sequence, whose lengths are right.
@@ -194,18 +194,18 @@ impl<'a> SequenceView<'a> {
 
     /// At each sixteenth index of the list, selects the 1 bits of the next sixteen numbers side by side.
     #[inline(always)]
-    pub(crate) fn select_ahead(&self, places: &[usize], at: usize, ones: &mut [usize])
-        requires at { at < length places.now }
+    pub(crate) fn select_ahead(&self, indices: &[usize], at: usize, ones: &mut [usize])
+        requires at { at < length indices.now }
         requires room { length ones.old ≡ 16 }
-        requires told { AreAhead self.now.upper places.now at ((at + 15) / 16 * 16) ones.old }
-        ensures told { AreAhead self.now.upper places.now at ((at + 16) / 16 * 16) ones.new }
+        requires claimed { AreAhead self.now.upper indices.now at ((at + 15) / 16 * 16) ones.old }
+        ensures claimed { AreAhead self.now.upper indices.now at ((at + 16) / 16 * 16) ones.new }
         ensures room { length ones.new ≡ 16 }
     {
         if at % SELECTIONS_SIDE_BY_SIDE != 0 {
             return;
         }
-        let count = (places.len() - at).min(SELECTIONS_SIDE_BY_SIDE);
-        let next = &places[at..at + count];
+        let count = (indices.len() - at).min(SELECTIONS_SIDE_BY_SIDE);
+        let next = &indices[at..at + count];
         self.upper.select_list::<1>(next, &mut ones[0..count]);
     }
 
@@ -215,8 +215,8 @@ impl<'a> SequenceView<'a> {
     pub(crate) fn zeros_ahead(&self, values: &[u64], at: usize, less: usize, zeros: &mut [usize])
         requires at { at < length values.now }
         requires room { length zeros.old ≡ 16 }
-        requires told { AreZerosAhead self.now less values.now at ((at + 15) / 16 * 16) zeros.old }
-        ensures told { AreZerosAhead self.now less values.now at ((at + 16) / 16 * 16) zeros.new }
+        requires claimed { AreZerosAhead self.now less values.now at ((at + 15) / 16 * 16) zeros.old }
+        ensures claimed { AreZerosAhead self.now less values.now at ((at + 16) / 16 * 16) zeros.new }
         ensures room { length zeros.new ≡ 16 }
     {
         if at % SELECTIONS_SIDE_BY_SIDE != 0 {
@@ -231,9 +231,9 @@ impl<'a> SequenceView<'a> {
     pub(crate) fn ends_ahead(&self, values: &[u64], at: usize, ends: &mut [usize])
         requires at { at < length values.now }
         requires room { length ends.old ≡ 16 }
-        requires told { 0 < self.now.width
+        requires claimed { 0 < self.now.width
             → AreZerosAhead self.now 0 values.now at ((at + 15) / 16 * 16) ends.old }
-        ensures told { 0 < self.now.width
+        ensures claimed { 0 < self.now.width
             → AreZerosAhead self.now 0 values.now at ((at + 16) / 16 * 16) ends.new }
         ensures room { length ends.new ≡ 16 }
     {
@@ -246,8 +246,8 @@ impl<'a> SequenceView<'a> {
     fn select_zeros(&self, values: &[u64], less: usize, zeros: &mut [usize])
         requires few { length values.now ≤ 16 }
         requires room { length zeros.old ≡ length values.now }
-        ensures told { (j : ℕ) → j < length values.now
-            → ZeroTold self.now less (slice_index values.now j) (slice_index zeros.new j) }
+        ensures claimed { (j : ℕ) → j < length values.now
+            → IsZeroCode self.now less (slice_index values.now j) (slice_index zeros.new j) }
         ensures room { length zeros.new ≡ length values.now }
     {
         let mut ranks = [0; SELECTIONS_SIDE_BY_SIDE];
@@ -255,25 +255,25 @@ impl<'a> SequenceView<'a> {
         self.upper.select_list::<0>(&ranks[0..values.len()], zeros);
     }
 
-    /// Number `place`, from the code `one` of the position of its 1 bit.
+    /// Number `index`, from the code `one` of the position of its 1 bit.
     #[inline(always)]
-    pub(crate) fn item_told(&self, place: usize, one: usize) -> Answer<u64>
-        requires { SelectTold true self.now.upper place one }
-        ensures inside { IsOfPlace self.now.len place result }
-        ensures answer { (xs : List ℕ) → Holds xs self.now → IsItem xs place result }
+    pub(crate) fn item_by_code(&self, index: usize, one: usize) -> Answer<u64>
+        requires { IsSelectCode true self.now.upper index one }
+        ensures inside { IsOfIndex self.now.len index result }
+        ensures answer { (xs : List ℕ) → Holds xs self.now → IsItem xs index result }
     {
-        item_of(&mut self.low_digits(), self.len, place, one)
+        item_of(&mut self.low_digits(), self.len, index, one)
     }
 
     /// The successor of `v`, from the codes of the 0 bits at the ends of its bucket.
     #[inline(always)]
-    pub(crate) fn place_told(&self, v: u64, begin: usize, end: usize) -> Answer<usize>
-        requires { EndsTold self.now v begin end }
-        ensures inside { IsPlaceOf self.now.len result }
-        ensures told { IfPlace self.now.len result (TellsLess self.now v) }
+    pub(crate) fn index_by_codes(&self, v: u64, begin: usize, end: usize) -> Answer<usize>
+        requires { AreEndCodes self.now v begin end }
+        ensures inside { IsIndexIn self.now.len result }
+        ensures claimed { IfIndex self.now.len result (ClaimsLess self.now v) }
         ensures answer { (xs : List ℕ) → Holds xs self.now → IsSuccessorOf xs v result }
     {
-        place_of(&mut self.low_digits(), self.len, v, begin, end)
+        index_of(&mut self.low_digits(), self.len, v, begin, end)
     }
 
     /// Number `i` where the parts form a sequence. Whatever they hold, the answer is `Absent` exactly where there is no
@@ -283,7 +283,7 @@ impl<'a> SequenceView<'a> {
     /// The cost of `hinted_item_on`: one selection, and the low bits of at most one number.
     #[inline(always)]
     pub fn get(&self, i: usize) -> Answer<u64>
-        ensures inside { IsOfPlace self.now.len i result }
+        ensures inside { IsOfIndex self.now.len i result }
         ensures answer { (xs : List ℕ) → Holds xs self.now → IsItem xs i result }
     {
         let (source, low) = (&mut self.upper.probe(), &mut self.low_digits());
@@ -298,8 +298,8 @@ impl<'a> SequenceView<'a> {
     /// The cost of `hinted_first_at_least_on`.
     #[inline]
     pub fn first_at_least(&self, v: u64) -> Answer<usize>
-        ensures inside { IsPlaceOf self.now.len result }
-        ensures told { IfPlace self.now.len result (TellsLess self.now v) }
+        ensures inside { IsIndexIn self.now.len result }
+        ensures claimed { IfIndex self.now.len result (ClaimsLess self.now v) }
         ensures answer { (xs : List ℕ) → Holds xs self.now → IsSuccessorOf xs v result }
     {
         let (source, low) = (&mut self.upper.probe(), &mut self.low_digits());

@@ -6,12 +6,13 @@ ghost use Rattle.bitm.specs.Count.{ones_of, IsRank, Picks};
 
 use bitm::{Rank, select64};
 
-/// The number of 1 bits among the first `place` bits, as `rank` answers it; `None` exactly where there are fewer bits.
-pub fn rank_if_inside<I: Rank>(index: &I, place: usize) -> Option<usize>
-    ensures { IsRank (I.bits index.now) place result }
+/// The number of 1 bits among the first `position` bits, as `rank` answers it; `None` exactly where there are fewer
+/// bits.
+pub fn rank_if_inside<I: Rank>(index: &I, position: usize) -> Option<usize>
+    ensures { IsRank (I.bits index.now) position result }
 {
-    if index.try_rank(place).is_some() {
-        Some(index.rank(place))
+    if index.try_rank(position).is_some() {
+        Some(index.rank(position))
     } else {
         None
     }

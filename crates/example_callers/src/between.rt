@@ -22,7 +22,7 @@ fn index_from<T: TableSource>(source: &mut T, low: &[u64], width: u8, n: usize, 
 {
     laws::reached_from_there();
     match first_at_least_counted(source, low, width, n, v) {
-        Some(place) => place,
+        Some(position) => position,
         None => n,
     }
 }

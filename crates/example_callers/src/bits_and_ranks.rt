@@ -8,16 +8,16 @@ ghost use Rattle.bitm.specs.Tables.{IsIndexed, bits_in};
 
 use bitm::{Access, TableSource, bit_on, rank_on};
 
-/// The number of a member of a set of positions, which is how many members are less; `None` exactly where `place` is no
-/// member.
-pub fn number_if_member<I: Access>(set: &I, place: usize) -> Option<usize>
+/// The number of a member of a set of positions, which is how many members are less; `None` exactly where `position` is
+/// no member.
+pub fn number_if_member<I: Access>(set: &I, position: usize) -> Option<usize>
     ensures { let bits = I.bits set.now in
-        SomeIff result ((place < length bits) × (item bits place ≡ true)) (ones_before bits place) }
+        SomeIff result ((position < length bits) × (item bits position ≡ true)) (ones_before bits position) }
 {
-    if place >= set.len() {
+    if position >= set.len() {
         return None;
     }
-    match set.bit_and_rank(place) {
+    match set.bit_and_rank(position) {
         (true, number) => Some(number),
         (false, _) => None,
     }
@@ -46,15 +46,15 @@ pub fn ones_after_sorting<I: Access>(level: &I, from: usize, to: usize) -> (usiz
 /// The source's tables match its words, which are fewer than 2^58.
 /// # Cost
 /// At most one upper entry, one lower entry and nine words are read; one word alone where the position is no member.
-pub fn number_on<T: TableSource>(source: &mut T, place: usize) -> Option<usize>
+pub fn number_on<T: TableSource>(source: &mut T, position: usize) -> Option<usize>
     requires { IsIndexed (T.lists source.old) }
     ensures number { let bits = bits_in (T.lists source.old) in
-        SomeIff result ((place < length bits) × (item bits place ≡ true)) (ones_before bits place) }
+        SomeIff result ((position < length bits) × (item bits position ≡ true)) (ones_before bits position) }
     ensures reads { OnlyReads T.lists T.reads source.old source.new 1 1 9 }
     ensures none { IsNone result → OnlyReads T.lists T.reads source.old source.new 0 0 1 }
 {
-    match bit_on(source, place) {
-        Some(true) => rank_on(source, place),
+    match bit_on(source, position) {
+        Some(true) => rank_on(source, position),
         Some(false) | None => None,
     }
 }

@@ -21,12 +21,12 @@ pub fn select_with_reads(index: &Borrowed<'_>, rank: usize) -> (Option<usize>, R
     (answer, probe.into_reads())
 }
 
-/// The number of 1 bits among the first `place` bits, `None` exactly where there are fewer bits, and the reads.
-pub fn rank_with_reads(index: &Borrowed<'_>, place: usize) -> (Option<usize>, ReadCounts)
-    ensures answer { IsRank (bits_of index.now.content.now) place result.0 }
+/// The number of 1 bits among the first `position` bits, `None` exactly where there are fewer bits, and the reads.
+pub fn rank_with_reads(index: &Borrowed<'_>, position: usize) -> (Option<usize>, ReadCounts)
+    ensures answer { IsRank (bits_of index.now.content.now) position result.0 }
     ensures reads { ReadsAtMost none_read result.1 1 1 8 }
 {
     let mut probe = index.probe();
-    let answer = rank_on(&mut probe, place);
+    let answer = rank_on(&mut probe, position);
     (answer, probe.into_reads())
 }

@@ -7,7 +7,8 @@ ghost use Rattle.bitm.specs.Count.{ones_of, Picks};
 
 use bitm::{Rank, Select};
 
-/// The number of a member: how many members are less. No two members have one number, since one place is picked for it.
+/// The number of a member: how many members are less. No two members have one number, since one position is picked for
+/// it.
 ///
 /// # Conditions
 /// The member is in the set.

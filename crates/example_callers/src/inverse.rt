@@ -30,25 +30,25 @@ pub fn rank0_of_selected<I: Rank + Select0>(index: &I, rank: usize) -> usize
 /// The one selected by the rank of a one: that one.
 ///
 /// # Conditions
-/// There is a one at `place`.
-pub fn select_of_rank<I: Rank + Select>(index: &I, place: usize) -> usize
-    requires inside { place < length (I.bits index.now) }
-    requires one { item (I.bits index.now) place ≡ true }
-    ensures { result ≡ place }
+/// There is a one at `position`.
+pub fn select_of_rank<I: Rank + Select>(index: &I, position: usize) -> usize
+    requires inside { position < length (I.bits index.now) }
+    requires one { item (I.bits index.now) position ≡ true }
+    ensures { result ≡ position }
 {
-    index.select(index.rank(place))
+    index.select(index.rank(position))
 }
 
 /// The zero selected by the rank of a zero: that zero.
 ///
 /// # Conditions
-/// There is a zero at `place`.
-pub fn select0_of_rank<I: Rank + Select0>(index: &I, place: usize) -> usize
-    requires inside { place < length (I.bits index.now) }
-    requires zero { item (I.bits index.now) place ≡ false }
-    ensures { result ≡ place }
+/// There is a zero at `position`.
+pub fn select0_of_rank<I: Rank + Select0>(index: &I, position: usize) -> usize
+    requires inside { position < length (I.bits index.now) }
+    requires zero { item (I.bits index.now) position ≡ false }
+    ensures { result ≡ position }
 {
-    index.select0(index.rank0(place))
+    index.select0(index.rank0(position))
 }
 
 /// The number of 1 bits and 0 bits among the first `index` bits: together `index`, at the exact length too.

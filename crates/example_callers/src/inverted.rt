@@ -8,7 +8,7 @@ use elias_fano::{EliasFano, laws};
 use std::alloc::{AllocError, Global};
 
 /// The index from which on numbers are at least `number`, or the length of the list where all are less.
-fn place_from(list: &EliasFano, number: u64) -> usize
+fn position_from(list: &EliasFano, number: u64) -> usize
     ensures bound { result ≤ length list.now.items }
     ensures less { (k : ℕ) → k < result → slice_index list.now.items k < number }
     ensures reached { (k : ℕ) → result ≤ k → k < length list.now.items
@@ -16,7 +16,7 @@ fn place_from(list: &EliasFano, number: u64) -> usize
 {
     laws::numbers_rise(list);
     match list.first_at_least(number) {
-        Some(place) => place,
+        Some(position) => position,
         None => list.len(),
     }
 }
@@ -34,7 +34,7 @@ pub fn common(alloc: Global, one: &EliasFano, other: &EliasFano) -> Result<Vec<u
     let mut at = 0;
     while at < one.len() {
         let number = one.get(at);
-        let there = place_from(other, number);
+        let there = position_from(other, number);
         if there >= other.len() {
             return Ok(found);
         }
@@ -43,7 +43,7 @@ pub fn common(alloc: Global, one: &EliasFano, other: &EliasFano) -> Result<Vec<u
             found.push(number)?;
             at += 1;
         } else {
-            at = place_from(one, next);
+            at = position_from(one, next);
         }
     }
     Ok(found)

@@ -1,10 +1,10 @@
-//! Iterators over places and over bits, in a `for`.
+//! Iterators over positions and over bits, in a `for`.
 //!
 //! `BitOnesIterator::new(words)` borrows the slice, and so outlives a reference to it; `slice.bit_ones()` borrows the
 //! reference `slice`.
 ghost use Rattle.std.specs.Prelude.{◌≡◌, true, IfOk};
 ghost use Rattle.bitm.specs.Bits.{bits_of, IsShort};
-ghost use Rattle.bitm.specs.Count.{ones_of, places};
+ghost use Rattle.bitm.specs.Count.{ones_of, bit_positions};
 
 use bitm::{BitIterator, BitOnesIterator};
 use std::alloc::{AllocError, Global};
@@ -15,12 +15,12 @@ use std::iter::Iterator;
 /// # Conditions
 /// There are fewer than 2^58 words.
 #[tactic(auto, using(bitm::proofs::Callers::counts))]
-pub fn ones_by_their_places(words: &[u64]) -> usize
+pub fn ones_by_their_positions(words: &[u64]) -> usize
     requires { IsShort words.now }
     ensures { result ≡ ones_of (bits_of words.now) }
 {
     let mut count = 0;
-    for _place in BitOnesIterator::new(words) {
+    for _position in BitOnesIterator::new(words) {
         count += 1;
     }
     count
@@ -32,9 +32,9 @@ pub fn ones_by_their_places(words: &[u64]) -> usize
 /// There are fewer than 2^58 words.
 /// # Errors
 /// `AllocError` if no memory was found.
-pub fn places_of_ones(alloc: Global, words: &[u64]) -> Result<Vec<usize>, AllocError>
+pub fn positions_of_ones(alloc: Global, words: &[u64]) -> Result<Vec<usize>, AllocError>
     requires { IsShort words.now }
-    ensures { IfOk result (λ list. list.items ≡ places true 0 (bits_of words.now)) }
+    ensures { IfOk result (λ list. list.items ≡ bit_positions true 0 (bits_of words.now)) }
 {
     BitOnesIterator::new(words).collect(alloc)
 }

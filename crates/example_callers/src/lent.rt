@@ -36,7 +36,7 @@ pub fn select(words: &[u64], upper: &mut [usize], lower: &mut [u64], rank: usize
         unreachable!()
     };
     match lent.select::<1>(rank) {
-        Answer::Found(place) => Some(place),
+        Answer::Found(position) => Some(position),
         Answer::Absent => None,
         // No right tables are called wrong.
         Answer::Wrong => unreachable!(),

@@ -22,13 +22,13 @@ pub fn least_from(sequence: &SequenceView<'_>, v: u64) -> Result<Option<u64>, No
     if !sequence.check() {
         return Err(NoSequence);
     }
-    let place = match sequence.first_at_least(v) {
-        Answer::Found(place) => place,
+    let position = match sequence.first_at_least(v) {
+        Answer::Found(position) => position,
         Answer::Absent => return Ok(None),
         // No parts that were tried are called wrong.
         Answer::Wrong => unreachable!(),
     };
-    match sequence.get(place) {
+    match sequence.get(position) {
         Answer::Found(number) => Ok(Some(number)),
         Answer::Absent => unreachable!(),
         Answer::Wrong => unreachable!(),

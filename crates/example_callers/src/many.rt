@@ -19,41 +19,41 @@ pub fn all_below(ranks: &[usize], ones: usize) -> bool
 }
 
 /// Writes the positions of the 1 bits with these ranks, and returns whether each rank has such a bit; where some rank
-/// has none, `places` keeps its values.
+/// has none, `positions` keeps its values.
 #[tactic(auto, using(bitm::proofs::BitLaws::bits_are_counted))]
 pub fn try_select_many<S: SelectForRank101111, S0: Select0ForRank101111>(
     index: &RankSelect101111<S, S0, &[u64]>,
     ranks: &[usize],
-    places: &mut [usize],
+    positions: &mut [usize],
 ) -> bool
-    requires { length ranks.now ≡ length places.old }
+    requires { length ranks.now ≡ length positions.old }
     ensures all { IsTrue result ↔ All (λ r. r < ones_of (bits_of index.now.content.now)) ranks.now }
-    ensures picked { IsTrue result → PicksEach (bits_of index.now.content.now) true ranks.now places.new }
+    ensures picked { IsTrue result → PicksEach (bits_of index.now.content.now) true ranks.now positions.new }
 {
     let ones = index.rank(64 * index.content().len());
     let all = all_below(ranks, ones);
     if all {
-        index.select_many(ranks, places);
+        index.select_many(ranks, positions);
     }
     all
 }
 
 /// Writes the positions of the 0 bits with these ranks, and returns whether each rank has such a bit; where some rank
-/// has none, `places` keeps its values.
+/// has none, `positions` keeps its values.
 #[tactic(auto, using(bitm::proofs::BitLaws::bits_are_counted))]
 pub fn try_select0_many<S: SelectForRank101111, S0: Select0ForRank101111>(
     index: &RankSelect101111<S, S0, &[u64]>,
     ranks: &[usize],
-    places: &mut [usize],
+    positions: &mut [usize],
 ) -> bool
-    requires { length ranks.now ≡ length places.old }
+    requires { length ranks.now ≡ length positions.old }
     ensures all { IsTrue result ↔ All (λ r. r < zeros_of (bits_of index.now.content.now)) ranks.now }
-    ensures picked { IsTrue result → PicksEach (bits_of index.now.content.now) false ranks.now places.new }
+    ensures picked { IsTrue result → PicksEach (bits_of index.now.content.now) false ranks.now positions.new }
 {
     let zeros = index.rank0(64 * index.content().len());
     let each = all_below(ranks, zeros);
     if each {
-        index.select0_many(ranks, places);
+        index.select0_many(ranks, positions);
     }
     each
 }

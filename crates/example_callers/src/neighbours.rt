@@ -5,21 +5,21 @@ ghost use Rattle.bitm.specs.Count.{ones_before};
 
 use bitm::{Rank, Select, Select0, ranges};
 
-/// The run of 1 bits that has position `place`: its first position, and the position after its last.
+/// The run of 1 bits that has position `position`: its first position, and the position after its last.
 ///
 /// # Conditions
-/// There is a one at `place`.
-pub fn run_of_ones<I: Rank + Select0>(index: &I, place: usize) -> (usize, usize)
-    requires inside { place < length (I.bits index.now) }
-    requires one { item (I.bits index.now) place ≡ true }
-    ensures around { (result.0 ≤ place) × (place < result.1) }
+/// There is a one at `position`.
+pub fn run_of_ones<I: Rank + Select0>(index: &I, position: usize) -> (usize, usize)
+    requires inside { position < length (I.bits index.now) }
+    requires one { item (I.bits index.now) position ≡ true }
+    ensures around { (result.0 ≤ position) × (position < result.1) }
     ensures ones { (i : ℕ) → result.0 ≤ i → i < result.1 → item (I.bits index.now) i ≡ true }
 {
-    let start = match ranges::previous_zero(index, place) {
+    let start = match ranges::previous_zero(index, position) {
         Some(zero) => zero + 1,
         None => 0,
     };
-    let end = match ranges::next_zero(index, place) {
+    let end = match ranges::next_zero(index, position) {
         Some(zero) => zero,
         None => index.len(),
     };

@@ -7,7 +7,7 @@ ghost use Rattle.bitm.specs.Number.{number_at};
 use bitm::{BitVec, BitWriter, words};
 use std::alloc::{AllocError, Global};
 
-/// Whether bit `place` of a new vector of `len` zeros is one: it never is.
+/// Whether bit `position` of a new vector of `len` zeros is one: it never is.
 ///
 /// # Conditions
 /// The position is below the length.
@@ -17,13 +17,13 @@ use std::alloc::{AllocError, Global};
 pub fn bit_of_zeros<V: BitVec + Drop>(
     alloc: V::Alloc,
     len: usize,
-    place: usize,
+    position: usize,
 ) -> Result<bool, AllocError>
-    requires { place < len }
+    requires { position < len }
     ensures { IfOk result (λ bit. bit ≡ false) }
 {
     let vector = V::with_zeroed_bits(alloc, len)?;
-    Ok(words::get_bit(vector.as_slice(), place))
+    Ok(words::get_bit(vector.as_slice(), position))
 }
 
 /// A vector of `count` copies of a number of three bits, side by side.

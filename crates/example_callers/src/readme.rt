@@ -13,14 +13,14 @@ use std::boxed::BoxedSlice;
 ///
 /// # Conditions
 /// There is such a bit.
-pub fn mark(content: &mut BoxedSlice<u64, Global>, place: usize)
-    requires { place < 64 * length (boxed_slice_items content.old) }
+pub fn mark(content: &mut BoxedSlice<u64, Global>, position: usize)
+    requires { position < 64 * length (boxed_slice_items content.old) }
     ensures len { length (boxed_slice_items content.new)
         ≡ length (boxed_slice_items content.old) }
     ensures bits { bits_of (boxed_slice_items content.new)
-        ≡ with_number (bits_of (boxed_slice_items content.old)) place 1 1 }
+        ≡ with_number (bits_of (boxed_slice_items content.old)) position 1 1 }
 {
-    words::set_bit(content.as_mut_slice(), place);
+    words::set_bit(content.as_mut_slice(), position);
 }
 
 /// Of 2048 bits, where bit 100 alone is a 1 bit: the number of 1 bits among the first `index`, and the position of the

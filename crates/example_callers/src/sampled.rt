@@ -13,7 +13,7 @@ pub fn select(lent: &TablesView<'_>, samples: &SamplesView<'_>, rank: usize) -> 
     ensures { IsSelect (bits_in lent.now) true rank result }
 {
     match lent.sampled_select::<1>(samples, rank) {
-        Answer::Found(place) => Some(place),
+        Answer::Found(position) => Some(position),
         Answer::Absent => None,
         // No right tables are called wrong.
         Answer::Wrong => unreachable!(),

@@ -75,7 +75,7 @@ pub fn gap<S: SelectForRank101111, S0: Select0ForRank101111, BV: AsSlice<u64>>(
 #[derive(Clone, Copy)]
 pub struct Front<'a, F> {
     /// The positions of the first 1 bits.
-    pub places: &'a [usize],
+    pub positions: &'a [usize],
     /// What finds the other bits.
     pub rest: F,
 }
@@ -84,16 +84,16 @@ pub struct Front<'a, F> {
 /// one reads.
 impl<'a, F: Finds> Finds for Front<'a, F> {
     ghost finds = { λ front lists. F.finds front.rest lists
-        × ((r : ℕ) → r < length front.places.now
-        → Picks (bits_in lists) true r (slice_index front.places.now r)) };
+        × ((r : ℕ) → r < length front.positions.now
+        → Picks (bits_in lists) true r (slice_index front.positions.now r)) };
 
     ghost most = { F.most };
 
     #[tactic(auto, using(bitm::proofs::BitLaws::bits_are_counted))]
     fn one<T: TableSource>(&self, source: &mut T, rank: usize) -> Answer<usize> {
-        match self.places.get(rank) {
-            Some(place) if *place == usize::MAX => Answer::Wrong,
-            Some(place) => Answer::Found(*place),
+        match self.positions.get(rank) {
+            Some(position) if *position == usize::MAX => Answer::Wrong,
+            Some(position) => Answer::Found(*position),
             None => self.rest.one(source, rank),
         }
     }

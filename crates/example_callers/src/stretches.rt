@@ -13,10 +13,10 @@ use bitm::{Access, Rank, Select};
 #[tactic(auto, using(bitm::proofs::BitLaws::item_of_stretch))]
 pub fn bit_in<I: Access>(index: &I, begin: usize, len: usize, i: usize) -> bool
     requires inside { begin + len ≤ length (I.bits index.now) }
-    requires place { i < len }
+    requires position { i < len }
     ensures { result ≡ item (stretch (I.bits index.now) begin len) i }
 {
-    // The number of all bits fits, so the places of the vector do.
+    // The number of all bits fits, so the positions of the vector do.
     let _len = index.len();
     index.get_bit(begin + i)
 }
@@ -27,7 +27,7 @@ pub fn bit_in<I: Access>(index: &I, begin: usize, len: usize, i: usize) -> bool
 /// The vector is inside, and has no fewer than `i` bits.
 pub fn rank_in<I: Access>(index: &I, begin: usize, len: usize, i: usize) -> usize
     requires inside { begin + len ≤ length (I.bits index.now) }
-    requires place { i ≤ len }
+    requires position { i ≤ len }
     ensures { result ≡ ones_before (stretch (I.bits index.now) begin len) i }
 {
     let _len = index.len();

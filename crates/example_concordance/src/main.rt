@@ -14,7 +14,7 @@ fn different<'a>(alloc: Global, words: &[&'a str]) -> Result<Vec<&'a str>, Alloc
     Ok(different)
 }
 
-/// For each word its place among the different ones.
+/// For each word its location among the different ones.
 fn numbered<'a>(
     alloc: Global,
     words: &[&'a str],
@@ -22,8 +22,8 @@ fn numbered<'a>(
 ) -> Result<Vec<u64>, AllocError> {
     let mut numbers = Vec::with_capacity(alloc, words.len())?;
     for word in words {
-        let place = different.binary_search(&*word).unwrap_or(0);
-        numbers.push(place as u64)?;
+        let location = different.binary_search(&*word).unwrap_or(0);
+        numbers.push(location as u64)?;
     }
     Ok(numbers)
 }
@@ -46,8 +46,8 @@ fn print_word(
     let count = matrix.try_rank(number, matrix.len()).unwrap_or(0);
     println!(rt; "{word}: {count} times")?;
     for k in 0..3usize {
-        if let Some(place) = matrix.try_select(number, k) {
-            println!(rt; "  at {place}")?;
+        if let Some(position) = matrix.try_select(number, k) {
+            println!(rt; "  at {position}")?;
         }
     }
     Ok(())

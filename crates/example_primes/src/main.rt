@@ -23,14 +23,14 @@ fn mark(content: &mut [u64], text: &str)
     }
 }
 
-/// The first number from `place` on, and the last number before it, if there are both.
-fn beside<I: Rank + Select>(index: &I, place: usize) -> Option<(usize, usize)> {
-    if place == 0 || place >= index.len() {
+/// The first number from `position` on, and the last number before it, if there are both.
+fn beside<I: Rank + Select>(index: &I, position: usize) -> Option<(usize, usize)> {
+    if position == 0 || position >= index.len() {
         return None;
     }
     Some((
-        ranges::next_one(index, place)?,
-        ranges::previous_one(index, place - 1)?,
+        ranges::next_one(index, position)?,
+        ranges::previous_one(index, position - 1)?,
     ))
 }
 

@@ -67,9 +67,9 @@ seed_moved words begin end k order within less =
         ∙ sym (item-stretch (bits_of words) ((8 * begin + k) * 8) 8 i i_less)
 
 -- the directory says where the seeds begin, and they end inside the block
-pub seeds_place : (block : List ℕ) → IsSeededBlock block
+pub seeds_position : (block : List ℕ) → IsSeededBlock block
     → (slice_index block 29 ≡ 8 * begin_in block 3) × (8 * begin_in block 3 + slice_index block 30 ≤ 8 * length block)
-seeds_place block is =
+seeds_position block is =
     let three : 3 < count_in block = omega (arith, is.sections.many) in
     let words = seeds_words block is.is_block is.sections in (
       (is.is_block.directory.entries 3 three).at,
@@ -87,7 +87,7 @@ seeds_are_bytes block bytes is len same =
     here_len : length (take (slice_index block 30) (drop (8 * begin_in block 3) bytes)) ≡ slice_index block 30
     here_len =
         length-take-le (slice_index block 30) (drop (8 * begin_in block 3) bytes)
-        (omega (arith, length-drop (8 * begin_in block 3) bytes, len, (seeds_place block is).1))
+        (omega (arith, length-drop (8 * begin_in block 3) bytes, len, (seeds_position block is).1))
 
     words_are : words_of (section_entry block 3) ≡ div_ceil (slice_index block 30) 8
     words_are = ap (λ (role : ℕ). words_of (record { role = role; count = slice_index block 30 })) (is.sections.roles_are 3 (omega arith))
@@ -97,7 +97,7 @@ seeds_are_bytes block bytes is len same =
     each k less =
         get_or-take (slice_index block 30) (drop (8 * begin_in block 3) bytes) k 0 less
         ∙ get_or-drop (8 * begin_in block 3) bytes k 0
-        ∙ same (8 * begin_in block 3 + k) (omega (arith, less, len, (seeds_place block is).1))
+        ∙ same (8 * begin_in block 3 + k) (omega (arith, less, len, (seeds_position block is).1))
         ∙ sym (seed_moved block (begin_in block 3) (begin_in block 3 + words_of (section_entry block 3)) k (omega arith)
         (section_end block 3 is.is_block (omega (arith, is.sections.many))) (omega (arith, less, words_are)))
         ∙ sym (seed_at (section_in block 3) (slice_index block 30) k less)

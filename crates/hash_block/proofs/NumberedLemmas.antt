@@ -5,11 +5,11 @@ use Rattle.std.specs.List.{slice_get, slice_index}
 use Rattle.std.specs.Option.{option_map, IfSome, IsSome}
 use Rattle.bit_lists.specs.Bits.{bits_of, item}
 use Rattle.bit_lists.specs.Count.{ones_before, ones_of}
-use Rattle.perfect_hash.specs.Levels.{place_from}
+use Rattle.perfect_hash.specs.Levels.{position_from}
 use Rattle.perfect_hash.proofs.lemmas.GetLemmas.{one_counted}
 use Rattle.perfect_hash.specs.Numbers.{number_by}
 use Rattle.perfect_hash.specs.Perfect.{IsMinimalPerfect}
-use Rattle.perfect_hash.specs.Places.{place_in}
+use Rattle.perfect_hash.specs.Positions.{position_in}
 use Rattle.hash_block.specs.Dictionary.{added, number_of_key, DictionaryParts, IsDictionaryIn}
 use Rattle.hash_block.specs.Numbered.{NumberKeys}
 
@@ -19,12 +19,12 @@ one_here : (b : List Bool) (x : Bool) (at : ℕ) (later : Option ℕ) → item b
 one_here b true at later one h = one
 one_here b false at later one h = h
 
-place_one : (fall : ℕ → ℕ → ℕ) (b : List Bool) (level begin : ℕ) (sizes : List ℕ)
-    → IfSome (place_from fall b level begin sizes) (λ p. item b p ≡ true)
-place_one fall b level begin [] = tt
-place_one fall b level begin (w ∷ sizes) =
-    one_here b (item b (begin + fall level w)) (begin + fall level w) (place_from fall b (level + 1) (begin + 64 * w) sizes) refl
-    (place_one fall b (level + 1) (begin + 64 * w) sizes)
+position_one : (fall : ℕ → ℕ → ℕ) (b : List Bool) (level begin : ℕ) (sizes : List ℕ)
+    → IfSome (position_from fall b level begin sizes) (λ p. item b p ≡ true)
+position_one fall b level begin [] = tt
+position_one fall b level begin (w ∷ sizes) =
+    one_here b (item b (begin + fall level w)) (begin + fall level w) (position_from fall b (level + 1) (begin + 64 * w) sizes) refl
+    (position_one fall b (level + 1) (begin + 64 * w) sizes)
 
 counted : (b : List Bool) (o : Option ℕ) → IfSome o (λ p. item b p ≡ true) → IfSome (option_map (ones_before b) o) (λ v. v < ones_of b)
 counted b None h = tt
@@ -32,7 +32,7 @@ counted b (Some p) h = one_counted b p h
 
 -- a number is below the count of ones
 pub number_below : (sizes : List ℕ) (b : List Bool) (hash : ℕ) → IfSome (number_by sizes b hash) (λ v. v < ones_of b)
-number_below sizes b hash = counted b (place_from (place_in hash) b 0 0 sizes) (place_one (place_in hash) b 0 0 sizes)
+number_below sizes b hash = counted b (position_from (position_in hash) b 0 0 sizes) (position_one (position_in hash) b 0 0 sizes)
 
 -- where each key stands at its number, each has one of its own
 pub own_perfect : (number : ℕ → Option ℕ) (keys : List ℕ) → ((k : ℕ) → IfSome (number k) (λ v. v < length keys))

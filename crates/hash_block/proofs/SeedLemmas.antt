@@ -8,22 +8,22 @@ use Rattle.bit_lists.specs.Bits.{bits_of, item}
 use Rattle.bit_lists.specs.Number.{number_at, with_number}
 use Rattle.bit_lists.proofs.BitLaws.{bits_are_counted, number_beside_is_kept, read_after_write, zeros_are_zero}
 use Rattle.bit_lists.proofs.lemmas.BesideLemmas.{item-zeros}
-use Rattle.perfect_hash.specs.Places.{bit_by, place_by, spread}
+use Rattle.perfect_hash.specs.Positions.{bit_by, position_by, spread}
 use Rattle.hash_block.specs.SeededBlock.{AreZeroFrom}
 use Rattle.hash_block.specs.Seeds.{seed_of, seeds_of}
 
 -- the bit of a word by a seed is that of a level of one word
-pub in_its_word : (seeds : List ℕ) (seed begin hash level words word place bit : ℕ)
+pub in_its_word : (seeds : List ℕ) (seed begin hash level words word position bit : ℕ)
     → word ≡ spread hash level % 2 ^ 64 * words / 2 ^ 64 → seed ≡ slice_index seeds (begin + word)
-    → bit ≡ place_by (seed ∷ []) 0 hash level 1 → place ≡ 64 * word + bit → place ≡ place_by seeds begin hash level words
-unfolding place_by
-in_its_word seeds seed begin hash level words word place bit word_is seed_is bit_is place_is =
+    → bit ≡ position_by (seed ∷ []) 0 hash level 1 → position ≡ 64 * word + bit → position ≡ position_by seeds begin hash level words
+unfolding position_by
+in_its_word seeds seed begin hash level words word position bit word_is seed_is bit_is position_is =
     let x = spread hash level in
     let none : x % 2 ^ 64 * 1 / 2 ^ 64 ≡ 0 = omega arith in
     let alone : 64 * (x % 2 ^ 64 * 1 / 2 ^ 64) + bit_by (slice_index (seed ∷ []) (0 + x % 2 ^ 64 * 1 / 2 ^ 64)) x ≡ 0 + bit_by seed x =
     ap (λ (w : ℕ). 64 * w + bit_by (slice_index (seed ∷ []) (0 + w)) x) none in
     let bit_here : bit ≡ bit_by seed x = omega (arith, bit_is, alone) in
-    place_is
+    position_is
     ∙ ap (λ (b : ℕ). 64 * word + b) (bit_here ∙ ap (λ (s : ℕ). bit_by s x) seed_is)
     ∙ ap (λ (w : ℕ). 64 * w + bit_by (slice_index seeds (begin + w)) x) word_is
 

@@ -15,7 +15,7 @@ use Rattle.block_tables.specs.Sections.{tables_in}
 use Rattle.perfect_hash.specs.Levels.{fall_in}
 use Rattle.perfect_hash.specs.Numbers.{number_in, AreSizes}
 use Rattle.perfect_hash.specs.Perfect.{IsMinimalPerfect}
-use Rattle.perfect_hash.specs.Places.{place_by}
+use Rattle.perfect_hash.specs.Positions.{position_by}
 use Rattle.hash_block.specs.Block.{hash_head}
 use Rattle.hash_block.specs.SeededBlock.{seeded_in, seeded_sections, seeds_in, AreParts, AreZeroFrom, IsBlockOf, RoundTrip, StandsIn}
 use Rattle.hash_block.specs.Seeds.{seeds_of}
@@ -110,7 +110,7 @@ module _ (words seeds sizes : List ℕ) (seed keys : ℕ) (old new : List ℕ)
 pub round_trip : RoundTrip
 round_trip hashes words sizes seeds seed block levels is = (
   is.sound,
-  subst (λ (s : List ℕ). IsMinimalPerfect (λ hash. number_in (fall_in (place_by s) (seeded_in block).hash.sizes) (seeded_in block).hash.sizes (bits_in (tables_in block)) hash) hashes) (sym is.seeds_are)
-      (subst (λ (z : List ℕ). IsMinimalPerfect (λ hash. number_in (fall_in (place_by seeds) z) z (bits_in (tables_in block)) hash) hashes) (sym is.sizes_are)
-      (subst (λ b. IsMinimalPerfect (λ hash. number_in (fall_in (place_by seeds) sizes) sizes b hash) hashes) (sym is.bits) levels.perfect)),
+  subst (λ (s : List ℕ). IsMinimalPerfect (λ hash. number_in (fall_in (position_by s) (seeded_in block).hash.sizes) (seeded_in block).hash.sizes (bits_in (tables_in block)) hash) hashes) (sym is.seeds_are)
+      (subst (λ (z : List ℕ). IsMinimalPerfect (λ hash. number_in (fall_in (position_by seeds) z) z (bits_in (tables_in block)) hash) hashes) (sym is.sizes_are)
+      (subst (λ b. IsMinimalPerfect (λ hash. number_in (fall_in (position_by seeds) sizes) sizes b hash) hashes) (sym is.bits) levels.perfect)),
 )

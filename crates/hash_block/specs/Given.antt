@@ -2,7 +2,7 @@
 use Rattle.std.specs.Prelude.{◌≡◌, ◌≢◌, ℕ, zero, suc, ◌+◌, ◌-◌, ◌<◌, ◌≤◌, List, ◌∷◌, length, slice_index, Option, Some, IsSome}
 use Rattle.hash_block.specs.Bytes.{bytes_from, AreZeroBytesFrom, StandsAt}
 
--- where string i begins, of strings that end at these places
+-- where string i begins, of strings that end at these positions
 abbrev pub string_begin : List ℕ → ℕ → ℕ
 string_begin ends i = slice_index (0 ∷ ends) i
 

@@ -1,6 +1,6 @@
 -- The fingerprint of a key, by its hash.
 use Rattle.std.specs.Prelude.{ℕ, ◌/◌, ◌^◌, bit_xor}
-use Rattle.perfect_hash.specs.Places.{folded_by}
+use Rattle.perfect_hash.specs.Positions.{folded_by}
 
 -- the hash, mixed by the last steps of MurmurHash3
 unfoldable pub print_of_hash : ℕ → ℕ

@@ -10,7 +10,7 @@ use Rattle.block_tables.specs.Sections.{section_of, tables_in}
 use Rattle.perfect_hash.specs.Levels.{fall_in}
 use Rattle.perfect_hash.specs.Numbers.{AreLevels, AreSizes}
 use Rattle.perfect_hash.specs.Perfect.{IsMinimalPerfect}
-use Rattle.perfect_hash.specs.Places.{place_by}
+use Rattle.perfect_hash.specs.Positions.{position_by}
 use Rattle.hash_block.specs.Block.{AreParts as AreLevelParts}
 use Rattle.hash_block.specs.Parts.{IsHash}
 use Rattle.hash_block.specs.SeededParts.{seeded_number, HasSeeds, SeededParts}
@@ -91,6 +91,6 @@ pub record StandsIn (words seeds sizes block : List ℕ) : Type 0 where
 abbrev pub RoundTrip : Type 0
 RoundTrip =
     (hashes words sizes seeds : List ℕ) (seed : ℕ) (block : List ℕ)
-    → AreLevels (fall_in (place_by seeds) sizes) (λ (hash : ℕ). hash) hashes sizes words
+    → AreLevels (fall_in (position_by seeds) sizes) (λ (hash : ℕ). hash) hashes sizes words
     → IsBlockOf sizes (bits_of words) seeds seed block
     → IsSoundBlock block × IsMinimalPerfect (seeded_number (seeded_in block)) hashes

@@ -3,7 +3,7 @@ use Rattle.std.specs.Prelude.{◌≡◌, ℕ, List, Option, length}
 use Rattle.bitm_tables.specs.Tables.{bits_in}
 use Rattle.perfect_hash.specs.Levels.{fall_in}
 use Rattle.perfect_hash.specs.Numbers.{number_in}
-use Rattle.perfect_hash.specs.Places.{place_by}
+use Rattle.perfect_hash.specs.Positions.{position_by}
 use Rattle.hash_block.specs.Parts.{HasLengths, HashParts}
 
 -- the parts of a hash, and a seed for each word of all levels
@@ -18,7 +18,7 @@ pub record HasSeeds (parts : SeededParts) : Type 0 where
 
 -- where a hash falls, by its level and the words of this
 abbrev pub fall_by : SeededParts → ℕ → ℕ → ℕ → ℕ
-fall_by parts = fall_in (place_by parts.seeds) parts.hash.sizes
+fall_by parts = fall_in (position_by parts.seeds) parts.hash.sizes
 
 -- the number of a hash
 abbrev pub seeded_number : SeededParts → ℕ → Option ℕ

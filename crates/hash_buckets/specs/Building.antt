@@ -3,9 +3,9 @@ use Rattle.std.specs.Prelude.{◌≡◌, ⊤, ℕ, ◌+◌, ◌-◌, ◌*◌, �
 use Rattle.perfect_hash.specs.Perfect.{is_number, IsMinimalPerfect}
 use Rattle.hash_buckets.specs.declared.building.BuildError.{BuildError}
 use Rattle.hash_buckets.specs.declared.building.BuildError.TheVariants.{Equal, Left}
-use Rattle.hash_buckets.specs.declared.places.Level.{Level}
+use Rattle.hash_buckets.specs.declared.positions.Level.{Level}
 use Rattle.hash_buckets.specs.declared.levels.Made.{Made}
-use Rattle.hash_buckets.specs.Places.{IsBucketLevel}
+use Rattle.hash_buckets.specs.Positions.{IsBucketLevel}
 use Rattle.hash_buckets.specs.Numbers.{buckets_of, slots_of, slot_from}
 use Rattle.hash_buckets.specs.Parts.{buckets_number, BucketsParts, IsBucketsHash}
 

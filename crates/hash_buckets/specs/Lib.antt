@@ -1,4 +1,4 @@
-pub mod Places
+pub mod Positions
 pub mod Numbers
 pub mod Groups
 pub mod Seeds

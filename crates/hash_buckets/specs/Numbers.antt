@@ -5,8 +5,8 @@ use Rattle.std.specs.List.{sum_by}
 use Rattle.bitm_tables.specs.Answers.{Right}
 use Rattle.bitm_tables.specs.declared.answer.Answer.{Answer}
 use Rattle.bitm_tables.specs.declared.answer.Answer.TheVariants.{Found, Absent, Wrong}
-use Rattle.hash_buckets.specs.declared.places.Level.{Level}
-use Rattle.hash_buckets.specs.Places.{bucket_of, next_of, slot_of, IsBucketLevel}
+use Rattle.hash_buckets.specs.declared.positions.Level.{Level}
+use Rattle.hash_buckets.specs.Positions.{bucket_of, next_of, slot_of, IsBucketLevel}
 
 -- the slot of a hash among the slots of all levels, whose first is number `first`: in the first level in which its bucket's
 -- seed is not 0; the seeds of a level follow the seeds of the levels before it

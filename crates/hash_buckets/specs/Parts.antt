@@ -1,6 +1,6 @@
 -- What a view of a hash has, and when these are the parts of a hash.
 use Rattle.std.specs.Prelude.{ℕ, ◌<◌, ◌≤◌, List, Option, length, slice_index}
-use Rattle.hash_buckets.specs.declared.places.Level.{Level}
+use Rattle.hash_buckets.specs.declared.positions.Level.{Level}
 use Rattle.hash_buckets.specs.Numbers.{bucket_number, AreFree, AreBucketLevels}
 
 -- the levels, the seeds of their buckets, the free slots, and the number of keys: they may hold anything

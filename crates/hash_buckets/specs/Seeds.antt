@@ -1,8 +1,8 @@
 -- The seeds of a level, and the slots of its hashes as bits.
 use Rattle.std.specs.Prelude.{◌≡◌, ℕ, ◌+◌, ◌*◌, ◌^◌, ◌<◌, ◌≤◌, ◌==◌, Bool, not, ◌&&◌, if◌then◌else◌, List, count_by, filter, length, map, slice_index}
 use Rattle.bit_lists.specs.Bits.{item}
-use Rattle.hash_buckets.specs.declared.places.Level.{Level}
-use Rattle.hash_buckets.specs.Places.{bucket_of, next_of, slice_of, slot_of, IsBucketLevel}
+use Rattle.hash_buckets.specs.declared.positions.Level.{Level}
+use Rattle.hash_buckets.specs.Positions.{bucket_of, next_of, slice_of, slot_of, IsBucketLevel}
 
 -- how many 1 bits a bit is
 abbrev pub one_if : Bool → ℕ

@@ -5,10 +5,10 @@ ghost use Rattle.hash_buckets.specs.Numbers.{bucket_number, slot_from, slots_of,
 ghost use Rattle.hash_buckets.specs.Numbers.{IsNumberAnswer};
 ghost use Rattle.bitm_tables.specs.Answers.{IfAbsent};
 ghost use Rattle.hash_buckets.specs.Numbers.{WhereFound, IfWrong};
-ghost use Rattle.hash_buckets.specs.Places.{IsBucketLevel};
+ghost use Rattle.hash_buckets.specs.Positions.{IsBucketLevel};
 
 use crate::free::FreeSlots;
-use crate::places::{Level, bucket_in, next_hash, slot_in};
+use crate::positions::{Level, bucket_in, next_hash, slot_in};
 use bitm_tables::answer::Answer;
 use bitm_tables::source::counts::ReadCounts;
 

@@ -6,7 +6,7 @@ ghost use Rattle.hash_buckets.specs.Building.{AreEqualAt, AreLeft, IfEqual, IfLe
 
 use crate::filling::write_free;
 use crate::levels::{Made, build_levels};
-use crate::places::{Level, next_hash};
+use crate::positions::{Level, next_hash};
 use bit_words::words;
 
 /// Why no hash was built.
@@ -87,7 +87,7 @@ fn find_equal(hashes: &[u64], levels: usize, left: &[u64]) -> Option<(usize, usi
 
 /// Why a hash has not enough levels: two hashes are equal, or else how far levels were built.
 fn refusal(hashes: &[u64], left: &[u64], made: Made) -> BuildError
-    ensures { IfEqual result (AreEqualAt hashes.now) (λ told. told ≡ made) }
+    ensures { IfEqual result (AreEqualAt hashes.now) (λ reported. reported ≡ made) }
 {
     match find_equal(hashes, made.levels, left) {
         Some((i, j)) => BuildError::Equal(i, j),

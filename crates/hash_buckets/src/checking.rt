@@ -4,7 +4,7 @@ ghost use Rattle.hash_buckets.specs.Numbers.{slots_of, AreBucketLevels};
 ghost use Rattle.hash_buckets.specs.Parts.{NeverFall};
 
 use crate::asking::fits;
-use crate::places::Level;
+use crate::positions::Level;
 
 /// How many slots levels have; `None` exactly where they are not levels whose buckets have one of `seeds` seeds each.
 pub(crate) fn slots_in(levels: &[Level], seeds: usize) -> Option<usize>

@@ -1,10 +1,10 @@
 //! The seed of a bucket, by which its hashes have free slots of their own.
 ghost use Rattle.std.specs.Prelude.{◌≡◌, ◌≢◌, ◌+◌, ◌^◌, ◌<◌, ◌≤◌, ℕ, IsTrue, length, false};
 ghost use Rattle.bit_lists.specs.Bits.{bits_of};
-ghost use Rattle.hash_buckets.specs.Places.{IsBucketLevel};
+ghost use Rattle.hash_buckets.specs.Positions.{IsBucketLevel};
 ghost use Rattle.hash_buckets.specs.Seeds.{count_at, AddsBits, HaveFreeSlots, AreBegins, FitsWords};
 
-use crate::places::{Level, slice_in, slot_at, slot_in};
+use crate::positions::{Level, slice_in, slot_at, slot_in};
 use bit_words::words;
 
 /// Whether one of the hashes has this slot, as the next hash has.

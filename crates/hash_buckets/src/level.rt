@@ -2,12 +2,12 @@
 ghost use Rattle.std.specs.Prelude.{◌≡◌, ◌≢◌, ◌<◌, ◌≤◌, ℕ, ◌==◌, count_by, filter, length, map, slice_index, take};
 ghost use Rattle.bit_lists.specs.Bits.{bits_of};
 ghost use Rattle.hash_buckets.specs.Groups.{AreStretches};
-ghost use Rattle.hash_buckets.specs.Places.{bucket_of, next_of, IsBucketLevel};
+ghost use Rattle.hash_buckets.specs.Positions.{bucket_of, next_of, IsBucketLevel};
 ghost use Rattle.hash_buckets.specs.Seeds.{count_at, has_slot, next_hashes, AddsBits, AddsSlots, FitsWords};
 
 use crate::choosing::{best_seed, mark};
 use crate::grouping::{begin_of, between, group};
-use crate::places::{Level, bucket_in, next_hash};
+use crate::positions::{Level, bucket_in, next_hash};
 use crate::window::{WINDOW, Window};
 
 /// Chooses the seed of a bucket that has these hashes, and makes the bits of their slots 1; 0 where no seed gives them

@@ -2,11 +2,11 @@
 ghost use Rattle.std.specs.Prelude.{◌≡◌, ◌+◌, ◌-◌, ◌*◌, ◌^◌, ◌<◌, ◌≤◌, ◌↔◌, ℕ, IsTrue, length, take};
 ghost use Rattle.bit_lists.specs.Bits.{bits_of};
 ghost use Rattle.hash_buckets.specs.Building.{count_left, level_of, slots_at, AreMade, HasBucketRoom, IsMadeSoFar};
-ghost use Rattle.hash_buckets.specs.Places.{IsBucketLevel};
+ghost use Rattle.hash_buckets.specs.Positions.{IsBucketLevel};
 ghost use Rattle.hash_buckets.specs.Seeds.{AddsBits};
 
 use crate::level::place_level;
-use crate::places::Level;
+use crate::positions::Level;
 
 /// How far levels were built.
 #[derive(Clone, Copy, PartialEq, Eq, Debug)]

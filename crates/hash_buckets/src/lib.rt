@@ -31,7 +31,7 @@
 // - `grouping`: hashes, bucket after bucket
 // - `level`: one level
 // - `levels`: level after level
-// - `places`: the bucket and the slot of a hash in a level, and its hash in the next
+// - `positions`: the bucket and the slot of a hash in a level, and its hash in the next
 // - `view`: a hash in memory that may hold anything
 // - `window`: buckets that wait for their seeds
 mod asking;
@@ -43,7 +43,7 @@ mod free;
 mod grouping;
 mod level;
 mod levels;
-mod places;
+mod positions;
 mod view;
 mod window;
 
@@ -53,5 +53,5 @@ pub use building::{BuildError, build};
 pub use free::FreeSlots;
 pub use level::place_level;
 pub use levels::Made;
-pub use places::{Level, bucket_in, next_hash, slot_in};
+pub use positions::{Level, bucket_in, next_hash, slot_in};
 pub use view::BucketsView;

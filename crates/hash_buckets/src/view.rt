@@ -7,7 +7,7 @@ ghost use Rattle.hash_buckets.specs.Parts.{buckets_number, IsBucketsHash};
 
 use crate::asking::number_on;
 use crate::checking::{rise_below, slots_in};
-use crate::places::Level;
+use crate::positions::Level;
 use bitm_tables::answer::Answer;
 use bitm_tables::source::counts::ReadCounts;
 use std::marker::Model;

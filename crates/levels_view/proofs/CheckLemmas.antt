@@ -4,11 +4,11 @@ use Rattle.std.proofs.lemmas.Nat.{pow-add, pow_pos}
 use Rattle.std.proofs.lemmas.Option.{none-some, same_Some}
 use Rattle.std.proofs.Math.Nat.{mul-div_cancel, mul-le-mul_right}
 use Rattle.bitm_tables.specs.Tables.{bits_in, IsIndexed, Lists}
-use Rattle.matrix_levels.specs.Levels.{level_place}
+use Rattle.matrix_levels.specs.Levels.{level_position}
 use Rattle.matrix_levels.specs.Matrix.{level_items, numbers_in, IsMatrix, LevelTables}
 use Rattle.matrix_levels.proofs.lemmas.MatrixLemmas.{count-whole}
 use Rattle.matrix_levels.proofs.lemmas.StartLemmas.{start-of-begin, starts-of-none}
-use Rattle.matrix_levels.proofs.lemmas.WalkLemmas.{level_place-first}
+use Rattle.matrix_levels.proofs.lemmas.WalkLemmas.{level_position-first}
 use Rattle.levels_view.specs.Levels.{tables_of, HasLevels}
 use Rattle.levels_view.specs.Check.{AreCounts, HasQuarters, HasStarts}
 use Rattle.matrix_levels.proofs.lemmas.DecodeLemmas.{any-levels, items-fit, items-len}
@@ -78,24 +78,24 @@ module _ (l m : LevelTables) (s lists : Lists) (same : m ≡ plain l) (kept : s 
   -- what a walk from the front to level d answers
   abbrev Finds : LevelTables → Lists → ℕ → ℕ → Option ℕ → Type 0
   Finds k t n d r =
-      (p : ℕ) → IsMatrix k t → 0 ≡ level_place (numbers_in k t) k.width n 0 p → r ≡ Some (level_place (numbers_in k t) k.width n d p)
+      (p : ℕ) → IsMatrix k t → 0 ≡ level_position (numbers_in k t) k.width n 0 p → r ≡ Some (level_position (numbers_in k t) k.width n d p)
 
   moved : (n d : ℕ) (r : Option ℕ) → Finds m s n d r → Finds (plain l) lists n d r
   moved n d r found = subst (λ t. Finds (plain l) t n d r) kept (subst (λ k. Finds k s n d r) same found)
 
-  pub start-found : (h rest n place d : ℕ) (r : Option ℕ) → d ≡ l.known → h < 2 ^ l.known → rest ≡ (l.width - l.known) % 64 → n ≡ h * 2 ^ rest % 2 ^ 64
-      → r ≡ Some place → Finds m s n d r → place ≡ level_place xs l.width (h * 2 ^ (l.width - l.known)) l.known 0
-  start-found h rest n place d r known less shift is some found =
-      start-of-begin xs xs l.width l.known h rest n place refl has.known_most has.numbers.most less shift is
+  pub start-found : (h rest n position d : ℕ) (r : Option ℕ) → d ≡ l.known → h < 2 ^ l.known → rest ≡ (l.width - l.known) % 64 → n ≡ h * 2 ^ rest % 2 ^ 64
+      → r ≡ Some position → Finds m s n d r → position ≡ level_position xs l.width (h * 2 ^ (l.width - l.known)) l.known 0
+  start-found h rest n position d r known less shift is some found =
+      start-of-begin xs xs l.width l.known h rest n position refl has.known_most has.numbers.most less shift is
       (λ p e. same_Some _ _ (sym some ∙ moved n l.known r (subst (λ k. Finds m s n k r) known found) p plain-matrix e))
 
   pub start-is-found : (n d : ℕ) (r : Option ℕ) → r ≡ None → Finds m s n d r → ⊥
   start-is-found n d r none found =
-      none-some _ (sym none ∙ moved n d r found 0 plain-matrix (level_place-first xs l.width n 0))
+      none-some _ (sym none ∙ moved n d r found 0 plain-matrix (level_position-first xs l.width n 0))
 
 -- a table of starts is right for each prefix
 pub starts-each : (l : LevelTables) (b : List Bool) → l.known ≤ l.width → HasStarts l b → (h : ℕ) → h < 2 ^ l.known
-    → get_or l.starts h 0 ≡ level_place (level_items b l.width l.len) l.width (h * 2 ^ (l.width - l.known)) l.known 0
+    → get_or l.starts h 0 ≡ level_position (level_items b l.width l.len) l.width (h * 2 ^ (l.width - l.known)) l.known 0
 starts-each l b most right h less =
     let r : ℕ = l.width - l.known in
     let e : l.known + r ≡ l.width = omega (arith, most) in

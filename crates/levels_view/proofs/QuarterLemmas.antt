@@ -1,4 +1,4 @@
--- The numbers of basic blocks are told to be right by counts up to the quarters.
+-- The numbers of basic blocks are claimed to be right by counts up to the quarters.
 use Rattle.std.proofs.Common.{◌≡◌, ℕ, ◌+◌, ◌-◌, ◌*◌, ◌/◌, ◌%◌, ◌^◌, ◌<◌, ◌≤◌, Bool, List, length, slice_index, ap, sym, subst, ◌∙◌, arith}
 use Rattle.std.specs.Int.{div_ceil}
 use Rattle.bit_lists.specs.Bits.{bits_of}
@@ -8,10 +8,10 @@ use Rattle.bitm_tables.specs.Quarters.{AreQuartersOf, quarter_count, record_coun
 use Rattle.levels_view.specs.Quarters.{CountsToQuarter}
 
 -- a number counts to a quarter exactly where its parts are what is between the upper block and the quarter
-pub tells-quarter : (b : List Bool) (k e part before x y : ℕ) → part ≡ ones_before b (k / 4 / 2 ^ 23 * 2 ^ 32) → before ≡ ones_before b (128 * k)
+pub claims-quarter : (b : List Bool) (k e part before x y : ℕ) → part ≡ ones_before b (k / 4 / 2 ^ 23 * 2 ^ 32) → before ≡ ones_before b (128 * k)
     → x ≡ record_count e → y ≡ quarter_count e (k % 4) → part ≤ before
     → (x + y ≡ before - part → CountsToQuarter b k e) × (CountsToQuarter b k e → x + y ≡ before - part)
-tells-quarter b k e part before x y part_is before_is x_is y_is order = (
+claims-quarter b k e part before x y part_is before_is x_is y_is order = (
   λ h. omega (arith, h, part_is, before_is, x_is, y_is, order),
   λ h. omega (arith, h, part_is, before_is, x_is, y_is, order),
 )
@@ -32,11 +32,11 @@ quarters-of words quarters len right = record {
       let inside : 2 * k < length words = omega (arith, begun, length-bits_of words) in
       let block : k / 4 ≡ r = omega (arith, less) in
       let quarter : k % 4 ≡ q = omega (arith, less) in
-      let place : 128 * k ≡ 512 * r + 128 * q = omega arith in
+      let position : 128 * k ≡ 512 * r + 128 * q = omega arith in
       let here = right k (quarter-begun (length words) k inside) in
       let P : ℕ → ℕ → ℕ → Type 0 = λ n p m. (let e = slice_index quarters n in
       ones_before b (n / 2 ^ 23 * 2 ^ 32) + record_count e + quarter_count e p ≡ ones_before b m) in
-      subst (P r q) place (subst (λ (p : ℕ). P r p (128 * k)) quarter (subst (λ (n : ℕ). P n (k % 4) (128 * k)) block here));
+      subst (P r q) position (subst (λ (p : ℕ). P r p (128 * k)) quarter (subst (λ (n : ℕ). P n (k % 4) (128 * k)) block here));
 }
   where
     eights : (n : ℕ) → div_ceil n 8 ≡ div_ceil (64 * n) 512
@@ -47,5 +47,5 @@ pub quarters-each : (words quarters : List ℕ) → AreQuartersOf (bits_of words
     → CountsToQuarter (bits_of words) k (slice_index quarters (k / 4))
 quarters-each words quarters h k inside =
     let b = bits_of words in
-    let place : 512 * (k / 4) + 128 * (k % 4) ≡ 128 * k = omega arith in
-    h.counts (k / 4) (k % 4) (omega arith) (omega (arith, inside, place, length-bits_of words)) ∙ ap (ones_before b) place
+    let position : 512 * (k / 4) + 128 * (k % 4) ≡ 128 * k = omega arith in
+    h.counts (k / 4) (k % 4) (omega arith) (omega (arith, inside, position, length-bits_of words)) ∙ ap (ones_before b) position

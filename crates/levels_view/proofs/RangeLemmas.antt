@@ -2,8 +2,8 @@
 use Rattle.std.proofs.Common.{◌≡◌, ℕ, ◌+◌, ◌-◌, ◌*◌, ◌/◌, ◌^◌, ◌<◌, ◌≤◌, ◌⊎◌, inl, inr, nat_le, Bool, true, false, if◌then◌else◌, List, length, take, count_by, refl, ap, ◌∙◌, arith, ⊎_elim}
 use Rattle.std.proofs.lemmas.Bool.{cases_lt, le-leb, lt-leb}
 use Rattle.bit_lists.specs.Bits.{digit}
-use Rattle.matrix_levels.specs.Levels.{has_digit, has_lesser_prefix, level, partition_place}
-use Rattle.matrix_levels.specs.Matrix.{digit_place, IsMatrixOf, LevelTables}
+use Rattle.matrix_levels.specs.Levels.{has_digit, has_lesser_prefix, level, partition_position}
+use Rattle.matrix_levels.specs.Matrix.{digit_position, IsMatrixOf, LevelTables}
 use Rattle.matrix_levels.proofs.lemmas.PartLemmas.{moved-both, moved-grows, moved-le, moved-one}
 use Rattle.matrix_levels.proofs.lemmas.PrefixLemmas.{with_digit, IsPrefixRange}
 use Rattle.matrix_levels.proofs.lemmas.RangeLemmas.{less-number-one, less-number-zero}
@@ -20,23 +20,23 @@ pub parts-within : (v : Bool) (o z size less all : ℕ) → size ≡ (if v then 
 parts-within true o z size less all is lesser sum = omega arith
 parts-within false o z size less all is lesser sum = omega arith
 
--- the places of a range of level d
+-- the positions of a range of level d
 module _ (xs : List ℕ) (l : LevelTables) (b : List Bool) (h : IsMatrixOf xs l b) (d f e : ℕ) (order : f ≤ e) (inside : e ≤ l.len) where
   row-inside : e ≤ length (level xs l.width d)
   row-inside = omega (arith, inside, level-len xs l b h d)
 
   -- the range's items of both bits
-  pub parts-are : (partition_place (digit_place l d) true (level xs l.width d) e - partition_place (digit_place l d) true (level xs l.width d) f)
-      + (partition_place (digit_place l d) false (level xs l.width d) e - partition_place (digit_place l d) false (level xs l.width d) f)
+  pub parts-are : (partition_position (digit_position l d) true (level xs l.width d) e - partition_position (digit_position l d) true (level xs l.width d) f)
+      + (partition_position (digit_position l d) false (level xs l.width d) e - partition_position (digit_position l d) false (level xs l.width d) f)
       ≡ e - f
-  parts-are = moved-both (digit_place l d) (level xs l.width d) f e order row-inside
+  parts-are = moved-both (digit_position l d) (level xs l.width d) f e order row-inside
 
   -- the 1 bits before its end are those before its start and its own
-  pub ones-more : (before through : ℕ) → before ≡ count_by (has_digit (digit_place l d) true) (take f (level xs l.width d))
-      → through ≡ count_by (has_digit (digit_place l d) true) (take e (level xs l.width d))
-      → before + (partition_place (digit_place l d) true (level xs l.width d) e - partition_place (digit_place l d) true (level xs l.width d) f) ≡ through
+  pub ones-more : (before through : ℕ) → before ≡ count_by (has_digit (digit_position l d) true) (take f (level xs l.width d))
+      → through ≡ count_by (has_digit (digit_position l d) true) (take e (level xs l.width d))
+      → before + (partition_position (digit_position l d) true (level xs l.width d) e - partition_position (digit_position l d) true (level xs l.width d) f) ≡ through
   ones-more before through first last =
-      let k = digit_place l d in
+      let k = digit_position l d in
       let row = level xs l.width d in
       omega (
         arith,
@@ -46,18 +46,18 @@ module _ (xs : List ℕ) (l : LevelTables) (b : List Bool) (h : IsMatrixOf xs l 
       )
 
   -- its items of a bit stand side by side at the next level
-  pub next-range : (v : Bool) (next size : ℕ) → next ≡ partition_place (digit_place l d) v (level xs l.width d) f
-      → size ≡ partition_place (digit_place l d) v (level xs l.width d) e - partition_place (digit_place l d) v (level xs l.width d) f
-      → (next + size ≡ partition_place (digit_place l d) v (level xs l.width d) e) × (next + size ≤ l.len)
+  pub next-range : (v : Bool) (next size : ℕ) → next ≡ partition_position (digit_position l d) v (level xs l.width d) f
+      → size ≡ partition_position (digit_position l d) v (level xs l.width d) e - partition_position (digit_position l d) v (level xs l.width d) f
+      → (next + size ≡ partition_position (digit_position l d) v (level xs l.width d) e) × (next + size ≤ l.len)
   next-range v next size start count =
-      let k = digit_place l d in
+      let k = digit_position l d in
       let row = level xs l.width d in
-      let last : next + size ≡ partition_place k v row e = omega (arith, start, count, moved-grows k v row f e order) in
+      let last : next + size ≡ partition_position k v row e = omega (arith, start, count, moved-grows k v row f e order) in
       (last, omega (arith, last, moved-le k v row e, level-len xs l b h d))
 
 -- the count of those less than a number, one level on
 pub less-more : (xs : List ℕ) (w d x : ℕ) (ys : List ℕ) (f l : ℕ) → d < w → IsPrefixRange xs w d (x / 2 ^ (w - d)) ys f l → (v : Bool) → v ≡ digit x (w - 1 - d)
-    → (z less count : ℕ) → z ≡ partition_place (w - 1 - d) false (level xs w d) l - partition_place (w - 1 - d) false (level xs w d) f
+    → (z less count : ℕ) → z ≡ partition_position (w - 1 - d) false (level xs w d) l - partition_position (w - 1 - d) false (level xs w d) f
     → less ≡ (if v then z else 0) → count ≡ count_by (has_lesser_prefix (w - d) (x / 2 ^ (w - d))) ys
     → count + less ≡ count_by (has_lesser_prefix (w - (d + 1)) (x / 2 ^ (w - (d + 1)))) ys
 less-more xs w d x ys f l before n true dig z less count zs lesser cs =

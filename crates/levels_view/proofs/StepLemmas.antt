@@ -6,8 +6,8 @@ use Rattle.bit_lists.specs.Bits.{digit, item}
 use Rattle.bitm_tables.specs.declared.source.counts.ReadCounts.{ReadCounts}
 use Rattle.bitm_tables.specs.Reads.{OnlyReads}
 use Rattle.bitm_tables.specs.Tables.{Lists}
-use Rattle.matrix_levels.specs.Levels.{has_digit, level, partition_place}
-use Rattle.matrix_levels.specs.Matrix.{digit_place, IsMatrixOf, LevelTables}
+use Rattle.matrix_levels.specs.Levels.{has_digit, level, partition_position}
+use Rattle.matrix_levels.specs.Matrix.{digit_position, IsMatrixOf, LevelTables}
 use Rattle.matrix_levels.proofs.lemmas.ColumnLemmas.{length-level}
 use Rattle.matrix_levels.proofs.lemmas.MatrixLemmas.{digit-is}
 use Rattle.matrix_levels.proofs.lemmas.PartLemmas.{both-digits, moved-inside}
@@ -21,17 +21,17 @@ digits_more n d v small = by v (let e : d + 1 ≡ suc d = omega arith in ap (λ 
     by true twice = omega (arith, small, twice)
     by false twice = omega (arith, small, twice)
 
--- a level has all numbers, and no more items of a digit stand before a place than items
+-- a level has all numbers, and no more items of a digit stand before a position than items
 module _ (xs : List ℕ) (l : LevelTables) (b : List Bool) (h : IsMatrixOf xs l b) (d : ℕ) where
   pub level-len : length (level xs l.width d) ≡ l.len
   level-len = omega (arith, length-level xs l.width d, h.count)
 
-  pub ones-few : (p : ℕ) → p ≤ l.len → count_by (has_digit (digit_place l d) true) (take p (level xs l.width d)) ≤ p
+  pub ones-few : (p : ℕ) → p ≤ l.len → count_by (has_digit (digit_position l d) true) (take p (level xs l.width d)) ≤ p
   ones-few p inside =
       let ys = level xs l.width d in
-      omega (arith, both-digits (digit_place l d) (take p ys), length-take-le p ys (omega (arith, inside, level-len)))
+      omega (arith, both-digits (digit_position l d) (take p ys), length-take-le p ys (omega (arith, inside, level-len)))
 
--- so few numbers have places that fit into a word
+-- so few numbers have positions that fit into a word
 pub len-short : (w n : ℕ) → 1 ≤ w → w * n < 2 ^ 63 → n < 2 ^ 63
 len-short w n some short = grind arith
 
@@ -64,13 +64,13 @@ module _ {S : Type 0} (lists_of : S → Lists) (reads_of : S → ReadCounts) whe
     same = next.same ∙ first.same;
   }
 
--- the bit of an item is its digit, and it moves to a place of the next level
+-- the bit of an item is its digit, and it moves to a position of the next level
 pub step-is : (xs : List ℕ) (l : LevelTables) (b : List Bool) → IsMatrixOf xs l b → (d p : ℕ) → d < l.width → p < l.len → (v : Bool) (next : ℕ)
-    → v ≡ item b (d * l.len + p) → next ≡ partition_place (digit_place l d) v (level xs l.width d) p
-    → (v ≡ digit (get_or (level xs l.width d) p 0) (digit_place l d)) × (next < l.len)
+    → v ≡ item b (d * l.len + p) → next ≡ partition_position (digit_position l d) v (level xs l.width d) p
+    → (v ≡ digit (get_or (level xs l.width d) p 0) (digit_position l d)) × (next < l.len)
 step-is xs l b h d p less inside v next bit moves =
     let own = bit ∙ digit-is xs l b h d p less inside in
     let len = level-len xs l b h d in (
       own,
-      omega (arith, moves, moved-inside (digit_place l d) v (level xs l.width d) p (omega (arith, inside, len)) (sym own), len),
+      omega (arith, moves, moved-inside (digit_position l d) v (level xs l.width d) p (omega (arith, inside, len)) (sym own), len),
     )

@@ -4,7 +4,7 @@ use Rattle.std.proofs.lemmas.Bool.{cases_lt}
 use Rattle.bitm_tables.specs.Tables.{Lists}
 use Rattle.matrix_levels.specs.Matrix.{numbers_in, IsMatrix, LevelTables}
 use Rattle.matrix_levels.proofs.lemmas.ManyLemmas.{level-first, level-last}
-use Rattle.levels_view.specs.Walk.{IsOnTheWay, IsTold}
+use Rattle.levels_view.specs.Walk.{IsOnTheWay, IsRanked}
 
 -- an item begins at its index, with no digits
 pub begins : (l : LevelTables) (lists : Lists) (i : ℕ) → IsOnTheWay l lists 0 i i 0
@@ -14,13 +14,13 @@ begins l lists i =
       outside = λ past. past;
       small = λ _. omega arith;
       inside = λ _ some. some;
-      place = λ h some. (first h some).place;
+      position = λ h some. (first h some).position;
       digits = λ h some. (first h some).digits;
     }
 
 -- after the last level the digits are the number
-pub told : (l : LevelTables) (lists : Lists) (i p n d : ℕ) → d ≡ l.width → IsOnTheWay l lists d i p n → IsTold l lists i p n
-told l lists i p n d e w = record {
+pub claimed : (l : LevelTables) (lists : Lists) (i p n d : ℕ) → d ≡ l.width → IsOnTheWay l lists d i p n → IsRanked l lists i p n
+claimed l lists i p n d e w = record {
   found = λ in_p.
       let some : i < l.len = ⊎_elim (λ s. s) (λ past. absurd (omega (arith, w.outside past, in_p))) (cases_lt i l.len) in
       record {
@@ -28,7 +28,7 @@ told l lists i p n d e w = record {
         right = λ h. let m = h.numbers in (
           omega (arith, some, m.count),
           level-last (numbers_in l lists) l.width m.fit m.most i (omega (arith, some, m.count)) d p n e
-              (record { place = w.place h some; digits = w.digits h some }),
+              (record { position = w.position h some; digits = w.digits h some }),
         );
       };
   unanswered = λ past.
@@ -38,7 +38,7 @@ told l lists i p n d e w = record {
       (cases_lt i l.len);
 }
 
--- what the levels of both places read, one level more
+-- what the levels of both positions read, one level more
 pub both-levels-more : (k d n : ℕ) → k ≤ d → k * n + 2 * ((d - k) * n) + 2 * n ≤ k * n + 2 * ((d + 1 - k) * n)
 both-levels-more k d n from =
     let one : d + 1 - k ≡ d - k + 1 = omega (arith, from) in

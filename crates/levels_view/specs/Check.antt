@@ -2,7 +2,7 @@
 use Rattle.std.specs.Prelude.{◌≡◌, ℕ, ◌+◌, ◌-◌, ◌*◌, ◌/◌, ◌^◌, ◌<◌, Bool, false, List, slice_index}
 use Rattle.bit_lists.specs.Count.{ones_before, zeros_before}
 use Rattle.bitm_tables.specs.Quarters.{AreQuartersOf}
-use Rattle.matrix_levels.specs.Levels.{level_place}
+use Rattle.matrix_levels.specs.Levels.{level_position}
 use Rattle.matrix_levels.specs.Matrix.{level_items, LevelTables}
 
 -- the entries of level d are the 1 bits before it and its 0 bits
@@ -22,4 +22,4 @@ HasQuarters l b = l.compact ≡ false → AreQuartersOf b l.quarters
 abbrev pub HasStarts : LevelTables → List Bool → Type 0
 HasStarts l b =
     (x : ℕ) → x < 2 ^ l.width
-    → slice_index l.starts (x / 2 ^ (l.width - l.known)) ≡ level_place (level_items b l.width l.len) l.width x l.known 0
+    → slice_index l.starts (x / 2 ^ (l.width - l.known)) ≡ level_position (level_items b l.width l.len) l.width x l.known 0

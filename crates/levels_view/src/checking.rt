@@ -115,9 +115,9 @@ fn has_starts<T: TableSource>(levels: &LevelsView<'_>, source: &mut T) -> bool
     let rest = (width - known) % 64;
     for begin in 0..levels.starts().len() {
         let number = (begin as u64) << rest;
-        match plain.total_place_on(source, number, 0, known, 0) {
-            Some(place) => {
-                if levels.starts()[begin] != place as u64 {
+        match plain.total_position_on(source, number, 0, known, 0) {
+            Some(position) => {
+                if levels.starts()[begin] != position as u64 {
                     return false;
                 }
             }

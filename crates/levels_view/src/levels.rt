@@ -1,7 +1,7 @@
 //! The tables of the levels of a matrix, which may hold anything.
 ghost use Rattle.std.specs.Prelude.{◌≡◌, ◌-◌, ◌/◌, ◌^◌, ◌<◌, ◌≤◌, ◌↔◌, ℕ, List, Bool, Some, IfSome, IsTrue, SomeIff};
 ghost use Rattle.std.specs.Prelude.{[], ◌∷◌, length, slice_index};
-ghost use Rattle.matrix_levels.specs.Levels.{level_place};
+ghost use Rattle.matrix_levels.specs.Levels.{level_position};
 ghost use Rattle.matrix_levels.specs.Matrix.{IsMatrixOf};
 ghost use Rattle.levels_view.specs.Levels.{levels_with, tables_of, AreNumbers, HasLevels};
 
@@ -321,7 +321,7 @@ impl<'a> LevelsView<'a> {
         ensures inside { IfSome result (λ start. start ≤ self.now.len) }
         ensures start { (xs : List ℕ) (b : List Bool) (x : ℕ) → IsMatrixOf xs self.now b
             → x < 2 ^ self.now.width → x / 2 ^ (self.now.width - self.now.known) ≡ begin
-            → result ≡ Some (level_place xs self.now.width x self.now.known 0) }
+            → result ≡ Some (level_position xs self.now.width x self.now.known 0) }
     {
         let start = self.starts()[begin as usize] as usize;
         if start <= self.len() {
@@ -338,7 +338,7 @@ impl<'a> LevelsView<'a> {
         requires fit { number < 2 ^ self.now.width }
         ensures inside { IfSome result (λ start. start ≤ self.now.len) }
         ensures start { (xs : List ℕ) (b : List Bool) → IsMatrixOf xs self.now b
-            → result ≡ Some (level_place xs self.now.width number self.now.known 0) }
+            → result ≡ Some (level_position xs self.now.width number self.now.known 0) }
     {
         self.start_at(without_lowest(number, self.width() - self.known()))
     }

@@ -13,19 +13,19 @@ use bitm_tables::source::TableSource;
 use tuning::RANKS_SIDE_BY_SIDE;
 
 impl<'a> LevelsView<'a> {
-    /// `total_get_list_on` of indices that go side by side, with as many places and numbers to work with.
+    /// `total_get_list_on` of indices that go side by side, with as many positions and numbers to work with.
     fn total_get_with_on<T: TableSource>(
         &self,
         source: &mut T,
         indices: &[usize],
-        places: &mut [usize],
+        positions: &mut [usize],
         numbers: &mut [u64],
         out: &mut [u64],
     ) -> usize
         requires sized { HasSizes (T.lists source.old) }
         requires room { self.now.width * self.now.len ≤ length (bits_in (T.lists source.old)) }
         requires out { length out.old ≡ length indices.now }
-        requires places { length places.old ≡ length indices.now }
+        requires positions { length positions.old ≡ length indices.now }
         requires numbers { length numbers.old ≡ length indices.now }
         ensures most { result ≤ length indices.now }
         ensures numbers { (j : ℕ) → j < result → IsNumberAt self.now (T.lists source.old)
@@ -38,9 +38,9 @@ impl<'a> LevelsView<'a> {
         ensures reads { OnlyRanks self.now T.lists T.reads source.old source.new
             (self.now.width * length indices.now) }
     {
-        self.total_get_many_on(source, indices, &mut *places, &mut *numbers);
+        self.total_get_many_on(source, indices, &mut *positions, &mut *numbers);
         for k in 0..indices.len() {
-            if places[k] >= self.len() {
+            if positions[k] >= self.len() {
                 return k;
             }
             out[k] = numbers[k];
@@ -71,13 +71,13 @@ impl<'a> LevelsView<'a> {
             (self.now.width * length indices.now) }
     {
         // No zeros, which would be written by a call of C's `memset`: the archive for C calls nothing.
-        let mut places = [1usize; RANKS_SIDE_BY_SIDE];
+        let mut positions = [1usize; RANKS_SIDE_BY_SIDE];
         let mut numbers = [1u64; RANKS_SIDE_BY_SIDE];
         let count = indices.len();
         self.total_get_with_on(
             source,
             indices,
-            &mut places[..count],
+            &mut positions[..count],
             &mut numbers[..count],
             out,
         )
@@ -131,7 +131,7 @@ impl<'a> LevelsView<'a> {
         from
     }
 
-    /// `total_rank_list_on` of numbers that go side by side, with as many places to work with.
+    /// `total_rank_list_on` of numbers that go side by side, with as many positions to work with.
     fn total_rank_with_on<T: TableSource>(
         &self,
         source: &mut T,
@@ -160,7 +160,7 @@ impl<'a> LevelsView<'a> {
         ensures reads { OnlyRanks self.now T.lists T.reads source.old source.new
             ((2 * self.now.width - self.now.known) * length numbers.now) }
     {
-        self.total_places_of_many_on(source, numbers, ends, &mut *firsts, &mut *lasts);
+        self.total_positions_of_many_on(source, numbers, ends, &mut *firsts, &mut *lasts);
         for k in 0..numbers.len() {
             match self.rank_between(numbers[k], ends[k], firsts[k], lasts[k]) {
                 Answer::Found(count) => out[k] = count,

@@ -4,7 +4,7 @@
 ghost use Rattle.std.specs.Prelude.{◌≡◌, ◌+◌, ◌*◌, ◌^◌, ◌<◌, ◌≤◌, ℕ, length, slice_index};
 ghost use Rattle.bitm_tables.specs.Tables.{HasSizes, bits_in};
 ghost use Rattle.matrix_levels.specs.Matrix.{OnlyRanks};
-ghost use Rattle.levels_view.specs.Walk.{IsOnTheWay, IsTold};
+ghost use Rattle.levels_view.specs.Walk.{IsOnTheWay, IsRanked};
 
 use crate::levels::LevelsView;
 use bitm_tables::source::TableSource;
@@ -17,21 +17,21 @@ impl<'a> LevelsView<'a> {
         &self,
         source: &mut T,
         depth: u8,
-        place: usize,
+        position: usize,
         number: u64,
     ) -> (usize, u64)
         requires sized { HasSizes (T.lists source.old) }
         requires room { self.now.width * self.now.len ≤ length (bits_in (T.lists source.old)) }
         requires depth { depth < self.now.width }
-        requires small { place < self.now.len → number < 2 ^ depth }
-        ensures moved { (i : ℕ) → IsOnTheWay self.now (T.lists source.old) depth i place number
+        requires small { position < self.now.len → number < 2 ^ depth }
+        ensures moved { (i : ℕ) → IsOnTheWay self.now (T.lists source.old) depth i position number
             → IsOnTheWay self.now (T.lists source.old) (depth + 1) i result.0 result.1 }
         ensures reads { OnlyRanks self.now T.lists T.reads source.old source.new 1 }
     {
-        if place >= self.len() {
-            return (place, number);
+        if position >= self.len() {
+            return (position, number);
         }
-        match self.total_step_on(source, depth, place) {
+        match self.total_step_on(source, depth, position) {
             Some((digit, next)) => (next, 2 * number + digit as u64),
             None => (self.len(), number),
         }
@@ -42,24 +42,24 @@ impl<'a> LevelsView<'a> {
         &self,
         source: &mut T,
         indices: &[usize],
-        places: &mut [usize],
+        positions: &mut [usize],
         numbers: &mut [u64],
     )
         requires sized { HasSizes (T.lists source.old) }
         requires room { self.now.width * self.now.len ≤ length (bits_in (T.lists source.old)) }
         requires some { 0 < self.now.width }
-        requires places { length places.old ≡ length indices.now }
+        requires positions { length positions.old ≡ length indices.now }
         requires numbers { length numbers.old ≡ length indices.now }
-        ensures places { length places.new ≡ length indices.now }
+        ensures positions { length positions.new ≡ length indices.now }
         ensures numbers { length numbers.new ≡ length indices.now }
         ensures each { (k : ℕ) → k < length indices.now → IsOnTheWay self.now (T.lists source.old) 1
-            (slice_index indices.now k) (slice_index places.new k) (slice_index numbers.new k) }
+            (slice_index indices.now k) (slice_index positions.new k) (slice_index numbers.new k) }
         ensures reads { OnlyRanks self.now T.lists T.reads source.old source.new
             (length indices.now) }
     {
         for k in 0..indices.len() {
-            let (place, number) = self.total_moved_on(source, 0, indices[k], 0);
-            places[k] = place;
+            let (position, number) = self.total_moved_on(source, 0, indices[k], 0);
+            positions[k] = position;
             numbers[k] = number;
         }
     }
@@ -70,56 +70,56 @@ impl<'a> LevelsView<'a> {
         source: &mut T,
         depth: u8,
         indices: &[usize],
-        places: &mut [usize],
+        positions: &mut [usize],
         numbers: &mut [u64],
     )
         requires sized { HasSizes (T.lists source.old) }
         requires room { self.now.width * self.now.len ≤ length (bits_in (T.lists source.old)) }
         requires depth { depth < self.now.width }
-        requires places { length places.old ≡ length indices.now }
+        requires positions { length positions.old ≡ length indices.now }
         requires numbers { length numbers.old ≡ length indices.now }
         requires each { (k : ℕ) → k < length indices.now → IsOnTheWay self.now (T.lists source.old) depth
-            (slice_index indices.now k) (slice_index places.old k) (slice_index numbers.old k) }
-        ensures places { length places.new ≡ length indices.now }
+            (slice_index indices.now k) (slice_index positions.old k) (slice_index numbers.old k) }
+        ensures positions { length positions.new ≡ length indices.now }
         ensures numbers { length numbers.new ≡ length indices.now }
         ensures each { (k : ℕ) → k < length indices.now
             → IsOnTheWay self.now (T.lists source.old) (depth + 1) (slice_index indices.now k)
-            (slice_index places.new k) (slice_index numbers.new k) }
+            (slice_index positions.new k) (slice_index numbers.new k) }
         ensures reads { OnlyRanks self.now T.lists T.reads source.old source.new
             (length indices.now) }
     {
         let _indices = indices;
-        for k in 0..places.len() {
-            let (place, number) = self.total_moved_on(source, depth, places[k], numbers[k]);
-            places[k] = place;
+        for k in 0..positions.len() {
+            let (position, number) = self.total_moved_on(source, depth, positions[k], numbers[k]);
+            positions[k] = position;
             numbers[k] = number;
         }
     }
 
-    /// The numbers at the indices: `numbers` gets each, and `places` an index below the length for each that was found,
-    /// and for no other. What the two have is overwritten.
+    /// The numbers at the indices: `numbers` gets each, and `positions` an index below the length for each that was
+    /// found, and for no other. What the two have is overwritten.
     pub(crate) fn total_get_many_on<T: TableSource>(
         &self,
         source: &mut T,
         indices: &[usize],
-        places: &mut [usize],
+        positions: &mut [usize],
         numbers: &mut [u64],
     )
         requires sized { HasSizes (T.lists source.old) }
         requires room { self.now.width * self.now.len ≤ length (bits_in (T.lists source.old)) }
-        requires places { length places.old ≡ length indices.now }
+        requires positions { length positions.old ≡ length indices.now }
         requires numbers { length numbers.old ≡ length indices.now }
-        ensures places { length places.new ≡ length indices.now }
+        ensures positions { length positions.new ≡ length indices.now }
         ensures numbers { length numbers.new ≡ length indices.now }
-        ensures each { (k : ℕ) → k < length indices.now → IsTold self.now (T.lists source.old)
-            (slice_index indices.now k) (slice_index places.new k) (slice_index numbers.new k) }
+        ensures each { (k : ℕ) → k < length indices.now → IsRanked self.now (T.lists source.old)
+            (slice_index indices.now k) (slice_index positions.new k) (slice_index numbers.new k) }
         ensures reads { OnlyRanks self.now T.lists T.reads source.old source.new
             (self.now.width * length indices.now) }
     {
         let width = self.width();
-        self.total_first_level_on(source, indices, &mut *places, &mut *numbers);
+        self.total_first_level_on(source, indices, &mut *positions, &mut *numbers);
         for depth in 1..width {
-            self.total_level_on(source, depth, indices, &mut *places, &mut *numbers);
+            self.total_level_on(source, depth, indices, &mut *positions, &mut *numbers);
         }
     }
 }

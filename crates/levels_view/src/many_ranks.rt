@@ -4,7 +4,7 @@
 ghost use Rattle.std.specs.Prelude.{◌≡◌, ◌+◌, ◌-◌, ◌*◌, ◌^◌, ◌<◌, ◌≤◌, ℕ, length, slice_index};
 ghost use Rattle.bitm_tables.specs.Tables.{HasSizes, Lists, bits_in};
 ghost use Rattle.matrix_levels.specs.Matrix.{OnlyRanks};
-ghost use Rattle.levels_view.specs.Walk.{AreBothOnTheWay, IsPlaceOnTheWay, IsRankAt};
+ghost use Rattle.levels_view.specs.Walk.{AreBothOnTheWay, IsPositionOnTheWay, IsRankAt};
 
 use crate::levels::LevelsView;
 use crate::stepping::difference;
@@ -19,9 +19,9 @@ impl<'a> LevelsView<'a> {
     /// Where a number stands after the known levels, before all indices, as the table of starts says: an index past the
     /// end where it has more bits than the width, or the table belongs to no matrix.
     #[inline(always)]
-    fn known_place(&self, number: u64) -> usize
+    fn known_position(&self, number: u64) -> usize
         ensures { (lists : Lists) → number < 2 ^ self.now.width
-            → IsPlaceOnTheWay self.now lists self.now.known number 0 result }
+            → IsPositionOnTheWay self.now lists self.now.known number 0 result }
     {
         if !fits(number, self.width()) {
             return ASTRAY;
@@ -35,26 +35,26 @@ impl<'a> LevelsView<'a> {
     /// Where a number at an index of a level, or that would stand there, stands at the next one. An index past the end
     /// stays there, and goes there only where words and tables form no matrix.
     #[inline(always)]
-    fn total_place_moved_on<T: TableSource>(
+    fn total_position_moved_on<T: TableSource>(
         &self,
         source: &mut T,
         depth: u8,
         number: u64,
-        place: usize,
+        position: usize,
     ) -> usize
         requires sized { HasSizes (T.lists source.old) }
         requires room { self.now.width * self.now.len ≤ length (bits_in (T.lists source.old)) }
         requires depth { depth < self.now.width }
         ensures moved { (i : ℕ)
-            → IsPlaceOnTheWay self.now (T.lists source.old) depth number i place
-            → IsPlaceOnTheWay self.now (T.lists source.old) (depth + 1) number i result }
+            → IsPositionOnTheWay self.now (T.lists source.old) depth number i position
+            → IsPositionOnTheWay self.now (T.lists source.old) (depth + 1) number i result }
         ensures reads { OnlyRanks self.now T.lists T.reads source.old source.new 1 }
     {
-        if place > self.len() {
+        if position > self.len() {
             return ASTRAY;
         }
         let digit = digit_of(number, self.width() - 1 - depth);
-        match self.total_next_on(source, depth, digit, place) {
+        match self.total_next_on(source, depth, digit, position) {
             Some(next) => next,
             None => ASTRAY,
         }
@@ -78,15 +78,15 @@ impl<'a> LevelsView<'a> {
             → AreBothOnTheWay self.now (T.lists source.old) (depth + 1) number s e result.0 result.1 }
         ensures reads { OnlyRanks self.now T.lists T.reads source.old source.new 2 }
     {
-        let next = self.total_place_moved_on(source, depth, number, first);
-        let after = self.total_place_moved_on(source, depth, number, last);
+        let next = self.total_position_moved_on(source, depth, number, first);
+        let after = self.total_position_moved_on(source, depth, number, last);
         (next, after)
     }
 
     /// An end, or an index past the end of every level where there are fewer numbers. A plain copy of all ends would be
     /// a call of C's `memcpy`: the archive for C calls nothing.
     #[inline(always)]
-    fn end_place(&self, end: usize) -> usize
+    fn end_position(&self, end: usize) -> usize
         ensures { end ≤ self.now.len → result ≡ end }
     {
         if end > self.len() { ASTRAY } else { end }
@@ -107,14 +107,14 @@ impl<'a> LevelsView<'a> {
         ensures firsts { length firsts.new ≡ length numbers.now }
         ensures lasts { length lasts.new ≡ length numbers.now }
         ensures starts { (k : ℕ) → k < length numbers.now → (lists : Lists)
-            → slice_index numbers.now k < 2 ^ self.now.width → IsPlaceOnTheWay self.now lists
+            → slice_index numbers.now k < 2 ^ self.now.width → IsPositionOnTheWay self.now lists
             self.now.known (slice_index numbers.now k) 0 (slice_index firsts.new k) }
         ensures ends { (k : ℕ) → k < length numbers.now → slice_index ends.now k ≤ self.now.len
             → slice_index lasts.new k ≡ slice_index ends.now k }
     {
         for k in 0..numbers.len() {
-            firsts[k] = self.known_place(numbers[k]);
-            lasts[k] = self.end_place(ends[k]);
+            firsts[k] = self.known_position(numbers[k]);
+            lasts[k] = self.end_position(ends[k]);
         }
     }
 
@@ -132,23 +132,23 @@ impl<'a> LevelsView<'a> {
         requires depth { depth < self.now.width }
         requires lasts { length lasts.old ≡ length numbers.now }
         requires each { (k : ℕ) → k < length numbers.now → slice_index ends.now k ≤ self.now.len
-            → IsPlaceOnTheWay self.now (T.lists source.old) depth (slice_index numbers.now k)
+            → IsPositionOnTheWay self.now (T.lists source.old) depth (slice_index numbers.now k)
             (slice_index ends.now k) (slice_index lasts.old k) }
         ensures lasts { length lasts.new ≡ length numbers.now }
         ensures each { (k : ℕ) → k < length numbers.now → slice_index ends.now k ≤ self.now.len
-            → IsPlaceOnTheWay self.now (T.lists source.old) (depth + 1) (slice_index numbers.now k)
+            → IsPositionOnTheWay self.now (T.lists source.old) (depth + 1) (slice_index numbers.now k)
             (slice_index ends.now k) (slice_index lasts.new k) }
         ensures reads { OnlyRanks self.now T.lists T.reads source.old source.new
             (length numbers.now) }
     {
         let _ends = ends;
         for k in 0..numbers.len() {
-            lasts[k] = self.total_place_moved_on(source, depth, numbers[k], lasts[k]);
+            lasts[k] = self.total_position_moved_on(source, depth, numbers[k], lasts[k]);
         }
     }
 
     /// Where the numbers stand after the known levels, before all indices and before the ends.
-    fn total_known_places_on<T: TableSource>(
+    fn total_known_positions_on<T: TableSource>(
         &self,
         source: &mut T,
         numbers: &[u64],
@@ -177,7 +177,7 @@ impl<'a> LevelsView<'a> {
     }
 
     /// Moves the numbers, before all indices and before the ends, from a level to the next.
-    fn total_places_level_on<T: TableSource>(
+    fn total_positions_level_on<T: TableSource>(
         &self,
         source: &mut T,
         depth: u8,
@@ -227,7 +227,7 @@ impl<'a> LevelsView<'a> {
     /// levels.total_places_of_many_on(&mut source, &[1], &[4], &mut firsts, &mut lasts);
     /// levels.rank_between(1, 4, firsts[0], lasts[0]);   // Found(2): two of the first four numbers are 1
     /// ```
-    pub fn total_places_of_many_on<T: TableSource>(
+    pub fn total_positions_of_many_on<T: TableSource>(
         &self,
         source: &mut T,
         numbers: &[u64],
@@ -249,17 +249,17 @@ impl<'a> LevelsView<'a> {
         ensures reads { OnlyRanks self.now T.lists T.reads source.old source.new
             ((2 * self.now.width - self.now.known) * length numbers.now) }
     {
-        self.total_known_places_on(source, numbers, ends, &mut *firsts, &mut *lasts);
+        self.total_known_positions_on(source, numbers, ends, &mut *firsts, &mut *lasts);
         for depth in self.known()..self.width() {
-            self.total_places_level_on(source, depth, numbers, ends, &mut *firsts, &mut *lasts);
+            self.total_positions_level_on(source, depth, numbers, ends, &mut *firsts, &mut *lasts);
         }
     }
 
-    /// How many of the first `end` numbers are this one, where it stands at these two places after the last level:
+    /// How many of the first `end` numbers are this one, where it stands at these two positions after the last level:
     /// before all numbers, and before the one at `end`.
     ///
     /// Whatever these two are, the answer is at most `end`, and `Absent` exactly where there are fewer numbers. Where
-    /// they are as `total_places_of_many_on` wrote them over the levels of a matrix, it is the count, and never
+    /// they are as `total_positions_of_many_on` wrote them over the levels of a matrix, it is the count, and never
     /// `Wrong`.
     ///
     /// ```

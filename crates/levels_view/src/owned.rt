@@ -139,8 +139,8 @@ impl Levels {
         let mut starts = Vec::with_capacity(alloc, count)?;
         for begin in 0..count {
             let number = (begin as u64) << rest;
-            match levels.total_place_on(source, number, 0, known, 0) {
-                Some(place) => starts.push(place as u64)?,
+            match levels.total_position_on(source, number, 0, known, 0) {
+                Some(position) => starts.push(position as u64)?,
                 None => unreachable!(),
             }
         }

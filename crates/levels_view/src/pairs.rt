@@ -4,7 +4,7 @@
 //! All positions go from level to level together, so that each waits for memory while the others do.
 ghost use Rattle.std.specs.Prelude.{◌≡◌, ◌*◌, ◌-◌, ◌/◌, ◌^◌, ◌<◌, ◌≤◌, ℕ, Some, IfSome, IsSomeAnd, length, slice_index};
 ghost use Rattle.bitm_tables.specs.Tables.{HasSizes, bits_in};
-ghost use Rattle.matrix_levels.specs.Levels.{level_place};
+ghost use Rattle.matrix_levels.specs.Levels.{level_position};
 ghost use Rattle.matrix_levels.specs.Matrix.{IsMatrix, OnlyRanks, numbers_in};
 ghost use Rattle.levels_view.specs.Answers.{AreRanksOf, AreRanksWithin, IsItemOf, IsItemWithin, found_or_wrong};
 
@@ -15,7 +15,7 @@ use bitm_tables::source::TableSource;
 use matrix_levels::{digit_of, fits};
 
 impl<'a> LevelsView<'a> {
-    /// The item at index `place` of the first level that is not known, with these bits before it; where the numbers
+    /// The item at index `position` of the first level that is not known, with these bits before it; where the numbers
     /// that are equal to it start after the last level, and where it stands there; `None` only where words and tables
     /// form no matrix.
     #[inline(always)]
@@ -23,25 +23,25 @@ impl<'a> LevelsView<'a> {
         &self,
         source: &mut T,
         number: u64,
-        place: usize,
+        position: usize,
     ) -> Option<(u64, usize, usize)>
         requires sized { HasSizes (T.lists source.old) }
         requires room { self.now.width * self.now.len ≤ length (bits_in (T.lists source.old)) }
         requires small { number < 2 ^ self.now.known }
-        requires inside { place < self.now.len }
+        requires inside { position < self.now.len }
         ensures inside { IfSome result (λ ways. ways.0 < 2 ^ self.now.width) }
         ensures answer { let numbers = numbers_in self.now (T.lists source.old) in let width = self.now.width in
             (i : ℕ) → IsMatrix self.now (T.lists source.old) → i < self.now.len
-            → place ≡ level_place numbers width (slice_index numbers i) self.now.known i
+            → position ≡ level_position numbers width (slice_index numbers i) self.now.known i
             → number ≡ slice_index numbers i / 2 ^ (width - self.now.known)
             → IsSomeAnd result (λ ways. (ways.0 ≡ slice_index numbers i)
-            × (ways.1 ≡ level_place numbers width (slice_index numbers i) width 0)
-            × (ways.2 ≡ level_place numbers width (slice_index numbers i) width i)) }
+            × (ways.1 ≡ level_position numbers width (slice_index numbers i) width 0)
+            × (ways.2 ≡ level_position numbers width (slice_index numbers i) width i)) }
         ensures reads { OnlyRanks self.now T.lists T.reads source.old source.new
             (2 * (self.now.width - self.now.known)) }
     {
         let mut base = self.start_at(number)?;
-        let (mut found, mut at) = (number, place);
+        let (mut found, mut at) = (number, position);
         for depth in self.known()..self.width() {
             let (digit, next) = self.total_step_on(source, depth, at)?;
             let first = self.total_next_on(source, depth, digit, base)?;
@@ -65,8 +65,8 @@ impl<'a> LevelsView<'a> {
         ensures reads { OnlyRanks self.now T.lists T.reads source.old source.new
             (2 * self.now.width - self.now.known) }
     {
-        let (number, place) = self.total_way_on(source, 0, self.known(), 0, i)?;
-        let (found, first, at) = self.total_ways_on(source, number, place)?;
+        let (number, position) = self.total_way_on(source, 0, self.known(), 0, i)?;
+        let (found, first, at) = self.total_ways_on(source, number, position)?;
         let rank = difference(first, at, i)?;
         Some((found, rank))
     }
@@ -111,7 +111,7 @@ impl<'a> LevelsView<'a> {
     /// Where the numbers that are equal to this one start after the last level, and where the equal ones among the
     /// first `start` and among the first `end` end there; `None` only where words and tables form no matrix.
     #[inline(always)]
-    fn total_three_places_on<T: TableSource>(
+    fn total_three_positions_on<T: TableSource>(
         &self,
         source: &mut T,
         number: u64,
@@ -123,17 +123,17 @@ impl<'a> LevelsView<'a> {
         requires fit { number < 2 ^ self.now.width }
         requires start { start ≤ self.now.len }
         requires end { end ≤ self.now.len }
-        ensures places { let numbers = numbers_in self.now (T.lists source.old) in
+        ensures positions { let numbers = numbers_in self.now (T.lists source.old) in
             let width = self.now.width in IsMatrix self.now (T.lists source.old)
-            → IsSomeAnd result (λ places. (places.0 ≡ level_place numbers width number width 0)
-            × (places.1 ≡ level_place numbers width number width start)
-            × (places.2 ≡ level_place numbers width number width end)) }
+            → IsSomeAnd result (λ positions. (positions.0 ≡ level_position numbers width number width 0)
+            × (positions.1 ≡ level_position numbers width number width start)
+            × (positions.2 ≡ level_position numbers width number width end)) }
         ensures reads { OnlyRanks self.now T.lists T.reads source.old source.new
             (3 * self.now.width - self.now.known) }
     {
         let (known, width) = (self.known(), self.width());
         let mut base = self.start_of(number)?;
-        let (mut first, mut last) = self.total_places_on(source, number, 0, known, start, end)?;
+        let (mut first, mut last) = self.total_positions_on(source, number, 0, known, start, end)?;
         for depth in known..width {
             let digit = digit_of(number, width - 1 - depth);
             let front = self.total_next_on(source, depth, digit, base)?;
@@ -182,7 +182,7 @@ impl<'a> LevelsView<'a> {
         if !fits(number, self.width()) {
             return Answer::Found((0, 0));
         }
-        let Some((base, first, last)) = self.total_three_places_on(source, number, start, end)
+        let Some((base, first, last)) = self.total_three_positions_on(source, number, start, end)
         else {
             return Answer::Wrong;
         };

@@ -1,7 +1,7 @@
 //! A number by its index, and a number's ranks, over any source: words and tables may hold anything.
 ghost use Rattle.std.specs.Prelude.{◌≡◌, ◌*◌, ◌-◌, ◌/◌, ◌^◌, ◌<◌, ◌≤◌, ℕ, Some, IfSome, IsSomeAnd, length, slice_index};
 ghost use Rattle.bitm_tables.specs.Tables.{HasSizes, bits_in};
-ghost use Rattle.matrix_levels.specs.Levels.{level_place};
+ghost use Rattle.matrix_levels.specs.Levels.{level_position};
 ghost use Rattle.matrix_levels.specs.Matrix.{IsMatrix, OnlyRanks, numbers_in};
 ghost use Rattle.matrix_levels.specs.Numbers.{occurrences_before};
 ghost use Rattle.levels_view.specs.Answers.{IsNumberOf, IsNumberWithin, IsRankOf, IsRankWithin};
@@ -22,25 +22,25 @@ impl<'a> LevelsView<'a> {
         from: u8,
         to: u8,
         number: u64,
-        place: usize,
+        position: usize,
     ) -> Option<(u64, usize)>
         requires sized { HasSizes (T.lists source.old) }
         requires room { self.now.width * self.now.len ≤ length (bits_in (T.lists source.old)) }
         requires order { from ≤ to }
         requires most { to ≤ self.now.width }
         requires small { number < 2 ^ from }
-        requires inside { place < self.now.len }
+        requires inside { position < self.now.len }
         ensures inside { IfSome result (λ way. (way.0 < 2 ^ to) × (way.1 < self.now.len)) }
         ensures answer { let numbers = numbers_in self.now (T.lists source.old) in let width = self.now.width in
             (i : ℕ) → IsMatrix self.now (T.lists source.old) → i < self.now.len
-            → place ≡ level_place numbers width (slice_index numbers i) from i
+            → position ≡ level_position numbers width (slice_index numbers i) from i
             → number ≡ slice_index numbers i / 2 ^ (width - from)
             → IsSomeAnd result (λ way. (way.0 ≡ slice_index numbers i / 2 ^ (width - to))
-            × (way.1 ≡ level_place numbers width (slice_index numbers i) to i)) }
+            × (way.1 ≡ level_position numbers width (slice_index numbers i) to i)) }
         ensures reads { OnlyRanks self.now T.lists T.reads source.old source.new (to - from) }
     {
         let _width = self.width(); // whose bound is what the number fits by
-        let (mut found, mut at) = (number, place);
+        let (mut found, mut at) = (number, position);
         for depth in from..to {
             let (digit, next) = self.total_step_on(source, depth, at)?;
             found = 2 * found + digit as u64;
@@ -86,36 +86,36 @@ impl<'a> LevelsView<'a> {
     /// Where a number that stands at an index of level `from`, or would there, stands at level `to`; `None` only where
     /// words and tables form no matrix.
     #[inline(always)]
-    pub(crate) fn total_place_on<T: TableSource>(
+    pub(crate) fn total_position_on<T: TableSource>(
         &self,
         source: &mut T,
         number: u64,
         from: u8,
         to: u8,
-        place: usize,
+        position: usize,
     ) -> Option<usize>
         requires sized { HasSizes (T.lists source.old) }
         requires room { self.now.width * self.now.len ≤ length (bits_in (T.lists source.old)) }
         requires order { from ≤ to }
         requires most { to ≤ self.now.width }
-        requires inside { place ≤ self.now.len }
+        requires inside { position ≤ self.now.len }
         ensures inside { IfSome result (λ at. at ≤ self.now.len) }
-        ensures place { let numbers = numbers_in self.now (T.lists source.old) in let width = self.now.width in
-            (p : ℕ) → IsMatrix self.now (T.lists source.old) → place ≡ level_place numbers width number from p
-            → result ≡ Some (level_place numbers width number to p) }
+        ensures position { let numbers = numbers_in self.now (T.lists source.old) in let width = self.now.width in
+            (p : ℕ) → IsMatrix self.now (T.lists source.old) → position ≡ level_position numbers width number from p
+            → result ≡ Some (level_position numbers width number to p) }
         ensures reads { OnlyRanks self.now T.lists T.reads source.old source.new (to - from) }
     {
         let last = self.width() - 1;
-        let mut at = place;
+        let mut at = position;
         for depth in from..to {
             at = self.total_next_on(source, depth, digit_of(number, last - depth), at)?;
         }
         Some(at)
     }
 
-    /// As `total_place_on`, for two indices; their walks wait for memory side by side.
+    /// As `total_position_on`, for two indices; their walks wait for memory side by side.
     #[inline(always)]
-    pub(crate) fn total_places_on<T: TableSource>(
+    pub(crate) fn total_positions_on<T: TableSource>(
         &self,
         source: &mut T,
         number: u64,
@@ -130,11 +130,11 @@ impl<'a> LevelsView<'a> {
         requires most { to ≤ self.now.width }
         requires start { start ≤ self.now.len }
         requires end { end ≤ self.now.len }
-        ensures inside { IfSome result (λ places. (places.0 ≤ self.now.len) × (places.1 ≤ self.now.len)) }
-        ensures places { let numbers = numbers_in self.now (T.lists source.old) in let width = self.now.width in
+        ensures inside { IfSome result (λ positions. (positions.0 ≤ self.now.len) × (positions.1 ≤ self.now.len)) }
+        ensures positions { let numbers = numbers_in self.now (T.lists source.old) in let width = self.now.width in
             (s e : ℕ) → IsMatrix self.now (T.lists source.old)
-            → start ≡ level_place numbers width number from s → end ≡ level_place numbers width number from e
-            → result ≡ Some (level_place numbers width number to s, level_place numbers width number to e) }
+            → start ≡ level_position numbers width number from s → end ≡ level_position numbers width number from e
+            → result ≡ Some (level_position numbers width number to s, level_position numbers width number to e) }
         ensures reads { OnlyRanks self.now T.lists T.reads source.old source.new (2 * (to - from)) }
     {
         let last = self.width() - 1;
@@ -162,12 +162,12 @@ impl<'a> LevelsView<'a> {
         requires fit { number < 2 ^ self.now.width }
         ensures inside { IfSome result (λ start. start ≤ self.now.len) }
         ensures start { let numbers = numbers_in self.now (T.lists source.old) in let width = self.now.width in
-            IsMatrix self.now (T.lists source.old) → result ≡ Some (level_place numbers width number width 0) }
+            IsMatrix self.now (T.lists source.old) → result ≡ Some (level_position numbers width number width 0) }
         ensures reads { OnlyRanks self.now T.lists T.reads source.old source.new
             (self.now.width - self.now.known) }
     {
         let start = self.start_of(number)?;
-        self.total_place_on(source, number, self.known(), self.width(), start)
+        self.total_position_on(source, number, self.known(), self.width(), start)
     }
 
     /// Where the numbers that are equal to this one start after the last level, and where the equal ones among the
@@ -186,14 +186,14 @@ impl<'a> LevelsView<'a> {
         ensures inside { IfSome result (λ stretch. (stretch.0 ≤ self.now.len) × (stretch.1 ≤ self.now.len)) }
         ensures stretch { let numbers = numbers_in self.now (T.lists source.old) in let width = self.now.width in
             IsMatrix self.now (T.lists source.old) → result
-            ≡ Some (level_place numbers width number width 0, level_place numbers width number width end) }
+            ≡ Some (level_position numbers width number width 0, level_position numbers width number width end) }
         ensures reads { OnlyRanks self.now T.lists T.reads source.old source.new
             (2 * self.now.width - self.now.known) }
     {
         let known = self.known();
         let start = self.start_of(number)?;
-        let last = self.total_place_on(source, number, 0, known, end)?;
-        self.total_places_on(source, number, known, self.width(), start, last)
+        let last = self.total_position_on(source, number, 0, known, end)?;
+        self.total_positions_on(source, number, known, self.width(), start, last)
     }
 
     /// How many of the first numbers are this one, at most all of these; `None` only where words and tables form no

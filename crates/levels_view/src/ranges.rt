@@ -2,8 +2,8 @@
 ghost use Rattle.std.specs.Prelude.{◌≡◌, ◌+◌, ◌*◌, ◌-◌, ◌^◌, ◌<◌, ◌≤◌, ℕ, List, Bool, true, false, Some};
 ghost use Rattle.std.specs.Prelude.{IfSome, IsSomeAnd, count_by, if◌then◌else◌, length, slice_range, take};
 ghost use Rattle.bitm_tables.specs.Tables.{HasSizes, bits_in};
-ghost use Rattle.matrix_levels.specs.Levels.{ArePlacesAfter, has_digit, level, partition_place};
-ghost use Rattle.matrix_levels.specs.Matrix.{IsMatrix, IsMatrixOf, OnlyRanks, digit_place, level_in, numbers_in};
+ghost use Rattle.matrix_levels.specs.Levels.{ArePositionsAfter, has_digit, level, partition_position};
+ghost use Rattle.matrix_levels.specs.Matrix.{IsMatrix, IsMatrixOf, OnlyRanks, digit_position, level_in, numbers_in};
 ghost use Rattle.matrix_levels.specs.Numbers.{count_less};
 ghost use Rattle.levels_view.specs.Ranges.{IsRangeCountOf, IsRangeCountWithin};
 
@@ -38,14 +38,14 @@ impl<'a> LevelsView<'a> {
         requires order { first ≤ last }
         requires inside { last ≤ self.now.len }
         ensures inside { IfSome result (λ part. part.1 + part.2 ≡ last - first) }
-        ensures answer { let place = digit_place self.now depth in
+        ensures answer { let position = digit_position self.now depth in
             let items = level_in self.now (T.lists source.old) depth in
             IsMatrix self.now (T.lists source.old) → IsSomeAnd result (λ part.
-            (part.0 ≡ count_by (has_digit place true) (take first items))
+            (part.0 ≡ count_by (has_digit position true) (take first items))
             × (part.1
-            ≡ partition_place place true items last - partition_place place true items first)
+            ≡ partition_position position true items last - partition_position position true items first)
             × (part.2
-            ≡ partition_place place false items last - partition_place place false items first)) }
+            ≡ partition_position position false items last - partition_position position false items first)) }
         ensures reads { OnlyRanks self.now T.lists T.reads source.old source.new 2 }
     {
         let before = self.level_ones_on(source, depth, first);
@@ -71,16 +71,16 @@ impl<'a> LevelsView<'a> {
             × (range.1 ≤ self.now.len)) }
         ensures answer { (xs : List ℕ) → (b : List Bool) → (last : ℕ) → IsMatrixOf xs self.now b
             → first ≤ last → last ≤ self.now.len
-            → before ≡ count_by (has_digit (digit_place self.now depth) true)
+            → before ≡ count_by (has_digit (digit_position self.now depth) true)
             (take first (level xs self.now.width depth))
-            → size ≡ partition_place (digit_place self.now depth) digit
+            → size ≡ partition_position (digit_position self.now depth) digit
             (level xs self.now.width depth) last
-            - partition_place (digit_place self.now depth) digit
+            - partition_position (digit_position self.now depth) digit
             (level xs self.now.width depth) first
-            → IsSomeAnd result (λ range. ArePlacesAfter (digit_place self.now depth) digit
+            → IsSomeAnd result (λ range. ArePositionsAfter (digit_position self.now depth) digit
             (level xs self.now.width depth) first last range.0 range.1) }
     {
-        let next = self.place_after(depth, digit, first, before)?;
+        let next = self.position_after(depth, digit, first, before)?;
         let after = sum_within(next, size, self.len())?;
         Some((next, after))
     }

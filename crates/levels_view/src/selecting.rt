@@ -1,6 +1,6 @@
 //! The indices of a number, over any source and by any way to find a bit: words and tables may hold anything.
 ghost use Rattle.std.specs.Prelude.{◌≡◌, ◌+◌, ◌-◌, ◌*◌, ◌^◌, ◌<◌, ◌≤◌, ℕ, List, Bool, IfSome, IsSomeAnd, length};
-ghost use Rattle.bitm_select.specs.Answers.{place_in};
+ghost use Rattle.bitm_select.specs.Answers.{position_in};
 ghost use Rattle.bit_lists.specs.Count.{count_of, Picks};
 ghost use Rattle.bitm_tables.specs.Tables.{HasSizes, HasTables, bits_in};
 ghost use Rattle.bitm_selection.specs.Selection.{by_halves, OnlySelectsBy};
@@ -22,10 +22,10 @@ use matrix_levels::{digit_of, fits};
 /// The position that was found, if one was.
 #[inline(always)]
 fn found(answer: Answer<usize>) -> Option<usize>
-    ensures { result ≡ place_in answer }
+    ensures { result ≡ position_in answer }
 {
     match answer {
-        Answer::Found(place) => Some(place),
+        Answer::Found(position) => Some(position),
         Answer::Absent => None,
         Answer::Wrong => None,
     }
@@ -58,19 +58,19 @@ impl<'a> LevelsView<'a> {
     /// Which bit of the source belongs to the number that stands at an index of the level after this one, where the
     /// tables belong to a matrix: the bit's kind and its rank.
     #[inline(always)]
-    fn bit_before(&self, depth: u8, number: u64, place: usize) -> (bool, usize)
+    fn bit_before(&self, depth: u8, number: u64, position: usize) -> (bool, usize)
         requires { depth < self.now.width }
         ensures { (xs : List ℕ) → (b : List Bool) → (k : ℕ) → IsMatrixOf xs self.now b
-            → PicksItem (level xs self.now.width (depth + 1)) number k place
+            → PicksItem (level xs self.now.width (depth + 1)) number k position
             → IsLevelBitOf xs self.now b depth number k result.0 result.1 }
     {
         let ones = self.ones_before_level(depth);
         if digit_of(number, self.width() - 1 - depth) {
-            let among = place.saturating_sub(self.zeros_of_level(depth));
+            let among = position.saturating_sub(self.zeros_of_level(depth));
             (true, ones.saturating_add(among))
         } else {
             let zeros = (depth as usize * self.len()).saturating_sub(ones);
-            (false, zeros.saturating_add(place))
+            (false, zeros.saturating_add(position))
         }
     }
 
@@ -83,21 +83,21 @@ impl<'a> LevelsView<'a> {
         source: &mut T,
         depth: u8,
         number: u64,
-        place: usize,
+        position: usize,
     ) -> Option<usize>
         requires sized { HasSizes (T.lists source.old) }
         requires depth { depth < self.now.width }
-        requires inside { place < self.now.len }
+        requires inside { position < self.now.len }
         ensures inside { IfSome result (λ back. back < self.now.len) }
         ensures answer { (k : ℕ) → IsMatrix self.now (T.lists source.old)
             → F.finds finder.now (T.lists source.old)
-            → PicksItem (level_in self.now (T.lists source.old) (depth + 1)) number k place
+            → PicksItem (level_in self.now (T.lists source.old) (depth + 1)) number k position
             → IsSomeAnd result (PicksItem (level_in self.now (T.lists source.old) depth) number k) }
         ensures reads { OnlySelectsBy T.lists T.reads source.old source.new
             (F.most (T.lists source.old)) 1 0 }
     {
         let len = self.len();
-        let (digit, rank) = self.bit_before(depth, number, place);
+        let (digit, rank) = self.bit_before(depth, number, position);
         match selected_by(finder, source, digit, rank) {
             Some(bit) => difference(depth as usize * len, bit, len - 1),
             None => None,
@@ -107,25 +107,25 @@ impl<'a> LevelsView<'a> {
     /// From where a number came to an index after the last level; `None` only where words and tables form no matrix, or
     /// the number does not stand there.
     #[inline(always)]
-    fn total_first_place_by<F: Finds, T: TableSource>(
+    fn total_first_position_by<F: Finds, T: TableSource>(
         &self,
         finder: &F,
         source: &mut T,
         number: u64,
-        place: usize,
+        position: usize,
     ) -> Option<usize>
         requires sized { HasSizes (T.lists source.old) }
-        requires inside { place < self.now.len }
+        requires inside { position < self.now.len }
         ensures inside { IfSome result (λ first. first < self.now.len) }
         ensures answer { (k : ℕ) → IsMatrix self.now (T.lists source.old)
             → F.finds finder.now (T.lists source.old)
-            → PicksItem (level_in self.now (T.lists source.old) self.now.width) number k place
+            → PicksItem (level_in self.now (T.lists source.old) self.now.width) number k position
             → IsSomeAnd result (PicksItem (numbers_in self.now (T.lists source.old)) number k) }
         ensures reads { OnlySelectsBy T.lists T.reads source.old source.new
             (F.most (T.lists source.old)) self.now.width 0 }
     {
         let width = self.width();
-        let mut at = place;
+        let mut at = position;
         for up in 0..width {
             let Some(back) = self.total_back_by(finder, source, width - 1 - up, number, at) else {
                 return None;
@@ -138,7 +138,7 @@ impl<'a> LevelsView<'a> {
     /// The index after the last level of this number with exactly `k` such numbers before it, where there are more than
     /// `k`; `None` only where there are not, or words and tables form no matrix.
     #[inline(always)]
-    fn total_nth_place_on<T: TableSource>(
+    fn total_nth_position_on<T: TableSource>(
         &self,
         source: &mut T,
         number: u64,
@@ -146,7 +146,7 @@ impl<'a> LevelsView<'a> {
     ) -> Option<usize>
         requires sized { HasSizes (T.lists source.old) }
         requires room { self.now.width * self.now.len ≤ length (bits_in (T.lists source.old)) }
-        ensures inside { IfSome result (λ place. place < self.now.len) }
+        ensures inside { IfSome result (λ position. position < self.now.len) }
         ensures answer { let numbers = numbers_in self.now (T.lists source.old) in
             IsMatrix self.now (T.lists source.old) → k < occurrences_before numbers number (length numbers)
             → IsSomeAnd result (PicksItem (level_in self.now (T.lists source.old) self.now.width) number k) }
@@ -196,13 +196,13 @@ impl<'a> LevelsView<'a> {
         ensures reads { OnlyRanksAndSelects self.now T.lists T.reads source.old source.new
             (self.now.width - self.now.known) (F.most (T.lists source.old)) self.now.width }
     {
-        let place = self.total_nth_place_on(source, number, k)?;
-        self.total_first_place_by(finder, source, number, place)
+        let position = self.total_nth_position_on(source, number, k)?;
+        self.total_first_position_by(finder, source, number, position)
     }
 
     /// The index after the last level of this number with exactly `k` such numbers before it.
     #[inline(always)]
-    fn total_last_place_on<T: TableSource>(
+    fn total_last_position_on<T: TableSource>(
         &self,
         source: &mut T,
         number: u64,
@@ -262,11 +262,11 @@ impl<'a> LevelsView<'a> {
         if !fits(number, self.width()) {
             return Answer::Absent;
         }
-        let place = match self.total_last_place_on(source, number, k) {
-            Answer::Found(place) => place,
+        let position = match self.total_last_position_on(source, number, k) {
+            Answer::Found(position) => position,
             other => return other,
         };
-        match self.total_first_place_by(finder, source, number, place) {
+        match self.total_first_position_by(finder, source, number, position) {
             Some(first) => Answer::Found(first),
             None => Answer::Wrong,
         }

@@ -1,8 +1,8 @@
 //! The numbers that two ranges share.
 ghost use Rattle.std.specs.Prelude.{◌≡◌, ◌-◌, ◌*◌, ◌^◌, ◌<◌, ◌≤◌, true, false, length, slice_range, IfOk, IsSomeAnd};
 ghost use Rattle.bitm_tables.specs.Tables.{HasSizes, bits_in};
-ghost use Rattle.matrix_levels.specs.Levels.{ArePlacesAfter, BeginAlike};
-ghost use Rattle.matrix_levels.specs.Matrix.{IsMatrix, OnlyRanks, digit_place, level_in, numbers_in};
+ghost use Rattle.matrix_levels.specs.Levels.{ArePositionsAfter, BeginAlike};
+ghost use Rattle.matrix_levels.specs.Matrix.{IsMatrix, OnlyRanks, digit_position, level_in, numbers_in};
 ghost use Rattle.matrix_levels.specs.Shared.{AddsShared, AreShared, shared_prefixes};
 
 use crate::laws;
@@ -26,11 +26,11 @@ impl<'a> LevelsView<'a> {
         requires depth { depth < self.now.width }
         requires order { range.start ≤ range.end }
         requires inside { range.end ≤ self.now.len }
-        ensures halves { let place = digit_place self.now depth in
+        ensures halves { let position = digit_position self.now depth in
             let items = level_in self.now (T.lists source.old) depth in
             IsMatrix self.now (T.lists source.old) → IsSomeAnd result (λ halves.
-            ArePlacesAfter place false items range.start range.end halves.0.start halves.0.end
-            × ArePlacesAfter place true items range.start range.end halves.1.start halves.1.end) }
+            ArePositionsAfter position false items range.start range.end halves.0.start halves.0.end
+            × ArePositionsAfter position true items range.start range.end halves.1.start halves.1.end) }
         ensures reads { OnlyRanks self.now T.lists T.reads source.old source.new 2 }
     {
         let (start, end) = (range.start, range.end);

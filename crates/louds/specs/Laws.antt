@@ -3,7 +3,7 @@ use Rattle.std.specs.Prelude.{◌≡◌, ℕ, ◌+◌, ◌<◌, ◌↔◌, List,
 use Rattle.louds.specs.Above.{IsAbove}
 use Rattle.louds.specs.Tree.{IsTree, IsChild}
 
--- a node is a child of one node alone, in one place
+-- a node is a child of one node alone, at one position
 abbrev pub OneParent : Type 0
 OneParent = (d : List ℕ) (i j k l v : ℕ) → IsChild d i k v → IsChild d j l v → (i ≡ j) × (k ≡ l)
 

@@ -27,7 +27,7 @@ Grow labels first past = (v w : ℕ) → first ≤ v → v ≤ w → w < past �
 
 -- of the nodes from `first` on and before `past`, those before `at` have lesser labels than the given one, and the others
 -- have not
-pub record IsLabelPlace (labels : List ℕ) (first past label at : ℕ) : Type 0 where
+pub record IsLabelPosition (labels : List ℕ) (first past label at : ℕ) : Type 0 where
   pub less : (v : ℕ) → first ≤ v → v < at → slice_index labels v < label
   pub not_less : (v : ℕ) → at ≤ v → v < past → label ≤ slice_index labels v
 

@@ -2,7 +2,7 @@
 ghost use Rattle.std.specs.Prelude.{◌≡◌, ◌+◌, ◌^◌, ◌<◌, ℕ, List, length, slice_index};
 ghost use Rattle.louds.specs.Answers.{AreChildrenOf, AreChildrenWithin, IsChildOf, IsChildWithin};
 ghost use Rattle.louds.specs.Answers.{IsDegreeOf, IsDegreeWithin};
-ghost use Rattle.louds.specs.Held.{zero_place};
+ghost use Rattle.louds.specs.Held.{zero_position};
 ghost use Rattle.louds.specs.Tree.{IsTree};
 
 use bitm_tables::answer::Answer;
@@ -14,7 +14,7 @@ pub(crate) fn child_from(start: usize, len: usize, node: usize, k: usize) -> Ans
     requires node { node < len }
     requires room { start + k < 2 ^ 64 }
     ensures inside { IsChildWithin len node result }
-    ensures answer { (d : List ℕ) → len ≡ length d → IsTree d → start ≡ zero_place d node
+    ensures answer { (d : List ℕ) → len ≡ length d → IsTree d → start ≡ zero_position d node
         → k < slice_index d node → IsChildOf d node k result }
 {
     let child = (start + k).wrapping_sub(node);
@@ -37,8 +37,8 @@ pub(crate) fn child_between(
 ) -> Answer<usize>
     requires { node < len }
     ensures inside { IsChildWithin len node result }
-    ensures answer { (d : List ℕ) → len ≡ length d → IsTree d → start ≡ zero_place d node
-        → end ≡ zero_place d (node + 1) → IsChildOf d node k result }
+    ensures answer { (d : List ℕ) → len ≡ length d → IsTree d → start ≡ zero_position d node
+        → end ≡ zero_position d (node + 1) → IsChildOf d node k result }
 {
     if end <= start {
         return Answer::Wrong;
@@ -55,8 +55,8 @@ pub(crate) fn child_between(
 pub(crate) fn degree_between(start: usize, end: usize, len: usize, node: usize) -> Answer<usize>
     requires { node < len }
     ensures inside { IsDegreeWithin len node result }
-    ensures answer { (d : List ℕ) → len ≡ length d → IsTree d → start ≡ zero_place d node
-        → end ≡ zero_place d (node + 1) → IsDegreeOf d node result }
+    ensures answer { (d : List ℕ) → len ≡ length d → IsTree d → start ≡ zero_position d node
+        → end ≡ zero_position d (node + 1) → IsDegreeOf d node result }
 {
     let degree = end.wrapping_sub(start).wrapping_sub(1);
     if degree < len {
@@ -77,8 +77,8 @@ pub(crate) fn children_between(
 ) -> Answer<(usize, usize)>
     requires { node < len }
     ensures inside { AreChildrenWithin len node result }
-    ensures answer { (d : List ℕ) → len ≡ length d → IsTree d → start ≡ zero_place d node
-        → end ≡ zero_place d (node + 1) → AreChildrenOf d node result }
+    ensures answer { (d : List ℕ) → len ≡ length d → IsTree d → start ≡ zero_position d node
+        → end ≡ zero_position d (node + 1) → AreChildrenOf d node result }
 {
     let first = start.wrapping_sub(node);
     let past = end.wrapping_sub(node + 1);

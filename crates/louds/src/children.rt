@@ -11,7 +11,7 @@ ghost use Rattle.bitm_selection.specs.Selection.{OnlySelectsBy};
 ghost use Rattle.louds.specs.Answers.{AreChildrenOf, AreChildrenWithin, IsChildOf, IsChildWithin};
 ghost use Rattle.louds.specs.Answers.{IsDegreeOf, IsDegreeWithin};
 ghost use Rattle.louds.specs.Counted.{degrees_in, IsLouds, OnlySelects};
-ghost use Rattle.louds.specs.Held.{zero_place};
+ghost use Rattle.louds.specs.Held.{zero_position};
 
 use crate::between::{child_between, child_from, children_between, degree_between};
 use crate::near::near_last_zero_on;
@@ -46,15 +46,15 @@ fn near_child_on<T: TableSource>(
     requires near { k < 64 }
     ensures inside { IsChildWithin len node result }
     ensures answer { IsLouds len (T.lists source.old)
-        → start ≡ zero_place (degrees_in len (T.lists source.old)) node
+        → start ≡ zero_position (degrees_in len (T.lists source.old)) node
         → IsChildOf (degrees_in len (T.lists source.old)) node k result }
     ensures reads { OnlyReads T.lists T.reads source.old source.new 0 0 2 }
 {
-    let place = start.saturating_add(k + 1);
-    if place / 64 >= source.words_len() {
+    let position = start.saturating_add(k + 1);
+    if position / 64 >= source.words_len() {
         return Answer::Absent;
     }
-    match near_last_zero_on::<NEAR_WORDS, T>(source, place) {
+    match near_last_zero_on::<NEAR_WORDS, T>(source, position) {
         Some(last) if last > start => Answer::Absent,
         Some(last) if last == start => child_from(start, len, node, k),
         _ => Answer::Wrong,
@@ -86,7 +86,7 @@ pub fn child_after_by<F: Finds, T: TableSource>(
     requires node { node < len }
     ensures inside { IsChildWithin len node result }
     ensures answer { IsLouds len (T.lists source.old) → F.finds finder.now (T.lists source.old)
-        → start ≡ zero_place (degrees_in len (T.lists source.old)) node
+        → start ≡ zero_position (degrees_in len (T.lists source.old)) node
         → IsChildOf (degrees_in len (T.lists source.old)) node k result }
     ensures near { k < 64 → OnlyReads T.lists T.reads source.old source.new 0 0 2 }
     ensures far { 64 ≤ k → OnlySelectsBy T.lists T.reads source.old source.new
@@ -175,9 +175,9 @@ pub(crate) fn end_after_by<F: Finds, T: TableSource>(
 ) -> Option<usize>
     requires sized { HasSizes (T.lists source.old) }
     requires node { node < len }
-    ensures place { IsLouds len (T.lists source.old) → F.finds finder.now (T.lists source.old)
-        → start ≡ zero_place (degrees_in len (T.lists source.old)) node
-        → result ≡ Some (zero_place (degrees_in len (T.lists source.old)) (node + 1)) }
+    ensures position { IsLouds len (T.lists source.old) → F.finds finder.now (T.lists source.old)
+        → start ≡ zero_position (degrees_in len (T.lists source.old)) node
+        → result ≡ Some (zero_position (degrees_in len (T.lists source.old)) (node + 1)) }
     ensures reads { OnlySelectsBy T.lists T.reads source.old source.new
         (F.most (T.lists source.old)) 1 2 }
 {
@@ -211,7 +211,7 @@ pub fn degree_after_by<F: Finds, T: TableSource>(
     requires node { node < len }
     ensures inside { IsDegreeWithin len node result }
     ensures answer { IsLouds len (T.lists source.old) → F.finds finder.now (T.lists source.old)
-        → start ≡ zero_place (degrees_in len (T.lists source.old)) node
+        → start ≡ zero_position (degrees_in len (T.lists source.old)) node
         → IsDegreeOf (degrees_in len (T.lists source.old)) node result }
     ensures reads { OnlySelectsBy T.lists T.reads source.old source.new
         (F.most (T.lists source.old)) 1 2 }
@@ -294,7 +294,7 @@ pub(crate) fn children_after_by<F: Finds, T: TableSource>(
     requires node { node < len }
     ensures inside { AreChildrenWithin len node result }
     ensures answer { IsLouds len (T.lists source.old) → F.finds finder.now (T.lists source.old)
-        → start ≡ zero_place (degrees_in len (T.lists source.old)) node
+        → start ≡ zero_position (degrees_in len (T.lists source.old)) node
         → AreChildrenOf (degrees_in len (T.lists source.old)) node result }
     ensures reads { OnlySelectsBy T.lists T.reads source.old source.new
         (F.most (T.lists source.old)) 1 2 }
@@ -381,7 +381,7 @@ pub(crate) fn ends_after_on<T: TableSource>(
 ) -> bool
     requires tree { IsLouds len (T.lists source.old) }
     requires node { node < len }
-    requires start { start ≡ zero_place (degrees_in len (T.lists source.old)) node }
+    requires start { start ≡ zero_position (degrees_in len (T.lists source.old)) node }
     ensures leaf { result ≡ (slice_index (degrees_in len (T.lists source.old)) node == 0) }
     ensures reads { OnlyReads T.lists T.reads source.old source.new 0 0 1 }
 {

@@ -13,7 +13,7 @@ ghost use Rattle.louds.specs.Answers.{IsChildWithin};
 ghost use Rattle.louds.specs.Counted.{degrees_in, IsLouds};
 ghost use Rattle.louds.specs.Labels.{MatchesChildWith, Rise};
 ghost use Rattle.louds.specs.Leading.{IsChildByLabelOf, IsLongestOf, IsLongestWithin, IsNodeOf};
-ghost use Rattle.louds.specs.Leading.{Grow, IsLabelPlace, IsNodeWithin, ReadsLabels};
+ghost use Rattle.louds.specs.Leading.{Grow, IsLabelPosition, IsNodeWithin, ReadsLabels};
 ghost use Rattle.louds.specs.Tree.{AreChildren};
 
 use crate::children::children_by;
@@ -34,7 +34,7 @@ fn first_from<L: Labels>(labels: &mut L, len: usize, first: usize, past: usize, 
     ensures from { first ≤ result }
     ensures to { result ≤ past }
     ensures answer { Grow (L.listed (L.seen labels.old).words (L.seen labels.old).width len) first past
-        → IsLabelPlace (L.listed (L.seen labels.old).words (L.seen labels.old).width len) first past
+        → IsLabelPosition (L.listed (L.seen labels.old).words (L.seen labels.old).width len) first past
         label result }
     ensures reads { ReadsLabels (L.seen labels.old) (L.seen labels.new) (digit_count (past - first)) }
 {
@@ -170,7 +170,7 @@ pub fn longest_by<F: Finds, T: TableSource, L: Labels, W: Letters>(
     if len == 0 {
         return Answer::Absent;
     }
-    let count = word.letters_len();
+    let count = word.len();
     let mut at = 0;
     for i in 0..count {
         let label = word.letter_at(i);
@@ -221,7 +221,7 @@ pub fn find_by<F: Finds, T: TableSource, L: Labels, W: Letters>(
 {
     match longest_by(finder, source, labels, len, word) {
         Answer::Found((node, matched)) => {
-            if matched == word.letters_len() {
+            if matched == word.len() {
                 Answer::Found(node)
             } else {
                 Answer::Absent

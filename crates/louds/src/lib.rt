@@ -15,7 +15,7 @@
 #![tactic(auto)]
 
 // What is in each file:
-// - `between`: what the 0 bits before and after a node's 1 bits tell of its children
+// - `between`: what the 0 bits before and after a node's 1 bits show of its children
 // - `checking`: which lists of degrees are trees
 // - `children`: degrees and children, one body for each, over any source, and by any way to find a bit
 // - `climbing`: ways up and down from nodes

@@ -28,11 +28,11 @@ pub fn write_degrees(words: &mut [u64], degrees: &[usize])
     ensures { IsWritten degrees.now (length degrees.now) (bits_of words.new) }
 {
     words::fill_range(words, 0, 1, true);
-    let mut place = 2;
+    let mut position = 2;
     for i in 0..degrees.len() {
-        let end = place + degrees[i];
-        words::fill_range(words, place, end, true);
-        place = end + 1;
+        let end = position + degrees[i];
+        words::fill_range(words, position, end, true);
+        position = end + 1;
     }
 }
 

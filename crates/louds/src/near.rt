@@ -30,8 +30,8 @@ pub fn near_last_zero_on<const WORDS: usize, T: TableSource>(
     for _ in 0..WORDS {
         let at = last / 64;
         let word = source.word(at);
-        if let Some(place) = words::rfind_bit_zero(&[word], last % 64) {
-            return Some(64 * at + place);
+        if let Some(position) = words::rfind_bit_zero(&[word], last % 64) {
+            return Some(64 * at + position);
         }
         if at == 0 {
             return None;

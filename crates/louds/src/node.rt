@@ -17,8 +17,8 @@ use std::ops::Range;
 #[derive(Clone, Copy, Debug, PartialEq, Eq)]
 pub struct Node {
     pub(crate) number: usize,
-    // The place of the zero before its ones.
-    pub(crate) place: usize,
+    // The position of the zero before its ones.
+    pub(crate) position: usize,
 }
 
 impl Model for Node {
@@ -26,9 +26,9 @@ impl Model for Node {
 
     ghost Value = { NodeValue };
 
-    ghost view = { λ v. record { number = v.number; place = v.place } };
+    ghost view = { λ v. record { number = v.number; position = v.position } };
 
-    ghost inverse = { λ v. record { number = v.number; place = v.place } };
+    ghost inverse = { λ v. record { number = v.number; position = v.position } };
 }
 
 impl Node {
@@ -54,7 +54,7 @@ impl<S: SelectForRank101111, S0: Select0ForRank101111> Louds<S, S0> {
         let _nodes = self.len();
         Node {
             number: 0,
-            place: 1,
+            position: 1,
         }
     }
 
@@ -72,7 +72,7 @@ impl<S: SelectForRank101111, S0: Select0ForRank101111> Louds<S, S0> {
     {
         Node {
             number,
-            place: self.zero(number),
+            position: self.zero(number),
         }
     }
 
@@ -88,7 +88,7 @@ impl<S: SelectForRank101111, S0: Select0ForRank101111> Louds<S, S0> {
         ensures { result ≡ slice_index self.now.degrees node.number }
     {
         let (index, mut probe) = self.parts();
-        match degree_after_by(index, &mut probe, self.len(), node.number, node.place) {
+        match degree_after_by(index, &mut probe, self.len(), node.number, node.position) {
             Answer::Found(degree) => degree,
             _ => unreachable!(),
         }
@@ -105,7 +105,7 @@ impl<S: SelectForRank101111, S0: Select0ForRank101111> Louds<S, S0> {
         requires { IsNode self.now.degrees node }
         ensures { result ≡ (slice_index self.now.degrees node.number == 0) }
     {
-        ends_after_on(&mut self.probe(), self.len(), node.number, node.place)
+        ends_after_on(&mut self.probe(), self.len(), node.number, node.position)
     }
 
     /// The numbers of the children of a node, in their order: `children` without its selection.
@@ -120,7 +120,7 @@ impl<S: SelectForRank101111, S0: Select0ForRank101111> Louds<S, S0> {
         ensures { AreChildren self.now.degrees node.number result.start result.end }
     {
         let (index, mut probe) = self.parts();
-        match children_after_by(index, &mut probe, self.len(), node.number, node.place) {
+        match children_after_by(index, &mut probe, self.len(), node.number, node.position) {
             Answer::Found((first, past)) => first..past,
             _ => unreachable!(),
         }
@@ -140,7 +140,7 @@ impl<S: SelectForRank101111, S0: Select0ForRank101111> Louds<S, S0> {
         ensures child { IsChild self.now.degrees node.number k result.number }
     {
         let _nodes = self.len();
-        self.node(node.place + k - node.number)
+        self.node(node.position + k - node.number)
     }
 
     /// The first child of a node; `None` exactly where it has none.
@@ -209,7 +209,7 @@ impl<S: SelectForRank101111, S0: Select0ForRank101111> Louds<S, S0> {
         match self.next_sibling(node.number) {
             Some(number) => Some(Node {
                 number,
-                place: self.end(node.number, node.place),
+                position: self.end(node.number, node.position),
             }),
             None => None,
         }

@@ -13,7 +13,7 @@ ghost use Rattle.louds.specs.Answers.{IsChildRankOf, IsChildRankWithin, IsLeafOf
 ghost use Rattle.louds.specs.Answers.{IsNextSiblingOf, IsNextSiblingWithin, IsParentOf, IsParentWithin};
 ghost use Rattle.louds.specs.Answers.{IsPreviousSiblingOf, IsPreviousSiblingWithin};
 ghost use Rattle.louds.specs.Counted.{degrees_in, IsLouds};
-ghost use Rattle.louds.specs.Held.{zero_place, IsOneOf};
+ghost use Rattle.louds.specs.Held.{zero_position, IsOneOf};
 ghost use Rattle.louds.specs.Node.{IsParentNodeOf, IsParentNodeWithin};
 ghost use Rattle.louds.specs.Tree.{IsChild};
 
@@ -42,14 +42,14 @@ pub fn zero_by<F: Finds, T: TableSource>(
 ) -> Option<usize>
     requires sized { HasSizes (T.lists source.old) }
     requires node { node ≤ len }
-    ensures place { IsLouds len (T.lists source.old) → F.finds finder.now (T.lists source.old)
-        → result ≡ Some (zero_place (degrees_in len (T.lists source.old)) node) }
-    ensures small { IfSome result (λ place. place < 2 ^ 64 - 1) }
+    ensures position { IsLouds len (T.lists source.old) → F.finds finder.now (T.lists source.old)
+        → result ≡ Some (zero_position (degrees_in len (T.lists source.old)) node) }
+    ensures small { IfSome result (λ position. position < 2 ^ 64 - 1) }
     ensures reads { OnlySelectsBy T.lists T.reads source.old source.new
         (F.most (T.lists source.old)) 1 0 }
 {
     match finder.zero(source, node) {
-        Answer::Found(place) => Some(place),
+        Answer::Found(position) => Some(position),
         Answer::Absent => None,
         Answer::Wrong => None,
     }
@@ -71,14 +71,14 @@ pub fn one_by<F: Finds, T: TableSource>(
 ) -> Option<usize>
     requires sized { HasSizes (T.lists source.old) }
     requires node { node < len }
-    ensures place { IsLouds len (T.lists source.old) → F.finds finder.now (T.lists source.old)
+    ensures position { IsLouds len (T.lists source.old) → F.finds finder.now (T.lists source.old)
         → MatchOption result ⊥ (IsOneOf (degrees_in len (T.lists source.old)) node) }
-    ensures small { IfSome result (λ place. place < 2 ^ 64 - 1) }
+    ensures small { IfSome result (λ position. position < 2 ^ 64 - 1) }
     ensures reads { OnlySelectsBy T.lists T.reads source.old source.new
         (F.most (T.lists source.old)) 1 0 }
 {
     match finder.one(source, node) {
-        Answer::Found(place) => Some(place),
+        Answer::Found(position) => Some(position),
         Answer::Absent => None,
         Answer::Wrong => None,
     }
@@ -91,13 +91,13 @@ pub fn one_by<F: Finds, T: TableSource>(
 /// # Cost
 /// Constant time; evident from the code.
 #[inline(always)]
-pub fn parent_at(place: usize, len: usize, node: usize) -> Answer<usize>
+pub fn parent_at(position: usize, len: usize, node: usize) -> Answer<usize>
     requires some { 0 < node }
     requires inside { node < len }
     ensures inside { IsParentWithin len node result }
-    ensures answer { (d : List ℕ) → len ≡ length d → IsOneOf d node place → IsParentOf d node result }
+    ensures answer { (d : List ℕ) → len ≡ length d → IsOneOf d node position → IsParentOf d node result }
 {
-    let parent = place.wrapping_sub(node + 1);
+    let parent = position.wrapping_sub(node + 1);
     if parent < node {
         Answer::Found(parent)
     } else {
@@ -132,7 +132,7 @@ pub fn parent_by<F: Finds, T: TableSource>(
         return Answer::Absent;
     }
     match one_by(finder, source, len, node) {
-        Some(place) => parent_at(place, len, node),
+        Some(position) => parent_at(position, len, node),
         None => Answer::Wrong,
     }
 }
@@ -147,8 +147,8 @@ pub(crate) fn far_zero_by<F: Finds, T: TableSource>(
 ) -> Option<usize>
     requires sized { HasSizes (T.lists source.old) }
     requires node { node ≤ len }
-    ensures place { IsLouds len (T.lists source.old) → F.finds finder.now (T.lists source.old)
-        → result ≡ Some (zero_place (degrees_in len (T.lists source.old)) node) }
+    ensures position { IsLouds len (T.lists source.old) → F.finds finder.now (T.lists source.old)
+        → result ≡ Some (zero_position (degrees_in len (T.lists source.old)) node) }
     ensures reads { OnlySelectsBy T.lists T.reads source.old source.new
         (F.most (T.lists source.old)) 1 0 }
 {
@@ -174,13 +174,13 @@ fn start_by<F: Finds, T: TableSource>(
 ) -> Option<usize>
     requires sized { HasSizes (T.lists source.old) }
     requires node { node < len }
-    ensures place { let d = degrees_in len (T.lists source.old) in
+    ensures position { let d = degrees_in len (T.lists source.old) in
         IsLouds len (T.lists source.old) → F.finds finder.now (T.lists source.old)
-        → (k : ℕ) → k < slice_index d node → one ≡ zero_place d node + 1 + k
-        → result ≡ Some (zero_place d node) }
+        → (k : ℕ) → k < slice_index d node → one ≡ zero_position d node + 1 + k
+        → result ≡ Some (zero_position d node) }
     ensures near { let d = degrees_in len (T.lists source.old) in
         IsLouds len (T.lists source.old)
-        → (k : ℕ) → k < slice_index d node → one ≡ zero_place d node + 1 + k → k < 64
+        → (k : ℕ) → k < slice_index d node → one ≡ zero_position d node + 1 + k → k < 64
         → OnlyReads T.lists T.reads source.old source.new 0 0 2 }
     ensures reads { OnlySelectsBy T.lists T.reads source.old source.new
         (F.most (T.lists source.old)) 1 2 }
@@ -189,7 +189,7 @@ fn start_by<F: Finds, T: TableSource>(
         return None;
     }
     match near_last_zero_on::<NEAR_WORDS, T>(source, one) {
-        Some(place) => Some(place),
+        Some(position) => Some(position),
         None => far_zero_by(finder, source, len, node),
     }
 }
@@ -231,7 +231,7 @@ pub(crate) fn parent_of_by<F: Finds, T: TableSource>(
         return Answer::Wrong;
     };
     match start_by(finder, source, len, number, one) {
-        Some(place) => Answer::Found(Node { number, place }),
+        Some(position) => Answer::Found(Node { number, position }),
         None => Answer::Wrong,
     }
 }
@@ -298,16 +298,16 @@ pub fn child_rank_by<F: Finds, T: TableSource>(
     if node == 0 || node >= len {
         return Answer::Absent;
     }
-    let Some(place) = one_by(finder, source, len, node) else {
+    let Some(position) = one_by(finder, source, len, node) else {
         return Answer::Wrong;
     };
-    let Answer::Found(parent) = parent_at(place, len, node) else {
+    let Answer::Found(parent) = parent_at(position, len, node) else {
         return Answer::Wrong;
     };
     let Some(start) = zero_by(finder, source, len, parent) else {
         return Answer::Wrong;
     };
-    let k = place.wrapping_sub(start + 1);
+    let k = position.wrapping_sub(start + 1);
     if k < len {
         Answer::Found(k)
     } else {
@@ -342,10 +342,10 @@ pub fn next_sibling_by<F: Finds, T: TableSource>(
     if node >= len {
         return Answer::Absent;
     }
-    let Some(place) = one_by(finder, source, len, node) else {
+    let Some(position) = one_by(finder, source, len, node) else {
         return Answer::Wrong;
     };
-    match bit_on(source, place + 1) {
+    match bit_on(source, position + 1) {
         Some(true) if node + 1 < len => Answer::Found(node + 1),
         Some(false) => Answer::Absent,
         _ => Answer::Wrong,
@@ -379,10 +379,10 @@ pub fn previous_sibling_by<F: Finds, T: TableSource>(
     if node == 0 || node >= len {
         return Answer::Absent;
     }
-    let Some(place) = one_by(finder, source, len, node) else {
+    let Some(position) = one_by(finder, source, len, node) else {
         return Answer::Wrong;
     };
-    match bit_on(source, place.wrapping_sub(1)) {
+    match bit_on(source, position.wrapping_sub(1)) {
         Some(true) => Answer::Found(node - 1),
         Some(false) => Answer::Absent,
         None => Answer::Wrong,

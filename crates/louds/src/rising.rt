@@ -11,7 +11,7 @@ ghost use Rattle.louds.specs.Tree.{IsNextSibling};
 use crate::probing::Labels;
 use bit_words::words;
 
-/// Whether the label of a node, whose 1 bit stands at `place`, is less than the label of its next sibling, if it has
+/// Whether the label of a node, whose 1 bit stands at `position`, is less than the label of its next sibling, if it has
 /// one: there is one where a 1 bit stands next.
 #[inline(always)]
 fn is_less_than_next<L: Labels>(
@@ -19,13 +19,13 @@ fn is_less_than_next<L: Labels>(
     labels: &mut L,
     len: usize,
     node: usize,
-    place: usize,
+    position: usize,
 ) -> bool
     requires held { IsHeld (degrees_of (bits_of bits.now) len) len (bits_of bits.now) }
     requires labels { L.fitting (L.seen labels.old).words (L.seen labels.old).width len }
-    requires inside { place < 2 * len }
-    requires is_one { item (bits_of bits.now) place ≡ true }
-    requires before { node ≡ ones_before (bits_of bits.now) place }
+    requires inside { position < 2 * len }
+    requires is_one { item (bits_of bits.now) position ≡ true }
+    requires before { node ≡ ones_before (bits_of bits.now) position }
     ensures rise { IsTrue result ↔ (IsNextSibling (degrees_of (bits_of bits.now) len) node (node + 1)
         → slice_index (L.listed (L.seen labels.old).words (L.seen labels.old).width len) node
         < slice_index (L.listed (L.seen labels.old).words (L.seen labels.old).width len) (node + 1)) }
@@ -34,7 +34,7 @@ fn is_less_than_next<L: Labels>(
     if node == 0 {
         return true;
     }
-    if !words::get_bit(bits, place + 1) {
+    if !words::get_bit(bits, position + 1) {
         return true;
     }
     let own = labels.label_of(len, node);
@@ -62,11 +62,11 @@ pub fn labels_rise<L: Labels>(bits: &[u64], labels: &mut L, len: usize) -> bool
         (L.listed (L.seen labels.old).words (L.seen labels.old).width len) }
     ensures reads { ReadsLabels (L.seen labels.old) (L.seen labels.new) (2 * len) }
 {
-    // the 1 bits before `place`
+    // the 1 bits before `position`
     let mut node = 0;
-    for place in 0..2 * len {
-        if words::get_bit(bits, place) {
-            if !is_less_than_next(bits, &mut *labels, len, node, place) {
+    for position in 0..2 * len {
+        if words::get_bit(bits, position) {
+            if !is_less_than_next(bits, &mut *labels, len, node, position) {
                 return false;
             }
             node += 1;

@@ -7,7 +7,7 @@ ghost use Rattle.bitm_tables.specs.Reads.{none_read};
 ghost use Rattle.bitm_tables.specs.Tables.{HasSizes};
 ghost use Rattle.bitm_bits.specs.Size.{saturated_size};
 ghost use Rattle.louds.specs.Counted.{degrees_in, IsLouds};
-ghost use Rattle.louds.specs.Held.{degrees_of, tree_words, zero_place, IsHeld};
+ghost use Rattle.louds.specs.Held.{degrees_of, tree_words, zero_position, IsHeld};
 ghost use Rattle.bit_lists.specs.Bits.{bits_of};
 ghost use Rattle.louds.specs.Tree.{AreChildren, IsTree, MatchesChild, MatchesLastChild};
 ghost use Rattle.louds.specs.Tree.{MatchesParent, MatchesChildRank, MatchesNextSibling, MatchesPreviousSibling};
@@ -145,12 +145,12 @@ impl<S: SelectForRank101111, S0: Select0ForRank101111> Louds<S, S0> {
     #[inline(always)]
     pub(crate) fn zero(&self, node: usize) -> usize
         requires { node ≤ length self.now.degrees }
-        ensures place { result ≡ zero_place self.now.degrees node }
+        ensures position { result ≡ zero_position self.now.degrees node }
         ensures small { result < 2 ^ 62 }
     {
         let (index, mut probe) = self.parts();
         match zero_by(index, &mut probe, self.len(), node) {
-            Some(place) => place,
+            Some(position) => position,
             None => unreachable!(),
         }
     }
@@ -162,8 +162,8 @@ impl<S: SelectForRank101111, S0: Select0ForRank101111> Louds<S, S0> {
     #[inline(always)]
     pub(crate) fn end(&self, node: usize, start: usize) -> usize
         requires node { node < length self.now.degrees }
-        requires start { start ≡ zero_place self.now.degrees node }
-        ensures place { result ≡ zero_place self.now.degrees (node + 1) }
+        requires start { start ≡ zero_position self.now.degrees node }
+        ensures position { result ≡ zero_position self.now.degrees (node + 1) }
         ensures small { result < 2 ^ 62 }
     {
         let (index, mut probe) = self.parts();

@@ -26,7 +26,7 @@ use Rattle.matrix_levels.specs.Levels.{columns}
 use Rattle.matrix_levels.specs.Matrix.{matrix_words, quarters_for, IsMatrix, IsMatrixOf}
 use Rattle.matrix_levels.proofs.lemmas.MatrixLemmas.{is-matrix, items_of-is, made-matrix}
 use Rattle.levels_view.specs.Levels.{levels_of, levels_with}
-use Rattle.matrix_block.specs.Block.{end_at, first_at, has_hints, has_quarters, hints_at, hints_in, hints_index, hints_of_numbers, items_in, lists_in, lower_at, lower_of_numbers, matrix_head, matrix_in, sections_with, ones_at, ones_in, ones_told, parts_of, quarters_in, quarters_of_numbers, quarters_room, upper_at, upper_of_numbers, with_hints, zeros_at, zeros_in, AreHintsWritten, AreParts, CanHold, HasHints, HasLengths, HasMatrixSections, HaveHints, HaveQuarters, HoldsMatrix, IsBlockOf, MatrixParts, StandsIn}
+use Rattle.matrix_block.specs.Block.{end_at, first_at, has_hints, has_quarters, hints_at, hints_in, hints_index, hints_of_numbers, items_in, lists_in, lower_at, lower_of_numbers, matrix_head, matrix_in, sections_with, ones_at, ones_in, ones_by_counts, parts_of, quarters_in, quarters_of_numbers, quarters_room, upper_at, upper_of_numbers, with_hints, zeros_at, zeros_in, AreHintsWritten, AreParts, CanHold, HasHints, HasLengths, HasMatrixSections, HaveHints, HaveQuarters, HoldsMatrix, IsBlockOf, MatrixParts, StandsIn}
 use Rattle.levels_view.specs.Check.{AreCounts}
 
 -- a part between two others, in a block that is these
@@ -177,7 +177,7 @@ quarters-on n w i front room back whole less right =
 -- and so are hints after the quarters
 pub hints-on : (n w i : ℕ) (q : Bool) (front quarters room : List ℕ) → length front ≡ end_at i n w → length quarters ≡ quarters_room n w q
     → hints_of_numbers n w ≤ length room
-    → AreHintsWritten (ones_told n (ones_in front i n w) (zeros_in front i n w)) (slice_range front i (i + matrix_words n w)) (take (hints_of_numbers n w) room)
+    → AreHintsWritten (ones_by_counts n (ones_in front i n w) (zeros_in front i n w)) (slice_range front i (i + matrix_words n w)) (take (hints_of_numbers n w) room)
     → HaveHints n w i q (front ++ (quarters ++ room))
 hints-on n w i q front quarters room whole before less right =
     let block = front ++ (quarters ++ room) in
@@ -191,10 +191,10 @@ hints-on n w i q front quarters room whole before less right =
     ∙ begins (front ++ quarters) room [] (hints_at i n w q) (hints_of_numbers n w)
     (omega (arith, length-append front quarters, whole, before)) less) in
     let words = slice_range block i (i + matrix_words n w) in
-    subst (λ (hs : List ℕ). AreHintsWritten (ones_told n (ones_in block i n w) (zeros_in block i n w)) words hs) own
-    (subst (λ (zs : List ℕ). AreHintsWritten (ones_told n (ones_in block i n w) zs) words hints) (at (zeros_at i n w) w (omega arith))
-    (subst (λ (os : List ℕ). AreHintsWritten (ones_told n os (zeros_in front i n w)) words hints) (at (ones_at i n w) w (omega arith))
-    (subst (λ (ws : List ℕ). AreHintsWritten (ones_told n (ones_in front i n w) (zeros_in front i n w)) ws hints) (at i (matrix_words n w) (omega arith)) right)))
+    subst (λ (hs : List ℕ). AreHintsWritten (ones_by_counts n (ones_in block i n w) (zeros_in block i n w)) words hs) own
+    (subst (λ (zs : List ℕ). AreHintsWritten (ones_by_counts n (ones_in block i n w) zs) words hints) (at (zeros_at i n w) w (omega arith))
+    (subst (λ (os : List ℕ). AreHintsWritten (ones_by_counts n os (zeros_in front i n w)) words hints) (at (ones_at i n w) w (omega arith))
+    (subst (λ (ws : List ℕ). AreHintsWritten (ones_by_counts n (ones_in front i n w) (zeros_in front i n w)) ws hints) (at i (matrix_words n w) (omega arith)) right)))
 
 -- what a sealed block has: the sections of a matrix, which stood from word i on, and these quarters and hints
 pub record HasParts (n w i : ℕ) (old new quarters hints : List ℕ) : Type 0 where
@@ -391,7 +391,7 @@ parts-hold : (xs : List ℕ) (w i : ℕ) (old new quarters hints : List ℕ) →
     → length quarters ≡ quarters_for (length quarters == 0) (matrix_words (length xs) w)
     → (length quarters == 0 ≡ false → AreQuartersOf (bits_in (lists_in old i (length xs) w)) quarters)
     → (0 < length hints → length hints ≡ hints_room (length (lists_in old i (length xs) w).words))
-    → Lead (ones_told (length xs) (ones_in old i (length xs) w) (zeros_in old i (length xs) w)) hints (lists_in old i (length xs) w).words
+    → Lead (ones_by_counts (length xs) (ones_in old i (length xs) w) (zeros_in old i (length xs) w)) hints (lists_in old i (length xs) w).words
     → IsBlockOf xs w new
 parts-hold xs w i old new quarters hints can has parts quarters_len right hints_len led =
     let n = length xs in
@@ -477,8 +477,8 @@ module _ (xs : List ℕ) (w i : ℕ) (q : Bool) (old : List ℕ) (parts : Stands
   hints-len true right some = (right refl).room
 
   hints-lead : (asked : Bool) → (IsTrue asked → HaveHints n w i q old)
-      → Lead (ones_told n (ones_in old i n w) (zeros_in old i n w)) (asked_hints n w i q asked old) (lists_in old i n w).words
-  hints-lead false right = lead-none (ones_told n (ones_in old i n w) (zeros_in old i n w)) (lists_in old i n w).words
+      → Lead (ones_by_counts n (ones_in old i n w) (zeros_in old i n w)) (asked_hints n w i q asked old) (lists_in old i n w).words
+  hints-lead false right = lead-none (ones_by_counts n (ones_in old i n w) (zeros_in old i n w)) (lists_in old i n w).words
   hints-lead true right = (right refl).lead
 
 -- a sealed block whose sections hold a matrix is its block

@@ -157,13 +157,13 @@ HoldsMatrix parts = IsMatrix parts.levels parts.lists
 
 -- how many 1 bits the tables of n numbers' levels say that there are: those before the last level and its own, at most
 -- 2^64 - 1
-abbrev pub ones_told : ℕ → List ℕ → List ℕ → ℕ
-ones_told n ones zeros =
+abbrev pub ones_by_counts : ℕ → List ℕ → List ℕ → ℕ
+ones_by_counts n ones zeros =
     min (slice_index ones (length ones - 1) + (n - slice_index zeros (length zeros - 1))) (2 ^ 64 - 1)
 
 -- there are no hints, or they are those of the words: a selection by hints answers by the numbers then
 abbrev pub HasHints : MatrixParts → Type 0
-HasHints parts = Lead (ones_told parts.levels.len parts.levels.ones parts.levels.zeros) parts.hints parts.lists.words
+HasHints parts = Lead (ones_by_counts parts.levels.len parts.levels.ones parts.levels.zeros) parts.hints parts.lists.words
 
 -- the numbers that the parts hold
 abbrev pub items_in : MatrixParts → List ℕ
@@ -227,7 +227,7 @@ pub record AreHintsWritten (ones : ℕ) (words hints : List ℕ) : Type 0 where
 -- the hints of these words stand in a block after the quarters, if there are any
 abbrev pub HaveHints : ℕ → ℕ → ℕ → Bool → List ℕ → Type 0
 HaveHints n w i quarters block =
-    AreHintsWritten (ones_told n (ones_in block i n w) (zeros_in block i n w)) (slice_range block i (i + matrix_words n w))
+    AreHintsWritten (ones_by_counts n (ones_in block i n w) (zeros_in block i n w)) (slice_range block i (i + matrix_words n w))
     (slice_range block (hints_at i n w quarters) (hints_at i n w quarters + hints_of_numbers n w))
 
 -- the block is as it was written, and holds a matrix, with the hints of its words or none

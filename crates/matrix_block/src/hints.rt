@@ -3,7 +3,7 @@ ghost use Rattle.std.specs.Prelude.{◌≡◌, ◌<◌, length};
 ghost use Rattle.bitm_block.specs.Header.{count_in};
 ghost use Rattle.bitm_selection.specs.Hints.{hints_room};
 ghost use Rattle.block_tables.specs.Hints.{hints_with};
-ghost use Rattle.matrix_block.specs.Block.{has_quarters, hints_index, ones_told};
+ghost use Rattle.matrix_block.specs.Block.{has_quarters, hints_index, ones_by_counts};
 
 use crate::sections::QUARTERS;
 use bitm_block::Block;
@@ -30,10 +30,10 @@ pub(crate) fn hints_of<'a>(block: &Block<'a>, words: usize) -> &'a [u64]
 
 /// How many 1 bits the tables of the levels of `len` numbers say that there are.
 #[inline(always)]
-pub(crate) fn ones_told(len: usize, ones: &[u64], zeros: &[u64]) -> usize
+pub(crate) fn ones_by_counts(len: usize, ones: &[u64], zeros: &[u64]) -> usize
     requires ones { 0 < length ones.now }
     requires zeros { 0 < length zeros.now }
-    ensures { result ≡ ones_told len ones.now zeros.now }
+    ensures { result ≡ ones_by_counts len ones.now zeros.now }
 {
     let before = ones[ones.len() - 1] as usize;
     let own = len.saturating_sub(zeros[zeros.len() - 1] as usize);

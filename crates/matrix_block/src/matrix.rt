@@ -6,10 +6,10 @@ ghost use Rattle.bitm_tables.specs.Tables.{bits_in, HasTables};
 ghost use Rattle.levels_view.specs.Answers.{IsIndexOf, IsIndexWithin, IsNumberOf, IsNumberWithin};
 ghost use Rattle.levels_view.specs.Answers.{IsRankOf, IsRankWithin};
 ghost use Rattle.matrix_block.specs.Block.{items_in, matrix_in, parts_of, quarters_in, with_hints};
-ghost use Rattle.matrix_block.specs.Block.{ones_told, HasHints, HasLengths, HasMatrixSections, HoldsMatrix};
+ghost use Rattle.matrix_block.specs.Block.{ones_by_counts, HasHints, HasLengths, HasMatrixSections, HoldsMatrix};
 ghost use Rattle.matrix_block.specs.Block.{IsMatrixBlock, IsSoundBlock};
 
-use crate::hints::{has_quarters, hints_of, ones_told};
+use crate::hints::{has_quarters, hints_of, ones_by_counts};
 use crate::sections::{Lens, MATRIX};
 use bitm_block::Block;
 use bitm_selection::{Hints, are_hints_within, hints_room};
@@ -333,15 +333,15 @@ impl<'a> MatrixView<'a> {
         ensures { HasHints self.now → AreHints true self.now.lists.words result.ones.now
             × AreHints false self.now.lists.words result.zeros.now }
     {
-        Hints::over(self.hints, self.ones_told())
+        Hints::over(self.hints, self.ones_by_counts())
     }
 
     /// How many 1 bits the tables of the levels say that there are.
     #[inline(always)]
-    fn ones_told(&self) -> usize
-        ensures { result ≡ ones_told self.now.levels.len self.now.levels.ones self.now.levels.zeros }
+    fn ones_by_counts(&self) -> usize
+        ensures { result ≡ ones_by_counts self.now.levels.len self.now.levels.ones self.now.levels.zeros }
     {
-        ones_told(self.len, self.ones, self.zeros)
+        ones_by_counts(self.len, self.ones, self.zeros)
     }
 
     /// Whether there are no hints, or they match the words, where the tables do.
@@ -350,7 +350,7 @@ impl<'a> MatrixView<'a> {
         ensures { IsTrue result ↔ HasHints self.now }
     {
         let (_levels, mut source) = self.parts();
-        are_hints_within(&mut source, self.ones_told(), self.hints)
+        are_hints_within(&mut source, self.ones_by_counts(), self.hints)
     }
 
     /// Whether the block holds a matrix, with the hints of its words or none: then the answers are right for its

@@ -25,26 +25,26 @@ unfoldable pub columns : List ℕ → ℕ → ℕ → List Bool
 columns xs w zero = []
 columns xs w (suc d) = columns xs w d ++ column (w - 1 - d) (level xs w d)
 
--- where an item at place p whose digit b is v stands after the partition by digit b: as many with that digit stand
+-- where an item at position p whose digit b is v stands after the partition by digit b: as many with that digit stand
 -- before it as before, and where v is 1 all those with a 0
-unfoldable pub partition_place : ℕ → Bool → List ℕ → ℕ → ℕ
-partition_place b false xs p = count_by (has_digit b false) (take p xs)
-partition_place b true xs p = count_by (has_digit b false) xs + count_by (has_digit b true) (take p xs)
+unfoldable pub partition_position : ℕ → Bool → List ℕ → ℕ → ℕ
+partition_position b false xs p = count_by (has_digit b false) (take p xs)
+partition_position b true xs p = count_by (has_digit b false) xs + count_by (has_digit b true) (take p xs)
 
--- of the items from place f to l those whose digit b is v stand from s to e after the partition by digit b
-abbrev pub ArePlacesAfter : ℕ → Bool → List ℕ → ℕ → ℕ → ℕ → ℕ → Type 0
-ArePlacesAfter b v xs f l s e = (s ≡ partition_place b v xs f) × (e ≡ partition_place b v xs l)
+-- of the items from position f to l those whose digit b is v stand from s to e after the partition by digit b
+abbrev pub ArePositionsAfter : ℕ → Bool → List ℕ → ℕ → ℕ → ℕ → ℕ → Type 0
+ArePositionsAfter b v xs f l s e = (s ≡ partition_position b v xs f) × (e ≡ partition_position b v xs l)
 
--- where an item at place p that has the digits of x stands after d partitions
-unfoldable pub level_place : List ℕ → ℕ → ℕ → ℕ → ℕ → ℕ
-level_place xs w x zero p = p
-level_place xs w x (suc d) p = partition_place (w - 1 - d) (digit x (w - 1 - d)) (level xs w d) (level_place xs w x d p)
+-- where an item at position p that has the digits of x stands after d partitions
+unfoldable pub level_position : List ℕ → ℕ → ℕ → ℕ → ℕ → ℕ
+level_position xs w x zero p = p
+level_position xs w x (suc d) p = partition_position (w - 1 - d) (digit x (w - 1 - d)) (level xs w d) (level_position xs w x d p)
 
 -- whether x without its b lowest digits is h
 abbrev pub has_prefix : ℕ → ℕ → ℕ → Bool
 has_prefix b h x = x / 2 ^ b == h
 
--- the items from place f to l of level d are h without their w - d lowest digits
+-- the items from position f to l of level d are h without their w - d lowest digits
 pub record BeginAlike (xs : List ℕ) (w d h f l : ℕ) : Type 0 where
   pub order : f ≤ l
   pub inside : l ≤ length xs

@@ -8,7 +8,7 @@ use Rattle.bitm_tables.specs.Quarters.{AreQuartersOf}
 use Rattle.bitm_tables.specs.Reads.{ReadsAtMost}
 use Rattle.bitm_tables.specs.Tables.{IsIndexed, Lists, bits_in}
 use Rattle.bitm_tables.specs.declared.source.counts.ReadCounts.{ReadCounts}
-use Rattle.matrix_levels.specs.Levels.{columns, has_digit, known_of, level, level_place}
+use Rattle.matrix_levels.specs.Levels.{columns, has_digit, known_of, level, level_position}
 use Rattle.matrix_levels.specs.Numbers.{PicksItem}
 
 -- what the levels are seen as: `len` numbers of `width` digits; for each level how many ones stand before it among the
@@ -25,24 +25,24 @@ pub record LevelTables : Type 0 where
   pub compact : Bool
   pub quarters : List ℕ
 
--- where the item at place p of a level with these digits stands at the next
-abbrev pub next_place : List Bool → ℕ → ℕ
-next_place c p = if item c p then zeros_of c + ones_before c p else zeros_before c p
+-- where the item at position p of a level with these digits stands at the next
+abbrev pub next_position : List Bool → ℕ → ℕ
+next_position c p = if item c p then zeros_of c + ones_before c p else zeros_before c p
 
--- the r lowest digits, of w, of the item at place p of level w - r, where each level has n bits
+-- the r lowest digits, of w, of the item at position p of level w - r, where each level has n bits
 unfoldable pub low_part : List Bool → ℕ → ℕ → ℕ → ℕ → ℕ
 low_part b w n zero p = 0
 low_part b w n (suc r) p =
     let c = take n (drop ((w - suc r) * n) b) in
-    (if item c p then 2 ^ r else 0) + low_part b w n r (next_place c p)
+    (if item c p then 2 ^ r else 0) + low_part b w n r (next_position c p)
 
 -- the n numbers of w digits
 abbrev pub level_items : List Bool → ℕ → ℕ → List ℕ
 level_items b w n = map (low_part b w n w) (range_with_len 0 n)
 
 -- the digit by which level d is partitioned
-abbrev pub digit_place : LevelTables → ℕ → ℕ
-digit_place l d = l.width - 1 - d
+abbrev pub digit_position : LevelTables → ℕ → ℕ
+digit_position l d = l.width - 1 - d
 
 -- the levels of the numbers, and the bits that hold the digits of each level
 pub record IsMatrixOf (xs : List ℕ) (l : LevelTables) (b : List Bool) : Type 0 where
@@ -57,11 +57,11 @@ pub record IsMatrixOf (xs : List ℕ) (l : LevelTables) (b : List Bool) : Type 0
   pub zeros_len : length l.zeros ≡ l.width
   pub ones_are : (d : ℕ) → d < l.width → slice_index l.ones d ≡ ones_before b (d * l.len)
   pub zeros_are : (d : ℕ) → d < l.width
-      → slice_index l.zeros d ≡ count_by (has_digit (digit_place l d) false) (level xs l.width d)
+      → slice_index l.zeros d ≡ count_by (has_digit (digit_position l d) false) (level xs l.width d)
   pub known_most : l.known ≤ l.width
   pub starts_len : length l.starts ≡ 2 ^ l.known
   pub starts_are : (x : ℕ) → x < 2 ^ l.width
-      → slice_index l.starts (x / 2 ^ (l.width - l.known)) ≡ level_place xs l.width x l.known 0
+      → slice_index l.starts (x / 2 ^ (l.width - l.known)) ≡ level_position xs l.width x l.known 0
   pub quarters_are : l.compact ≡ false → AreQuartersOf b l.quarters
   pub no_quarters : l.compact ≡ true → length l.quarters ≡ 0
 

@@ -9,7 +9,7 @@ occurrences_before xs v i = count_by (λ x. x == v) (take i xs)
 abbrev pub count_equal : List ℕ → ℕ → ℕ
 count_equal xs v = count_by (λ x. x == v) xs
 
--- p is the place of the item v with exactly k such items before it
+-- p is the position of the item v with exactly k such items before it
 pub record PicksItem (xs : List ℕ) (v k p : ℕ) : Type 0 where
   pub inside : p < length xs
   pub item : slice_index xs p ≡ v
@@ -19,18 +19,18 @@ pub record PicksItem (xs : List ℕ) (v k p : ℕ) : Type 0 where
 abbrev pub IsItemRank : List ℕ → ℕ → ℕ → Option ℕ → Type 0
 IsItemRank xs v i o = MatchOption o (length xs < i) (λ n. (i ≤ length xs) × (n ≡ occurrences_before xs v i))
 
--- the place of the item v with k such items before it, and None exactly where there are no more than k of them
+-- the position of the item v with k such items before it, and None exactly where there are no more than k of them
 abbrev pub IsItemSelect : List ℕ → ℕ → ℕ → Option ℕ → Type 0
 IsItemSelect xs v k o = MatchOption o (occurrences_before xs v (length xs) ≤ k) (PicksItem xs v k)
 
--- for each place the item there
+-- for each position the item there
 abbrev pub GetsEach : List ℕ → List ℕ → List ℕ → Type 0
-GetsEach xs places items = (k : ℕ) → k < length places → slice_index items k ≡ slice_index xs (slice_index places k)
+GetsEach xs positions items = (k : ℕ) → k < length positions → slice_index items k ≡ slice_index xs (slice_index positions k)
 
--- for each number and place how many items before the place are the number
+-- for each number and position how many items before the position are the number
 abbrev pub RanksEachNumber : List ℕ → List ℕ → List ℕ → List ℕ → Type 0
-RanksEachNumber xs numbers places ranks =
-    (k : ℕ) → k < length places → slice_index ranks k ≡ occurrences_before xs (slice_index numbers k) (slice_index places k)
+RanksEachNumber xs numbers positions ranks =
+    (k : ℕ) → k < length positions → slice_index ranks k ≡ occurrences_before xs (slice_index numbers k) (slice_index positions k)
 
 -- how many items are less than v
 abbrev pub count_less : List ℕ → ℕ → ℕ
@@ -40,7 +40,7 @@ count_less xs v = count_by (λ x. nat_lt x v) xs
 abbrev pub count_between : List ℕ → ℕ → ℕ → ℕ
 count_between xs low high = count_by (λ x. nat_le low x && nat_lt x high) xs
 
--- x would stand at place k if the items were sorted: it is an item, at most k are less, and more than k are at most x
+-- x would stand at position k if the items were sorted: it is an item, at most k are less, and more than k are at most x
 pub record IsSmallest (xs : List ℕ) (k x : ℕ) : Type 0 where
   pub item : Contains xs x
   pub less : count_less xs x ≤ k

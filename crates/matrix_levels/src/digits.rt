@@ -5,7 +5,7 @@ ghost use Rattle.matrix_levels.specs.Levels.{known_of};
 
 use bit_words::bits_to_store;
 
-/// Whether bit `place` of the number is 1.
+/// Whether bit `position` of the number is 1.
 ///
 /// # Conditions
 /// The bit's index is below 64.
@@ -14,11 +14,11 @@ use bit_words::bits_to_store;
 /// digit_of(5, 2);   // true
 /// ```
 #[inline(always)]
-pub fn digit_of(number: u64, place: u8) -> bool
-    requires { place < 64 }
-    ensures { result ≡ digit number place }
+pub fn digit_of(number: u64, position: u8) -> bool
+    requires { position < 64 }
+    ensures { result ≡ digit number position }
 {
-    (number >> place) & 1 == 1
+    (number >> position) & 1 == 1
 }
 
 /// Whether the number has no more than `width` bits.

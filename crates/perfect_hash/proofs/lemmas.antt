@@ -15,7 +15,7 @@ pub mod LevelLemmas
 pub mod MarkLemmas
 pub mod NumberLemmas
 pub mod PerfectLemmas
-pub mod PlaceLemmas
+pub mod PositionLemmas
 pub mod PlacingLemmas
 pub mod SortLemmas
 pub mod WordLemmas

@@ -2,13 +2,13 @@
 use Rattle.std.specs.Prelude.{◌≡◌, ℕ, List, ⊤}
 use Rattle.bit_lists.specs.Bits.{bits_of}
 use Rattle.perfect_hash.specs.Levels.{fall_in, AreChosen, AreSized, Collide}
-use Rattle.perfect_hash.specs.Places.{place_in}
+use Rattle.perfect_hash.specs.Positions.{position_in}
 use Rattle.perfect_hash.specs.declared.levels.error.BuildError.{BuildError}
 use Rattle.perfect_hash.specs.declared.levels.error.BuildError.TheVariants.{KeysCollide, TooLarge, OutOfMemory}
 
 -- where keys collide, the given number of hashes are left after all levels
 abbrev pub IfCollide : BuildError → List ℕ → Type 0
-IfCollide (KeysCollide count) hashes = Collide place_in hashes count
+IfCollide (KeysCollide count) hashes = Collide position_in hashes count
 IfCollide TooLarge hashes = ⊤
 IfCollide OutOfMemory hashes = ⊤
 
@@ -37,6 +37,6 @@ CollideChosen chooses by first OutOfMemory hashes = ⊤
 -- the same sizes where hashes alone say where they fall
 abbrev pub CollideOfSize : (ℕ → ℕ) → BuildError → List ℕ → Type 0
 CollideOfSize taken (KeysCollide count) hashes =
-    (c : Collide place_in hashes count) × AreSized taken place_in hashes (bits_of c.words) 0 0 c.sizes
+    (c : Collide position_in hashes count) × AreSized taken position_in hashes (bits_of c.words) 0 0 c.sizes
 CollideOfSize taken TooLarge hashes = ⊤
 CollideOfSize taken OutOfMemory hashes = ⊤

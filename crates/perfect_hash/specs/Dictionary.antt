@@ -5,7 +5,7 @@ use Rattle.bit_lists.specs.Count.{ones_of}
 use Rattle.bit_lists.specs.Number.{number_at}
 use Rattle.perfect_hash.specs.Parts.{Parts, number_from}
 use Rattle.perfect_hash.specs.Perfect.{IsMinimalPerfect}
-use Rattle.perfect_hash.specs.Places.{spread}
+use Rattle.perfect_hash.specs.Positions.{spread}
 
 -- the fingerprint of a hash: the low digits of the spread number that comes after those of all levels
 abbrev pub print_of : ℕ → ℕ → ℕ

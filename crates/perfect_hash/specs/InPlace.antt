@@ -1,6 +1,6 @@
 -- Levels that were built in borrowed memory.
 use Rattle.std.specs.Prelude.{◌≡◌, ℕ, ◌-◌, ◌<◌, ◌≤◌, ◌⊎◌, List, min, take}
-use Rattle.perfect_hash.specs.Places.{words_for}
+use Rattle.perfect_hash.specs.Positions.{words_for}
 use Rattle.perfect_hash.specs.declared.levels.in_place.Made.{Made}
 
 -- the sizes of the levels

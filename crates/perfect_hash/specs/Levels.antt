@@ -23,12 +23,12 @@ LeadTo fall keys b level begin (words ∷ sizes) left =
     (0 < words) × IsLevel fall keys b level begin words
     × LeadTo fall (left_of fall keys b level begin words) b (level + 1) (begin + 64 * words) sizes left
 
--- the place of the one that a key falls on, in the first of the levels where it falls on one; `fall` is of that key
-abbrev pub place_from : (ℕ → ℕ → ℕ) → List Bool → ℕ → ℕ → List ℕ → Option ℕ
-place_from fall b level begin [] = None
-place_from fall b level begin (words ∷ sizes) =
-    let place = begin + fall level words in
-    if item b place then Some place else place_from fall b (level + 1) (begin + 64 * words) sizes
+-- the position of the one that a key falls on, in the first of the levels where it falls on one; `fall` is of that key
+abbrev pub position_from : (ℕ → ℕ → ℕ) → List Bool → ℕ → ℕ → List ℕ → Option ℕ
+position_from fall b level begin [] = None
+position_from fall b level begin (words ∷ sizes) =
+    let position = begin + fall level words in
+    if item b position then Some position else position_from fall b (level + 1) (begin + 64 * words) sizes
 
 -- each of these levels has as many words as are taken for the number of keys that are left before it
 abbrev pub AreSized : {K : Type 0} → (ℕ → ℕ) → (K → ℕ → ℕ → ℕ) → List K → List Bool → ℕ → ℕ → List ℕ → Type 0
@@ -63,7 +63,7 @@ fall_in by sizes hash level words = by (sum (take level sizes)) hash level words
 -- levels before number `level` have `begin` words, and a look-up that goes on there finds what the whole one does
 pub record GoesOn (fall : ℕ → ℕ → ℕ) (b : List Bool) (sizes : List ℕ) (level begin : ℕ) : Type 0 where
   pub begins : begin ≡ sum (take level sizes)
-  pub found : place_from fall b level (64 * begin) (drop level sizes) ≡ place_from fall b 0 0 sizes
+  pub found : position_from fall b level (64 * begin) (drop level sizes) ≡ position_from fall b 0 0 sizes
 
 -- a level is added for the keys, after those of these sizes and words
 pub record AddsLevel {K : Type 0} (fall : K → ℕ → ℕ → ℕ) (keys : List K) (sizes words new_sizes new_words : List ℕ) (left : List K) : Type 0 where

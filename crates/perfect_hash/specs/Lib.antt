@@ -13,5 +13,5 @@ pub mod Inside
 pub mod Levels
 pub mod Numbers
 pub mod Perfect
-pub mod Places
+pub mod Positions
 pub mod Seeds

@@ -2,7 +2,7 @@
 use Rattle.std.specs.Prelude.{ℕ, List, Bool, Option}
 use Rattle.perfect_hash.specs.Levels.{fall_in, looked}
 use Rattle.perfect_hash.specs.Numbers.{number_in}
-use Rattle.perfect_hash.specs.Places.{place_in}
+use Rattle.perfect_hash.specs.Positions.{position_in}
 
 -- a hasher, what places hashes, how many words each level has, and the bits of all levels, which are those of an index
 pub record Parts (H I P : Type 0) : Type 0 where
@@ -27,4 +27,4 @@ levels_looked by hash parts key =
 
 -- the same where hashes alone say where they fall
 abbrev pub number_of : {H I P K : Type 0} → (H → K → ℕ) → Parts H I P → K → Option ℕ
-number_of = number_at (λ _ _. place_in)
+number_of = number_at (λ _ _. position_in)

@@ -6,7 +6,7 @@ abbrev pub is_number : ℕ → Option ℕ → Bool
 is_number v None = false
 is_number v (Some w) = w == v
 
--- each key has a number, and each number that is given, to whatever value, is below their count; no two places of the
+-- each key has a number, and each number that is given, to whatever value, is below their count; no two positions of the
 -- list have the same, and each number below the count is some key's
 pub record IsMinimalPerfect {K : Type 0} (number : K → Option ℕ) (keys : List K) : Type 0 where
   pub below : (k : K) → IfSome (number k) (λ v. v < length keys)

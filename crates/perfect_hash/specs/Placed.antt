@@ -4,9 +4,9 @@ use Rattle.bitm_tables.specs.Answers.{Right}
 use Rattle.bitm_tables.specs.declared.answer.Answer.{Answer}
 use Rattle.bitm_tables.specs.declared.answer.Answer.TheVariants.{Found, Absent, Wrong}
 
--- the place, and Absent exactly where there is none
+-- the position, and Absent exactly where there is none
 abbrev pub IsPlaced : Option ℕ → Answer ℕ → Type 0
-IsPlaced place = Right (λ p. place ≡ Some p) (place ≡ None)
+IsPlaced position = Right (λ p. position ≡ Some p) (position ≡ None)
 
 -- what is known where Absent is answered
 abbrev pub WhereAbsent : Answer ℕ → Type 0 → Type 0

@@ -1,6 +1,6 @@
 -- Levels with a seed for each word, in borrowed memory.
 use Rattle.std.specs.Prelude.{◌≡◌, ℕ, List, drop, length, take}
-use Rattle.perfect_hash.specs.Places.{Seeds}
+use Rattle.perfect_hash.specs.Positions.{Seeds}
 
 -- these seeds, of which so many were tried for each word
 abbrev pub seeds_with : List ℕ → ℕ → Seeds

@@ -1,7 +1,7 @@
 -- Which seed is chosen for a word: the first by which most of its hashes stand alone.
 use Rattle.std.specs.Prelude.{ℕ, ◌+◌, ◌-◌, ◌<◌, ◌≤◌, ◌≡◌, ◌==◌, List, ◌∷◌, min, count_by, drop, filter, length, map, nat_lt, slice_index, take}
 use Rattle.std.specs.List.{range_with_len}
-use Rattle.perfect_hash.specs.Places.{bit_by, spread, word_of, Seeds}
+use Rattle.perfect_hash.specs.Positions.{bit_by, spread, word_of, Seeds}
 
 -- how many spread numbers fall on bit p of a word by a seed
 abbrev pub falls_on : ℕ → List ℕ → ℕ → ℕ

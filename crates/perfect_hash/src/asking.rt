@@ -7,7 +7,7 @@ ghost use Rattle.bitm_tables.specs.Reads.{word_read, OnlyReads, ReadsAtMost};
 ghost use Rattle.bitm_tables.specs.Tables.{bits_in, HasSizes, HasTables, IsIndexed};
 ghost use Rattle.bitm_tables.specs.Answers.{IfAbsent};
 ghost use Rattle.perfect_hash.specs.Asking.{IsBelow, IsNumbered};
-ghost use Rattle.perfect_hash.specs.Levels.{fall_in, looked, place_from, ExceedsBy};
+ghost use Rattle.perfect_hash.specs.Levels.{fall_in, looked, position_from, ExceedsBy};
 ghost use Rattle.perfect_hash.specs.Numbers.{number_by, number_in, AreSizes};
 ghost use Rattle.perfect_hash.specs.Placed.{FitIn, IsPlaced, WhereAbsent, WhereWrong};
 
@@ -20,7 +20,7 @@ use bitm_tables::answer::Answer;
 use bitm_tables::source::TableSource;
 use bitm_tables::source::counts::ReadCounts;
 
-/// Whether the bit at `place` of the source's words is 1.
+/// Whether the bit at `position` of the source's words is 1.
 ///
 /// # Conditions
 /// There is such a bit.
@@ -28,13 +28,13 @@ use bitm_tables::source::counts::ReadCounts;
 /// One word is read.
 #[inline(always)]
 #[tactic(auto, using(bitm::proofs::BitLaws::bits_are_counted))]
-pub(crate) fn is_one_on<T: TableSource>(source: &mut T, place: usize) -> bool
-    requires { place < length (bits_in (T.lists source.old)) }
-    ensures bit { result ≡ item (bits_in (T.lists source.old)) place }
+pub(crate) fn is_one_on<T: TableSource>(source: &mut T, position: usize) -> bool
+    requires { position < length (bits_in (T.lists source.old)) }
+    ensures bit { result ≡ item (bits_in (T.lists source.old)) position }
     ensures counted { T.reads source.new ≡ word_read (T.reads source.old) }
     ensures same { T.lists source.new ≡ T.lists source.old }
 {
-    words::get_bit(&[source.word(place / 64)], place % 64)
+    words::get_bit(&[source.word(position / 64)], position % 64)
 }
 
 /// Whether a level of `size` words, which are some, has them after the first `begin` of `len` words. Where `TESTS` is 0
@@ -63,13 +63,13 @@ fn one_by<const TESTS: u8, Q: Query, T: TableSource, P: Placing>(
     requires short { length (Q.bits query.now (T.lists source.old)) < 2 ^ 64 }
     requires untested { TESTS ≡ 0 → AreSizes sizes.now (Q.bits query.now (T.lists source.old)) }
     ensures one { HasBit (Q.bits query.now (T.lists source.old)) true result }
-    ensures place { let b = Q.bits query.now (T.lists source.old) in
+    ensures position { let b = Q.bits query.now (T.lists source.old) in
         AreSizes sizes.now b → IsPlaced
-        (place_from (fall_in (P.fall placing.now) sizes.now hash) b 0 0 sizes.now) result }
+        (position_from (fall_in (P.fall placing.now) sizes.now hash) b 0 0 sizes.now) result }
     ensures fit { WhereAbsent result
         (FitIn (length (Q.bits query.now (T.lists source.old)) / 64) sizes.now) }
     ensures none { let b = Q.bits query.now (T.lists source.old) in WhereAbsent result
-        (place_from (fall_in (P.fall placing.now) sizes.now hash) b 0 0 sizes.now ≡ None) }
+        (position_from (fall_in (P.fall placing.now) sizes.now hash) b 0 0 sizes.now ≡ None) }
     ensures wrong { WhereWrong result
         (FitIn (length (Q.bits query.now (T.lists source.old)) / 64) sizes.now → ⊥) }
     ensures reads { OnlyReads T.lists T.reads source.old source.new 0 0 (length sizes.now) }
@@ -86,23 +86,23 @@ fn one_by<const TESTS: u8, Q: Query, T: TableSource, P: Placing>(
         if !fits::<TESTS>(*size, begin, query.words_len(source)) {
             return Answer::Wrong;
         }
-        let place = 64 * begin + placing.place(begin, hash, level as u32, *size, &mut *reads);
-        if query.is_one(source, place) {
-            return Answer::Found(place);
+        let position = 64 * begin + placing.position(begin, hash, level as u32, *size, &mut *reads);
+        if query.is_one(source, position) {
+            return Answer::Found(position);
         }
         begin += *size;
     }
     Answer::Absent
 }
 
-/// Whether a rank at `place` is a number below `count`. No rank exceeds its position. Where `TESTS` is 0 nothing is
+/// Whether a rank at `position` is a number below `count`. No rank exceeds its position. Where `TESTS` is 0 nothing is
 /// tested.
 #[inline(always)]
-fn is_number<const TESTS: u8>(rank: usize, place: usize, count: usize) -> bool
+fn is_number<const TESTS: u8>(rank: usize, position: usize, count: usize) -> bool
     ensures below { IsTrue result → TESTS ≢ 0 → rank < count }
-    ensures passes { (TESTS ≢ 0 → rank < count) → rank ≤ place → IsTrue result }
+    ensures passes { (TESTS ≢ 0 → rank < count) → rank ≤ position → IsTrue result }
 {
-    TESTS == 0 || (rank < count && rank <= place)
+    TESTS == 0 || (rank < count && rank <= position)
 }
 
 /// The number of a hash in the bits that `query` queries, where `placing` says where hashes fall: the body of each
@@ -146,8 +146,8 @@ pub(crate) fn number_by<const TESTS: u8, Q: Query, T: TableSource, P: Placing>(
         + P.seeds_each * looked (fall_in (P.fall placing.now) sizes.now hash) b 0 0 sizes.now }
 {
     match one_by::<TESTS, Q, T, P>(query, source, placing, sizes, hash, reads) {
-        Answer::Found(place) => match query.rank(source, place) {
-            Some(number) if is_number::<TESTS>(number, place, count) => Answer::Found(number),
+        Answer::Found(position) => match query.rank(source, position) {
+            Some(number) if is_number::<TESTS>(number, position, count) => Answer::Found(number),
             _ => Answer::Wrong,
         },
         Answer::Absent => Answer::Absent,

@@ -3,7 +3,7 @@ ghost use Rattle.std.specs.Prelude.{◌≡◌, ◌↔◌, ◌^◌, ◌<◌, ◌�
 ghost use Rattle.perfect_hash.specs.Collisions.{CollideBySize, CollideChosen, CollideOfSize, IfCollide, IfCollideBy};
 ghost use Rattle.perfect_hash.specs.Levels.{fall_in, AreChosen, AreSized, LeadTo};
 ghost use Rattle.perfect_hash.specs.Perfect.{IsMinimalPerfect};
-ghost use Rattle.perfect_hash.specs.Places.{place_in, words_for};
+ghost use Rattle.perfect_hash.specs.Positions.{position_in, words_for};
 ghost use Rattle.perfect_hash.specs.Parts.{number_at, number_of};
 
 use crate::levels::{BuildError, KeyHash, Levels, Placing, Plain};
@@ -44,9 +44,9 @@ pub fn build<K, H: KeyHash<K>>(
     ensures hasher_back { IfErr result (λ refused. refused.hasher ≡ hasher) }
     ensures too_large { IfErr result (λ refused. (refused.error ≡ BuildError.TooLarge)
         ↔ (2 ^ 50 ≤ words_for percent (length keys.now))) }
-    ensures sized { IfOk result (λ made. AreSized (words_for percent) place_in
+    ensures sized { IfOk result (λ made. AreSized (words_for percent) position_in
         (map (H.hash hasher) keys.now) made.bits 0 0 made.sizes) }
-    ensures levels { IfOk result (λ made. LeadTo place_in
+    ensures levels { IfOk result (λ made. LeadTo position_in
         (map (H.hash hasher) keys.now) made.bits 0 0 made.sizes []) }
     ensures collide { IfErr result (λ refused.
         IfCollide refused.error (map (H.hash hasher) keys.now)) }

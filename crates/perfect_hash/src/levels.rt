@@ -10,7 +10,7 @@
 // - `hashing`: the traits of hashes that a user gives, and hashes that do
 // - `in_place`: levels built without an allocator
 // - `level`: one level: which bits exactly one hash falls on
-// - `places`: where a hash falls in a level, and the size of a level
+// - `positions`: where a hash falls in a level, and the size of a level
 // - `placing`: how hashes fall on bits: by themselves, or with a seed for each word
 mod building;
 mod error;
@@ -18,8 +18,8 @@ mod grouped;
 mod hashing;
 mod in_place;
 mod level;
-mod places;
 mod placing;
+mod positions;
 
 pub use building::Levels;
 pub use error::BuildError;
@@ -27,5 +27,5 @@ pub use grouped::{Grouped, choose_in, place_seeded};
 pub use hashing::{KeyHash, Seeded, SeededBytes};
 pub use in_place::{Made, build_in_place, level_len};
 pub use level::{split_level, split_level_by};
-pub use places::{fold, spread_at};
 pub use placing::{Placing, Plain};
+pub use positions::{fold, spread_at};

@@ -3,12 +3,12 @@
 ghost use Rattle.std.specs.Prelude.{◌≡◌, ◌+◌, ◌*◌, ◌-◌, ◌^◌, ◌<◌, ◌≤◌, ℕ, length, slice_index, take};
 ghost use Rattle.bitm_tables.specs.Reads.{OnlyReads};
 ghost use Rattle.bitm_tables.specs.Tables.{bits_in, HasSizes};
-ghost use Rattle.perfect_hash.specs.Listed.{AreCoded, AreNumbersTold, IsCode};
+ghost use Rattle.perfect_hash.specs.Listed.{AreCoded, AreNumberCodes, IsCode};
 ghost use Rattle.perfect_hash.specs.Many.{AreLevelsInside};
 ghost use Rattle.perfect_hash.specs.Placed.{FitIn};
 
 use crate::levels::Placing;
-use crate::many::find_places;
+use crate::many::find_positions;
 use crate::querying::BySource;
 use bitm_select::many::lists::total_rank_many_on;
 use bitm_select::search::selected::{NO_ANSWER, WRONG_TABLES};
@@ -34,10 +34,10 @@ fn levels_within(words: usize, sizes: &[usize]) -> usize
 /// The code of a number: `absent` where the hash has no position, and `WRONG_TABLES` where its rank is not below
 /// `count`.
 #[inline(always)]
-fn code_of(place: usize, rank: usize, count: usize, absent: usize) -> usize
-    ensures { IsCode place rank count absent result }
+fn code_of(position: usize, rank: usize, count: usize, absent: usize) -> usize
+    ensures { IsCode position rank count absent result }
 {
-    if place == NO_ANSWER {
+    if position == NO_ANSWER {
         absent
     } else if rank < count {
         rank
@@ -48,13 +48,13 @@ fn code_of(place: usize, rank: usize, count: usize, absent: usize) -> usize
 
 /// Puts the code of a number in the place of each rank.
 #[inline(always)]
-fn code_each(places: &[usize], count: usize, absent: usize, numbers: &mut [usize])
-    requires same_length { length places.now ≡ length numbers.old }
-    ensures { (k : ℕ) → k < length numbers.old → IsCode (slice_index places.now k)
+fn code_each(positions: &[usize], count: usize, absent: usize, numbers: &mut [usize])
+    requires same_length { length positions.now ≡ length numbers.old }
+    ensures { (k : ℕ) → k < length numbers.old → IsCode (slice_index positions.now k)
         (slice_index numbers.old k) count absent (slice_index numbers.new k) }
 {
     for k in 0..numbers.len() {
-        numbers[k] = code_of(places[k], numbers[k], count, absent);
+        numbers[k] = code_of(positions[k], numbers[k], count, absent);
     }
 }
 
@@ -82,18 +82,18 @@ fn number_block_on<T: TableSource, P: Placing>(
     // Of ones: the compiler would fill arrays of zeros by `memset`, which the archive for C does without.
     let waiting = &mut [1usize; RANKS_SIDE_BY_SIDE];
     let mut room = [1usize; RANKS_SIDE_BY_SIDE];
-    let places = &mut room[..hashes.len()];
-    find_places(
+    let positions = &mut room[..hashes.len()];
+    find_positions(
         &BySource,
         &mut *source,
         placing,
         sizes,
         hashes,
-        &mut *places,
+        &mut *positions,
         waiting,
     );
-    total_rank_many_on::<1, T>(source, &*places, &mut *numbers);
-    code_each(&*places, count, absent, numbers);
+    total_rank_many_on::<1, T>(source, &*positions, &mut *numbers);
+    code_each(&*positions, count, absent, numbers);
 }
 
 /// As `total_numbers_on`, where all levels are within the words, and a hash that falls on no 1 bit gets `absent`.
@@ -152,7 +152,7 @@ pub fn total_numbers_on<T: TableSource, P: Placing>(
     requires few { length sizes.now ≤ 256 }
     requires count { count ≤ 2 ^ 64 - 2 }
     requires same_length { length numbers.old ≡ length hashes.now }
-    ensures numbers { AreNumbersTold (P.fall placing.now) sizes.now count (T.lists source.old)
+    ensures numbers { AreNumberCodes (P.fall placing.now) sizes.now count (T.lists source.old)
         hashes.now numbers.new }
     ensures reads { OnlyReads T.lists T.reads source.old source.new (length hashes.now)
         (length hashes.now) (length hashes.now * (length sizes.now + 8)) }

@@ -1,8 +1,8 @@
 //! Many look-ups at once: they go from level to level side by side, so that each waits for memory while the others do.
 ghost use Rattle.std.specs.Prelude.{◌≡◌, ◌≢◌, ◌+◌, ◌*◌, ◌%◌, ◌^◌, ◌-◌, ◌<◌, ◌≤◌, ℕ, length, slice_index};
 ghost use Rattle.bit_lists.specs.Count.{ones_before};
-ghost use Rattle.perfect_hash.specs.Levels.{fall_in, place_from, GoesOn};
-ghost use Rattle.perfect_hash.specs.Many.{told, AreHashes, AreLevelsInside, AreLookedUp, AreNumbersOf};
+ghost use Rattle.perfect_hash.specs.Levels.{fall_in, position_from, GoesOn};
+ghost use Rattle.perfect_hash.specs.Many.{number_code, AreHashes, AreLevelsInside, AreLookedUp, AreNumbersOf};
 ghost use Rattle.perfect_hash.specs.Many.{AreNumbersOfKeys, AreRanks, IsLookedUp};
 ghost use Rattle.perfect_hash.specs.Parts.{number_at, number_from};
 ghost use Rattle.bitm_tables.specs.Reads.{OnlyReads};
@@ -37,9 +37,9 @@ fn look<Q: Query, T: TableSource, P: Placing>(
     ensures reads { OnlyReads T.lists T.reads source.old source.new 0 0 1 }
 {
     let reads = &mut ReadCounts::new();
-    let place = 64 * begin + placing.place(begin, hash, level as u32, sizes[level], reads);
-    if query.is_one(source, place) {
-        place
+    let position = 64 * begin + placing.position(begin, hash, level as u32, sizes[level], reads);
+    if query.is_one(source, position) {
+        position
     } else {
         NO_ANSWER
     }
@@ -56,46 +56,46 @@ fn look_at_level<Q: Query, T: TableSource, P: Placing>(
     level: usize,
     begin: usize,
     hashes: &[u64],
-    places: &mut [usize],
+    positions: &mut [usize],
     waiting: &mut [usize],
     count: usize,
 ) -> usize
     requires sizes { AreLevelsInside sizes.now (Q.bits query.now (T.lists source.old)) }
     requires level { level < length sizes.now }
-    requires same_length { length places.old ≡ length hashes.now }
+    requires same_length { length positions.old ≡ length hashes.now }
     requires before { AreLookedUp (fall_in (P.fall placing.now) sizes.now)
         (Q.bits query.now (T.lists source.old))
-        sizes.now level begin hashes.now places.old waiting.old count }
+        sizes.now level begin hashes.now positions.old waiting.old count }
     ensures after { AreLookedUp (fall_in (P.fall placing.now) sizes.now)
         (Q.bits query.now (T.lists source.old))
-        sizes.now (level + 1) (begin + slice_index sizes.now level) hashes.now places.new waiting.new result }
+        sizes.now (level + 1) (begin + slice_index sizes.now level) hashes.now positions.new waiting.new result }
     ensures fewer { result ≤ count }
     ensures reads { OnlyReads T.lists T.reads source.old source.new 0 0 count }
 {
     let mut kept = 0;
     for i in 0..count {
         let k = waiting[i];
-        let place = look(query, source, placing, sizes, level, begin, hashes[k]);
-        places[k] = place;
+        let position = look(query, source, placing, sizes, level, begin, hashes[k]);
+        positions[k] = position;
         waiting[kept] = k;
-        if place == NO_ANSWER {
+        if position == NO_ANSWER {
             kept += 1;
         }
     }
     kept
 }
 
-/// Makes each second place `NO_ANSWER`, from number `first` on.
+/// Makes each second position `NO_ANSWER`, from number `first` on.
 #[inline(always)]
-fn none_half(places: &mut [usize], first: usize)
-    ensures none { (j : ℕ) → first ≤ j → j % 2 ≡ first % 2 → j < length places.old
-        → slice_index places.new j ≡ 2 ^ 64 - 1 }
-    ensures kept { (j : ℕ) → slice_index places.old j ≡ 2 ^ 64 - 1
-        → slice_index places.new j ≡ 2 ^ 64 - 1 }
+fn none_half(positions: &mut [usize], first: usize)
+    ensures none { (j : ℕ) → first ≤ j → j % 2 ≡ first % 2 → j < length positions.old
+        → slice_index positions.new j ≡ 2 ^ 64 - 1 }
+    ensures kept { (j : ℕ) → slice_index positions.old j ≡ 2 ^ 64 - 1
+        → slice_index positions.new j ≡ 2 ^ 64 - 1 }
 {
     let mut at = first;
-    while at < places.len() {
-        places[at] = NO_ANSWER;
+    while at < positions.len() {
+        positions[at] = NO_ANSWER;
         at += 2;
     }
 }
@@ -103,27 +103,27 @@ fn none_half(places: &mut [usize], first: usize)
 /// The position of each hash, or `NO_ANSWER`. What `waiting`, which is as long as the hashes at least, holds afterwards
 /// means nothing.
 #[inline(always)]
-pub(crate) fn find_places<Q: Query, T: TableSource, P: Placing>(
+pub(crate) fn find_positions<Q: Query, T: TableSource, P: Placing>(
     query: &Q,
     source: &mut T,
     placing: &P,
     sizes: &[usize],
     hashes: &[u64],
-    places: &mut [usize],
+    positions: &mut [usize],
     waiting: &mut [usize],
 )
     requires sizes { AreLevelsInside sizes.now (Q.bits query.now (T.lists source.old)) }
-    requires same_length { length places.old ≡ length hashes.now }
+    requires same_length { length positions.old ≡ length hashes.now }
     requires room { length hashes.now ≤ length waiting.old }
-    ensures told { (k : ℕ) → k < length hashes.now → slice_index places.new k
-        ≡ told (place_from (fall_in (P.fall placing.now) sizes.now (slice_index hashes.now k))
+    ensures claimed { (k : ℕ) → k < length hashes.now → slice_index positions.new k
+        ≡ number_code (position_from (fall_in (P.fall placing.now) sizes.now (slice_index hashes.now k))
         (Q.bits query.now (T.lists source.old)) 0 0 sizes.now) }
     ensures reads { OnlyReads T.lists T.reads source.old source.new 0 0
         (length hashes.now * length sizes.now) }
 {
-    // A loop over all places would be compiled to a call of C's `memset`, and the archive for C calls nothing.
-    none_half(&mut *places, 0);
-    none_half(&mut *places, 1);
+    // A loop over all positions would be compiled to a call of C's `memset`, and the archive for C calls nothing.
+    none_half(&mut *positions, 0);
+    none_half(&mut *positions, 1);
     for k in 0..hashes.len() {
         waiting[k] = k;
     }
@@ -141,7 +141,7 @@ pub(crate) fn find_places<Q: Query, T: TableSource, P: Placing>(
             level,
             begin,
             hashes,
-            &mut *places,
+            &mut *positions,
             &mut *waiting,
             count,
         );
@@ -151,14 +151,14 @@ pub(crate) fn find_places<Q: Query, T: TableSource, P: Placing>(
 
 /// Replaces each position by how many 1 bits stand before it; `NO_ANSWER` stays.
 #[inline(always)]
-fn rank_places<I: Access>(index: &I, places: &mut [usize])
-    requires { (k : ℕ) → k < length places.old → slice_index places.old k ≢ 2 ^ 64 - 1
-        → slice_index places.old k ≤ length (I.bits index.now) }
-    ensures { AreRanks (I.bits index.now) places.old places.new }
+fn rank_positions<I: Access>(index: &I, positions: &mut [usize])
+    requires { (k : ℕ) → k < length positions.old → slice_index positions.old k ≢ 2 ^ 64 - 1
+        → slice_index positions.old k ≤ length (I.bits index.now) }
+    ensures { AreRanks (I.bits index.now) positions.old positions.new }
 {
-    for k in 0..places.len() {
-        if places[k] != NO_ANSWER {
-            places[k] = index.rank(places[k]);
+    for k in 0..positions.len() {
+        if positions[k] != NO_ANSWER {
+            positions[k] = index.rank(positions[k]);
         }
     }
 }
@@ -176,7 +176,7 @@ impl<H, I: Access, P: Placing> PerfectHash<H, I, P> {
         };
         let waiting = &mut [0; LOOK_UPS_SIDE_BY_SIDE];
         let (source, placing, sizes) = (&mut no_source(), self.placing(), self.sizes());
-        find_places(
+        find_positions(
             &query,
             source,
             placing,
@@ -185,7 +185,7 @@ impl<H, I: Access, P: Placing> PerfectHash<H, I, P> {
             &mut *numbers,
             waiting,
         );
-        rank_places(self.index(), numbers);
+        rank_positions(self.index(), numbers);
     }
 
     /// The number of each hash, as `get` answers it for a key of that hash; they go to `numbers` in the order of the

@@ -28,27 +28,27 @@ pub(crate) trait Query {
     fn words_len<T: TableSource>(&self, source: &T) -> usize
         ensures { result ≡ length (bits self.now (T.lists source.now)) / 64 };
 
-    /// Whether the bit at `place` is 1.
+    /// Whether the bit at `position` is 1.
     ///
     /// # Conditions
     /// There is such a bit.
-    fn is_one<T: TableSource>(&self, source: &mut T, place: usize) -> bool
-        requires { place < length (bits self.now (T.lists source.old)) }
-        ensures bit { result ≡ item (bits self.now (T.lists source.old)) place }
+    fn is_one<T: TableSource>(&self, source: &mut T, position: usize) -> bool
+        requires { position < length (bits self.now (T.lists source.old)) }
+        ensures bit { result ≡ item (bits self.now (T.lists source.old)) position }
         ensures reads { OnlyReads T.lists T.reads source.old source.new 0 0 1 }
         ensures counted { (T.reads source.new).words ≡ (T.reads source.old).words + words_each };
 
-    /// How many 1 bits stand before `place`; `None` only where the tables do not match the bits.
+    /// How many 1 bits stand before `position`; `None` only where the tables do not match the bits.
     ///
     /// # Conditions
     /// There are no fewer bits.
     /// # Cost
     /// At most one upper entry, one lower entry and eight words of the source are read.
-    fn rank<T: TableSource>(&self, source: &mut T, place: usize) -> Option<usize>
+    fn rank<T: TableSource>(&self, source: &mut T, position: usize) -> Option<usize>
         requires sized { sized self.now (T.lists source.old) }
-        requires inside { place ≤ length (bits self.now (T.lists source.old)) }
+        requires inside { position ≤ length (bits self.now (T.lists source.old)) }
         ensures count { ready self.now (T.lists source.old)
-            → MatchOption result ⊥ (λ n. n ≡ ones_before (bits self.now (T.lists source.old)) place) }
+            → MatchOption result ⊥ (λ n. n ≡ ones_before (bits self.now (T.lists source.old)) position) }
         ensures reads { OnlyReads T.lists T.reads source.old source.new 1 1 8 };
 }
 
@@ -72,13 +72,13 @@ impl Query for BySource {
     }
 
     #[inline(always)]
-    fn is_one<T: TableSource>(&self, source: &mut T, place: usize) -> bool {
-        is_one_on(source, place)
+    fn is_one<T: TableSource>(&self, source: &mut T, position: usize) -> bool {
+        is_one_on(source, position)
     }
 
     #[inline(always)]
-    fn rank<T: TableSource>(&self, source: &mut T, place: usize) -> Option<usize> {
-        total_rank_on(source, place)
+    fn rank<T: TableSource>(&self, source: &mut T, position: usize) -> Option<usize> {
+        total_rank_on(source, position)
     }
 }
 
@@ -103,13 +103,13 @@ impl<'a, I: Access> Query for ByIndex<'a, I> {
     }
 
     #[inline(always)]
-    fn is_one<T: TableSource>(&self, _source: &mut T, place: usize) -> bool {
-        self.index.get_bit(place)
+    fn is_one<T: TableSource>(&self, _source: &mut T, position: usize) -> bool {
+        self.index.get_bit(position)
     }
 
     #[inline(always)]
-    fn rank<T: TableSource>(&self, _source: &mut T, place: usize) -> Option<usize> {
-        Some(self.index.rank(place))
+    fn rank<T: TableSource>(&self, _source: &mut T, position: usize) -> Option<usize> {
+        Some(self.index.rank(position))
     }
 }
 

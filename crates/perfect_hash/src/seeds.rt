@@ -4,10 +4,10 @@ ghost use Rattle.std.specs.Prelude.{◌≡◌, ℕ, ◌+◌, ◌-◌, ◌*◌, �
 ghost use Rattle.bit_lists.specs.Bits.{bits_of, IsShort};
 ghost use Rattle.bit_lists.specs.Count.{ones_of};
 ghost use Rattle.perfect_hash.specs.InPlace.{made_sizes, made_words, IsMade};
-ghost use Rattle.perfect_hash.specs.Inside.{places_inside};
+ghost use Rattle.perfect_hash.specs.Inside.{positions_inside};
 ghost use Rattle.perfect_hash.specs.Levels.{fall_in, left_of, AreChosen, AreSized, IsLevel, Leave};
 ghost use Rattle.perfect_hash.specs.Numbers.{AreLevels};
-ghost use Rattle.perfect_hash.specs.Places.{place_by, words_for};
+ghost use Rattle.perfect_hash.specs.Positions.{position_by, words_for};
 ghost use Rattle.perfect_hash.specs.Seeds.{AreBestSeeds, HasBest};
 ghost use Rattle.perfect_hash.specs.Seeded.{seeds_with, StandFrom};
 
@@ -27,14 +27,14 @@ pub struct SeedsView<'a> {
 }
 
 impl<'a> Placing for SeedsView<'a> {
-    ghost fall = { λ s. place_by s.seeds.now };
+    ghost fall = { λ s. position_by s.seeds.now };
 
     ghost seeds_each = { 1 };
 
     ghost chooses = { λ old new _ _ _ _. new ≡ old };
 
     #[inline(always)]
-    fn place(
+    fn position(
         &self,
         begin: usize,
         hash: u64,
@@ -60,7 +60,7 @@ impl<'a> Placing for SeedsView<'a> {
         Ok(*self)
     }
 
-    ghost inside = { λ s. places_inside s.seeds.now };
+    ghost inside = { λ s. positions_inside s.seeds.now };
 }
 
 /// Makes `ones` a level of the hashes, with a seed for each of its words: of the first `tries`, at most 256, the first
@@ -98,10 +98,10 @@ pub fn split_level_seeded(
     requires again { length again.old ≡ length ones.old }
     requires sorted { length hashes.old ≤ length sorted.old }
     ensures level { (all : List ℕ) → (first : ℕ) → StandFrom all first seeds.new
-        → IsLevel (place_by all first) hashes.old (bits_of ones.new) level 0 (length ones.old) }
+        → IsLevel (position_by all first) hashes.old (bits_of ones.new) level 0 (length ones.old) }
     ensures left { (all : List ℕ) → (first : ℕ) → StandFrom all first seeds.new
         → take result hashes.new
-        ≡ left_of (place_by all first) hashes.old (bits_of ones.new) level 0 (length ones.old) }
+        ≡ left_of (position_by all first) hashes.old (bits_of ones.new) level 0 (length ones.old) }
     ensures few { result ≤ length hashes.old }
     ensures best { AreBestSeeds level hashes.old (min tries 256) seeds.new }
 {
@@ -136,10 +136,10 @@ fn add_level(
     requires seeds { length words.old ≤ length seeds.old }
     requires again { size ≤ length again.old }
     requires sorted { length hashes.old ≤ length sorted.old }
-    ensures level { IsLevel (place_by (take (used + size) seeds.new) used) (take left hashes.old)
+    ensures level { IsLevel (position_by (take (used + size) seeds.new) used) (take left hashes.old)
         (bits_of (take size (drop used words.new))) level 0 size }
     ensures left { take result hashes.new
-        ≡ left_of (place_by (take (used + size) seeds.new) used) (take left hashes.old)
+        ≡ left_of (position_by (take (used + size) seeds.new) used) (take left hashes.old)
         (bits_of (take size (drop used words.new))) level 0 size }
     ensures few { result ≤ left }
     ensures before { take used words.new ≡ take used words.old }
@@ -183,19 +183,19 @@ pub fn build_seeded_in_place(
     requires seeds { length words.old ≤ length seeds.old }
     requires sorted { length hashes.old ≤ length sorted.old }
     ensures leave { let s = made_words result seeds.new in
-        Leave (fall_in (place_by s) (made_sizes result sizes.new)) hashes.old
+        Leave (fall_in (position_by s) (made_sizes result sizes.new)) hashes.old
         (made_sizes result sizes.new) (made_words result words.new) (take result.left hashes.new) }
     ensures sized { let s = made_words result seeds.new in AreSized (words_for percent)
-        (fall_in (place_by s) (made_sizes result sizes.new)) hashes.old
+        (fall_in (position_by s) (made_sizes result sizes.new)) hashes.old
         (bits_of (made_words result words.new)) 0 0 (made_sizes result sizes.new) }
     ensures chosen { let s = made_words result seeds.new in AreChosen HasBest
-        (fall_in (place_by s) (made_sizes result sizes.new)) hashes.old
+        (fall_in (position_by s) (made_sizes result sizes.new)) hashes.old
         (bits_of (made_words result words.new)) 0 0 0 (made_sizes result sizes.new)
         (seeds_with [] tries) (seeds_with s tries) }
     ensures made { IsMade percent (length words.old) (length again.old) (length sizes.old)
         (length hashes.old) result }
     ensures numbers { let s = made_words result seeds.new in result.left ≡ 0
-        → AreLevels (fall_in (place_by s) (made_sizes result sizes.new)) (λ (hash : ℕ). hash)
+        → AreLevels (fall_in (position_by s) (made_sizes result sizes.new)) (λ (hash : ℕ). hash)
         hashes.old (made_sizes result sizes.new) (made_words result words.new) }
     ensures ones { result.left ≡ 0
         → ones_of (bits_of (made_words result words.new)) ≡ length hashes.old }

@@ -5,7 +5,7 @@ ghost use Rattle.bit_lists.specs.Count.{ones_of};
 ghost use Rattle.bitm_bits.specs.Size.{saturated_size};
 ghost use Rattle.bitm_tables.specs.Reads.{none_read, ReadsAtMost};
 ghost use Rattle.perfect_hash.specs.Levels.{ExceedsBy};
-ghost use Rattle.perfect_hash.specs.Places.{place_in};
+ghost use Rattle.perfect_hash.specs.Positions.{position_in};
 ghost use Rattle.perfect_hash.specs.Parts.{levels_looked, number_at, number_from, number_of};
 ghost use Rattle.perfect_hash.specs.Numbers.{AreSizes};
 
@@ -195,7 +195,7 @@ impl<H, S: SelectForRank101111, S0: Select0ForRank101111, BV: AsSlice<u64>> Perf
         H: KeyHash<K>,
         ensures value { result.0 ≡ number_of H.hash self.now key.now }
         ensures reads { ReadsAtMost none_read result.1 1 1 (length self.now.sizes + 8) }
-        ensures looked { ExceedsBy 8 (levels_looked (λ _ _. place_in) H.hash self.now key.now)
+        ensures looked { ExceedsBy 8 (levels_looked (λ _ _. position_in) H.hash self.now key.now)
             result.1.words }
     {
         let mut probe = self.index.probe();

@@ -1,4 +1,4 @@
--- The intersection of two lists, each from a place on.
+-- The intersection of two lists, each from a position on.
 use Rattle.std.proofs.Common.{◌≡◌, ℕ, ◌+◌, ◌-◌, ◌^◌, ◌<◌, ◌≤◌, ◌⊎◌, List, length, set, drop, zero, suc, sym, subst, arith, ⊎_elim, length-drop}
 use Rattle.std.specs.List.Sorted.{IsNonDecreasing}
 use Rattle.postings.specs.Shared.{AreInAll, IsInAll, IsMeeting, IsNumberIn, KeepsFrom}
@@ -19,7 +19,7 @@ module _ (xs ys : List ℕ) (p q a b : ℕ) (one_rising : IsNonDecreasing xs) (o
   both_in l m same (suc zero) inside = subst (IsNumberIn (drop q ys)) (sym same) (head_in ys q b other m)
   both_in l m same (suc (suc i)) inside = absurd (omega (arith, inside))
 
--- the same places under other names
+-- the same positions under other names
 pub meeting_at : (old : List (List ℕ)) (xs ys : List ℕ) (p r q s from n low : ℕ) (out : List ℕ) → p ≡ r → q ≡ s
     → IsMeeting old from n out (pair_from xs p ys q) low → IsMeeting old from n out (pair_from xs r ys s) low
 meeting_at old xs ys p r q s from n low out e f was =

@@ -1,4 +1,4 @@
--- A cursor that moves from one place of a list to a later one.
+-- A cursor that moves from one position of a list to a later one.
 use Rattle.std.proofs.Common.{◌≡◌, ℕ, ◌+◌, ◌-◌, ◌<◌, ◌≤◌, List, length, get_or, drop, Some, None, sym, ap, ◌∙◌, arith, length-drop}
 use Rattle.std.proofs.lemmas.List.{get_or-drop, drop-drop, drop_all}
 use Rattle.std.specs.List.Sorted.{IsNonDecreasing}

@@ -1,4 +1,4 @@
--- The union of two lists, each from a place on.
+-- The union of two lists, each from a position on.
 use Rattle.std.proofs.Common.{◌≡◌, ℕ, ◌+◌, ◌-◌, ◌^◌, ◌<◌, ◌≤◌, ◌⊎◌, List, length, get_or, set, drop, zero, suc, refl, sym, ap, ◌∙◌, subst, arith, ⊎_elim, length-drop}
 use Rattle.std.proofs.lemmas.Bool.{cases_lt}
 use Rattle.std.proofs.lemmas.List.{get_or-drop}
@@ -11,7 +11,7 @@ use Rattle.postings.proofs.SharingLemmas.{keeps_all, keeps_through}
 
 -- ---- one list
 
--- a number from a place on stands there from an earlier place on
+-- a number from a position on stands there from an earlier position on
 one_back : (xs : List ℕ) (p r x : ℕ) → p ≤ r → IsNumberIn (drop r xs) x → IsNumberIn (drop p xs) x
 one_back xs p r x order c =
     let e : p + (r - p + c.0) ≡ r + c.0 = omega arith in (
@@ -20,7 +20,7 @@ one_back xs p r x order c =
       get_or-drop p xs (r - p + c.0) 0 ∙ (ap (λ (k : ℕ). get_or xs k 0) e ∙ (sym (get_or-drop r xs c.0 0) ∙ c.2)),
     )
 
--- and from a later place on, where those in between are less
+-- and from a later position on, where those in between are less
 one_kept : (xs : List ℕ) (p r v x : ℕ) → p ≤ r → ((k : ℕ) → p ≤ k → k < r → get_or xs k 0 < v) → v ≤ x
     → IsNumberIn (drop p xs) x → IsNumberIn (drop r xs) x
 one_kept xs p r v x order less most c =
@@ -35,12 +35,12 @@ one_kept xs p r v x order less most c =
     ))
     (cases_lt (p + c.0) r)
 
--- h is the number at a place, or the greatest of 64 bits past the end
+-- h is the number at a position, or the greatest of 64 bits past the end
 pub record IsHeadAt (xs : List ℕ) (p h : ℕ) : Type 0 where
   pub there : p < length xs → h ≡ get_or xs p 0
   pub none : length xs ≤ p → h ≡ 2 ^ 64 - 1
 
--- the number at a place of a block, which is at its end only where the list is
+-- the number at a position of a block, which is at its end only where the list is
 pub head_of_block : (xs block : List ℕ) (i n at h : ℕ) (Ends : Type 0) → IsBlockOf xs i n block → (Ends → length xs ≡ i + n) → (at < n) ⊎ Ends
     → (at < n → h ≡ get_or block at 0) → (n ≤ at → h ≡ 2 ^ 64 - 1) → IsHeadAt xs (i + at) h
 head_of_block xs block i n at h Ends is end goes here none = record {
@@ -72,7 +72,7 @@ module _ (xs : List ℕ) (p h : ℕ) (head : IsHeadAt xs p h) where
       let e : p + 0 ≡ p = omega arith in
       (0, omega (arith, inside, length-drop p xs), get_or-drop p xs 0 0 ∙ (ap (λ (k : ℕ). get_or xs k 0) e ∙ sym (head.there inside)))
 
--- the place is passed where the number there is no more than the least
+-- the position is passed where the number there is no more than the least
 pub head_passed : (xs : List ℕ) (i at to h least v : ℕ) → IsHeadAt xs (i + at) h → least < 2 ^ 64 - 1 → least < v → (h ≤ least → to ≡ at + 1) → (least < h → to ≡ at)
     → (i + at ≤ i + to) × ((k : ℕ) → i + at ≤ k → k < i + to → get_or xs k 0 < v)
 head_passed xs i at to h least v head some below past same = ⊎_elim
@@ -149,7 +149,7 @@ module _ (xs ys : List ℕ) (p q a b : ℕ) (one_rising : IsNonDecreasing xs) (o
       which)
       from
 
--- the same places under other names
+-- the same positions under other names
 pub pair_at : (old : List (List ℕ)) (xs ys : List ℕ) (p r q s from n low : ℕ) (out : List ℕ) → p ≡ r → q ≡ s
     → IsJoining old from n out (pair_from xs p ys q) low → IsJoining old from n out (pair_from xs r ys s) low
 pair_at old xs ys p r q s from n low out e f was =

@@ -1,4 +1,4 @@
--- A number of a sequence by the place of its one.
+-- A number of a sequence by the position of its one.
 use Rattle.std.proofs.Common.{◌≡◌, ℕ, ◌+◌, ◌-◌, ◌*◌, ◌/◌, ◌<◌, ◌≤◌, Bool, true, false, List, length, get_or, sym, ap, ◌∙◌, arith, ⊎_elim, cond, ◌%◌}
 use Rattle.std.proofs.Math.Nat.{mul-le-mul_right}
 use Rattle.std.proofs.lemmas.Bool.{cases_lt}
@@ -11,7 +11,7 @@ use Rattle.bit_lists.specs.Count.{ones_before, IsFirstFrom, Picks}
 use Rattle.elias_fano.specs.Low.{Lows, HasFragments}
 use Rattle.elias_fano.specs.Parts.{HasFragment}
 
--- the first one from a place on is picked by the ones before the place
+-- the first one from a position on is picked by the ones before the position
 pub first_picked : (b : List Bool) (s p r : ℕ) → IsFirstFrom b true s p → ones_before b s ≡ r → Picks b true r p
 first_picked b s p r h before =
     let is : s + (p - s) ≡ p = omega (arith, h.from) in
@@ -19,7 +19,7 @@ first_picked b s p r h before =
     equal_items_count_for_one b false s (p - s) (omega (arith, h.from, h.inside)) (λ i from less. h.least i from (omega (arith, less, h.from))) in
     record { inside = h.inside; item = h.is; before = ap (ones_before b) (sym is) ∙ (none ∙ before) }
 
--- one more stands before the next place
+-- one more stands before the next position
 pub ones_after : (b : List Bool) (r p : ℕ) → Picks b true r p → ones_before b (p + 1) ≡ r + 1
 ones_after b r p h = count_after_item b true p h.inside ∙ (ap (λ (x : Bool). ones_before b p + cond x 1 0) h.item ∙ ap (λ (n : ℕ). n + 1) h.before)
 

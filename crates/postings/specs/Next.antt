@@ -17,7 +17,7 @@ pub record IsFirstOf (xs : List ℕ) (v x : ℕ) : Type 0 where
 abbrev pub IsReached : List ℕ → ℕ → Type 0
 IsReached xs v = (0 < length xs) × (v ≤ slice_index xs 0)
 
--- of the numbers from the old place on, those before the first that is at least v were passed, and no others; None
+-- of the numbers from the old position on, those before the first that is at least v were passed, and no others; None
 -- exactly where none is left
 pub record IsNextAtLeast (old : List ℕ) (v : ℕ) (o : Option ℕ) (new : List ℕ) : Type 0 where
   pub passed : ℕ

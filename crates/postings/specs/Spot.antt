@@ -8,7 +8,7 @@ use Rattle.postings.specs.declared.spot.Spot.{Spot}
 use Rattle.postings.specs.declared.near.Near.{Near}
 use Rattle.postings.specs.declared.near.Near.TheVariants.{Found, Ended, Far}
 
--- an item's place in the list, that of its one among the words, and the item
+-- an item's position in the list, that of its one among the words, and the item
 pub record IsSpot (xs words : List ℕ) (s : Spot) : Type 0 where
   pub inside : s.at < length xs
   pub one : Picks (bits_of words) true s.at s.one
@@ -26,8 +26,8 @@ IsUpTo n v (Found s) = (s.at < n) × (v ≤ s.number)
 IsUpTo n v Ended = ⊤
 IsUpTo n v Far = ⊤
 
--- the ones of so many items, all less than v, stand before a place, and no others
-pub record IsBehind (xs words : List ℕ) (v at place : ℕ) : Type 0 where
+-- the ones of so many items, all less than v, stand before a position, and no others
+pub record IsBehind (xs words : List ℕ) (v at position : ℕ) : Type 0 where
   pub count : at ≤ length xs
-  pub before : ones_before (bits_of words) place ≡ at
+  pub before : ones_before (bits_of words) position ≡ at
   pub less : (j : ℕ) → j < at → slice_index xs j < v

@@ -37,15 +37,15 @@ const STEPS: usize = 8;
 /// How many words are read for the next one.
 const WORDS: usize = 2;
 
-/// The first one from `place` on, if it is in the word that has it or in the next.
+/// The first one from `position` on, if it is in the word that has it or in the next.
 #[inline(always)]
-fn next_one_on<T: TableSource>(source: &mut T, place: usize) -> Option<usize>
+fn next_one_on<T: TableSource>(source: &mut T, position: usize) -> Option<usize>
     requires { IsShort (T.lists source.old).words }
-    ensures first { IfSome result (IsFirstOneFrom (bits_in (T.lists source.old)) place) }
+    ensures first { IfSome result (IsFirstOneFrom (bits_in (T.lists source.old)) position) }
     ensures reads { OnlyReads T.lists T.reads source.old source.new 0 0 2 }
 {
-    let first = place / 64;
-    let mut from = place % 64;
+    let first = position / 64;
+    let mut from = position % 64;
     for k in 0..WORDS {
         if first + k >= source.words_len() {
             return None;
@@ -79,33 +79,34 @@ fn skip_on<T: TableSource>(source: &mut T, one: usize, at: usize, zeros: usize) 
 }
 
 /// The first number that is at least `v` among the next eight from number `at` on, where the ones of the numbers before
-/// it, all less than `v`, stand before bit `place`, and no others; some number that is at least `v` where they do not.
+/// it, all less than `v`, stand before bit `position`, and no others; some number that is at least `v` where they do
+/// not.
 #[inline(always)]
 fn walk_on<T: TableSource>(
     source: &mut T,
     low: &mut LowDigits<'_>,
     n: usize,
     at: usize,
-    place: usize,
+    position: usize,
     v: u64,
 ) -> Near
     requires short { IsShort (T.lists source.old).words }
     requires fragments { HasFragments low.old n }
     requires within { at ≤ n }
     ensures near { (xs : List ℕ) → Holds xs (parts_with n low.old (T.lists source.old))
-        → IsBehind xs (T.lists source.old).words v at place
+        → IsBehind xs (T.lists source.old).words v at position
         → IsNear xs (T.lists source.old).words v result }
     ensures up_to { IsUpTo n v result }
     ensures reads { OnlyReads T.lists T.reads source.old source.new 0 0 16 }
     ensures fragments { ReadsFragments low.old low.new 8 }
 {
-    let mut place = place;
+    let mut position = position;
     for step in 0..STEPS {
         let at = at + step;
         if at >= n {
             return Near::Ended;
         }
-        let one = match next_one_on(&mut *source, place) {
+        let one = match next_one_on(&mut *source, position) {
             Some(one) => one,
             None => return Near::Far,
         };
@@ -113,7 +114,7 @@ fn walk_on<T: TableSource>(
         if number >= v {
             return Near::Found(Spot { at, one, number });
         }
-        place = one + 1;
+        position = one + 1;
     }
     Near::Far
 }

@@ -23,8 +23,8 @@ pub data Request : Type 0 where
 -- what a command asks for
 abbrev pub request : Command → Request
 request (command.Words words) = Words words.items
-request (command.Set place) = Set place
-request (command.Clear place) = Clear place
+request (command.Set position) = Set position
+request (command.Clear position) = Clear position
 request (command.Build kind) = Build kind
 request (command.Rank index) = Rank index
 request (command.Bits begin len) = Bits begin len
@@ -79,8 +79,8 @@ request_of line = request_of_parts (parts_between_spaces line)
 abbrev pub AsksForWords : Option Request → Type 0
 AsksForWords None = ⊥
 AsksForWords (Some (Words words)) = ⊤
-AsksForWords (Some (Set place)) = ⊥
-AsksForWords (Some (Clear place)) = ⊥
+AsksForWords (Some (Set position)) = ⊥
+AsksForWords (Some (Clear position)) = ⊥
 AsksForWords (Some (Build kind)) = ⊥
 AsksForWords (Some (Rank index)) = ⊥
 AsksForWords (Some (Bits begin len)) = ⊥
@@ -91,8 +91,8 @@ AsksForWords (Some (Select0 rank)) = ⊥
 -- at most 65536 words, and widths up to 63
 abbrev pub IsWithinLimits : Request → Type 0
 IsWithinLimits (Words words) = length words ≤ 65536
-IsWithinLimits (Set place) = ⊤
-IsWithinLimits (Clear place) = ⊤
+IsWithinLimits (Set position) = ⊤
+IsWithinLimits (Clear position) = ⊤
 IsWithinLimits (Build kind) = ⊤
 IsWithinLimits (Rank index) = ⊤
 IsWithinLimits (Bits begin len) = len ≤ 63

@@ -21,12 +21,12 @@ pub record State : Type 0 where
 abbrev pub start : State
 start = record { bits = []; built = None }
 
--- the answer where the bit at the place is changed, and the state after it
+-- the answer where the bit at the position is changed, and the state after it
 abbrev pub changed_answer : State → ℕ → Answer
-changed_answer state place = if nat_lt place (length state.bits) then Accepted place else Absent
+changed_answer state position = if nat_lt position (length state.bits) then Accepted position else Absent
 
 abbrev pub with_bit : State → ℕ → Bool → State
-with_bit state place bit = if nat_lt place (length state.bits) then record { bits = slice_set state.bits place bit; built = None } else state
+with_bit state position bit = if nat_lt position (length state.bits) then record { bits = slice_set state.bits position bit; built = None } else state
 
 -- the answer where a number is asked of an index, if one is built
 abbrev pub indexed_answer : Option Kind → Answer → Answer
@@ -40,7 +40,7 @@ range_answer bits begin len =
 
 -- the position of the bit of the kind with the given number of them before it, or none where there is none
 abbrev pub IsPositionFound : List Bool → Bool → ℕ → Answer → Type 0
-IsPositionFound bits v rank (Number place) = Picks bits v rank place
+IsPositionFound bits v rank (Number position) = Picks bits v rank position
 IsPositionFound bits v rank Absent = count_before bits v (length bits) ≤ rank
 IsPositionFound bits v rank (Accepted number) = ⊥
 IsPositionFound bits v rank (Ones count) = ⊥
@@ -48,32 +48,32 @@ IsPositionFound bits v rank NotBuilt = ⊥
 IsPositionFound bits v rank NoMemory = ⊥
 IsPositionFound bits v rank BadCommand = ⊥
 
--- the answer where a place is asked of an index, if one is built that selects
-abbrev pub IsPlaceAnswer : Option Kind → List Bool → Bool → ℕ → Answer → Type 0
-IsPlaceAnswer None bits v rank answer = answer ≡ NotBuilt
-IsPlaceAnswer (Some Simple) bits v rank answer = answer ≡ NotBuilt
-IsPlaceAnswer (Some Binary) bits v rank answer = IsPositionFound bits v rank answer
-IsPlaceAnswer (Some Sampled) bits v rank answer = IsPositionFound bits v rank answer
+-- the answer where a position is asked of an index, if one is built that selects
+abbrev pub IsPositionAnswer : Option Kind → List Bool → Bool → ℕ → Answer → Type 0
+IsPositionAnswer None bits v rank answer = answer ≡ NotBuilt
+IsPositionAnswer (Some Simple) bits v rank answer = answer ≡ NotBuilt
+IsPositionAnswer (Some Binary) bits v rank answer = IsPositionFound bits v rank answer
+IsPositionAnswer (Some Sampled) bits v rank answer = IsPositionFound bits v rank answer
 
 -- what is answered where memory is found
 abbrev pub IsAnswer : State → Request → Answer → Type 0
 IsAnswer state (Words words) answer = answer ≡ Accepted (length words)
-IsAnswer state (Set place) answer = answer ≡ changed_answer state place
-IsAnswer state (Clear place) answer = answer ≡ changed_answer state place
+IsAnswer state (Set position) answer = answer ≡ changed_answer state position
+IsAnswer state (Clear position) answer = answer ≡ changed_answer state position
 IsAnswer state (Build kind) answer = answer ≡ Ones (ones_before state.bits (length state.bits))
 IsAnswer state (Rank index) answer =
     answer ≡ indexed_answer state.built (if nat_le index (length state.bits) then Number (ones_before state.bits index) else Absent)
 IsAnswer state (Rank0 index) answer =
     answer ≡ indexed_answer state.built (if nat_le index (length state.bits) then Number (zeros_before state.bits index) else Absent)
-IsAnswer state (Select rank) answer = IsPlaceAnswer state.built state.bits true rank answer
-IsAnswer state (Select0 rank) answer = IsPlaceAnswer state.built state.bits false rank answer
+IsAnswer state (Select rank) answer = IsPositionAnswer state.built state.bits true rank answer
+IsAnswer state (Select0 rank) answer = IsPositionAnswer state.built state.bits false rank answer
 IsAnswer state (Bits begin len) answer = answer ≡ range_answer state.bits begin len
 
 -- the state after that answer
 abbrev pub state_after : State → Request → State
 state_after state (Words words) = record { bits = bits_of words; built = None }
-state_after state (Set place) = with_bit state place true
-state_after state (Clear place) = with_bit state place false
+state_after state (Set position) = with_bit state position true
+state_after state (Clear position) = with_bit state position false
 state_after state (Build kind) = record { bits = state.bits; built = Some kind }
 state_after state (Rank index) = state
 state_after state (Bits begin len) = state
@@ -84,8 +84,8 @@ state_after state (Select0 rank) = state
 -- the state after a refusal for memory, which only these two can meet
 abbrev pub IsAfterRefusal : State → Request → State → Type 0
 IsAfterRefusal old (Words words) new = new ≡ old
-IsAfterRefusal old (Set place) new = ⊥
-IsAfterRefusal old (Clear place) new = ⊥
+IsAfterRefusal old (Set position) new = ⊥
+IsAfterRefusal old (Clear position) new = ⊥
 IsAfterRefusal old (Build kind) new = new ≡ record { bits = old.bits; built = None }
 IsAfterRefusal old (Rank index) new = ⊥
 IsAfterRefusal old (Bits begin len) new = ⊥
@@ -113,7 +113,7 @@ pub record WroteAnswer (line : List ℕ) (old new : State) (before after : Optio
   pub answer : Answer
   pub step : Step old (request_of line) answer new
   pub written : Appends before after (answer_text answer ++ 10 ∷ [])
-  pub told : good ≡ is_good answer
+  pub reported : good ≡ is_good answer
 
 -- A session over these lines ends in this state, and it was written: the writer's bytes, where the writer shows them,
 -- went from before to after by just its answers, and good says that none was `bad command`.
@@ -121,4 +121,4 @@ pub record Wrote (lines : List (List ℕ)) (end : State) (before after : Option 
   pub answers : List Answer
   pub session : Answers start lines answers end
   pub written : Appends before after (answers_text answers)
-  pub told : good ≡ list_all is_good answers
+  pub reported : good ≡ list_all is_good answers

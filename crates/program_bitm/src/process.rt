@@ -29,9 +29,9 @@ impl Alloc for Process<'_> {
 
 impl Process<'_> {
     /// Says how many bytes there are to work on, where they are many.
-    fn tell(&self, bytes: usize) {
+    fn report(&self, bytes: usize) {
         if bytes >= LARGE {
-            self.progress.tell("working on", bytes as u64);
+            self.progress.report("working on", bytes as u64);
         }
     }
 }
@@ -40,7 +40,7 @@ impl Sources for Process<'_> {
     fn file(&self, path: &str) -> Result<Vec<u8>, CannotRead> {
         let bytes = self.rt.file(path)?;
         if self.walks {
-            self.tell(bytes.len());
+            self.report(bytes.len());
         }
         Ok(bytes)
     }
@@ -48,7 +48,7 @@ impl Sources for Process<'_> {
     fn input(&self) -> Result<Vec<u8>, CannotRead> {
         let mut stream = Counted::new(self.progress, "read", self.rt.reader());
         let bytes = read_all(self.alloc(), &mut stream)?;
-        self.tell(bytes.len());
+        self.report(bytes.len());
         Ok(bytes)
     }
 }

@@ -28,7 +28,7 @@ impl<'a> Progress<'a> {
     }
 
     /// Says what is done with how many bytes.
-    pub(crate) fn tell(&self, what: &str, bytes: u64) {
+    pub(crate) fn report(&self, what: &str, bytes: u64) {
         if self.start.is_some() {
             let _ = eprintln!(self.rt; "bitm: {what} {bytes} bytes");
         }
@@ -79,7 +79,7 @@ impl<'a, T> Counted<'a, T> {
         let seconds = self.progress.seconds();
         if seconds >= self.next {
             self.next = seconds.saturating_mul(2);
-            self.progress.tell(self.done, self.bytes);
+            self.progress.report(self.done, self.bytes);
         }
     }
 }

@@ -6,7 +6,7 @@ use Rattle.std.specs.List.{flat_map, list_any}
 use Rattle.std.specs.List.Sorted.{IsNonDecreasing, IsPermutation, IsStrictlyIncreasing}
 use Rattle.program_files.specs.Bytes.{words_of_bytes}
 use Rattle.program_files.specs.File.{IsOpened, IsTextFile}
-use Rattle.program_files.specs.Lines.{ArePlacesOf, LinesWith}
+use Rattle.program_files.specs.Lines.{AreAllPositions, LinesWith}
 use Rattle.program_files.specs.declared.texts.command.Asked.{Asked}
 use Rattle.program_files.specs.declared.texts.command.Asked.TheVariants.{Count, Locate, Lines}
 use Rattle.text_block.specs.Block.{parts_in}
@@ -33,20 +33,20 @@ pub record ArePositions (text pattern positions : List ℕ) : Type 0 where
 -- that have any
 abbrev pub ArePatternAnswers : Asked → List ℕ → List (List ℕ) → List ℕ → Type 0
 ArePatternAnswers Count text patterns numbers = numbers ≡ map (occurrences text) patterns
-ArePatternAnswers Locate text patterns numbers = ArePlacesOf patterns text numbers
+ArePatternAnswers Locate text patterns numbers = AreAllPositions patterns text numbers
 ArePatternAnswers Lines text patterns numbers = LinesWith patterns text numbers
 
 -- what that can be in a text of n letters: a count is at most that of all positions, a position one of a letter or the
 -- end, and positions and lines rise
 abbrev pub AreWithin : Asked → ℕ → List (List ℕ) → List ℕ → Type 0
 AreWithin Count n patterns numbers = (length numbers ≡ length patterns) × All (λ count. count ≤ n + 1) numbers
-AreWithin Locate n patterns numbers = All (λ place. place ≤ n) numbers × IsStrictlyIncreasing numbers
+AreWithin Locate n patterns numbers = All (λ position. position ≤ n) numbers × IsStrictlyIncreasing numbers
 AreWithin Lines n patterns numbers = All (λ line. 0 < line) numbers × IsStrictlyIncreasing numbers
 
 -- whether some pattern was found
 abbrev pub is_found : Asked → List ℕ → Bool
 is_found Count counts = list_any (λ count. nat_lt 0 count) counts
-is_found Locate places = nat_lt 0 (length places)
+is_found Locate all_positions = nat_lt 0 (length all_positions)
 is_found Lines lines = nat_lt 0 (length lines)
 
 -- numbers were written, each as a line: the writer's bytes, where the writer shows them, went from before to after by

@@ -38,7 +38,7 @@ pub record IsBitsOf (xs block : List ℕ) : Type 0 where
 pub record IsBitReply (b : List Bool) (p : ℕ) (reply : Reply) : Type 0 where
   pub bit : Answer Bool
   pub bit_of : IsBitOf b p bit
-  pub told : answer_in_reply reply ≡ as_number bit
+  pub reported : answer_in_reply reply ≡ as_number bit
 
 -- what these bits answer to a word and one number; other words are no questions to them
 abbrev pub IsBitsReplyOne : List Bool → Word → ℕ → Reply → Type 0

@@ -39,14 +39,14 @@ AreAnswers parts (line ∷ lines) [] = ⊥
 -- and found says that it is a number
 pub record WroteNumber (form : Form) (parts : StringParts) (line : List ℕ) (before after : Option (List ℕ)) (found : Bool) : Type 0 where
   pub answer : Answer ℕ
-  pub told : found ≡ is_number_found answer
+  pub reported : found ≡ is_number_found answer
   pub is : IsLineAnswer parts line answer
   pub written : Appends before after (answer_line form answer)
 
 -- the answers to these lines were, and found says that one of them is a number
 pub record WroteNumbers (form : Form) (parts : StringParts) (lines : List (List ℕ)) (before after : Option (List ℕ)) (found : Bool) : Type 0 where
   pub answers : List (Answer ℕ)
-  pub told : found ≡ list_any is_number_found answers
+  pub reported : found ≡ list_any is_number_found answers
   pub are : AreAnswers parts lines answers
   pub written : Appends before after (flat_map (answer_line form) answers)
 

@@ -26,7 +26,7 @@ verdict_text Text (Err e) good = if good then codes "good\n" else codes "wrong\n
 -- it was written whether the bytes are a block that is as it was written, or a file of version 2 whose parts fit each
 -- other, and good says that
 pub record WroteCheck (form : Form) (bytes : List ℕ) (before after : Option (List ℕ)) (good : Bool) : Type 0 where
-  pub told : IsTrue good ↔ (IsSoundFile bytes ⊎ IsOldFile bytes)
+  pub reported : IsTrue good ↔ (IsSoundFile bytes ⊎ IsOldFile bytes)
   pub written : Appends before after (verdict_text form (format_in bytes) good)
 
 -- the command was done on the file at a path, and good says that all went well: it was written whether its bytes are right,

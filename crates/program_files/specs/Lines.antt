@@ -8,34 +8,34 @@ use denote.Ref.{Bor}
 abbrev pub bytes_in : List (Bor (List ℕ)) → List (List ℕ)
 bytes_in patterns = map (λ pattern. pattern.now) patterns
 
--- one of the patterns stands at a place of the text, of which its end is one
-pub record SomeStandsAt (patterns : List (List ℕ)) (text : List ℕ) (place : ℕ) : Type 0 where
+-- one of the patterns stands at a position of the text, of which its end is one
+pub record SomeStandsAt (patterns : List (List ℕ)) (text : List ℕ) (position : ℕ) : Type 0 where
   pub pattern : List ℕ
   pub one : Contains patterns pattern
-  pub inside : place ≤ length text
-  pub stands : stands_at text pattern place ≡ true
+  pub inside : position ≤ length text
+  pub stands : stands_at text pattern position ≡ true
 
--- these are all places at which one of the patterns stands, some maybe more than once
+-- these are all positions at which one of the patterns stands, some maybe more than once
 pub record AreFoundOf (patterns : List (List ℕ)) (text found : List ℕ) : Type 0 where
   pub each : All (SomeStandsAt patterns text) found
-  pub all : (place : ℕ) → SomeStandsAt patterns text place → Contains found place
+  pub all : (position : ℕ) → SomeStandsAt patterns text position → Contains found position
 
--- these are all places at which one of the patterns stands, each once and in their order
-pub record ArePlacesOf (patterns : List (List ℕ)) (text places : List ℕ) : Type 0 where
-  pub each : All (SomeStandsAt patterns text) places
-  pub all : (place : ℕ) → SomeStandsAt patterns text place → Contains places place
-  pub rising : IsStrictlyIncreasing places
+-- these are all positions at which one of the patterns stands, each once and in their order
+pub record AreAllPositions (patterns : List (List ℕ)) (text all_positions : List ℕ) : Type 0 where
+  pub each : All (SomeStandsAt patterns text) all_positions
+  pub all : (position : ℕ) → SomeStandsAt patterns text position → Contains all_positions position
+  pub rising : IsStrictlyIncreasing all_positions
 
--- the number of the line that a place of the text is in, the first being 1: one more than the line feeds before it
+-- the number of the line that a position of the text is in, the first being 1: one more than the line feeds before it
 abbrev pub line_at : List ℕ → ℕ → ℕ
-line_at text place = count_by (λ letter. letter == 10) (take place text) + 1
+line_at text position = count_by (λ letter. letter == 10) (take position text) + 1
 
--- the line has one of the patterns: it stands at a place of that line, which is one of a byte of the text
+-- the line has one of the patterns: it stands at a position of that line, which is one of a byte of the text
 pub record HasPattern (patterns : List (List ℕ)) (text : List ℕ) (line : ℕ) : Type 0 where
-  pub place : ℕ
-  pub inside : place < length text
-  pub stands : SomeStandsAt patterns text place
-  pub line_is : line ≡ line_at text place
+  pub position : ℕ
+  pub inside : position < length text
+  pub stands : SomeStandsAt patterns text position
+  pub line_is : line ≡ line_at text position
 
 -- these are the numbers of the lines that have one of the patterns, each once and in their order
 pub record LinesWith (patterns : List (List ℕ)) (text lines : List ℕ) : Type 0 where
@@ -43,19 +43,19 @@ pub record LinesWith (patterns : List (List ℕ)) (text lines : List ℕ) : Type
   pub all : (line : ℕ) → HasPattern patterns text line → Contains lines line
   pub rising : IsStrictlyIncreasing lines
 
--- the number of the line that a place is in, where the lines end at these places
+-- the number of the line that a position is in, where the lines end at these positions
 abbrev pub line_among : List ℕ → ℕ → ℕ
-line_among ends place = count_by (λ end. nat_lt end place) ends + 1
+line_among ends position = count_by (λ end. nat_lt end position) ends + 1
 
--- one of the places below len is in the line
-pub record HasPlace (places ends : List ℕ) (len line : ℕ) : Type 0 where
-  pub place : ℕ
-  pub inside : place < len
-  pub one : Contains places place
-  pub line_is : line ≡ line_among ends place
+-- one of the positions below len is in the line
+pub record HasPosition (all_positions ends : List ℕ) (len line : ℕ) : Type 0 where
+  pub position : ℕ
+  pub inside : position < len
+  pub one : Contains all_positions position
+  pub line_is : line ≡ line_among ends position
 
--- these are the numbers of the lines in which the places below len are, each once and in their order
-pub record AreLinesOf (places ends : List ℕ) (len : ℕ) (lines : List ℕ) : Type 0 where
-  pub each : All (HasPlace places ends len) lines
-  pub all : (line : ℕ) → HasPlace places ends len line → Contains lines line
+-- these are the numbers of the lines in which the positions below len are, each once and in their order
+pub record AreLinesOf (all_positions ends : List ℕ) (len : ℕ) (lines : List ℕ) : Type 0 where
+  pub each : All (HasPosition all_positions ends len) lines
+  pub all : (line : ℕ) → HasPosition all_positions ends len line → Contains lines line
   pub rising : IsStrictlyIncreasing lines

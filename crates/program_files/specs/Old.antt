@@ -11,7 +11,7 @@ use Rattle.program_base.specs.Text.{lines_of}
 use Rattle.program_base.specs.declared.runs.form.Form.{Form}
 use Rattle.program_files.specs.Bits.{IsBitsReply}
 use Rattle.program_files.specs.Bytes.{words_of_bytes}
-use Rattle.program_files.specs.Query.{Told, WroteReplies}
+use Rattle.program_files.specs.Query.{Replies, WroteReplies}
 use Rattle.program_files.specs.Sequence.{IsSequenceReply}
 use Rattle.program_files.specs.declared.blocks.kind.Kind.{Kind}
 use Rattle.program_files.specs.declared.blocks.kind.Kind.TheVariants.{Bits, Sequence}
@@ -90,11 +90,11 @@ pub record WroteOldSequence (form : Form) (file text : List ℕ) (before after :
   pub wrote : WroteReplies form (IsOldReply file) (lines_of text) before after good
 
 -- the bytes are those of a file of version 2, and the replies of what it holds were written
-pub record ToldOld (form : Form) (bytes text : List ℕ) (before after : Option (List ℕ)) (good : Bool) : Type 0 where
+pub record RepliesOfOld (form : Form) (bytes text : List ℕ) (before after : Option (List ℕ)) (good : Bool) : Type 0 where
   pub file : List ℕ
   pub words : words_of_bytes bytes ≡ Some file
   pub wrote : WroteOldBits form file text before after good ⊎ WroteOldSequence form file text before after good
 
 -- the replies of what a file of either version holds were written
-abbrev pub ToldOfFile : Form → List ℕ → List ℕ → Option (List ℕ) → Option (List ℕ) → Bool → Type 0
-ToldOfFile form bytes text before after good = Told form bytes text before after good ⊎ ToldOld form bytes text before after good
+abbrev pub RepliesOfFile : Form → List ℕ → List ℕ → Option (List ℕ) → Option (List ℕ) → Bool → Type 0
+RepliesOfFile form bytes text before after good = Replies form bytes text before after good ⊎ RepliesOfOld form bytes text before after good

@@ -3,7 +3,7 @@ use Rattle.std.specs.Prelude.{◌≡◌, ℕ, List, Bool, true, Option, Some}
 use Rattle.program_base.specs.Known.{IsKnownAs, Known}
 use Rattle.program_files.specs.Building.{WroteBlock}
 use Rattle.program_files.specs.Command.{command_in}
-use Rattle.program_files.specs.Old.{ToldOfFile}
+use Rattle.program_files.specs.Old.{RepliesOfFile}
 use Rattle.program_files.specs.declared.blocks.command.Command.{Command}
 use Rattle.program_files.specs.declared.blocks.command.Command.TheVariants.{Build, Query}
 
@@ -13,7 +13,7 @@ abbrev pub IsDone : Known → Command → List ℕ → Option (List ℕ) → Opt
 IsDone known (Build kind) operand before after good =
     (text : List ℕ) × IsKnownAs known.input text × WroteBlock kind text before after × (good ≡ true)
 IsDone known (Query form) path before after good =
-    (bytes : List ℕ) × (text : List ℕ) × IsKnownAs (known.files path) bytes × IsKnownAs known.input text × ToldOfFile form bytes text before after good
+    (bytes : List ℕ) × (text : List ℕ) × IsKnownAs (known.files path) bytes × IsKnownAs known.input text × RepliesOfFile form bytes text before after good
 
 -- the same as one fact
 pub record Did (known : Known) (command : Command) (operand : List ℕ) (before after : Option (List ℕ)) (good : Bool) : Type 0 where

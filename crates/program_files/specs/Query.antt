@@ -53,21 +53,21 @@ pub record WroteReply (form : Form) (R : Question → Reply → Type 0) (line : 
   pub reply : Reply
   pub answers : IsReplyTo R (question_of line) reply
   pub written : Appends before after (reply_in form reply ++ 10 ∷ [])
-  pub told : good ≡ is_good_reply reply
+  pub reported : good ≡ is_good_reply reply
 
 -- the replies to these lines were written, and good says that each line was a question
 pub record WroteReplies (form : Form) (R : Question → Reply → Type 0) (lines : List (List ℕ)) (before after : Option (List ℕ)) (good : Bool) : Type 0 where
   pub replies : List Reply
   pub answers : AreReplies R lines replies
   pub written : Appends before after (replies_text form replies)
-  pub told : good ≡ list_all is_good_reply replies
+  pub reported : good ≡ list_all is_good_reply replies
 
 -- the replies of what a block of the kind holds were written to the lines of a text
 abbrev pub WroteAnswers : Form → Kind → List ℕ → List ℕ → Option (List ℕ) → Option (List ℕ) → Bool → Type 0
 WroteAnswers form kind block text before after good = WroteReplies form (IsReplyIn kind block) (lines_of text) before after good
 
 -- the bytes are those of a block that is as it was written, and that was written of it
-pub record Told (form : Form) (bytes text : List ℕ) (before after : Option (List ℕ)) (good : Bool) : Type 0 where
+pub record Replies (form : Form) (bytes text : List ℕ) (before after : Option (List ℕ)) (good : Bool) : Type 0 where
   pub block : List ℕ
   pub words : words_of_bytes bytes ≡ Some block
   pub sound : AreSoundNumbers block

@@ -6,15 +6,15 @@
 // - `failure`: why there is no answer
 // - `numbering`: the lines of a text that have one of some patterns
 // - `patterns`: the patterns of a list, one a line
-// - `places`: at how many positions of a text patterns stand, and at which
+// - `all_positions`: at how many positions of a text patterns stand, and at which
 // - `program`: the program without its process
+mod all_positions;
 mod answering;
 mod building;
 mod command;
 mod failure;
 mod numbering;
 mod patterns;
-mod places;
 mod program;
 
 pub use answering::{count, lines, locate};

@@ -2,7 +2,7 @@
 use Rattle.std.proofs.Common.{◌≡◌, ℕ, zero, suc, ◌+◌, ◌-◌, ◌<◌, ◌↔◌, Bool, true, List, length, get_or, ap, ⊎_elim, arith}
 use Rattle.std.proofs.lemmas.Bool.{cases_lt}
 use Rattle.std.specs.List.Sorted.{IsStrictlyIncreasing}
-use Rattle.sparse_bits.specs.Positions.{ArePlaces, Rises}
+use Rattle.sparse_bits.specs.Positions.{AreBitPositions, Rises}
 
 module _ (xs : List ℕ) where
   steps : IsStrictlyIncreasing xs → (i d : ℕ) → i + suc d < length xs → get_or xs i 0 < get_or xs (i + suc d) 0
@@ -18,16 +18,16 @@ module _ (xs : List ℕ) where
       let to : i + suc (j - i - 1) ≡ j = omega arith in
       omega (arith, steps rise i (j - i - 1) (omega (arith, inside)), ap (λ k. get_or xs k 0) to)
 
-  pub places-none : (end : ℕ) → length xs ≡ 0 → ArePlaces end 0 xs
-  places-none end none = record {
+  pub positions-none : (end : ℕ) → length xs ≡ 0 → AreBitPositions end 0 xs
+  positions-none end none = record {
     rising = λ i j before inside. absurd (omega (arith, inside, none));
     from = λ i less. omega arith;
     below = λ i less. absurd (omega (arith, less, none));
   }
 
-  pub places-by-last : (end : ℕ) → 0 < length xs → get_or xs (length xs - 1) 0 < end → (r : Bool) → (r ≡ true) ↔ IsStrictlyIncreasing xs
-      → (r ≡ true) ↔ ArePlaces end 0 xs
-  places-by-last end some less r is = (
+  pub positions-by-last : (end : ℕ) → 0 < length xs → get_or xs (length xs - 1) 0 < end → (r : Bool) → (r ≡ true) ↔ IsStrictlyIncreasing xs
+      → (r ≡ true) ↔ AreBitPositions end 0 xs
+  positions-by-last end some less r is = (
     λ yes.
         let all = rises (is.0 yes) in
         record {
@@ -38,5 +38,5 @@ module _ (xs : List ℕ) where
               (λ last. let same : i ≡ length xs - 1 = omega (arith, inside, last) in omega (arith, ap (λ k. get_or xs k 0) same, less))
               (cases_lt i (length xs - 1));
         },
-    λ places. is.1 (λ k inside. places.rising k (k + 1) (omega arith) inside),
+    λ positions. is.1 (λ k inside. positions.rising k (k + 1) (omega arith) inside),
   )

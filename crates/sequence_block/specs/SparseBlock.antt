@@ -3,7 +3,7 @@ use Rattle.std.specs.Prelude.{◌≡◌, ℕ, ◌^◌, ◌<◌, List, Bool, leng
 use Rattle.bitm_block.specs.Layout.{end_of}
 use Rattle.elias_fano.specs.SequenceParts.{Holds, SequenceParts}
 use Rattle.sequence_block.specs.Block.{sections_of, sequence_in, IsBlockOfKind, IsSoundOfKind}
-use Rattle.sparse_bits.specs.Positions.{bits_at, ArePlaces, ArePlacesHeld}
+use Rattle.sparse_bits.specs.Positions.{bits_at, AreBitPositions, ArePositionsHeld}
 
 -- the parts of the sequence of positions, and how many bits there are: they may hold anything
 pub record SparseParts : Type 0 where
@@ -16,7 +16,7 @@ parts_of positions n = record { positions = positions; len = n }
 
 -- the parts are those of n bits whose 1 bits are at the positions xs, with n as they say
 abbrev pub HoldsOnes : List ℕ → SparseParts → Type 0
-HoldsOnes xs v = ArePlacesHeld xs (Holds xs v.positions) v.len
+HoldsOnes xs v = ArePositionsHeld xs (Holds xs v.positions) v.len
 
 -- the bits whose 1 bits are at these positions
 abbrev pub bits_of : List ℕ → SparseParts → List Bool
@@ -49,5 +49,5 @@ pub record IsBlockOf (xs : List ℕ) (n : ℕ) (block : List ℕ) : Type 0 where
 -- positions of 1 bits among n, few enough, and a block as long as theirs
 pub record CanHold (xs : List ℕ) (n : ℕ) (block : List ℕ) : Type 0 where
   pub short : length xs < 2 ^ 56
-  pub places : ArePlaces n 0 xs
+  pub positions : AreBitPositions n 0 xs
   pub room : length block ≡ end_of (sections_of xs)

@@ -10,7 +10,7 @@ use Rattle.sharded_index.specs.Joined.{count_of_kind, joined, joined_to, shard_a
 use Rattle.sharded_index.specs.declared.counts.Kind.{Kind}
 use Rattle.sharded_index.specs.declared.counts.Kind.TheVariants.{Positions, Zeros, Ones}
 
--- a count before a place of the second of two lists
+-- a count before a location of the second of two lists
 pub count-append : (a b : List Bool) (v : Bool) (j : ℕ) → count_before (a ++ b) v (length a + j) ≡ count_of a v + count_before b v j
 unfolding ones_before zeros_before
 count-append a b true j =
@@ -22,7 +22,7 @@ count-append a b false j =
     ∙ (sum_by-append (λ x. cond (not x) 1 0) a (take j b)
     ∙ ap (λ (l : List Bool). count_by not l + count_by not (take j b)) (sym (take_all (length a) a (omega arith))))
 
--- a count before a place of the first of two lists
+-- a count before a location of the first of two lists
 pub count-append_first : (a b : List Bool) (v : Bool) (i : ℕ) → i ≤ length a → count_before (a ++ b) v i ≡ count_before a v i
 unfolding ones_before zeros_before
 count-append_first a b true i h = ap (count_by (λ x. x)) (take-append-le i a b h)

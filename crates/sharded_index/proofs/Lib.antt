@@ -1,5 +1,5 @@
 pub mod JoinedLaws
 pub mod JoinedLemmas
-pub mod PlaceLemmas
+pub mod LocationLemmas
 pub mod RightCountLemmas
 pub mod ShardedLemmas

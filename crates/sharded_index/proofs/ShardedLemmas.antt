@@ -10,13 +10,13 @@ use Rattle.bitm_select.specs.Answers.{IsSelected}
 use Rattle.tables_view.specs.Ranks.{IsCountWithin, IsRanked}
 use Rattle.sharded_index.proofs.JoinedLaws.{picked_in_joined, rank_in_joined}
 use Rattle.sharded_index.proofs.JoinedLemmas.{shard_is_within}
-use Rattle.sharded_index.proofs.PlaceLemmas.{claimed_is, number_of-kind, placed}
+use Rattle.sharded_index.proofs.LocationLemmas.{claimed_is, number_of-kind, placed}
 use Rattle.sharded_index.specs.Joined.{joined, joined_to, kind_of, shard_at}
 use Rattle.sharded_index.specs.Prefixes.{claimed, ArePrefixes, IsClaimed, Prefixes}
 use Rattle.sharded_index.specs.declared.counts.Kind.TheVariants.{Positions}
-use Rattle.sharded_index.specs.declared.counts.Place.{Place}
+use Rattle.sharded_index.specs.declared.counts.Location.{Location}
 
--- no more are counted before a place than there are
+-- no more are counted before a location than there are
 few : (b : List Bool) (v : Bool) (i : ℕ) → i ≤ length b → count_before b v i ≤ i
 few b true i l = omega (arith, ones_before-add-zeros_before b i l)
 few b false i l = omega (arith, ones_before-add-zeros_before b i l)
@@ -53,40 +53,40 @@ selected b v rank p end (Some m) r picked e s fits h =
     let less : m < end = omega (arith, picked.inside, e, s.1) in
     subst (IsSelected b v rank) (sym (h.0 less)) (subst (Picks b v rank) (sym s.1) picked)
 
-module _ (bs : List (List Bool)) (c : Prefixes) (h : ArePrefixes bs c) (v : Bool) (place : Place) where
+module _ (bs : List (List Bool)) (c : Prefixes) (h : ArePrefixes bs c) (v : Bool) (location : Location) where
   -- the count up to an index that a shard holds
-  pub count_is : (index n : ℕ) → IsClaimed Positions c index place → n ≡ count_before (shard_at bs place.shard) v place.within
-      → count_before (joined bs) v index ≡ claimed (kind_of v) c place.shard + n
+  pub count_is : (index n : ℕ) → IsClaimed Positions c index location → n ≡ count_before (shard_at bs location.shard) v location.within
+      → count_before (joined bs) v index ≡ claimed (kind_of v) c location.shard + n
   count_is index n is e =
-      let k = place.shard in
-      let at = placed bs c h Positions index place is in
+      let k = location.shard in
+      let at = placed bs c h Positions index location is in
       ap (count_before (joined bs) v) (sym at.is)
-      ∙ (rank_in_joined bs v k place.within at.inside (omega (arith, at.within))
-      ∙ ap (λ (m : ℕ). m + count_before (shard_at bs k) v place.within) (sym (number_of-kind v (joined_to bs k)) ∙ sym (claimed_is bs c h (kind_of v) k (omega (arith, at.inside))))
+      ∙ (rank_in_joined bs v k location.within at.inside (omega (arith, at.within))
+      ∙ ap (λ (m : ℕ). m + count_before (shard_at bs k) v location.within) (sym (number_of-kind v (joined_to bs k)) ∙ sym (claimed_is bs c h (kind_of v) k (omega (arith, at.inside))))
       ∙ ap (λ (m : ℕ). claimed (kind_of v) c k + m) (sym e))
 
   -- an index that a shard holds is one of the joined bits
-  pub index_inside : (index : ℕ) → IsClaimed Positions c index place → index ≤ length (joined bs)
+  pub index_inside : (index : ℕ) → IsClaimed Positions c index location → index ≤ length (joined bs)
   index_inside index is =
-      let at = placed bs c h Positions index place is in
-      omega (arith, at.is, at.within, shard_is_within bs place.shard at.inside)
+      let at = placed bs c h Positions index location is in
+      omega (arith, at.is, at.within, shard_is_within bs location.shard at.inside)
 
-  module _ (rank : ℕ) (is : IsClaimed (kind_of v) c rank place) where
+  module _ (rank : ℕ) (is : IsClaimed (kind_of v) c rank location) where
     -- the position that a shard has for a rank
-    pub picked_is : (q : ℕ) → Picks (shard_at bs place.shard) v place.within q
-        → Picks (joined bs) v rank (claimed Positions c place.shard + q)
+    pub picked_is : (q : ℕ) → Picks (shard_at bs location.shard) v location.within q
+        → Picks (joined bs) v rank (claimed Positions c location.shard + q)
     picked_is q picked =
-        let k = place.shard in
-        let at = placed bs c h (kind_of v) rank place is in
-        let r : count_of (joined_to bs k) v + place.within ≡ rank = omega (arith, at.is, number_of-kind v (joined_to bs k)) in
+        let k = location.shard in
+        let at = placed bs c h (kind_of v) rank location is in
+        let r : count_of (joined_to bs k) v + location.within ≡ rank = omega (arith, at.is, number_of-kind v (joined_to bs k)) in
         let p : length (joined_to bs k) + q ≡ claimed Positions c k + q =
         ap (λ (m : ℕ). m + q) (sym (claimed_is bs c h Positions k (omega (arith, at.inside)))) in
-        let there = (picked_in_joined bs v k place.within q at.inside picked.inside).0 picked in
+        let there = (picked_in_joined bs v k location.within q at.inside picked.inside).0 picked in
         subst (λ (m : ℕ). Picks (joined bs) v m (claimed Positions c k + q)) r
-        (subst (Picks (joined bs) v (count_of (joined_to bs k) v + place.within)) p there)
+        (subst (Picks (joined bs) v (count_of (joined_to bs k) v + location.within)) p there)
 
     -- a shard has the rank that it is claimed to hold
-    pub is_there : count_of (shard_at bs place.shard) v ≤ place.within → ⊥
+    pub is_there : count_of (shard_at bs location.shard) v ≤ location.within → ⊥
     is_there few =
-        let at = placed bs c h (kind_of v) rank place is in
-        omega (arith, at.within, few, number_of-kind v (shard_at bs place.shard))
+        let at = placed bs c h (kind_of v) rank location is in
+        omega (arith, at.within, few, number_of-kind v (shard_at bs location.shard))

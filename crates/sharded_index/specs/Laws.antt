@@ -13,13 +13,13 @@ ItemOfJoined =
     (bs : List (List Bool)) (k i : ℕ) → k < length bs → i < length (shard_at bs k)
     → item (joined bs) (length (joined_to bs k) + i) ≡ item (shard_at bs k) i
 
--- before a place of bit vector k there are the bits v before it there, and those of all bit vectors before
+-- before a location of bit vector k there are the bits v before it there, and those of all bit vectors before
 abbrev pub RankInJoined : Type 0
 RankInJoined =
     (bs : List (List Bool)) (v : Bool) (k i : ℕ) → k < length bs → i ≤ length (shard_at bs k)
     → count_before (joined bs) v (length (joined_to bs k) + i) ≡ count_of (joined_to bs k) v + count_before (shard_at bs k) v i
 
--- a rank picks a place in bit vector k exactly where it picks it in the joined bits, after all before it
+-- a rank picks a location in bit vector k exactly where it picks it in the joined bits, after all before it
 abbrev pub PickedInJoined : Type 0
 PickedInJoined =
     (bs : List (List Bool)) (v : Bool) (k r p : ℕ) → k < length bs → p < length (shard_at bs k)

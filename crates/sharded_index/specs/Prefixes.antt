@@ -7,7 +7,7 @@ use Rattle.bitm_tables.specs.declared.answer.Answer.TheVariants.{Found, Absent, 
 use Rattle.sharded_index.specs.Joined.{count_of_kind, joined, joined_to, shard_at}
 use Rattle.sharded_index.specs.declared.counts.Kind.{Kind}
 use Rattle.sharded_index.specs.declared.counts.Kind.TheVariants.{Positions, Zeros, Ones}
-use Rattle.sharded_index.specs.declared.counts.Place.{Place}
+use Rattle.sharded_index.specs.declared.counts.Location.{Location}
 
 -- a number for each shard and one more: the bits before it, and the 1 bits
 pub record Prefixes : Type 0 where
@@ -45,24 +45,24 @@ pub record ArePrefixes (bs : List (List Bool)) (c : Prefixes) : Type 0 where
   pub ones_before : (k : ℕ) → k ≤ length bs → slice_index c.ones k ≡ count_of_kind Ones (joined_to bs k)
 
 -- the numbers claim that a position, or the bit with a rank, is in a shard, after the given number of its kind there
-pub record IsClaimed (of : Kind) (c : Prefixes) (number : ℕ) (place : Place) : Type 0 where
-  pub inside : place.shard < shard_count c
-  pub is : claimed of c place.shard + place.within ≡ number
-  pub next : number < claimed of c (place.shard + 1)
+pub record IsClaimed (of : Kind) (c : Prefixes) (number : ℕ) (location : Location) : Type 0 where
+  pub inside : location.shard < shard_count c
+  pub is : claimed of c location.shard + location.within ≡ number
+  pub next : number < claimed of c (location.shard + 1)
 
 -- whatever the numbers are: Absent is answered exactly where they claim no more in all, and Wrong only where they claim
 -- more than the number before the first shard
-abbrev pub IsClaimedBy : Kind → Prefixes → ℕ → Answer Place → Type 0
-IsClaimedBy of c number (Found place) = IsClaimed of c number place × (number < claimed_in_all of c)
+abbrev pub IsClaimedBy : Kind → Prefixes → ℕ → Answer Location → Type 0
+IsClaimedBy of c number (Found location) = IsClaimed of c number location × (number < claimed_in_all of c)
 IsClaimedBy of c number Absent = claimed_in_all of c ≤ number
 IsClaimedBy of c number Wrong = (number < claimed of c 0) × (number < claimed_in_all of c)
 
 -- a position of the joined bits, or the bit with a rank there, is in a shard, after the given number of its kind there
-pub record IsPlaceWithin (of : Kind) (bs : List (List Bool)) (number : ℕ) (place : Place) : Type 0 where
-  pub inside : place.shard < length bs
-  pub within : place.within < count_of_kind of (shard_at bs place.shard)
-  pub is : count_of_kind of (joined_to bs place.shard) + place.within ≡ number
+pub record IsLocationWithin (of : Kind) (bs : List (List Bool)) (number : ℕ) (location : Location) : Type 0 where
+  pub inside : location.shard < length bs
+  pub within : location.within < count_of_kind of (shard_at bs location.shard)
+  pub is : count_of_kind of (joined_to bs location.shard) + location.within ≡ number
 
 -- where the numbers are those of the shards: Absent exactly where the joined bits have no more of the kind
-abbrev pub IsShardFound : Kind → List (List Bool) → ℕ → Answer Place → Type 0
-IsShardFound of bs number = Right (λ place. IsPlaceWithin of bs number place) (count_of_kind of (joined bs) ≤ number)
+abbrev pub IsShardFound : Kind → List (List Bool) → ℕ → Answer Location → Type 0
+IsShardFound of bs number = Right (λ location. IsLocationWithin of bs number location) (count_of_kind of (joined bs) ≤ number)

@@ -21,7 +21,7 @@ pub enum Kind {
 
 /// Where a number leads: to a shard, and to a number of the same kind in it.
 #[derive(Clone, Copy, PartialEq, Eq, Debug)]
-pub struct Place {
+pub struct Location {
     /// The shard.
     pub shard: usize,
     /// The position, or the rank, in the shard.
@@ -137,7 +137,7 @@ impl<'a> PrefixCounts<'a> {
     ///
     /// # Cost
     /// A pair of numbers for each halving of how many there are, and three more: evident from the code.
-    pub fn find(&self, of: Kind, number: usize) -> Answer<Place>
+    pub fn find(&self, of: Kind, number: usize) -> Answer<Location>
         ensures claimed { IsClaimedBy of self.now number result }
         ensures right { (bs : List (List Bool)) → ArePrefixes bs self.now
             → IsShardFound of bs number result }
@@ -149,7 +149,7 @@ impl<'a> PrefixCounts<'a> {
             return Answer::Wrong;
         }
         let shard = self.last_before(of, number);
-        Answer::Found(Place {
+        Answer::Found(Location {
             shard,
             within: number - self.before(of, shard),
         })
@@ -168,11 +168,11 @@ impl<'a> PrefixCounts<'a> {
 
     /// Whether the prefix counts claim that a position or rank belongs to this shard and index.
     #[inline(always)]
-    pub fn has(&self, of: Kind, number: usize, place: Place) -> bool
-        ensures { IsTrue result ↔ IsClaimed of self.now number place × (number < claimed_in_all of self.now) }
+    pub fn has(&self, of: Kind, number: usize, location: Location) -> bool
+        ensures { IsTrue result ↔ IsClaimed of self.now number location × (number < claimed_in_all of self.now) }
     {
-        self.is_in(of, number, place.shard)
-            && number - self.before(of, place.shard) == place.within
+        self.is_in(of, number, location.shard)
+            && number - self.before(of, location.shard) == location.within
             && number < self.total(of)
     }
 }

@@ -7,8 +7,8 @@
 //!
 //! ```
 //! let counts = PrefixCounts::over(&[0, 7, 7, 12], &[0, 4, 4, 6])?;    // of 7, 0 and 5 bits
-//! counts.find(Kind::Positions, 9);        // Found(Place { shard: 2, within: 2 })
-//! counts.find(Kind::Ones, 4);             // Found(Place { shard: 2, within: 0 })
+//! counts.find(Kind::Positions, 9);        // Found(Location { shard: 2, within: 2 })
+//! counts.find(Kind::Ones, 4);             // Found(Location { shard: 2, within: 0 })
 //! let index = ShardedIndex { counts, shards: &views };
 //! index.rank(true, 9);                    // Found(4 and those of the first 2 bits of shard 2)
 //! index.select(true, 4);                  // Found(7 and the position in shard 2)
@@ -39,7 +39,7 @@ mod sharded;
 
 pub use bitm_tables::answer::Answer;
 pub use building::{are_prefix_sums, prefix_sums};
-pub use counts::{Kind, Place, PrefixCounts};
+pub use counts::{Kind, Location, PrefixCounts};
 pub use groups::write_wrong;
 pub use laws::{
     item_of_joined, picked_in_joined, prefixes_are_sums, rank_in_joined, shards_have_index,

@@ -7,11 +7,11 @@ ghost use Rattle.sharded_index.specs.Prefixes.{claimed_in_all};
 ghost use Rattle.sharded_index.specs.Sharded.{IfNoCode};
 ghost use Rattle.sharded_index.specs.declared.counts.Kind.TheVariants.{Positions};
 
-use crate::counts::{Kind, Place};
+use crate::counts::{Kind, Location};
 use crate::groups::{group, has_room, write_wrong};
 use crate::shard::Shard;
 use crate::sharded::ShardedIndex;
-use bitm_select::search::selected::{WRONG_TABLES, told};
+use bitm_select::search::selected::{WRONG_TABLES, list_code};
 use bitm_tables::answer::Answer;
 
 impl<'a, S: Shard> ShardedIndex<'a, S> {
@@ -19,16 +19,16 @@ impl<'a, S: Shard> ShardedIndex<'a, S> {
 
     /// The rank of a position, if that is where its shard has it; of a code, and else, `WRONG_TABLES`.
     #[inline(always)]
-    fn settled_rank(&self, one: bool, place: Place, position: usize, code: usize) -> usize
+    fn settled_rank(&self, one: bool, location: Location, position: usize, code: usize) -> usize
         requires { AreShards S.bits S.right self.now → IsRanked
-            (shard_at (map S.bits self.now.shards.now) place.shard) one place.within
+            (shard_at (map S.bits self.now.shards.now) location.shard) one location.within
             (ranked_by code) }
         ensures { IfNoCode (RankedIn S.bits S.right self.now one position) result }
     {
-        if code >= WRONG_TABLES || !self.counts.has(Kind::Positions, position, place) {
+        if code >= WRONG_TABLES || !self.counts.has(Kind::Positions, position, location) {
             return WRONG_TABLES;
         }
-        match self.rank_from(one, place, position, code) {
+        match self.rank_from(one, location, position, code) {
             Answer::Found(rank) => rank,
             Answer::Absent => WRONG_TABLES,
             Answer::Wrong => WRONG_TABLES,
@@ -50,11 +50,11 @@ impl<'a, S: Shard> ShardedIndex<'a, S> {
         requires order { length order.now ≡ length inside.now }
         requires ranks { length ranks.old ≡ length inside.now }
         requires len { length out.old ≡ length positions.now }
-        requires told { (j : ℕ) → j < length positions.now → IfNoCode
+        requires claimed { (j : ℕ) → j < length positions.now → IfNoCode
             (RankedIn S.bits S.right self.now one (slice_index positions.now j))
             (slice_index out.old j) }
         ensures len { length out.new ≡ length positions.now }
-        ensures told { (j : ℕ) → j < length positions.now → IfNoCode
+        ensures claimed { (j : ℕ) → j < length positions.now → IfNoCode
             (RankedIn S.bits S.right self.now one (slice_index positions.now j))
             (slice_index out.new j) }
     {
@@ -62,11 +62,11 @@ impl<'a, S: Shard> ShardedIndex<'a, S> {
         for at in 0..order.len() {
             let to = order[at];
             if to < positions.len() {
-                let place = Place {
+                let location = Location {
                     shard,
                     within: inside[at],
                 };
-                out[to] = self.settled_rank(one, place, positions[to], ranks[at]);
+                out[to] = self.settled_rank(one, location, positions[to], ranks[at]);
             }
         }
     }
@@ -86,11 +86,11 @@ impl<'a, S: Shard> ShardedIndex<'a, S> {
         requires order { length order.now ≡ length inside.now }
         requires ranks { length inside.now ≤ length ranks.old }
         requires len { length out.old ≡ length positions.now }
-        requires told { (j : ℕ) → j < length positions.now → IfNoCode
+        requires claimed { (j : ℕ) → j < length positions.now → IfNoCode
             (RankedIn S.bits S.right self.now one (slice_index positions.now j))
             (slice_index out.old j) }
         ensures len { length out.new ≡ length positions.now }
-        ensures told { (j : ℕ) → j < length positions.now → IfNoCode
+        ensures claimed { (j : ℕ) → j < length positions.now → IfNoCode
             (RankedIn S.bits S.right self.now one (slice_index positions.now j))
             (slice_index out.new j) }
     {
@@ -116,7 +116,7 @@ impl<'a, S: Shard> ShardedIndex<'a, S> {
     fn rank_grouped(&self, one: bool, positions: &[usize], out: &mut [usize], room: &mut [usize])
         requires len { length out.old ≡ length positions.now }
         ensures len { length out.new ≡ length positions.now }
-        ensures told { (j : ℕ) → j < length positions.now → IfNoCode
+        ensures claimed { (j : ℕ) → j < length positions.now → IfNoCode
             (RankedIn S.bits S.right self.now one (slice_index positions.now j))
             (slice_index out.new j) }
     {
@@ -144,13 +144,13 @@ impl<'a, S: Shard> ShardedIndex<'a, S> {
     #[inline(always)]
     fn rank_code(&self, one: bool, position: usize, code: usize) -> usize
         requires few { claimed_in_all Positions self.now.counts < 2 ^ 64 - 2 }
-        requires told { IfNoCode (RankedIn S.bits S.right self.now one position) code }
+        requires claimed { IfNoCode (RankedIn S.bits S.right self.now one position) code }
         ensures { RankedIn S.bits S.right self.now one position (ranked_by result) }
     {
         if code < WRONG_TABLES {
             return code;
         }
-        told(self.rank(one, position))
+        list_code(self.rank(one, position))
     }
 
     /// Writes the rank of each position, as `rank` answers it, by the codes of lists: `NO_ANSWER` for `Absent`,
@@ -193,7 +193,7 @@ impl<'a, S: Shard> ShardedIndex<'a, S> {
     fn rank_rest(&self, one: bool, positions: &[usize], out: &mut [usize])
         requires few { claimed_in_all Positions self.now.counts < 2 ^ 64 - 2 }
         requires len { length out.old ≡ length positions.now }
-        requires told { (j : ℕ) → j < length positions.now → IfNoCode
+        requires claimed { (j : ℕ) → j < length positions.now → IfNoCode
             (RankedIn S.bits S.right self.now one (slice_index positions.now j))
             (slice_index out.old j) }
         ensures ranks { (j : ℕ) → j < length positions.now

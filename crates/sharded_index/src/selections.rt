@@ -7,11 +7,11 @@ ghost use Rattle.sharded_index.specs.Prefixes.{claimed_in_all};
 ghost use Rattle.sharded_index.specs.Sharded.{IfNoCode};
 ghost use Rattle.sharded_index.specs.declared.counts.Kind.TheVariants.{Positions};
 
-use crate::counts::{Kind, Place};
+use crate::counts::{Kind, Location};
 use crate::groups::{group, has_room, write_wrong};
 use crate::shard::Shard;
 use crate::sharded::{ShardedIndex, rank_kind};
-use bitm_select::search::selected::{WRONG_TABLES, told};
+use bitm_select::search::selected::{WRONG_TABLES, list_code};
 use bitm_tables::answer::Answer;
 
 impl<'a, S: Shard> ShardedIndex<'a, S> {
@@ -19,18 +19,18 @@ impl<'a, S: Shard> ShardedIndex<'a, S> {
 
     /// The position of the bit with a rank, if that is where its shard has it; of a code, and else, `WRONG_TABLES`.
     #[inline(always)]
-    fn settled_place(&self, one: bool, place: Place, rank: usize, code: usize) -> usize
-        requires bit { HasBit (shard_at (map S.bits self.now.shards.now) place.shard) one
+    fn settled_position(&self, one: bool, location: Location, rank: usize, code: usize) -> usize
+        requires bit { HasBit (shard_at (map S.bits self.now.shards.now) location.shard) one
             (selected_by code) }
         requires selected { AreShards S.bits S.right self.now → IsSelected
-            (shard_at (map S.bits self.now.shards.now) place.shard) one place.within
+            (shard_at (map S.bits self.now.shards.now) location.shard) one location.within
             (selected_by code) }
         ensures { IfNoCode (SelectedIn S.bits S.right self.now one rank) result }
     {
-        if code >= WRONG_TABLES || !self.counts.has(rank_kind(one), rank, place) {
+        if code >= WRONG_TABLES || !self.counts.has(rank_kind(one), rank, location) {
             return WRONG_TABLES;
         }
-        match self.select_from(one, place, rank, code) {
+        match self.select_from(one, location, rank, code) {
             Answer::Found(position) => position,
             Answer::Absent => WRONG_TABLES,
             Answer::Wrong => WRONG_TABLES,
@@ -45,30 +45,30 @@ impl<'a, S: Shard> ShardedIndex<'a, S> {
         ranks: &[usize],
         order: &[usize],
         inside: &[usize],
-        places: &mut [usize],
+        positions: &mut [usize],
         out: &mut [usize],
     )
         requires shard { shard < length self.now.shards.now }
         requires order { length order.now ≡ length inside.now }
-        requires places { length places.old ≡ length inside.now }
+        requires positions { length positions.old ≡ length inside.now }
         requires len { length out.old ≡ length ranks.now }
-        requires told { (j : ℕ) → j < length ranks.now → IfNoCode
+        requires claimed { (j : ℕ) → j < length ranks.now → IfNoCode
             (SelectedIn S.bits S.right self.now one (slice_index ranks.now j))
             (slice_index out.old j) }
         ensures len { length out.new ≡ length ranks.now }
-        ensures told { (j : ℕ) → j < length ranks.now → IfNoCode
+        ensures claimed { (j : ℕ) → j < length ranks.now → IfNoCode
             (SelectedIn S.bits S.right self.now one (slice_index ranks.now j))
             (slice_index out.new j) }
     {
-        self.shards[shard].select_list(one, inside, &mut *places);
+        self.shards[shard].select_list(one, inside, &mut *positions);
         for at in 0..order.len() {
             let to = order[at];
             if to < ranks.len() {
-                let place = Place {
+                let location = Location {
                     shard,
                     within: inside[at],
                 };
-                out[to] = self.settled_place(one, place, ranks[to], places[at]);
+                out[to] = self.settled_position(one, location, ranks[to], positions[at]);
             }
         }
     }
@@ -81,18 +81,18 @@ impl<'a, S: Shard> ShardedIndex<'a, S> {
         ends: &[usize],
         order: &[usize],
         inside: &[usize],
-        places: &mut [usize],
+        positions: &mut [usize],
         out: &mut [usize],
     )
         requires ends { length self.now.shards.now ≤ length ends.now }
         requires order { length order.now ≡ length inside.now }
-        requires places { length inside.now ≤ length places.old }
+        requires positions { length inside.now ≤ length positions.old }
         requires len { length out.old ≡ length ranks.now }
-        requires told { (j : ℕ) → j < length ranks.now → IfNoCode
+        requires claimed { (j : ℕ) → j < length ranks.now → IfNoCode
             (SelectedIn S.bits S.right self.now one (slice_index ranks.now j))
             (slice_index out.old j) }
         ensures len { length out.new ≡ length ranks.now }
-        ensures told { (j : ℕ) → j < length ranks.now → IfNoCode
+        ensures claimed { (j : ℕ) → j < length ranks.now → IfNoCode
             (SelectedIn S.bits S.right self.now one (slice_index ranks.now j))
             (slice_index out.new j) }
     {
@@ -106,7 +106,7 @@ impl<'a, S: Shard> ShardedIndex<'a, S> {
                     ranks,
                     &order[from..to],
                     &inside[from..to],
-                    &mut places[from..to],
+                    &mut positions[from..to],
                     &mut *out,
                 );
             }
@@ -119,7 +119,7 @@ impl<'a, S: Shard> ShardedIndex<'a, S> {
     fn select_grouped(&self, one: bool, ranks: &[usize], out: &mut [usize], room: &mut [usize])
         requires len { length out.old ≡ length ranks.now }
         ensures len { length out.new ≡ length ranks.now }
-        ensures told { (j : ℕ) → j < length ranks.now → IfNoCode
+        ensures claimed { (j : ℕ) → j < length ranks.now → IfNoCode
             (SelectedIn S.bits S.right self.now one (slice_index ranks.now j))
             (slice_index out.new j) }
     {
@@ -129,7 +129,7 @@ impl<'a, S: Shard> ShardedIndex<'a, S> {
         }
         let (ends, rest) = room.split_at_mut(self.shards.len() + 1);
         let (order, more) = rest.split_at_mut(ranks.len());
-        let (inside, places) = more.split_at_mut(ranks.len());
+        let (inside, positions) = more.split_at_mut(ranks.len());
         group(
             &self.counts,
             rank_kind(one),
@@ -140,20 +140,20 @@ impl<'a, S: Shard> ShardedIndex<'a, S> {
             &mut *inside,
         );
         write_wrong(&mut *out);
-        self.select_groups(one, ranks, &*ends, &*order, &*inside, places, out);
+        self.select_groups(one, ranks, &*ends, &*order, &*inside, positions, out);
     }
 
     /// The code of a selection: a position, or the code of the rank asked by itself.
     #[inline(always)]
     fn select_code(&self, one: bool, rank: usize, code: usize) -> usize
         requires few { claimed_in_all Positions self.now.counts < 2 ^ 64 - 2 }
-        requires told { IfNoCode (SelectedIn S.bits S.right self.now one rank) code }
+        requires claimed { IfNoCode (SelectedIn S.bits S.right self.now one rank) code }
         ensures { SelectedIn S.bits S.right self.now one rank (selected_by result) }
     {
         if code < WRONG_TABLES {
             return code;
         }
-        told(self.select(one, rank))
+        list_code(self.select(one, rank))
     }
 
     /// Writes the position of the bit with each rank, as `select` answers it, by the codes of lists: `NO_ANSWER` for
@@ -174,7 +174,7 @@ impl<'a, S: Shard> ShardedIndex<'a, S> {
     ) -> bool
         ensures room { IsTrue result ↔ (length out.old ≡ length ranks.now)
             × (claimed_in_all Positions self.now.counts < 2 ^ 64 - 2) }
-        ensures places { IsTrue result → (j : ℕ) → j < length ranks.now
+        ensures positions { IsTrue result → (j : ℕ) → j < length ranks.now
             → SelectedIn S.bits S.right self.now one (slice_index ranks.now j)
             (selected_by (slice_index out.new j)) }
         ensures kept { result ≡ false → out.new ≡ out.old }
@@ -191,10 +191,10 @@ impl<'a, S: Shard> ShardedIndex<'a, S> {
     fn select_rest(&self, one: bool, ranks: &[usize], out: &mut [usize])
         requires few { claimed_in_all Positions self.now.counts < 2 ^ 64 - 2 }
         requires len { length out.old ≡ length ranks.now }
-        requires told { (j : ℕ) → j < length ranks.now → IfNoCode
+        requires claimed { (j : ℕ) → j < length ranks.now → IfNoCode
             (SelectedIn S.bits S.right self.now one (slice_index ranks.now j))
             (slice_index out.old j) }
-        ensures places { (j : ℕ) → j < length ranks.now
+        ensures positions { (j : ℕ) → j < length ranks.now
             → SelectedIn S.bits S.right self.now one (slice_index ranks.now j)
             (selected_by (slice_index out.new j)) }
     {

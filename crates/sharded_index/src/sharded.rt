@@ -10,7 +10,7 @@ ghost use Rattle.bitm_tables.specs.declared.answer.Answer.{Answer};
 ghost use Rattle.bitm_tables.specs.declared.answer.Answer.TheVariants.{Found};
 ghost use Rattle.sharded_index.specs.declared.counts.Kind.TheVariants.{Positions};
 
-use crate::counts::{Kind, Place, PrefixCounts};
+use crate::counts::{Kind, Location, PrefixCounts};
 use crate::shard::Shard;
 use bitm_tables::answer::Answer;
 
@@ -89,22 +89,22 @@ impl<'a, S: Shard> ShardedIndex<'a, S> {
             return at_most(Some(self.counts.total(rank_kind(one))), index);
         }
         match self.counts.find(Kind::Positions, index) {
-            Answer::Found(place) => self.rank_at(one, place, index),
+            Answer::Found(location) => self.rank_at(one, location, index),
             Answer::Absent => Answer::Absent,
             Answer::Wrong => Answer::Wrong,
         }
     }
 
     /// The rank of a position that lies in a shard.
-    fn rank_at(&self, one: bool, place: Place, index: usize) -> Answer<usize>
-        requires claimed { IsClaimed Positions self.now.counts index place }
+    fn rank_at(&self, one: bool, location: Location, index: usize) -> Answer<usize>
+        requires claimed { IsClaimed Positions self.now.counts index location }
         requires inside { index < claimed_in_all Positions self.now.counts }
         ensures within { IsCountWithin (claimed_in_all Positions self.now.counts) index result }
         ensures counts { AreShards S.bits S.right self.now
             → IsRanked (joined (map S.bits self.now.shards.now)) one index result }
     {
-        match self.shards[place.shard].rank(one, place.within) {
-            Answer::Found(rank) => self.rank_from(one, place, index, rank),
+        match self.shards[location.shard].rank(one, location.within) {
+            Answer::Found(rank) => self.rank_from(one, location, index, rank),
             Answer::Absent => Answer::Wrong,
             Answer::Wrong => Answer::Wrong,
         }
@@ -115,19 +115,19 @@ impl<'a, S: Shard> ShardedIndex<'a, S> {
     pub(crate) fn rank_from(
         &self,
         one: bool,
-        place: Place,
+        location: Location,
         index: usize,
         rank: usize,
     ) -> Answer<usize>
-        requires claimed { IsClaimed Positions self.now.counts index place }
+        requires claimed { IsClaimed Positions self.now.counts index location }
         requires inside { index < claimed_in_all Positions self.now.counts }
         requires ranked { AreShards S.bits S.right self.now → rank
-            ≡ count_before (shard_at (map S.bits self.now.shards.now) place.shard) one place.within }
+            ≡ count_before (shard_at (map S.bits self.now.shards.now) location.shard) one location.within }
         ensures within { IsCountWithin (claimed_in_all Positions self.now.counts) index result }
         ensures counts { AreShards S.bits S.right self.now
             → IsRanked (joined (map S.bits self.now.shards.now)) one index result }
     {
-        let before = self.counts.before(rank_kind(one), place.shard);
+        let before = self.counts.before(rank_kind(one), location.shard);
         at_most(before.checked_add(rank), index)
     }
 
@@ -146,23 +146,23 @@ impl<'a, S: Shard> ShardedIndex<'a, S> {
             → IsSelected (joined (map S.bits self.now.shards.now)) one rank result }
     {
         match self.counts.find(rank_kind(one), rank) {
-            Answer::Found(place) => self.select_at(one, place, rank),
+            Answer::Found(location) => self.select_at(one, location, rank),
             Answer::Absent => Answer::Absent,
             Answer::Wrong => Answer::Wrong,
         }
     }
 
     /// The position of the bit with a rank that lies in a shard.
-    fn select_at(&self, one: bool, place: Place, rank: usize) -> Answer<usize>
-        requires claimed { IsClaimed (kind_of one) self.now.counts rank place }
+    fn select_at(&self, one: bool, location: Location, rank: usize) -> Answer<usize>
+        requires claimed { IsClaimed (kind_of one) self.now.counts rank location }
         requires inside { rank < claimed_in_all (kind_of one) self.now.counts }
         ensures bit { IfFoundHasBit one (map S.bits self.now.shards.now) self.now.counts result }
         ensures absent { IsOfRank (claimed_in_all (kind_of one) self.now.counts) rank result }
         ensures counts { AreShards S.bits S.right self.now
             → IsSelected (joined (map S.bits self.now.shards.now)) one rank result }
     {
-        match self.shards[place.shard].select(one, place.within) {
-            Answer::Found(position) => self.select_from(one, place, rank, position),
+        match self.shards[location.shard].select(one, location.within) {
+            Answer::Found(position) => self.select_from(one, location, rank, position),
             Answer::Absent => Answer::Wrong,
             Answer::Wrong => Answer::Wrong,
         }
@@ -173,22 +173,22 @@ impl<'a, S: Shard> ShardedIndex<'a, S> {
     pub(crate) fn select_from(
         &self,
         one: bool,
-        place: Place,
+        location: Location,
         rank: usize,
         position: usize,
     ) -> Answer<usize>
-        requires claimed { IsClaimed (kind_of one) self.now.counts rank place }
+        requires claimed { IsClaimed (kind_of one) self.now.counts rank location }
         requires inside { rank < claimed_in_all (kind_of one) self.now.counts }
-        requires bit { HasBit (shard_at (map S.bits self.now.shards.now) place.shard) one
+        requires bit { HasBit (shard_at (map S.bits self.now.shards.now) location.shard) one
             (Found position) }
         requires picked { AreShards S.bits S.right self.now → Picks
-            (shard_at (map S.bits self.now.shards.now) place.shard) one place.within position }
+            (shard_at (map S.bits self.now.shards.now) location.shard) one location.within position }
         ensures bit { IfFoundHasBit one (map S.bits self.now.shards.now) self.now.counts result }
         ensures absent { IsOfRank (claimed_in_all (kind_of one) self.now.counts) rank result }
         ensures counts { AreShards S.bits S.right self.now
             → IsSelected (joined (map S.bits self.now.shards.now)) one rank result }
     {
-        let before = self.counts.before(Kind::Positions, place.shard);
+        let before = self.counts.before(Kind::Positions, location.shard);
         below(
             before.checked_add(position),
             self.counts.total(Kind::Positions),

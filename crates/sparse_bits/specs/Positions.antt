@@ -20,15 +20,15 @@ abbrev pub HasPast : List ℕ → ℕ → Type 0
 HasPast xs n = (k : ℕ) × (k < length xs) × (n ≤ slice_index xs k)
 
 -- the numbers rise, from k on and below k + n
-pub record ArePlaces (n k : ℕ) (xs : List ℕ) : Type 0 where
+pub record AreBitPositions (n k : ℕ) (xs : List ℕ) : Type 0 where
   pub rising : Rises xs
   pub from : (i : ℕ) → i < length xs → k ≤ slice_index xs i
   pub below : (i : ℕ) → i < length xs → slice_index xs i < k + n
 
 -- the positions xs are held, and are those of the 1 bits of n bits
-pub record ArePlacesHeld (xs : List ℕ) (held : Type 0) (n : ℕ) : Type 0 where
+pub record ArePositionsHeld (xs : List ℕ) (held : Type 0) (n : ℕ) : Type 0 where
   pub holds : held
-  pub places : ArePlaces n 0 xs
+  pub positions : AreBitPositions n 0 xs
 
 -- the first c of these positions have no more than r 0 bits before them, and the others more
 pub record PartsZeros (xs : List ℕ) (r c : ℕ) : Type 0 where

@@ -1,7 +1,7 @@
 //! Which numbers are positions of 1 bits.
 ghost use Rattle.std.specs.Prelude.{◌≡◌, ◌^◌, ◌<◌, ◌≤◌, ◌↔◌, IsErrOf, IfOk, IsTrue, length};
 ghost use Rattle.std.specs.Bool.{MatchBool};
-ghost use Rattle.sparse_bits.specs.Positions.{ArePlaces, HasNoRise, HasPast, Rises};
+ghost use Rattle.sparse_bits.specs.Positions.{AreBitPositions, HasNoRise, HasPast, Rises};
 
 use crate::error::SparseError;
 
@@ -23,7 +23,7 @@ fn rises(numbers: &[u64]) -> bool
 /// Whether each of rising numbers is less than `end`.
 fn ends_below(numbers: &[u64], end: usize) -> bool
     requires { Rises numbers.now }
-    ensures { MatchBool result (ArePlaces end 0 numbers.now) (HasPast numbers.now end) }
+    ensures { MatchBool result (AreBitPositions end 0 numbers.now) (HasPast numbers.now end) }
 {
     match numbers.last() {
         Some(last) => *last < end as u64,
@@ -44,7 +44,7 @@ fn ends_below(numbers: &[u64], end: usize) -> bool
 /// check_positions(&[3, 3], 5000);                // Err(SparseError::NotRising)
 /// ```
 pub fn check_positions(positions: &[u64], len: usize) -> Result<(), SparseError>
-    ensures places { IfOk result (λ _. ArePlaces len 0 positions.now) }
+    ensures positions { IfOk result (λ _. AreBitPositions len 0 positions.now) }
     ensures short { IfOk result (λ _. length positions.now < 2 ^ 56) }
     ensures too_long { IsErrOf result SparseError.TooLong ↔ (2 ^ 56 ≤ length positions.now) }
     ensures not_rising { IsErrOf result SparseError.NotRising

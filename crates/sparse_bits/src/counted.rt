@@ -6,11 +6,11 @@ ghost use Rattle.std.specs.List.{Contains};
 ghost use Rattle.bit_lists.specs.Bits.{digit_count};
 ghost use Rattle.bitm_select.specs.Answers.{IsSelected};
 ghost use Rattle.bitm_tables.specs.declared.answer.Answer.TheVariants.{Found, Wrong};
-ghost use Rattle.elias_fano.specs.Answers.{IsItem, IsOfPlace, IsPlaceOf, IsSuccessorOf};
+ghost use Rattle.elias_fano.specs.Answers.{IsItem, IsOfIndex, IsIndexIn, IsSuccessorOf};
 ghost use Rattle.tables_view.specs.Ranks.{IsCountWithin, IsRanked};
 ghost use Rattle.sparse_bits.specs.Answers.{IsBitAndRankOf, IsBitOf, IsBitWithin, IsSelectedWithin};
 ghost use Rattle.sparse_bits.specs.Looks.{LooksAtMost, no_looks, one_more_get, one_more_search};
-ghost use Rattle.sparse_bits.specs.Positions.{bits_at, ArePlacesHeld, PartsZeros};
+ghost use Rattle.sparse_bits.specs.Positions.{bits_at, ArePositionsHeld, PartsZeros};
 
 use bitm_tables::answer::Answer;
 use bitm_tables::source::counts::ReadCounts;
@@ -89,7 +89,7 @@ impl<'a, P: Items> Ones<'a, P> {
     /// Position `i`; one more is read.
     #[inline(always)]
     fn get(&mut self, i: usize) -> Answer<u64>
-        ensures inside { IsOfPlace (P.len self.old.positions) i result }
+        ensures inside { IsOfIndex (P.len self.old.positions) i result }
         ensures answer { (xs : List ℕ) → P.holds xs self.old.positions → IsItem xs i result }
         ensures counted { self.new ≡ one_more_get self.old }
     {
@@ -100,7 +100,7 @@ impl<'a, P: Items> Ones<'a, P> {
     /// The least index whose position is at least `v`. One more search is made.
     #[inline(always)]
     fn first_at_least(&mut self, v: u64) -> Answer<usize>
-        ensures inside { IsPlaceOf (P.len self.old.positions) result }
+        ensures inside { IsIndexIn (P.len self.old.positions) result }
         ensures answer { (xs : List ℕ) → P.holds xs self.old.positions → IsSuccessorOf xs v result }
         ensures counted { self.new ≡ one_more_search self.old }
     {
@@ -129,7 +129,7 @@ impl<'a, P: Items> Ones<'a, P> {
     pub fn rank_in(&mut self, index: usize) -> Answer<usize>
         ensures within { IsCountWithin self.old.len index result }
         ensures counts { (xs : List ℕ)
-            → ArePlacesHeld xs (P.holds xs self.old.positions) self.old.len
+            → ArePositionsHeld xs (P.holds xs self.old.positions) self.old.len
             → IsRanked (bits_at self.old.len 0 xs) true index result }
         ensures queries { LooksAtMost self.old self.new 1 0 }
     {
@@ -143,26 +143,26 @@ impl<'a, P: Items> Ones<'a, P> {
         }
     }
 
-    /// The bit at position `place`, and the number of 1 bits before it. Whatever the positions are, the answer is
+    /// The bit at position `position`, and the number of 1 bits before it. Whatever the positions are, the answer is
     /// `Absent` exactly where there is no such bit. Where they are positions of 1 bits, it is never `Wrong`.
     ///
     /// ```
     /// Ones::new(&positions, 5000).bit_and_rank_in(100);   // Found((true, 1))
     /// ```
     #[inline(always)]
-    pub fn bit_and_rank_in(&mut self, place: usize) -> Answer<(bool, usize)>
-        ensures within { IsBitWithin self.old.len place result }
+    pub fn bit_and_rank_in(&mut self, position: usize) -> Answer<(bool, usize)>
+        ensures within { IsBitWithin self.old.len position result }
         ensures bit { (xs : List ℕ)
-            → ArePlacesHeld xs (P.holds xs self.old.positions) self.old.len
-            → IsBitAndRankOf (bits_at self.old.len 0 xs) place result }
+            → ArePositionsHeld xs (P.holds xs self.old.positions) self.old.len
+            → IsBitAndRankOf (bits_at self.old.len 0 xs) position result }
         ensures queries { LooksAtMost self.old self.new 1 1 }
     {
-        if place >= self.len() {
+        if position >= self.len() {
             return Answer::Absent;
         }
-        match self.first_at_least(place as u64) {
+        match self.first_at_least(position as u64) {
             Answer::Found(rank) => match self.get(rank) {
-                Answer::Found(one) => Answer::Found((one == place as u64, rank)),
+                Answer::Found(one) => Answer::Found((one == position as u64, rank)),
                 _ => Answer::Wrong,
             },
             Answer::Absent => Answer::Found((false, self.count())),
@@ -170,23 +170,23 @@ impl<'a, P: Items> Ones<'a, P> {
         }
     }
 
-    /// The bit at position `place`; else as `bit_and_rank_in`.
+    /// The bit at position `position`; else as `bit_and_rank_in`.
     ///
     /// ```
     /// Ones::new(&positions, 5000).bit_in(100);   // Found(true)
     /// ```
     #[inline(always)]
-    pub fn bit_in(&mut self, place: usize) -> Answer<bool>
-        ensures within { IsBitWithin self.old.len place result }
+    pub fn bit_in(&mut self, position: usize) -> Answer<bool>
+        ensures within { IsBitWithin self.old.len position result }
         ensures bit { (xs : List ℕ)
-            → ArePlacesHeld xs (P.holds xs self.old.positions) self.old.len
-            → IsBitOf (bits_at self.old.len 0 xs) place result }
+            → ArePositionsHeld xs (P.holds xs self.old.positions) self.old.len
+            → IsBitOf (bits_at self.old.len 0 xs) position result }
         ensures queries { LooksAtMost self.old self.new 1 0 }
     {
-        if place >= self.len() {
+        if position >= self.len() {
             return Answer::Absent;
         }
-        match self.has(place as u64) {
+        match self.has(position as u64) {
             Some(bit) => Answer::Found(bit),
             None => Answer::Wrong,
         }
@@ -203,7 +203,7 @@ impl<'a, P: Items> Ones<'a, P> {
     pub fn select_in(&mut self, rank: usize) -> Answer<usize>
         ensures within { IsSelectedWithin (P.len self.old.positions) self.old.len rank result }
         ensures counts { (xs : List ℕ)
-            → ArePlacesHeld xs (P.holds xs self.old.positions) self.old.len
+            → ArePositionsHeld xs (P.holds xs self.old.positions) self.old.len
             → IsSelected (bits_at self.old.len 0 xs) true rank result }
         ensures queries { LooksAtMost self.old self.new 0 1 }
     {
@@ -225,7 +225,7 @@ impl<'a, P: Items> Ones<'a, P> {
     fn ones_within(&mut self, rank: usize) -> Option<usize>
         ensures within { IfSome result (λ c. c ≤ P.len self.old.positions) }
         ensures parts { (xs : List ℕ)
-            → ArePlacesHeld xs (P.holds xs self.old.positions) self.old.len
+            → ArePositionsHeld xs (P.holds xs self.old.positions) self.old.len
             → IsSomeAnd result (λ c. PartsZeros xs rank c) }
         ensures queries { LooksAtMost self.old self.new 0
             (digit_count (P.len self.old.positions)) }
@@ -259,7 +259,7 @@ impl<'a, P: Items> Ones<'a, P> {
             (self.old.len - P.len self.old.positions) self.old.len rank result }
         ensures crowded { self.old.len < P.len self.old.positions → result ≡ Wrong }
         ensures counts { (xs : List ℕ)
-            → ArePlacesHeld xs (P.holds xs self.old.positions) self.old.len
+            → ArePositionsHeld xs (P.holds xs self.old.positions) self.old.len
             → IsSelected (bits_at self.old.len 0 xs) false rank result }
         ensures queries { LooksAtMost self.old self.new 0
             (digit_count (P.len self.old.positions)) }

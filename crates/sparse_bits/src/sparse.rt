@@ -1,10 +1,10 @@
 //! The type of sparse bits.
 ghost use Rattle.std.specs.Prelude.{◌≡◌, ◌≤◌, ◌<◌, ◌↔◌, ◌⊎◌, ◌+◌, ◌*◌, ◌^◌, length, drop, IfOk, IfErr, IsErrOf, true};
 ghost use Rattle.bit_lists.specs.Bits.{bits_of, IsShort};
-ghost use Rattle.bit_lists.specs.Count.{ones_of, zeros_of, places};
+ghost use Rattle.bit_lists.specs.Count.{ones_of, zeros_of, bit_positions};
 ghost use Rattle.elias_fano.specs.Parts.{width_of, low_words_of, upper_words_of};
 ghost use Rattle.sparse_bits.specs.Looks.{no_looks};
-ghost use Rattle.sparse_bits.specs.Positions.{bits_at, ArePlaces, HasNoRise, HasPast, Rises};
+ghost use Rattle.sparse_bits.specs.Positions.{bits_at, AreBitPositions, HasNoRise, HasPast, Rises};
 ghost use Rattle.sparse_bits.specs.Value.{bytes_taken};
 
 use crate::checking::{TOO_MANY, check_positions};
@@ -38,7 +38,7 @@ pub struct SparseBits<S: SelectForRank101111, S0: Select0ForRank101111> {
 }
 
 impl<S: SelectForRank101111, S0: Select0ForRank101111> Model for SparseBits<S, S0> {
-    ghost use Rattle.sparse_bits.specs.Positions.{bits_at, ArePlaces};
+    ghost use Rattle.sparse_bits.specs.Positions.{bits_at, AreBitPositions};
     ghost use Rattle.sparse_bits.specs.Value.{SparseValue};
 
     ghost Value = { SparseValue S S0 };
@@ -49,13 +49,13 @@ impl<S: SelectForRank101111, S0: Select0ForRank101111> Model for SparseBits<S, S
       select0 = b.ones.select0;
     } };
 
-    ghost invariant = { λ b. ArePlaces b.len 0 b.ones.items };
+    ghost invariant = { λ b. AreBitPositions b.len 0 b.ones.items };
 }
 
 /// The positions of the 1 bits of words.
 fn positions_of(alloc: Global, words: &[u64]) -> Result<Vec<u64>, AllocError>
     requires { IsShort words.now }
-    ensures { IfOk result (λ list. list.items ≡ places true 0 (bits_of words.now)) }
+    ensures { IfOk result (λ list. list.items ≡ bit_positions true 0 (bits_of words.now)) }
 {
     let mut positions = Vec::with_capacity(alloc, words::count_bit_ones(words))?;
     for position in BitOnesIterator::new(words) {
@@ -74,14 +74,14 @@ impl<S: SelectForRank101111, S0: Select0ForRank101111> SparseBits<S, S0> {
     /// # Cost
     /// One pass over the positions for the test, and the passes of `Sequence::build`.
     pub fn build(alloc: Global, positions: &[u64], len: usize) -> Result<Self, SparseError>
-        ensures ones { IfOk result (λ made. places true 0 made.bits ≡ positions.now) }
+        ensures ones { IfOk result (λ made. bit_positions true 0 made.bits ≡ positions.now) }
         ensures len { IfOk result (λ made. length made.bits ≡ len) }
         ensures too_long { IsErrOf result SparseError.TooLong ↔ (2 ^ 56 ≤ length positions.now) }
         ensures not_rising { IsErrOf result SparseError.NotRising
             ↔ ((length positions.now < 2 ^ 56) × HasNoRise positions.now) }
         ensures past_end { IsErrOf result SparseError.PastEnd
             ↔ ((length positions.now < 2 ^ 56) × Rises positions.now × HasPast positions.now len) }
-        ensures size { IfOk result (λ made. let xs = places true 0 made.bits in let l = width_of xs in
+        ensures size { IfOk result (λ made. let xs = bit_positions true 0 made.bits in let l = width_of xs in
             64 * (low_words_of xs l + upper_words_of xs l) ≤ length xs * (l + 3) + 126) }
     {
         check_positions(positions, len)?;
@@ -120,7 +120,7 @@ impl<S: SelectForRank101111, S0: Select0ForRank101111> SparseBits<S, S0> {
     fn asked(&self) -> Ones<'_, Sequence<S, S0>>
         ensures asked { result ≡ no_looks result.positions (length self.now.bits) }
         ensures bits { bits_at (length self.now.bits) 0 result.positions.items ≡ self.now.bits }
-        ensures places { ArePlaces (length self.now.bits) 0 result.positions.items }
+        ensures positions { AreBitPositions (length self.now.bits) 0 result.positions.items }
     {
         Ones::new(&self.ones, self.len)
     }
@@ -128,7 +128,7 @@ impl<S: SelectForRank101111, S0: Select0ForRank101111> SparseBits<S, S0> {
     /// The positions of the 1 bits, as the sequence that holds them.
     #[inline(always)]
     pub fn positions(&self) -> &Sequence<S, S0>
-        ensures { result.now.items ≡ places true 0 self.now.bits }
+        ensures { result.now.items ≡ bit_positions true 0 self.now.bits }
     {
         &self.ones
     }
@@ -153,7 +153,7 @@ impl<S: SelectForRank101111, S0: Select0ForRank101111> SparseBits<S, S0> {
     /// The positions of the 1 bits, from the first on and from the last back.
     #[inline]
     pub fn bit_ones(&self) -> Numbers<'_>
-        ensures { result ≡ places true 0 self.now.bits }
+        ensures { result ≡ bit_positions true 0 self.now.bits }
     {
         self.ones.iter()
     }
@@ -165,7 +165,7 @@ impl<S: SelectForRank101111, S0: Select0ForRank101111> SparseBits<S, S0> {
     #[inline]
     pub fn bit_ones_from(&self, rank: usize) -> Numbers<'_>
         requires { rank ≤ ones_of self.now.bits }
-        ensures { result ≡ drop rank (places true 0 self.now.bits) }
+        ensures { result ≡ drop rank (bit_positions true 0 self.now.bits) }
     {
         self.ones.iter_from(rank)
     }
@@ -206,24 +206,24 @@ impl<S: SelectForRank101111, S0: Select0ForRank101111> Rank for SparseBits<S, S0
 }
 
 impl<S: SelectForRank101111, S0: Select0ForRank101111> Access for SparseBits<S, S0> {
-    /// The bit at position `place`; `None` exactly where there is no such bit.
+    /// The bit at position `position`; `None` exactly where there is no such bit.
     ///
     /// # Cost
     /// One search for a successor, and one position is read.
     #[inline]
-    fn try_get_bit(&self, place: usize) -> Option<bool> {
-        self.asked().bit_in(place).right()
+    fn try_get_bit(&self, position: usize) -> Option<bool> {
+        self.asked().bit_in(position).right()
     }
 
-    /// The bit at position `place`, and the number of 1 bits before it.
+    /// The bit at position `position`, and the number of 1 bits before it.
     ///
     /// # Conditions
     /// There is such a bit.
     /// # Cost
     /// The cost of `try_get_bit`.
     #[inline]
-    fn bit_and_rank(&self, place: usize) -> (bool, usize) {
-        match self.asked().bit_and_rank_in(place) {
+    fn bit_and_rank(&self, position: usize) -> (bool, usize) {
+        match self.asked().bit_and_rank_in(position) {
             Answer::Found(known) => known,
             _ => unreachable!(),
         }
@@ -255,7 +255,7 @@ impl<S: SelectForRank101111, S0: Select0ForRank101111> Select0 for SparseBits<S,
 impl<S: SelectForRank101111 + GetSize, S0: Select0ForRank101111 + GetSize> GetSize
     for SparseBits<S, S0> {
     // that of the sequence of the positions
-    ghost dyn_bytes = { λ b. bytes_taken (places true 0 b.bits)
+    ghost dyn_bytes = { λ b. bytes_taken (bit_positions true 0 b.bits)
         (S.dyn_bytes b.select) (S0.dyn_bytes b.select0) };
 
     const USES_DYN_MEM: bool = true;

@@ -33,7 +33,7 @@ module _ (old new : List ℕ) (first : ℕ) (len : length new ≡ length old) wh
         | inr past ↦ get_or_past (bits_of new) i false (omega (arith, past, length-bits_of new))
       ]
 
--- and of the word before them, where its bits from some place on are written as the number 0
+-- and of the word before them, where its bits from some position on are written as the number 0
 module _ (old new : List ℕ) (bit : ℕ) (len : length new ≡ length old) (inside : bit / 64 < length old) where
   abbrev pub written : List Bool
   written = with_number (bits_of new) bit (64 - bit % 64) (0 % 2 ^ (64 - bit % 64))

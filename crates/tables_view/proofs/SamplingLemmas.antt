@@ -53,7 +53,7 @@ all_made b v d count samples starts fits all many filled begun =
           (λ i h. begun i (omega (arith, h, many)) ∙ sym (start_at b v d i (omega (arith, h, many))));
     }
 
--- enough places for samples of so many words are enough for their bits
+-- enough positions for samples of so many words are enough for their bits
 pub room_for : (words n d : ℕ) → 7 ≤ d → div_ceil words (2 ^ (d - 6)) ≤ n → words * 64 ≤ n * 2 ^ d
 room_for words n d low enough =
     let power : 2 ^ d ≡ 2 ^ (d - 6) * 2 ^ 6 =

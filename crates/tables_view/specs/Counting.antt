@@ -2,7 +2,7 @@
 use Rattle.std.specs.Prelude.{ℕ, Bool, List, length}
 use Rattle.bitm_select.specs.Answers.{HasBit, IsSelected}
 use Rattle.bitm_tables.specs.Tables.{HasTables, Lists, bits_in}
-use Rattle.bitm_select.specs.Told.{TellsNone}
+use Rattle.bitm_select.specs.Claims.{ClaimsNone}
 use Rattle.bitm_tables.specs.Answers.{IfAbsent}
 use Rattle.bitm_tables.specs.declared.answer.Answer.{Answer}
 use Rattle.tables_view.specs.Ranks.{IsCountWithin, IsRanked}
@@ -16,7 +16,7 @@ pub record IsSelection (b : List Bool) (v : Bool) (right none : Type 0) (rank : 
 
 -- among all bits of the words
 abbrev pub Selects : Bool → Lists → ℕ → Answer ℕ → Type 0
-Selects v lists rank = IsSelection (bits_in lists) v (HasTables lists) (TellsNone v lists rank) rank
+Selects v lists rank = IsSelection (bits_in lists) v (HasTables lists) (ClaimsNone v lists rank) rank
 
 -- the answer of a rank, the number of bits v among the first `index` of the `len` bits b: whatever the tables hold, a
 -- count is at most index, and the answer is Absent exactly where there are fewer bits; where they are right, the answer

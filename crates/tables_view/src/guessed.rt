@@ -7,7 +7,7 @@ ghost use Rattle.bitm_tables.specs.Reads.{ReadsAtMost};
 ghost use Rattle.bitm_select.specs.Search.{entry_in, sought_in, IsLastFound};
 ghost use Rattle.bitm_tables.specs.Tables.{HasSizes, HasTables, bits_in};
 ghost use Rattle.tables_view.specs.Samples.{AreSamplesOf};
-ghost use Rattle.bitm_select.specs.Told.{told_entry};
+ghost use Rattle.bitm_select.specs.Claims.{claimed_entry};
 
 use crate::sampled::{Bounds, entry_between, entry_by_samples, samples_to};
 use crate::samples::{SamplesView, clamped_log};

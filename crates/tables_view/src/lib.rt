@@ -14,7 +14,7 @@
 // - `view`: borrowed words and tables
 // - `lists`: lists of selections in all the words
 // - `nearest`: the nearest bit on either side of a position
-// - `places`: the positions of 1 bits
+// - `positions`: the positions of 1 bits
 // - `ranked`: rank over any tables
 // - `sample_checks`: whether samples are those of the tables
 // - `sampled`: selection from samples over any tables
@@ -27,7 +27,7 @@ mod filling;
 mod guessed;
 mod lists;
 mod nearest;
-mod places;
+mod positions;
 mod ranked;
 mod sample_checks;
 mod sampled;
@@ -41,7 +41,7 @@ pub use filling::build;
 pub use guessed::ByGuess;
 pub use lists::select_list_on;
 pub use nearest::{only_before, only_from};
-pub use places::ones_from;
+pub use positions::ones_from;
 pub use ranked::ranked_on;
 pub use sampled::sampled_select_on;
 pub use samples::{SamplesView, samples_len};

@@ -2,13 +2,13 @@
 ghost use Rattle.std.specs.Prelude.{◌≡◌, ◌+◌, ◌*◌, ◌<◌, ◌↔◌, IsTrue, length, false};
 ghost use Rattle.bit_lists.specs.Bits.{digit_count};
 ghost use Rattle.bit_lists.specs.Count.{as_bit};
-ghost use Rattle.bitm_select.specs.Answers.{SelectTold, ToldEach};
+ghost use Rattle.bitm_select.specs.Answers.{IsSelectCode, AreSelectCodes};
 ghost use Rattle.bitm_tables.specs.Reads.{OnlyReads};
 ghost use Rattle.bitm_tables.specs.Tables.{HasSizes};
 
 use crate::view::TablesView;
-use bitm_select::many::lists::{FindsEntries, tell_many_on};
-use bitm_select::search::selected::told;
+use bitm_select::many::lists::{FindsEntries, code_many_on};
+use bitm_select::search::selected::list_code;
 use bitm_select::search::selecting::{ByTables, total_select_on};
 use bitm_tables::source::{Probe, TableSource};
 
@@ -17,10 +17,10 @@ use bitm_tables::source::{Probe, TableSource};
 #[inline(never)]
 fn code_on<const BIT: u8, T: TableSource>(source: &mut T, rank: usize) -> usize
     requires { HasSizes (T.lists source.old) }
-    ensures told { SelectTold (as_bit BIT) (T.lists source.old) rank result }
+    ensures claimed { IsSelectCode (as_bit BIT) (T.lists source.old) rank result }
     ensures same { T.lists source.new ≡ T.lists source.old }
 {
-    told(total_select_on::<BIT, T>(source, rank))
+    list_code(total_select_on::<BIT, T>(source, rank))
 }
 
 /// Writes the position with each rank, or `NO_ANSWER` for `Absent` and `WRONG_TABLES` for `Wrong`. Where there is a
@@ -40,7 +40,7 @@ pub fn select_list_on<const BIT: u8, T: TableSource, F: FindsEntries<BIT, T>>(
 ) -> bool
     requires { HasSizes (T.lists source.old) }
     ensures room { IsTrue result ↔ length out.old ≡ length ranks.now }
-    ensures told { IsTrue result → ToldEach (as_bit BIT) (T.lists source.old) ranks.now out.new }
+    ensures claimed { IsTrue result → AreSelectCodes (as_bit BIT) (T.lists source.old) ranks.now out.new }
     ensures kept { result ≡ false → out.new ≡ out.old }
     ensures reads { 0 < length (T.lists source.old).upper
         → OnlyReads T.lists T.reads source.old source.new
@@ -51,7 +51,7 @@ pub fn select_list_on<const BIT: u8, T: TableSource, F: FindsEntries<BIT, T>>(
         return false;
     }
     if source.upper_len() > 0 {
-        tell_many_on::<BIT, T, F>(source, finder, ranks, out);
+        code_many_on::<BIT, T, F>(source, finder, ranks, out);
         return true;
     }
     for at in 0..ranks.len() {
@@ -66,7 +66,7 @@ impl<'a> TablesView<'a> {
     /// false, and writes nothing, exactly where `out` is not as long as `ranks`.
     pub fn select_list<const BIT: u8>(&self, ranks: &[usize], out: &mut [usize]) -> bool
         ensures room { IsTrue result ↔ length out.old ≡ length ranks.now }
-        ensures told { IsTrue result → ToldEach (as_bit BIT) self.now ranks.now out.new }
+        ensures claimed { IsTrue result → AreSelectCodes (as_bit BIT) self.now ranks.now out.new }
         ensures kept { result ≡ false → out.new ≡ out.old }
     {
         select_list_on::<BIT, Probe<'_>, ByTables>(&mut self.probe(), &ByTables, ranks, out)

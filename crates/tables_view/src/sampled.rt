@@ -13,7 +13,7 @@ ghost use Rattle.bitm_strategies.specs.Samples.{part_of, parts, sample_count_bef
 ghost use Rattle.bitm_select.specs.Search.{entry_in, sought_in, IsLastFound};
 ghost use Rattle.bitm_tables.specs.Tables.{HasSizes, HasTables, bits_in};
 ghost use Rattle.bitm_select.specs.Answers.{HasBit, IsSelected};
-ghost use Rattle.bitm_select.specs.Told.{told_entry, TellsNone};
+ghost use Rattle.bitm_select.specs.Claims.{claimed_entry, ClaimsNone};
 ghost use Rattle.bitm_tables.specs.Answers.{IfAbsent};
 ghost use Rattle.tables_view.specs.Samples.{AreSamplesOf, IsBounded};
 
@@ -115,7 +115,7 @@ fn begun_by<const BIT: u8, T: TableSource>(
         MatchOption result (rank < before_in_part m (entry_in part low))
         (λ _. before_in_part m (entry_in part low) ≤ rank) }
     ensures packed { 0 < low → IfSome result (λ packed. packed
-        ≡ told_entry (as_bit BIT) (T.lists source.old) (entry_in part low)) }
+        ≡ claimed_entry (as_bit BIT) (T.lists source.old) (entry_in part low)) }
     ensures reads { ReadsAtMost (T.reads source.old) (T.reads source.new) 0 1 0 }
     ensures reads_first { low ≡ 0 → T.reads source.new ≡ T.reads source.old }
     ensures same { T.lists source.new ≡ T.lists source.old }
@@ -265,7 +265,7 @@ pub fn sampled_select_on<const BIT: u8, T: TableSource>(
     ensures bit { HasBit (bits_in (T.lists source.old)) (as_bit BIT) result }
     ensures answer { HasTables (T.lists source.old)
         → IsSelected (bits_in (T.lists source.old)) (as_bit BIT) rank result }
-    ensures none { IfAbsent result (TellsNone (as_bit BIT) (T.lists source.old) rank) }
+    ensures none { IfAbsent result (ClaimsNone (as_bit BIT) (T.lists source.old) rank) }
     ensures reads { OnlyReads T.lists T.reads source.old source.new
         (digit_count (length (T.lists source.old).upper) + 1) 51 8 }
     ensures reads_by_samples { HasTables (T.lists source.old)

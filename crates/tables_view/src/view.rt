@@ -6,7 +6,7 @@ ghost use Rattle.bit_lists.specs.Count.{as_bit, IsRank};
 ghost use Rattle.bitm_tables.specs.Reads.{none_read};
 ghost use Rattle.bitm_tables.specs.Tables.{HasSizes, HasTables, bits_in};
 ghost use Rattle.bitm_select.specs.Answers.{HasBit, IsSelected};
-ghost use Rattle.bitm_select.specs.Told.{TellsNone};
+ghost use Rattle.bitm_select.specs.Claims.{ClaimsNone};
 ghost use Rattle.bitm_tables.specs.Answers.{IfAbsent};
 ghost use Rattle.tables_view.specs.Ranks.{IsCountWithin, IsRanked};
 ghost use Rattle.tables_view.specs.Sizes.{lists_of};
@@ -202,7 +202,7 @@ impl<'a> TablesView<'a> {
     /// The number of 1 bits among the first `index` bits where the tables match the words, any number otherwise. `None`
     /// exactly where there are fewer than `index` bits.
     #[inline(always)]
-    fn told_ones(&self, index: usize) -> Option<usize>
+    fn claimed_ones(&self, index: usize) -> Option<usize>
         ensures sized { HasSizes self.now }
         ensures inside { MatchOption result (length (bits_in self.now) < index)
             (λ _. index ≤ length (bits_in self.now)) }
@@ -225,7 +225,7 @@ impl<'a> TablesView<'a> {
     pub fn select<const BIT: u8>(&self, rank: usize) -> Answer<usize>
         ensures bit { HasBit (bits_in self.now) (as_bit BIT) result }
         ensures counts { HasTables self.now → IsSelected (bits_in self.now) (as_bit BIT) rank result }
-        ensures absent { IfAbsent result (TellsNone (as_bit BIT) self.now rank) }
+        ensures absent { IfAbsent result (ClaimsNone (as_bit BIT) self.now rank) }
     {
         total_select_on::<BIT, Probe<'_>>(&mut self.probe(), rank)
     }

@@ -14,7 +14,7 @@
 // - `lending`: what a caller knows of the owner of a slice after writes
 // - `making`: vectors that are made, their sizes and copies
 // - `single_bits`: single bits, their counts, and the numbers of `masks`
-// - `successive`: calls that leave the next place, begin or index
+// - `successive`: calls that leave the next position, begin or index
 #[cfg(test)]
 mod appending;
 #[cfg(test)]

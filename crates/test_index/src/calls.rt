@@ -15,7 +15,7 @@
 // What is in each file:
 // - `computed`: a source whose words and tables are computed
 // - `contents`: rank and selection over small bit vectors, borrowed and owned, by each strategy
-// - `every_place`: every position and every rank, to past the end
+// - `every_position`: every position and every rank, to past the end
 // - `in_word`: selection in one word, against rows worked out by hand and a walk over the bits
 // - `large`: a bit vector of 2^20 words
 // - `logarithms`: the logarithm of how many items one sample stands for
@@ -33,7 +33,7 @@ mod computed;
 #[cfg(test)]
 mod contents;
 #[cfg(test)]
-mod every_place;
+mod every_position;
 #[cfg(test)]
 mod in_word;
 #[cfg(test)]

@@ -15,9 +15,9 @@ type Numbered<P> = PerfectHash<Seeded, ArrayWithRank101111, P>;
 
 /// Whether a matrix of `NUMBERS` answers as it has to.
 fn is_right(matrix: &BinaryWaveletMatrix) -> bool {
-    let places = [2, 3].map(|rank| matrix.try_select(1, rank));
+    let positions = [2, 3].map(|rank| matrix.try_select(1, rank));
     let at = (matrix.try_get(2), matrix.try_get(6), matrix.try_rank(1, 4));
-    at == (Some(4), None, Some(2)) && places == [Some(5), None]
+    at == (Some(4), None, Some(2)) && positions == [Some(5), None]
 }
 
 /// Each call of a matrix, of a perfect hash and of a dictionary.

@@ -11,7 +11,7 @@ use std::alloc::{AllocError, Global};
 use std::boxed::BoxedSlice;
 use std::convert::AsSlice;
 
-/// The strategy that keeps a list of all places, as a user writes it.
+/// The strategy that keeps a list of all positions, as a user writes it.
 use example_callers::strategies::listed::Listed;
 
 /// Samples that each stand for 128 bits of the kind.
@@ -27,7 +27,7 @@ type OwnedIndex<S> = RankSelect101111<S, S, BoxedSlice<u64, Global>>;
 fn is_right<S: SelectForRank101111, S0: Select0ForRank101111, BV: AsSlice<u64>>(
     index: &RankSelect101111<S, S0, BV>,
 ) -> bool {
-    let ranks = [66, 8256, 8320, 8321].map(|place| index.try_rank(place));
+    let ranks = [66, 8256, 8320, 8321].map(|position| index.try_rank(position));
     let ones = [4, 389, 390].map(|rank| index.try_select(rank));
     let zeros = [0, 7929, 7930].map(|rank| index.try_select0(rank));
     index.as_slice() == WORDS.as_slice()

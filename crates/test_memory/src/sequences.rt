@@ -8,8 +8,8 @@ const NUMBERS: [u64; 7] = [2, 3, 5, 7, 11, 13, 24];
 
 /// Whether a sequence of `NUMBERS` answers as it has to.
 fn is_right(made: &EliasFano) -> bool {
-    let places = [8, 25].map(|value| made.first_at_least(value));
-    (made.try_get(4), made.try_get(7)) == (Some(11), None) && places == [Some(4), None]
+    let positions = [8, 25].map(|value| made.first_at_least(value));
+    (made.try_get(4), made.try_get(7)) == (Some(11), None) && positions == [Some(4), None]
 }
 
 /// Each call of a sequence.

@@ -8,7 +8,7 @@ use std::convert::AsSlice;
 
 /// Whether a simple rank over `WORDS` answers as it has to.
 fn is_right<BV: AsSlice<u64>>(index: &RankSimple<BV>) -> bool {
-    let ranks = [66, 8256, 8320, 8321].map(|place| index.try_rank(place));
+    let ranks = [66, 8256, 8320, 8321].map(|position| index.try_rank(position));
     index.as_slice() == WORDS.as_slice() && ranks == [Some(4), Some(387), Some(390), None]
 }
 

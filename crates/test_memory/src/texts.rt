@@ -11,9 +11,9 @@ const ORDER: [u32; 12] = [11, 10, 7, 4, 1, 0, 9, 8, 6, 3, 5, 2];
 
 /// Whether an index of `TEXT` answers as it has to.
 fn is_right(index: &TextIndex) -> bool {
-    let mut places = [0usize; 2];
-    let count = index.locate([0u64, 3].as_slice(), 0, places.as_mut_slice());
-    index.count([3u64, 3].as_slice()) == 2 && count == 2 && places == [4, 1]
+    let mut positions = [0usize; 2];
+    let count = index.locate([0u64, 3].as_slice(), 0, positions.as_mut_slice());
+    index.count([3u64, 3].as_slice()) == 2 && count == 2 && positions == [4, 1]
 }
 
 /// Each call of a text index.

@@ -8,11 +8,11 @@ use bitm::{get_bits25, get_bits57, init_bits25, init_bits57, set_bits25, set_bit
 use std::alloc::Global;
 
 /// What a read of eight or of four bytes gives.
-fn read(bytes: &[u8], place: usize, is_long: bool) -> Result<u64, Fault> {
-    if is_long && place / 8 + 8 <= bytes.len() {
-        Ok(get_bits57(bytes, place))
-    } else if !is_long && place / 8 + 4 <= bytes.len() {
-        Ok(u64::from(get_bits25(bytes, place)))
+fn read(bytes: &[u8], position: usize, is_long: bool) -> Result<u64, Fault> {
+    if is_long && position / 8 + 8 <= bytes.len() {
+        Ok(get_bits57(bytes, position))
+    } else if !is_long && position / 8 + 4 <= bytes.len() {
+        Ok(u64::from(get_bits25(bytes, position)))
     } else {
         Err(Fault::Condition)
     }
@@ -26,7 +26,7 @@ pub fn get<'a>(
     found: &mut Found<'a>,
 ) -> Result<(), Fault> {
     let (first_bit, theirs) = text::first_word(line);
-    let ours = read(state.bytes(), text::place(first_bit)?, is_long)?;
+    let ours = read(state.bytes(), text::position(first_bit)?, is_long)?;
     found.compare(first_bit, Base::Hexadecimal, Some(ours), theirs)
 }
 
@@ -40,43 +40,43 @@ pub enum Change {
 }
 
 /// Writes a number to eight zero bytes.
-fn init57(bytes: &mut [u8], place: usize, number: &str) -> Result<(), Fault> {
-    if place / 8 + 8 > bytes.len() {
+fn init57(bytes: &mut [u8], position: usize, number: &str) -> Result<(), Fault> {
+    if position / 8 + 8 > bytes.len() {
         return Err(Fault::Condition);
     }
-    init_bits57(bytes, place, text::number(number, Base::Hexadecimal)?);
+    init_bits57(bytes, position, text::number(number, Base::Hexadecimal)?);
     Ok(())
 }
 
 /// Writes a number to four zero bytes.
-fn init25(bytes: &mut [u8], place: usize, number: &str) -> Result<(), Fault> {
-    if place / 8 + 4 > bytes.len() {
+fn init25(bytes: &mut [u8], position: usize, number: &str) -> Result<(), Fault> {
+    if position / 8 + 4 > bytes.len() {
         return Err(Fault::Condition);
     }
-    init_bits25(bytes, place, text::short_number(number)?);
+    init_bits25(bytes, position, text::short_number(number)?);
     Ok(())
 }
 
 /// Puts a number over eight bytes under a mask.
-fn set57(bytes: &mut [u8], place: usize, numbers: &str) -> Result<(), Fault> {
-    if place / 8 + 8 > bytes.len() {
+fn set57(bytes: &mut [u8], position: usize, numbers: &str) -> Result<(), Fault> {
+    if position / 8 + 8 > bytes.len() {
         return Err(Fault::Condition);
     }
     let (number, mask) = text::first_word(numbers);
     let value = text::number(number, Base::Hexadecimal)?;
     let mask = text::number(mask, Base::Hexadecimal)?;
-    set_bits57(bytes, place, value, mask);
+    set_bits57(bytes, position, value, mask);
     Ok(())
 }
 
 /// Puts a number over four bytes under a mask.
-fn set25(bytes: &mut [u8], place: usize, numbers: &str) -> Result<(), Fault> {
-    if place / 8 + 4 > bytes.len() {
+fn set25(bytes: &mut [u8], position: usize, numbers: &str) -> Result<(), Fault> {
+    if position / 8 + 4 > bytes.len() {
         return Err(Fault::Condition);
     }
     let (number, mask) = text::first_word(numbers);
     let (value, mask) = (text::short_number(number)?, text::short_number(mask)?);
-    set_bits25(bytes, place, value, mask);
+    set_bits25(bytes, position, value, mask);
     Ok(())
 }
 
@@ -90,12 +90,12 @@ fn begin(alloc: Global, state: &State<'_>, change: Change, theirs: &str) -> Resu
 }
 
 /// Makes a write of the numbers of a line.
-fn write(change: Change, bytes: &mut [u8], place: usize, numbers: &str) -> Result<(), Fault> {
+fn write(change: Change, bytes: &mut [u8], position: usize, numbers: &str) -> Result<(), Fault> {
     match change {
-        Change::Init57 => init57(bytes, place, numbers),
-        Change::Init25 => init25(bytes, place, numbers),
-        Change::Set57 => set57(bytes, place, numbers),
-        Change::Set25 => set25(bytes, place, numbers),
+        Change::Init57 => init57(bytes, position, numbers),
+        Change::Init25 => init25(bytes, position, numbers),
+        Change::Set57 => set57(bytes, position, numbers),
+        Change::Set25 => set25(bytes, position, numbers),
     }
 }
 
@@ -109,9 +109,9 @@ pub fn compare<'a>(
 ) -> Result<(), Fault> {
     let (text, theirs) = text::parts(line, " /")?;
     let (first_bit, numbers) = text::first_word(text);
-    let place = text::place(first_bit)?;
+    let position = text::position(first_bit)?;
     let mut ours = begin(alloc, state, change, theirs)?;
-    write(change, ours.as_mut_slice(), place, numbers)?;
+    write(change, ours.as_mut_slice(), position, numbers)?;
     found.compare_list(
         alloc,
         text,

@@ -19,8 +19,8 @@ pub struct Totals {
 
 impl Totals {
     /// The total where the position is the exact length.
-    pub fn at(self, place: usize) -> Option<u64> {
-        if place == self.len {
+    pub fn at(self, position: usize) -> Option<u64> {
+        if position == self.len {
             Some(self.items)
         } else {
             None

@@ -162,7 +162,7 @@ impl<'a> Found<'a> {
     pub fn compare_entries(&mut self, pairs: &'a str, list: List<'_>) -> Result<(), Fault> {
         for pair in pairs.split_ascii_whitespace() {
             let (argument, theirs) = text::parts(pair, ":")?;
-            let ours = list.get(text::place(argument)?);
+            let ours = list.get(text::position(argument)?);
             self.compare(argument, Base::Hexadecimal, ours, theirs)?;
         }
         Ok(())

@@ -113,18 +113,19 @@ fn compare_by<'a, R: Rank>(
 ) -> Result<(), Fault> {
     for pair in pairs.split_ascii_whitespace() {
         let (argument, theirs) = text::parts(pair, ":")?;
-        let place = text::place(argument)?;
+        let position = text::position(argument)?;
         let ours = if totals.of_ones {
-            index.try_rank(place)
+            index.try_rank(position)
         } else {
-            index.try_rank0(place)
+            index.try_rank0(position)
         };
-        found.compare_rank(argument, ours, totals.at(place), theirs)?;
+        found.compare_rank(argument, ours, totals.at(position), theirs)?;
     }
     Ok(())
 }
 
-/// Compares the ones or the zeros before places and before the end, by the simple rank and by the tables of an index.
+/// Compares the ones or the zeros before positions and before the end, by the simple rank and by the tables of an
+/// index.
 pub fn rank<'a>(
     alloc: Global,
     state: &State<'a>,

@@ -36,7 +36,7 @@ fn last_one(words: &[u64], start: usize) -> Result<usize, Fault>
 /// What a read of a range gives.
 fn number_in(words: &[u64], range: &str, is_masked: bool) -> Result<Option<u64>, Fault> {
     let (begin, len) = text::parts(range, ",")?;
-    let begin = text::place(begin)?;
+    let begin = text::position(begin)?;
     if is_masked {
         Ok(words.try_get_bits(begin, text::width(len, 63)?))
     } else {
@@ -51,8 +51,8 @@ fn answer(words: &[u64], read: Read, argument: &str) -> Result<Option<u64>, Faul
     match read {
         Read::Bits => number_in(words, argument, true),
         Read::Raw => number_in(words, argument, false),
-        Read::First => Ok(wide(words.find_bit_one(text::place(argument)?))),
-        Read::Last => Ok(wide(Some(last_one(words, text::place(argument)?)?))),
+        Read::First => Ok(wide(words.find_bit_one(text::position(argument)?))),
+        Read::Last => Ok(wide(Some(last_one(words, text::position(argument)?)?))),
     }
 }
 

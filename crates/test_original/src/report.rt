@@ -68,7 +68,7 @@ impl<'a> Report<'a> {
             .iter()
             .position(|tally| tally.kind == found.kind)
         {
-            Some(place) => self.tallies[place].add(found),
+            Some(position) => self.tallies[position].add(found),
             None => self.tallies.push(Tally::of(found))?,
         }
         Ok(())

@@ -139,7 +139,7 @@ fn chosen(n: usize, len: usize) -> [u64; 6] {
 pub fn ocs<'a>(alloc: Global, line: &'a str, found: &mut Found<'a>) -> Result<(), Fault> {
     let (len, rest) = text::first_word(line);
     let (n, theirs) = text::first_word(rest);
-    let ours = chosen(text::place(n)?, text::place(len)?);
+    let ours = chosen(text::position(n)?, text::position(len)?);
     found.compare_list(
         alloc,
         line,

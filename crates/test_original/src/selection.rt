@@ -28,7 +28,7 @@ fn compare_by<'a, S: SelectForRank101111 + Select0ForRank101111>(
     let (index, _) = index::build::<S>(alloc, words)?;
     for pair in pairs.split_ascii_whitespace() {
         let (argument, theirs) = text::parts(pair, ":")?;
-        let rank = text::place(argument)?;
+        let rank = text::position(argument)?;
         let ours = if of_ones {
             index.try_select(rank)
         } else {

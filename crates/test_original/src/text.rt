@@ -50,7 +50,7 @@ pub fn answer(text: &str, base: Base) -> Result<Option<u64>, Fault> {
 }
 
 /// The position or index that a word writes.
-pub fn place(text: &str) -> Result<usize, Fault> {
+pub fn position(text: &str) -> Result<usize, Fault> {
     Ok(number(text, Base::Decimal)? as usize)
 }
 

@@ -10,7 +10,7 @@ use std::alloc::{AllocError, Global};
 pub fn ceil<'a>(line: &'a str, found: &mut Found<'a>) -> Result<(), Fault> {
     let (n, rest) = text::first_word(line);
     let (d, theirs) = text::first_word(rest);
-    let (n, d) = (text::place(n)?, text::place(d)?);
+    let (n, d) = (text::position(n)?, text::position(d)?);
     if d == 0 {
         return Err(Fault::Condition);
     }
@@ -26,19 +26,19 @@ pub fn store<'a>(line: &'a str, found: &mut Found<'a>) -> Result<(), Fault> {
 }
 
 /// The positions of the 1 bits of a word, rising.
-fn places(alloc: Global, n: u64) -> Result<Vec<u64>, AllocError> {
-    let mut places = Vec::new(alloc);
+fn positions(alloc: Global, n: u64) -> Result<Vec<u64>, AllocError> {
+    let mut positions = Vec::new(alloc);
     for rank in 0..n.count_ones() as u8 {
-        places.push(u64::from(select64(n, rank)))?;
+        positions.push(u64::from(select64(n, rank)))?;
     }
-    Ok(places)
+    Ok(positions)
 }
 
 /// Compares the positions of the 1 bits of a word.
 pub fn sel64<'a>(alloc: Global, line: &'a str, found: &mut Found<'a>) -> Result<(), Fault> {
     let (word, theirs) = text::first_word(line);
     let n = text::number(word, Base::Hexadecimal)?;
-    let ours = places(alloc, n)?;
+    let ours = positions(alloc, n)?;
     found.compare_list(
         alloc,
         word,

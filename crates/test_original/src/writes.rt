@@ -26,7 +26,7 @@ fn read_arguments(text: &str, most: u8) -> Result<(usize, u8, u64), Fault>
 {
     let (begin, rest) = text::first_word(text);
     let (len, number) = text::first_word(rest);
-    let (begin, len) = (text::place(begin)?, text::width(len, most)?);
+    let (begin, len) = (text::position(begin)?, text::width(len, most)?);
     Ok((begin, len, text::number(number, Base::Hexadecimal)?))
 }
 
@@ -62,7 +62,11 @@ fn swap(words: &mut [u64], arguments: &str) -> Result<(), Fault>
 {
     let (i, rest) = text::first_word(arguments);
     let (j, len) = text::first_word(rest);
-    let (i, j, len) = (text::place(i)?, text::place(j)?, text::width(len, 63)?);
+    let (i, j, len) = (
+        text::position(i)?,
+        text::position(j)?,
+        text::width(len, 63)?,
+    );
     if !is_fragment_in_range(&*words, i, len) || !is_fragment_in_range(&*words, j, len) {
         return Err(Fault::Condition);
     }

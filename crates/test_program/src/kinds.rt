@@ -6,7 +6,7 @@
 // - `hashes`: perfect hashes, with seeds, with keys and with notes
 // - `kinds`: blocks of each other kind
 // - `runs`: runs with arguments, and what they write
-// - `told`: what is said of the words of a block
+// - `saying`: what is said of the words of a block
 #[cfg(test)]
 mod hashes;
 #[cfg(test)]
@@ -14,4 +14,4 @@ mod kinds;
 #[cfg(test)]
 mod runs;
 #[cfg(test)]
-mod told;
+mod saying;

@@ -1,5 +1,5 @@
-//! Tests of a collection of texts beside a walk over each document: counts, places and documents worked out by hand and
-//! by plain comparison.
+//! Tests of a collection of texts beside a walk over each document: counts, locations and documents worked out by hand
+//! and by plain comparison.
 //!
 //! They stand in a crate of their own, since a crate with tests is proved twice.
 // What is in each file:

@@ -38,13 +38,13 @@ fn compare_numbers(
 ) -> Result<Compared, AllocError> {
     let mut compared = Compared::nothing();
     let mut counts = Vec::from_elem(alloc, 0usize, 1 << 16)?;
-    for (place, number) in list.iter().enumerate() {
+    for (position, number) in list.iter().enumerate() {
         let at = *number as usize;
         if at < counts.len() {
             let before = counts[at];
-            compared.see(matrix.try_get(place) == Some(*number));
-            compared.see(matrix.try_rank(*number, place) == Some(before));
-            compared.see(matrix.try_select(*number, before) == Some(place));
+            compared.see(matrix.try_get(position) == Some(*number));
+            compared.see(matrix.try_rank(*number, position) == Some(before));
+            compared.see(matrix.try_select(*number, before) == Some(position));
             counts[at] = before.wrapping_add(1);
         }
     }

@@ -16,7 +16,7 @@ pub(crate) type Sampled = CombinedSampling<AdaptiveCombinedSamplingDensity<13>>;
 /// The queries of an index: indices to be ranked, and ranks of 1 bits and of 0 bits.
 #[derive(Clone, Copy)]
 pub(crate) struct Asked<'a> {
-    pub(crate) places: &'a [usize],
+    pub(crate) positions: &'a [usize],
     pub(crate) ones: &'a [usize],
     pub(crate) zeros: &'a [usize],
 }
@@ -25,18 +25,18 @@ pub(crate) struct Asked<'a> {
 #[derive(Drop)]
 struct SimpleRanks<'a> {
     index: &'a RankSimple<&'a [u64]>,
-    places: &'a [usize],
+    positions: &'a [usize],
 }
 
 impl<'a> Batch for SimpleRanks<'a> {
     #[inline(never)]
     fn run(&self) -> usize {
-        sum!(self.places, place => self.index.try_rank(*place))
+        sum!(self.positions, position => self.index.try_rank(*position))
     }
 }
 
 /// Builds a simple index, and adds the rows of its ranks.
-pub(crate) fn add_simple(bench: &mut Bench<'_>, content: &[u64], places: &[usize])
+pub(crate) fn add_simple(bench: &mut Bench<'_>, content: &[u64], positions: &[usize])
     requires short { IsShort content.now }
     requires few { HasFewOnes content.now }
 {
@@ -45,9 +45,9 @@ pub(crate) fn add_simple(bench: &mut Bench<'_>, content: &[u64], places: &[usize
         bench.add_since(begun, Label("build_a_word", "simple"), content.len());
         let ranks = SimpleRanks {
             index: &index,
-            places,
+            positions,
         };
-        bench.least(Label("rank", "simple"), places.len(), &ranks);
+        bench.least(Label("rank", "simple"), positions.len(), &ranks);
     }
 }
 
@@ -75,8 +75,8 @@ impl<'a, 'c, S: SelectForRank101111, S0: Select0ForRank101111> Batch for Calls<'
     fn run(&self) -> usize {
         let (index, asked) = (self.index, self.asked);
         match self.call {
-            Call::Rank => sum!(asked, place => index.try_rank(*place)),
-            Call::RankChained => chain!(asked, place => index.try_rank(place)),
+            Call::Rank => sum!(asked, position => index.try_rank(*position)),
+            Call::RankChained => chain!(asked, position => index.try_rank(position)),
             Call::Select => sum!(asked, rank => index.try_select(*rank)),
             Call::SelectChained => chain!(asked, rank => index.try_select(rank)),
             Call::Select0 => sum!(asked, rank => index.try_select0(*rank)),
@@ -101,8 +101,8 @@ fn add_calls<'a, S: SelectForRank101111 + GetSize, S0: Select0ForRank101111 + Ge
         bench.add_space(Label(name, by), bytes, index.content().len());
     }
     for (name, call, asked) in [
-        ("rank", Call::Rank, asked.places),
-        ("rank_chained", Call::RankChained, asked.places),
+        ("rank", Call::Rank, asked.positions),
+        ("rank_chained", Call::RankChained, asked.positions),
         ("select", Call::Select, asked.ones),
         ("select_chained", Call::SelectChained, asked.ones),
         ("select0", Call::Select0, asked.zeros),

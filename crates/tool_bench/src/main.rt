@@ -71,17 +71,17 @@ fn add_numbers(bench: &mut Bench<'_>, count: usize, width: u8) -> Result<(), All
 /// The queries of a bit vector.
 #[derive(Drop)]
 struct Drawn {
-    places: Vec<usize>,
+    positions: Vec<usize>,
     zeros: Vec<usize>,
     ones: Vec<usize>,
 }
 
 /// Draws the queries of this many bits, with this many 1 bits.
 fn draw_queries(alloc: Global, bits: usize, ones: usize) -> Result<Drawn, AllocError> {
-    let places = queries(alloc, bits)?;
+    let positions = queries(alloc, bits)?;
     let zeros = queries(alloc, bits.saturating_sub(ones))?;
     Ok(Drawn {
-        places,
+        positions,
         zeros,
         ones: queries(alloc, ones)?,
     })
@@ -92,13 +92,13 @@ fn add_calls(bench: &mut Bench<'_>, content: &[u64], drawn: &Drawn) -> Result<()
     requires { IsShort content.now }
 {
     let asked = Asked {
-        places: drawn.places.as_slice(),
+        positions: drawn.positions.as_slice(),
         ones: drawn.ones.as_slice(),
         zeros: drawn.zeros.as_slice(),
     };
-    words::add_rows(bench, content, asked.places);
+    words::add_rows(bench, content, asked.positions);
     if bitm::words::count_bit_ones(content) < 1 << 32 {
-        index::add_simple(bench, content, asked.places);
+        index::add_simple(bench, content, asked.positions);
     }
     index::add_rows::<BinaryRankSearch, BinaryRankSearch>(bench, "binary", content, asked)?;
     index::add_rows::<Sampled, Sampled>(bench, "sampled", content, asked)

@@ -84,10 +84,10 @@ pub(crate) fn add_many<S: SelectForRank101111, S0: Select0ForRank101111>(
     index: &RankSelect101111<S, S0, &[u64]>,
     asked: Asked<'_>,
 ) -> Result<(), AllocError> {
-    let mut kept = Vec::from_slice(bench.alloc(), asked.places)?;
+    let mut kept = Vec::from_slice(bench.alloc(), asked.positions)?;
     let answers = kept.as_mut_slice();
     for (name, call, queries) in [
-        ("rank_many", Call::Rank, asked.places),
+        ("rank_many", Call::Rank, asked.positions),
         ("select_many", Call::Select, asked.ones),
         ("select0_many", Call::Select0, asked.zeros),
     ] {

@@ -54,29 +54,29 @@ enum Call {
 fn pairs<S: SelectForRank101111, S0: Select0ForRank101111>(
     alloc: Global,
     matrix: &WaveletMatrix<S, S0>,
-    places: &[usize],
+    positions: &[usize],
     selected: bool,
 ) -> Result<Vec<Pair>, AllocError> {
-    let mut pairs = Vec::with_capacity(alloc, places.len())?;
-    for place in places {
+    let mut pairs = Vec::with_capacity(alloc, positions.len())?;
+    for position in positions {
         let pair = if selected {
-            let number = matrix.try_get(*place).unwrap_or(0);
-            (number, matrix.try_rank(number, *place).unwrap_or(0))
+            let number = matrix.try_get(*position).unwrap_or(0);
+            (number, matrix.try_rank(number, *position).unwrap_or(0))
         } else {
-            let other = place.wrapping_add(1) % matrix.len().max(1);
-            (matrix.try_get(other).unwrap_or(0), *place)
+            let other = position.wrapping_add(1) % matrix.len().max(1);
+            (matrix.try_get(other).unwrap_or(0), *position)
         };
         pairs.push(pair)?;
     }
     Ok(pairs)
 }
 
-/// Calls of a matrix: numbers are got from places, and ranked and selected by pairs.
+/// Calls of a matrix: numbers are got from positions, and ranked and selected by pairs.
 #[derive(Drop)]
 struct Calls<'a, S: SelectForRank101111, S0: Select0ForRank101111> {
     call: Call,
     matrix: &'a WaveletMatrix<S, S0>,
-    places: &'a [usize],
+    positions: &'a [usize],
     pairs: &'a [Pair],
 }
 
@@ -85,7 +85,7 @@ impl<'a, S: SelectForRank101111, S0: Select0ForRank101111> Batch for Calls<'a, S
     fn run(&self) -> usize {
         let matrix = self.matrix;
         match self.call {
-            Call::Get => sum!(self.places, place => matrix.try_get(*place)),
+            Call::Get => sum!(self.positions, position => matrix.try_get(*position)),
             Call::Rank => sum!(self.pairs, it => matrix.try_rank(it.0, it.1)),
             Call::Select => sum!(self.pairs, it => matrix.try_select(it.0, it.1)),
         }
@@ -97,22 +97,22 @@ fn add_call<'a, S: SelectForRank101111, S0: Select0ForRank101111>(
     bench: &mut Bench<'a>,
     label: Label<'a>,
     matrix: &WaveletMatrix<S, S0>,
-    places: &[usize],
+    positions: &[usize],
     call: Call,
 ) -> Result<(), AllocError> {
     let asked = if matches!(call, Call::Get) {
-        &places[..0]
+        &positions[..0]
     } else {
-        places
+        positions
     };
     let kept = pairs(bench.alloc(), matrix, asked, matches!(call, Call::Select))?;
     let calls = Calls {
         call,
         matrix,
-        places,
+        positions,
         pairs: kept.as_slice(),
     };
-    bench.least(label, places.len(), &calls);
+    bench.least(label, positions.len(), &calls);
     Ok(())
 }
 
@@ -150,10 +150,10 @@ fn add_calls<'a, S: SelectForRank101111, S0: Select0ForRank101111>(
     [get, rank, select]: [Label<'a>; 3],
     matrix: &WaveletMatrix<S, S0>,
 ) -> Result<(), AllocError> {
-    let places = queries(bench.alloc(), matrix.len())?;
-    let places = places.as_slice();
+    let positions = queries(bench.alloc(), matrix.len())?;
+    let positions = positions.as_slice();
     for (name, call) in [(get, Call::Get), (rank, Call::Rank), (select, Call::Select)] {
-        add_call(bench, name, matrix, places, call)?;
+        add_call(bench, name, matrix, positions, call)?;
     }
     Ok(())
 }

@@ -21,39 +21,39 @@ fn numbers(alloc: Global, count: usize) -> Result<Vec<u64>, AllocError> {
 /// The index of the first of rising numbers that is at least the value, by binary search.
 #[inline(always)]
 fn halves(numbers: &[u64], value: u64) -> usize {
-    let mut place = 0usize;
+    let mut position = 0usize;
     let mut left = numbers.len();
     // As often as a length has binary digits.
     for _ in 0..64 {
         let half = left / 2;
-        let at = place.wrapping_add(half);
+        let at = position.wrapping_add(half);
         match numbers.get(at) {
             Some(number) if left > 0 => {
                 if *number < value {
-                    place = at.wrapping_add(1);
+                    position = at.wrapping_add(1);
                     left = left.saturating_sub(1).saturating_sub(half);
                 } else {
                     left = half;
                 }
             }
-            _ => return place,
+            _ => return position,
         }
     }
-    place
+    position
 }
 
 /// The queries of a sequence: indices, and values whose successors are sought.
 #[derive(Drop)]
 struct Asked {
-    places: Vec<usize>,
+    positions: Vec<usize>,
     values: Vec<usize>,
 }
 
 /// Draws the queries of `count` numbers up to the last.
 fn draw_asked(alloc: Global, count: usize, last: usize) -> Result<Asked, AllocError> {
-    let places = queries(alloc, count)?;
+    let positions = queries(alloc, count)?;
     Ok(Asked {
-        places,
+        positions,
         values: queries(alloc, last)?,
     })
 }
@@ -71,7 +71,7 @@ fn add_sequence<'a, S: SelectForRank101111, S0: Select0ForRank101111>(
                 bench,
                 by,
                 &sequence,
-                asked.places.as_slice(),
+                asked.positions.as_slice(),
                 asked.values.as_slice(),
             );
             Ok(())
@@ -101,7 +101,7 @@ impl<'a, S: SelectForRank101111, S0: Select0ForRank101111> Batch for Calls<'a, S
     fn run(&self) -> usize {
         let (sequence, asked) = (self.sequence, self.asked);
         match self.call {
-            Call::Get => sum!(asked, place => sequence.try_get(*place)),
+            Call::Get => sum!(asked, position => sequence.try_get(*position)),
             Call::FirstAtLeast => sum!(asked, value => sequence.first_at_least(*value as u64)),
             Call::InOrder => sum!(sequence.iter(), number => Some(number)),
         }
@@ -113,11 +113,11 @@ fn add_calls<'a, S: SelectForRank101111, S0: Select0ForRank101111>(
     bench: &mut Bench<'a>,
     by: &'a str,
     sequence: &Sequence<S, S0>,
-    places: &[usize],
+    positions: &[usize],
     values: &[usize],
 ) {
     for (name, call, asked, calls) in [
-        ("sequence_get", Call::Get, places, places.len()),
+        ("sequence_get", Call::Get, positions, positions.len()),
         (
             "sequence_first_at_least",
             Call::FirstAtLeast,

@@ -90,7 +90,7 @@ fn nodes_of(alloc: Global, tree: &SampledLouds, numbers: &[usize]) -> Result<Vec
     Ok(nodes)
 }
 
-/// The parent of a node, as a call of its own, so that its place is answered too.
+/// The parent of a node, as a call of its own, so that its position is answered too.
 #[inline(never)]
 fn parent_of(tree: &SampledLouds, node: Node) -> Option<Node>
     requires { IsNode tree.now.degrees node }

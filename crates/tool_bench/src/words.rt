@@ -5,7 +5,7 @@ use bitm::{select64, words};
 /// The position of the 1 bit of a word with this rank, 0 where it has none.
 #[inline(always)]
 #[tactic(auto, using(bitm::proofs::Callers::ones_of_word))]
-fn place_in_word(word: u64, rank: u8) -> usize {
+fn position_in_word(word: u64, rank: u8) -> usize {
     if (rank as u32) < word.count_ones() {
         select64(word, rank) as usize
     } else {
@@ -15,17 +15,17 @@ fn place_in_word(word: u64, rank: u8) -> usize {
 
 /// Selects in one of the first 1024 words, which has no fewer than 32 ones.
 #[inline(always)]
-fn select_in_word(content: &[u64], place: usize) -> Option<usize> {
-    let word = content.get(place / 64 % 1024)?;
-    Some(place_in_word(*word | 0x00FF_FF00_FFFF_0000, (place % 32) as u8))
+fn select_in_word(content: &[u64], position: usize) -> Option<usize> {
+    let word = content.get(position / 64 % 1024)?;
+    Some(position_in_word(*word | 0x00FF_FF00_FFFF_0000, (position % 32) as u8))
 }
 
 /// A rank by a scan from the begin, without a table.
 #[inline(always)]
-fn scanned_rank(content: &[u64], place: usize) -> Option<usize> {
-    let last = content.get(place / 64)?;
-    let mut ones = (*last & ((1 << (place % 64)) - 1)).count_ones() as usize;
-    for word in &content[..place / 64] {
+fn scanned_rank(content: &[u64], position: usize) -> Option<usize> {
+    let last = content.get(position / 64)?;
+    let mut ones = (*last & ((1 << (position % 64)) - 1)).count_ones() as usize;
+    for word in &content[..position / 64] {
         ones = ones.wrapping_add(word.count_ones() as usize);
     }
     Some(ones)
@@ -46,39 +46,44 @@ enum Call {
 struct Calls<'a> {
     call: Call,
     content: &'a [u64],
-    places: &'a [usize],
+    positions: &'a [usize],
 }
 
 impl<'a> Batch for Calls<'a> {
     #[inline(never)]
     fn run(&self) -> usize {
-        let (content, places) = (self.content, self.places);
+        let (content, positions) = (self.content, self.positions);
         match self.call {
-            Call::Bit => sum!(places, place => words::try_get_bit(content, *place)),
-            Call::Bits => sum!(places, place => words::try_get_bits(content, *place, 13)),
+            Call::Bit => sum!(positions, position => words::try_get_bit(content, *position)),
+            Call::Bits => sum!(positions, position => words::try_get_bits(content, *position, 13)),
             Call::Ones if content.len() < 1 << 58 => words::count_bit_ones(content),
             Call::Ones => 0,
-            Call::Scan => sum!(places, place => scanned_rank(content, *place)),
-            Call::Select => sum!(places, place => select_in_word(content, *place)),
+            Call::Scan => sum!(positions, position => scanned_rank(content, *position)),
+            Call::Select => sum!(positions, position => select_in_word(content, *position)),
         }
     }
 }
 
 /// Adds the rows of words: of single bits and of numbers of 13 bits, of all ones counted, of four ranks by a scan, and
 /// of selections in words.
-pub(crate) fn add_rows(bench: &mut Bench<'_>, content: &[u64], places: &[usize]) {
-    let some = &places[..places.len().min(4)];
-    for (name, call, places, calls) in [
-        ("get_bit", Call::Bit, places, places.len()),
-        ("get_bits_13", Call::Bits, places, places.len()),
-        ("count_bit_ones_a_word", Call::Ones, places, content.len()),
+pub(crate) fn add_rows(bench: &mut Bench<'_>, content: &[u64], positions: &[usize]) {
+    let some = &positions[..positions.len().min(4)];
+    for (name, call, positions, calls) in [
+        ("get_bit", Call::Bit, positions, positions.len()),
+        ("get_bits_13", Call::Bits, positions, positions.len()),
+        (
+            "count_bit_ones_a_word",
+            Call::Ones,
+            positions,
+            content.len(),
+        ),
         ("rank_scan", Call::Scan, some, some.len()),
-        ("select64", Call::Select, places, places.len()),
+        ("select64", Call::Select, positions, positions.len()),
     ] {
         let batch = Calls {
             call,
             content,
-            places,
+            positions,
         };
         bench.least(Label(name, "words"), calls, &batch);
     }

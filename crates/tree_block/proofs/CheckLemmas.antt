@@ -9,14 +9,14 @@ use Rattle.bit_lists.proofs.lemmas.BitsLemmas.{item-bits_of_at}
 use Rattle.bit_lists.proofs.lemmas.CountLemmas.{ones_before_more, ones_before-bits_of_in_word}
 use Rattle.bit_lists.proofs.lemmas.WordLemmas.{truth, truth-digit}
 use Rattle.bit_lists.specs.Bits.{bits_of, item}
-use Rattle.bit_lists.specs.Count.{ones_before, zeros_before, is_same, places, Picks}
-use Rattle.bit_lists.proofs.BitLaws.{at_most_one_picked, bits_are_counted, count_after_item, counts_grow, ones_and_zeros, places_are_counted, places_are_picked}
+use Rattle.bit_lists.specs.Count.{ones_before, zeros_before, is_same, bit_positions, Picks}
+use Rattle.bit_lists.proofs.BitLaws.{at_most_one_picked, bits_are_counted, count_after_item, counts_grow, ones_and_zeros, positions_are_counted, positions_are_picked}
 use Rattle.bit_lists.proofs.Callers.{zero_below}
-use Rattle.louds.proofs.lemmas.TreeLemmas.{sum_all, zero_place_more}
-use Rattle.louds.specs.Held.{degrees_of, tree_words, zero_place, IsHeld}
+use Rattle.louds.proofs.lemmas.TreeLemmas.{sum_all, zero_position_more}
+use Rattle.louds.specs.Held.{degrees_of, tree_words, zero_position, IsHeld}
 use Rattle.tree_block.specs.Check.{KeepsLead, OnesLead}
 
--- of a tree of n nodes the zero of rank v can stand at place p: the first one at 1, each before the last after at least as
+-- of a tree of n nodes the zero of rank v can stand at position p: the first one at 1, each before the last after at least as
 -- many ones as nodes are known then, and the last one at 2 n
 record IsZeroOfTree (n v p : ℕ) : Type 0 where
   first : v ≡ 0 → p ≡ 1
@@ -25,14 +25,14 @@ record IsZeroOfTree (n v p : ℕ) : Type 0 where
 
 -- the zero of rank v stands where that of a tree of n nodes can
 record StandsRight (b : List Bool) (n v : ℕ) : Type 0 where
-  place : ℕ
-  picks : Picks b false v place
-  right : IsZeroOfTree n v place
+  position : ℕ
+  picks : Picks b false v position
+  right : IsZeroOfTree n v position
 
 -- where the bits hold a tree, each does
-right_of_held : (d : List ℕ) (n : ℕ) (b : List Bool) → IsHeld d n b → (v : ℕ) → v ≤ n → IsZeroOfTree n v (zero_place d v)
+right_of_held : (d : List ℕ) (n : ℕ) (b : List Bool) → IsHeld d n b → (v : ℕ) → v ≤ n → IsZeroOfTree n v (zero_position d v)
 right_of_held d n b h v within = record {
-  first = λ e. ap (zero_place d) e;
+  first = λ e. ap (zero_position d) e;
   known = λ less.
       ⊎_elim
       (λ none. omega (arith, none))
@@ -62,14 +62,14 @@ zero_behind b s v p counted picked =
 -- where the bits hold a tree, each zero of such a rank stands where that of a tree can
 next_right : (d : List ℕ) (n : ℕ) (b : List Bool) (v p : ℕ) → IsHeld d n b → v ≤ n → Picks b false v p → IsZeroOfTree n v p
 next_right d n b v p h within picked =
-    subst (IsZeroOfTree n v) (at_most_one_picked b false v (zero_place d v) p (h.zeros v within) picked) (right_of_held d n b h v within)
+    subst (IsZeroOfTree n v) (at_most_one_picked b false v (zero_position d v) p (h.zeros v within) picked) (right_of_held d n b h v within)
 
 module _ (b : List Bool) (n : ℕ) (zeros : (v : ℕ) → v ≤ n → StandsRight b n v) where
   abbrev d : List ℕ
   d = degrees_of b n
 
   abbrev at : ℕ → ℕ
-  at v = get_or (places false 0 b) v 0
+  at v = get_or (bit_positions false 0 b) v 0
 
   abbrev degree : ℕ → ℕ
   degree i = at (i + 1) - at i - 1
@@ -79,7 +79,7 @@ module _ (b : List Bool) (n : ℕ) (zeros : (v : ℕ) → v ≤ n → StandsRigh
 
   picked : (v : ℕ) → v ≤ n → Picks b false v (at v)
   picked v within =
-      places_are_picked b false v (omega (arith, places_are_counted b false, zero_below b v _ (zeros v within).picks))
+      positions_are_picked b false v (omega (arith, positions_are_counted b false, zero_below b v _ (zeros v within).picks))
 
   right : (v : ℕ) → v ≤ n → IsZeroOfTree n v (at v)
   right v within =
@@ -91,21 +91,21 @@ module _ (b : List Bool) (n : ℕ) (zeros : (v : ℕ) → v ≤ n → StandsRigh
       zero_behind b (at v + 1) (v + 1) (at (v + 1)) (zero_more b v (at v) (picked v (omega arith))) (picked (v + 1) (omega arith)) in
       omega (arith, behind)
 
-  stands : (v : ℕ) → v ≤ n → zero_place d v ≡ at v
+  stands : (v : ℕ) → v ≤ n → zero_position d v ≡ at v
   stands zero within = sym ((right 0 within).first refl)
   stands (suc v) within =
       let next : suc v ≡ v + 1 = omega arith in
       let inside : v < length d = omega (arith, len) in
       let own : get_or d v 0 ≡ degree v = get_or-map-range_with_len degree 0 n v v 0 (omega arith) (omega arith) in
-      ap (zero_place d) next
-      ∙ omega (arith, zero_place_more d v inside, own, stands v (omega arith), order v (omega arith))
+      ap (zero_position d) next
+      ∙ omega (arith, zero_position_more d v inside, own, stands v (omega arith), order v (omega arith))
       ∙ ap at (sym next)
 
   held_of : n < 2 ^ 60 → length b ≡ 64 * tree_words n → IsHeld (degrees_of b n) n b
   held_of short tight =
       let total : sum (take n d) ≡ sum d = sum_all d n (sym len) in
-      let last : zero_place d n ≡ 2 * n = stands n (omega arith) ∙ (right n (omega arith)).last refl in
-      let some : zero_place d n ≡ 1 + n + sum (take n d) = refl in
+      let last : zero_position d n ≡ 2 * n = stands n (omega arith) ∙ (right n (omega arith)).last refl in
+      let some : zero_position d n ≡ 1 + n + sum (take n d) = refl in
       record {
         count = sym len;
         short = short;
@@ -151,8 +151,8 @@ pub tree_of_held : (d : List ℕ) (n : ℕ) (b : List Bool) → length b ≡ 64 
 tree_of_held d n b tight h =
     let first = right_of_held d n b h 0 (omega arith) in
     let end = right_of_held d n b h n (omega arith) in
-    let at_one : zero_place d 0 ≡ 1 = first.first refl in
-    let at_end : zero_place d n ≡ 2 * n = end.last refl in
+    let at_one : zero_position d 0 ≡ 1 = first.first refl in
+    let at_end : zero_position d n ≡ 2 * n = end.last refl in
     let last : Picks b false n (2 * n) = subst (Picks b false n) at_end (h.zeros n (omega arith)) in
     record {
       some = some_of n at_one at_end;
@@ -172,7 +172,7 @@ tree_of_held d n b tight h =
       count = omega (arith, ones_and_zeros b (2 * n) (omega (arith, last.inside)), last.before);
     }
   where
-    some_of : (m : ℕ) → zero_place d 0 ≡ 1 → zero_place d m ≡ 2 * m → 0 < m
+    some_of : (m : ℕ) → zero_position d 0 ≡ 1 → zero_position d m ≡ 2 * m → 0 < m
     some_of zero one none = absurd (omega (arith, one, none))
     some_of (suc m) one none = omega arith
 
@@ -203,10 +203,10 @@ held_of_tree b n short tight tree = held_of b n zeros short tight
 
     zeros : (v : ℕ) → v ≤ n → StandsRight b n v
     zeros v within =
-        let p = get_or (places false 0 b) v 0 in
-        let picked : Picks b false v p = places_are_picked b false v (omega (arith, within, places_are_counted b false, zero_below b n (2 * n) last)) in
+        let p = get_or (bit_positions false 0 b) v 0 in
+        let picked : Picks b false v p = positions_are_picked b false v (omega (arith, within, positions_are_counted b false, zero_below b n (2 * n) last)) in
         record {
-          place = p;
+          position = p;
           picks = picked;
           right = record {
             first = λ e. at_most_one_picked b false v p 1 picked (subst (λ r. Picks b false r 1) (sym e) first);
@@ -221,7 +221,7 @@ held_of_tree b n short tight tree = held_of b n zeros short tight
 
 -- ---- word by word
 
--- the ones before a place are at most as many as the bits before it
+-- the ones before a position are at most as many as the bits before it
 pub ones_few : (words : List ℕ) (p : ℕ) → p ≤ 64 * length words → ones_before (bits_of words) p ≤ p
 ones_few words p within = omega (arith, ones_and_zeros (bits_of words) p (omega (arith, within, bits_are_counted words)))
 

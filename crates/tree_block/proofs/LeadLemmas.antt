@@ -8,7 +8,7 @@ use Rattle.std.specs.Int.{bit_at}
 use Rattle.bit_lists.proofs.lemmas.CountLemmas.{count_ones_more}
 use Rattle.tree_block.specs.Check.{KeepsLead}
 
--- ---- the ones below a place
+-- ---- the ones below a position
 
 -- those of the k lowest digits, and of the j above these
 pub ones_above : (v k j : ℕ) → count_ones (v % 2 ^ (k + j)) ≡ count_ones (v % 2 ^ k) + count_ones (v / 2 ^ k % 2 ^ j)
@@ -52,7 +52,7 @@ abbrev last_digit : ℕ → ℕ → ℕ
 last_digit v zero = 0
 last_digit v (suc m) = bit_at v m
 
--- where y has a one at each zero of v that is not right after a one, there are no fewer ones than zeros up to a place,
+-- where y has a one at each zero of v that is not right after a one, there are no fewer ones than zeros up to a position,
 -- but for the ones of y; one more where a one is the last digit
 module _ (v y : ℕ) (first : bit_at v 0 ≡ 0 → bit_at y 0 ≡ 1) (next : (k : ℕ) → k + 1 < 64 → bit_at v (k + 1) ≡ 0 → bit_at v k ≡ 0 → bit_at y (k + 1) ≡ 1) where
   alone : (m : ℕ) → m < 64 → bit_at v m ≡ 0 → last_digit v m ≡ 0 → bit_at y m ≡ 1
@@ -103,7 +103,7 @@ digit_above v k j n inside =
     ∙ mod-mod-pow (v / 2 ^ k / 2 ^ j) d 1
     ∙ ap (λ m. m % 2) (shr-shr v k j)
 
--- what is below the place too
+-- what is below the position too
 pub below_above : (v k j n : ℕ) → j ≤ n → count_ones (v / 2 ^ k % 2 ^ n % 2 ^ j) ≡ count_ones (v / 2 ^ k % 2 ^ j)
 below_above v k j n within =
     let cut : n ≡ n - j + j = omega (arith, within) in

@@ -4,7 +4,7 @@ use Rattle.std.specs.Int.{bit_at}
 use Rattle.bit_lists.specs.Bits.{item}
 use Rattle.bit_lists.specs.Count.{ones_before}
 
--- each zero before place m has more ones before it than zeros
+-- each zero before position m has more ones before it than zeros
 abbrev pub OnesLead : List Bool → ℕ → Type 0
 OnesLead b m = (p : ℕ) → p < m → item b p ≡ false → p < 2 * ones_before b p
 

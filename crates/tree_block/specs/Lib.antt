@@ -1,7 +1,7 @@
 pub mod Block
 pub mod Check
 pub mod Error
-pub mod Told
+pub mod Codes
 pub mod Answers
 pub mod TrieBlock
 pub mod TrieError

@@ -7,14 +7,14 @@ pub record Words : Type 0 where
   pub word : ℕ → List ℕ
   pub count : ℕ
 
--- the words that begin in bytes at these places: the last place is where the last word ends
+-- the words that begin in bytes at these positions: the last position is where the last word ends
 abbrev pub dictionary_word : List ℕ → List ℕ → ℕ → List ℕ
 dictionary_word bytes starts j = slice_range bytes (slice_index starts j) (slice_index starts (j + 1))
 
 abbrev pub words_in : List ℕ → List ℕ → Words
 words_in bytes starts = record { word = dictionary_word bytes starts; count = length starts - 1 }
 
--- there is a place, none is before the one before it, and the last one is in the bytes or where they end
+-- there is a position, none is before the one before it, and the last one is in the bytes or where they end
 pub record AreWords (bytes starts : List ℕ) : Type 0 where
   pub some : 0 < length starts
   pub rise : (j : ℕ) → j + 1 < length starts → slice_index starts j ≤ slice_index starts (j + 1)

@@ -2,16 +2,16 @@
 //! side, so that each waits for memory while the others do.
 ghost use Rattle.std.specs.Prelude.{◌≡◌, ◌+◌, ◌*◌, ◌<◌, ℕ, length, slice_index};
 ghost use Rattle.bit_lists.specs.Count.{as_bit};
-ghost use Rattle.bitm_select.specs.Answers.{SelectTold, ToldEach};
+ghost use Rattle.bitm_select.specs.Answers.{IsSelectCode, AreSelectCodes};
 ghost use Rattle.bitm_tables.specs.declared.answer.Answer.{Answer};
 ghost use Rattle.bitm_tables.specs.Tables.{HasSizes};
 ghost use Rattle.louds.specs.Counted.{OnlySelects};
 ghost use Rattle.tree_block.specs.Block.{TreeParts};
-ghost use Rattle.tree_block.specs.Told.{in_lists, without_hints, IsChildAnswer, IsCodeOf, IsDegree, IsParent};
+ghost use Rattle.tree_block.specs.Codes.{in_lists, without_hints, IsChildAnswer, IsCodeOf, IsDegree, IsParent};
 
 use crate::tree::LoudsView;
 use bitm_select::many::lists::total_select_many_on;
-use bitm_select::search::selected::told;
+use bitm_select::search::selected::list_code;
 use bitm_select::search::selecting::ByTables;
 use bitm_tables::answer::Answer;
 use bitm_tables::source::TableSource;
@@ -32,7 +32,7 @@ trait Asks<const BIT: u8, T: TableSource> {
     /// The answer for a node and a number, from the code of a bit's position in a list of selections.
     fn answer_on(source: &mut T, len: usize, node: usize, k: usize, code: usize) -> Answer<usize>
         requires sized { HasSizes (T.lists source.old) }
-        ensures holds { SelectTold (as_bit BIT) (T.lists source.old) node code
+        ensures holds { IsSelectCode (as_bit BIT) (T.lists source.old) node code
             → holds node k (in_lists len (T.lists source.old)) result }
         ensures reads { OnlySelects T.lists T.reads source.old source.new selects words };
 }
@@ -106,7 +106,7 @@ fn answer_each_on<const BIT: u8, T: TableSource, Q: Asks<BIT, T>>(
     requires sized { HasSizes (T.lists source.old) }
     requires room { length out.old ≡ length nodes.now }
     requires ks { length ks.now ≡ length nodes.now }
-    requires told { ToldEach (as_bit BIT) (T.lists source.old) nodes.now out.old }
+    requires claimed { AreSelectCodes (as_bit BIT) (T.lists source.old) nodes.now out.old }
     ensures each { (j : ℕ) → j < length nodes.now
         → IsCodeOf (Q.holds (slice_index nodes.now j) (slice_index ks.now j)
         (in_lists len (T.lists source.old))) (slice_index out.new j) }
@@ -114,7 +114,7 @@ fn answer_each_on<const BIT: u8, T: TableSource, Q: Asks<BIT, T>>(
         (Q.selects * length nodes.now) (Q.words * length nodes.now) }
 {
     for at in 0..nodes.len() {
-        out[at] = told(Q::answer_on(source, len, nodes[at], ks[at], out[at]));
+        out[at] = list_code(Q::answer_on(source, len, nodes[at], ks[at], out[at]));
     }
 }
 

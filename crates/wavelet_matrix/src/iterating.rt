@@ -12,8 +12,8 @@ use std::marker::Model;
 #[derive(Drop)]
 pub struct Numbers<'a, S: SelectForRank101111, S0: Select0ForRank101111> {
     matrix: &'a WaveletMatrix<S, S0>,
-    // The place of the next one.
-    place: usize,
+    // The position of the next one.
+    position: usize,
 }
 
 impl<'a, S: SelectForRank101111, S0: Select0ForRank101111> Model for Numbers<'a, S, S0> {
@@ -21,9 +21,9 @@ impl<'a, S: SelectForRank101111, S0: Select0ForRank101111> Model for Numbers<'a,
 
     ghost Value = { List ℕ };
 
-    ghost view = { λ it. drop it.place it.matrix.now.items };
+    ghost view = { λ it. drop it.position it.matrix.now.items };
 
-    ghost invariant = { λ it. it.place ≤ length it.matrix.now.items };
+    ghost invariant = { λ it. it.position ≤ length it.matrix.now.items };
 }
 
 impl<S: SelectForRank101111, S0: Select0ForRank101111> WaveletMatrix<S, S0> {
@@ -38,20 +38,20 @@ impl<S: SelectForRank101111, S0: Select0ForRank101111> WaveletMatrix<S, S0> {
         self.iter_from(0)
     }
 
-    /// The numbers from number `place` on, in their order.
+    /// The numbers from number `position` on, in their order.
     ///
     /// # Conditions
     /// There is a number at that index, or it is the number of all.
     /// # Cost
     /// For each number that comes, the cost of `get`.
     #[inline]
-    pub fn iter_from(&self, place: usize) -> Numbers<'_, S, S0>
-        requires { place ≤ length self.now.items }
-        ensures { result ≡ drop place self.now.items }
+    pub fn iter_from(&self, position: usize) -> Numbers<'_, S, S0>
+        requires { position ≤ length self.now.items }
+        ensures { result ≡ drop position self.now.items }
     {
         Numbers {
             matrix: self,
-            place,
+            position,
         }
     }
 }
@@ -65,11 +65,11 @@ impl<'a, S: SelectForRank101111, S0: Select0ForRank101111> Iterator for Numbers<
 
     #[inline]
     fn next(&mut self) -> Option<u64> {
-        if self.place >= self.matrix.len() {
+        if self.position >= self.matrix.len() {
             return None;
         }
-        let number = self.matrix.get(self.place);
-        self.place += 1;
+        let number = self.matrix.get(self.position);
+        self.position += 1;
         Some(number)
     }
 
@@ -88,7 +88,7 @@ impl<'a, S: SelectForRank101111, S0: Select0ForRank101111> ExactSizeIterator
     for Numbers<'a, S, S0> {
     #[inline]
     fn len(&self) -> usize {
-        self.matrix.len() - self.place
+        self.matrix.len() - self.position
     }
 }
 

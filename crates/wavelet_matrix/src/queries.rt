@@ -38,16 +38,16 @@ impl<S: SelectForRank101111, S0: Select0ForRank101111> WaveletMatrix<S, S0> {
     /// For each index the number there; they go to `numbers` in the order of the indices.
     ///
     /// # Conditions
-    /// There are as many `numbers` as `places`, and there is a number at each index.
+    /// There are as many `numbers` as `positions`, and there is a number at each index.
     /// # Cost
     /// The cost of `LevelsView::total_get_list_on`.
-    pub fn get_many(&self, places: &mut [usize], numbers: &mut [u64])
-        requires same_length { length numbers.old ≡ length places.old }
-        requires inside { All (λ p. p < length self.now.items) places.old }
-        ensures { GetsEach self.now.items places.old numbers.new }
+    pub fn get_many(&self, positions: &mut [usize], numbers: &mut [u64])
+        requires same_length { length numbers.old ≡ length positions.old }
+        requires inside { All (λ p. p < length self.now.items) positions.old }
+        ensures { GetsEach self.now.items positions.old numbers.new }
     {
         let (levels, mut probe) = self.parts();
-        let _found = levels.total_get_list_on(&mut probe, places, numbers);
+        let _found = levels.total_get_list_on(&mut probe, positions, numbers);
     }
 
     /// How many of the first `i` numbers are this one.
@@ -77,21 +77,21 @@ impl<S: SelectForRank101111, S0: Select0ForRank101111> WaveletMatrix<S, S0> {
         levels.total_rank_on(&mut probe, number, i).right()
     }
 
-    /// For each number and its index in `places`, how many numbers before that index equal it; the counts go to `ranks`
-    /// in this order.
+    /// For each number and its index in `positions`, how many numbers before that index equal it; the counts go to
+    /// `ranks` in this order.
     ///
     /// # Conditions
-    /// There are as many `numbers` and `ranks` as `places`, and no index is past the end.
+    /// There are as many `numbers` and `ranks` as `positions`, and no index is past the end.
     /// # Cost
     /// The cost of `LevelsView::total_rank_list_on`.
-    pub fn rank_many(&self, numbers: &[u64], places: &[usize], ranks: &mut [usize])
-        requires numbers { length numbers.now ≡ length places.now }
-        requires ranks { length ranks.old ≡ length places.now }
-        requires inside { All (λ p. p ≤ length self.now.items) places.now }
-        ensures { RanksEachNumber self.now.items numbers.now places.now ranks.new }
+    pub fn rank_many(&self, numbers: &[u64], positions: &[usize], ranks: &mut [usize])
+        requires numbers { length numbers.now ≡ length positions.now }
+        requires ranks { length ranks.old ≡ length positions.now }
+        requires inside { All (λ p. p ≤ length self.now.items) positions.now }
+        ensures { RanksEachNumber self.now.items numbers.now positions.now ranks.new }
     {
         let (levels, mut probe) = self.parts();
-        let _found = levels.total_rank_list_on(&mut probe, numbers, places, ranks);
+        let _found = levels.total_rank_list_on(&mut probe, numbers, positions, ranks);
     }
 
     /// Number `i`, and how many of the numbers before it are equal to it.
@@ -131,7 +131,7 @@ impl<S: SelectForRank101111, S0: Select0ForRank101111> WaveletMatrix<S, S0> {
     {
         let (levels, index, mut probe) = self.all_parts();
         match levels.total_nth_by(index, &mut probe, number, k) {
-            Some(place) => place,
+            Some(position) => position,
             None => unreachable!(),
         }
     }

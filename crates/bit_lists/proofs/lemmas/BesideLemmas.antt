@@ -7,10 +7,10 @@ use Rattle.std.specs.Int.{bit_at}
 use Rattle.bit_lists.proofs.lemmas.BitsLemmas.{length-bits_of, item-bits_of}
 use Rattle.bit_lists.proofs.lemmas.CountLemmas.{ones_before-add-zeros_before, count_before_more}
 use Rattle.bit_lists.proofs.lemmas.NumberLemmas.{number_at-lt, bit_at-number_at-bits_of, length-with_number, item-with_number_below, item-with_number_inside, item-with_number_above}
-use Rattle.bit_lists.proofs.lemmas.PlaceLemmas.{places_none}
+use Rattle.bit_lists.proofs.lemmas.PositionLemmas.{positions_none}
 use Rattle.bit_lists.proofs.lemmas.WordLemmas.{truth}
 use Rattle.bit_lists.specs.Bits.{digit, low_digits, bits_of, item}
-use Rattle.bit_lists.specs.Count.{ones_before, zeros_before, count_before, is_same, places}
+use Rattle.bit_lists.specs.Count.{ones_before, zeros_before, count_before, is_same, bit_positions}
 use Rattle.bit_lists.specs.Number.{number_of_bits, number_at, with_number}
 
 -- ---- words
@@ -192,24 +192,24 @@ with_number-set b p =
     let e : p + 1 ≡ suc p = omega arith in
     ap (λ n. take p b ++ (true ∷ []) ++ drop n b) e ∙ append_assoc (take p b) (true ∷ []) (drop (suc p) b)
 
-places-last : (k : ℕ) (b : List Bool) (p : ℕ) → p < length b → ((q : ℕ) → p ≤ q → item b q ≡ false)
-    → places true k (take p b ++ (true ∷ drop (suc p) b)) ≡ places true k b ++ (k + p) ∷ []
-places-last k [] p inside zeros = absurd (omega arith)
-places-last k (true ∷ b) zero inside zeros = absurd (false≢true (sym (zeros 0 (omega arith))))
-places-last k (false ∷ b) zero inside zeros =
-    let none : places true (k + 1) b ≡ [] = places_none (k + 1) b (λ q l. zeros (suc q) (omega arith)) in
+positions-last : (k : ℕ) (b : List Bool) (p : ℕ) → p < length b → ((q : ℕ) → p ≤ q → item b q ≡ false)
+    → bit_positions true k (take p b ++ (true ∷ drop (suc p) b)) ≡ bit_positions true k b ++ (k + p) ∷ []
+positions-last k [] p inside zeros = absurd (omega arith)
+positions-last k (true ∷ b) zero inside zeros = absurd (false≢true (sym (zeros 0 (omega arith))))
+positions-last k (false ∷ b) zero inside zeros =
+    let none : bit_positions true (k + 1) b ≡ [] = positions_none (k + 1) b (λ q l. zeros (suc q) (omega arith)) in
     let e : k ≡ k + 0 = omega arith in
     ap (λ l. k ∷ l) none ∙ ap (λ n. n ∷ []) e ∙ sym (ap (λ l. l ++ (k + 0) ∷ []) none)
-places-last k (true ∷ b) (suc p) inside zeros =
+positions-last k (true ∷ b) (suc p) inside zeros =
     let e : k + 1 + p ≡ k + suc p = omega arith in
     ap (λ l. k ∷ l)
-    (places-last (k + 1) b p (omega arith) (λ q l. zeros (suc q) (omega arith)) ∙ ap (λ n. places true (k + 1) b ++ n ∷ []) e)
-places-last k (false ∷ b) (suc p) inside zeros =
+    (positions-last (k + 1) b p (omega arith) (λ q l. zeros (suc q) (omega arith)) ∙ ap (λ n. bit_positions true (k + 1) b ++ n ∷ []) e)
+positions-last k (false ∷ b) (suc p) inside zeros =
     let e : k + 1 + p ≡ k + suc p = omega arith in
-    places-last (k + 1) b p (omega arith) (λ q l. zeros (suc q) (omega arith)) ∙ ap (λ n. places true (k + 1) b ++ n ∷ []) e
+    positions-last (k + 1) b p (omega arith) (λ q l. zeros (suc q) (omega arith)) ∙ ap (λ n. bit_positions true (k + 1) b ++ n ∷ []) e
 
-pub places-set : (b : List Bool) (p : ℕ) → p < length b → ((i : ℕ) → p ≤ i → item b i ≡ false)
-    → places true 0 (with_number b p 1 1) ≡ places true 0 b ++ p ∷ []
-places-set b p inside zeros =
-    ap (places true 0) (with_number-set b p) ∙ places-last 0 b p inside zeros
-    ∙ ap (λ n. places true 0 b ++ n ∷ []) (let e : 0 + p ≡ p = omega arith in e)
+pub positions-set : (b : List Bool) (p : ℕ) → p < length b → ((i : ℕ) → p ≤ i → item b i ≡ false)
+    → bit_positions true 0 (with_number b p 1 1) ≡ bit_positions true 0 b ++ p ∷ []
+positions-set b p inside zeros =
+    ap (bit_positions true 0) (with_number-set b p) ∙ positions-last 0 b p inside zeros
+    ∙ ap (λ n. bit_positions true 0 b ++ n ∷ []) (let e : 0 + p ≡ p = omega arith in e)

@@ -29,10 +29,10 @@ item-bits_of words i l = get_or-map-range_with_len (bit_of words) 0 (64 * length
 -- the bit at digit j of word q
 pub item-bits_of_at : (words : List ℕ) (i q j : ℕ) → i ≡ 64 * q + j → j < 64 → q < length words → item (bits_of words) i ≡ digit (get_or words q 0) j
 item-bits_of_at words i q j e low within =
-    let place : i < 64 * length words = omega arith in
+    let position : i < 64 * length words = omega arith in
     let word : i / 64 ≡ q = omega arith in
     let rest : i % 64 ≡ j = omega arith in
-    item-bits_of words i place ∙ ap (λ k. digit (get_or words k 0) (i % 64)) word ∙ ap (digit (get_or words q 0)) rest
+    item-bits_of words i position ∙ ap (λ k. digit (get_or words k 0) (i % 64)) word ∙ ap (digit (get_or words q 0)) rest
 
 pub same_bits : (b c : List Bool) → length b ≡ length c → ((i : ℕ) → i < length b → item b i ≡ item c i) → b ≡ c
 same_bits b c = ext_get_or false b c
@@ -78,8 +78,8 @@ bits_of-cons w words =
     (λ later.
     let q = i / 64 - 1 in
     let word : i / 64 ≡ suc q = omega arith in
-    let place : i ≡ 64 * suc q + i % 64 = omega arith in
-    item-bits_of_at (w ∷ words) i (suc q) (i % 64) place (omega arith) (omega arith)
+    let position : i ≡ 64 * suc q + i % 64 = omega arith in
+    item-bits_of_at (w ∷ words) i (suc q) (i % 64) position (omega arith) (omega arith)
     ∙ sym (get_or-append_right (low_digits 64 w) (bits_of words) 64 i false (length-low_digits 64 w) later
     ∙ item-bits_of_at words (i - 64) q (i % 64) (omega arith) (omega arith) (omega arith)))
     (cases_lt i 64))

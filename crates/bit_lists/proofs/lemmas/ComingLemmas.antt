@@ -6,7 +6,7 @@ use Rattle.bit_lists.proofs.lemmas.BitsLemmas.{length-bits_of}
 use Rattle.bit_lists.specs.Bits.{bits_of, item}
 use Rattle.bit_lists.specs.Coming.{bits_coming}
 
--- as many as the range has places
+-- as many as the range has positions
 pub length-bits_coming : (words : List ℕ) (start end : ℕ) → end ≤ 64 * length words → length (bits_coming words start end) ≡ end - start
 unfolding bits_coming
 length-bits_coming words start end within =
@@ -51,7 +51,7 @@ bits_coming_last words start end l within =
     ∙ take_more front before false (omega (arith, length-drop start (bits_of words), length-bits_of words))
     ∙ ap (λ x. take before front ++ x ∷ []) (get_or-drop start (bits_of words) before false ∙ ap (item (bits_of words)) at)
 
--- the bits before a place of the range, and those from it on
+-- the bits before a position of the range, and those from it on
 bits_coming_split : (words : List ℕ) (start middle end : ℕ) → start ≤ middle → middle ≤ end
     → bits_coming words start end ≡ bits_coming words start middle ++ bits_coming words middle end
 unfolding bits_coming
@@ -72,18 +72,18 @@ bits_coming_parts words start i j end l m n =
 
 -- ---- the same, where the range after a step is known by equations
 
-pub bits_coming_step : (words : List ℕ) (start end next same place : ℕ) (bit : Bool) → end ≤ 64 * length words → 0 < end - start
-    → same ≡ end → place ≡ start → next ≡ start + 1 → bit ≡ item (bits_of words) place
+pub bits_coming_step : (words : List ℕ) (start end next same position : ℕ) (bit : Bool) → end ≤ 64 * length words → 0 < end - start
+    → same ≡ end → position ≡ start → next ≡ start + 1 → bit ≡ item (bits_of words) position
     → bits_coming words start end ≡ bit ∷ bits_coming words next same
-bits_coming_step words start end next same place bit within some kept at on is =
+bits_coming_step words start end next same position bit within some kept at on is =
     bits_coming_first words start end (omega arith) within
     ∙ ap₂ (λ x k. x ∷ bits_coming words k end) (sym (is ∙ ap (item (bits_of words)) at)) (sym on)
     ∙ ap (λ k. bit ∷ bits_coming words next k) (sym kept)
 
-pub bits_coming_step_back : (words : List ℕ) (start end next same place : ℕ) (bit : Bool) → end ≤ 64 * length words → 0 < end - start
-    → same ≡ start → place ≡ next → end ≡ next + 1 → bit ≡ item (bits_of words) place
+pub bits_coming_step_back : (words : List ℕ) (start end next same position : ℕ) (bit : Bool) → end ≤ 64 * length words → 0 < end - start
+    → same ≡ start → position ≡ next → end ≡ next + 1 → bit ≡ item (bits_of words) position
     → bits_coming words start end ≡ bits_coming words same next ++ bit ∷ []
-bits_coming_step_back words start end next same place bit within some kept at back is =
+bits_coming_step_back words start end next same position bit within some kept at back is =
     let before : end - 1 ≡ next = omega arith in
     bits_coming_last words start end (omega arith) within
     ∙ ap₂ (λ x k. bits_coming words start k ++ x ∷ []) (ap (item (bits_of words)) before ∙ sym (is ∙ ap (item (bits_of words)) at)) before

@@ -100,7 +100,7 @@ module _ (words : List ℕ) (fit : (k : ℕ) → get_or words k 0 < 2 ^ 64) wher
       ∙ ones_before-bits_of_front (length words) (omega arith)
       ∙ ap (sum_by count_ones) (take_all (length words) words (omega arith))
 
--- the ones of a word and of its negation, up to a place
+-- the ones of a word and of its negation, up to a position
 pub digits_of_both : (v k : ℕ) → v < 2 ^ 64 → k ≤ 64 → count_ones (bit_not w64 v % 2 ^ k) + count_ones (v % 2 ^ k) ≡ k
 digits_of_both v zero fits l =
     let left : bit_not w64 v % 1 ≡ 0 = omega arith in
@@ -159,7 +159,7 @@ unfolding zeros_before
 count_before_past true b i l = ones_before_past b i l
 count_before_past false b i l = ap (count_by not) (take_all i b l ∙ sym (take_all (length b) b (omega arith)))
 
--- no fewer items of a kind stand before a later place
+-- no fewer items of a kind stand before a later position
 pub count_before-le : (b : List Bool) (v : Bool) (i j : ℕ) → i ≤ j → count_before b v i ≤ count_before b v j
 count_before-le b v i j l =
     ⊎_elim
@@ -176,7 +176,7 @@ pub count_before-none : (b : List Bool) (v : Bool) → count_before b v 0 ≡ 0
 count_before-none b true = ones_before_none b
 count_before-none b false = zeros_before_none b
 
--- no more ones stand before any place than there are
+-- no more ones stand before any position than there are
 pub ones_before-at_most_all : (b : List Bool) (i : ℕ) → ones_before b i ≤ ones_before b (length b)
 ones_before-at_most_all b i =
     ⊎_elim

@@ -47,7 +47,7 @@ pub bit_at-number_at-bits_of : (words : List ℕ) (s n k q j : ℕ) → k < n �
 bit_at-number_at-bits_of words s n k q j l e low within =
     bit_at-number_at (bits_of words) s n k l ∙ ap truth (item-bits_of_at words (s + k) q j e low within) ∙ truth-digit (get_or words q 0) j
 
--- a number of n digits, each of which stands at its place in the content, is the number that stands there
+-- a number of n digits, each of which stands at its position in the content, is the number that stands there
 pub number_at_is : (words : List ℕ) (s n v : ℕ) → s + n ≤ 64 * length words → v < 2 ^ n
     → ((k q j : ℕ) → k < n → s + k ≡ 64 * q + j → j < 64 → bit_at v k ≡ bit_at (get_or words q 0) j)
     → v ≡ number_at (bits_of words) s n

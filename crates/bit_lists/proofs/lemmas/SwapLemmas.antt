@@ -1,4 +1,4 @@
--- Numbers written at two places: what a write leaves as it was, and numbers that change places twice.
+-- Numbers written at two positions: what a write leaves as it was, and numbers that change places twice.
 use Rattle.std.proofs.Common.{◌≡◌, ℕ, ◌+◌, ◌-◌, ◌*◌, ◌<◌, ◌≤◌, Bool, List, length, sym, ap, ap₂, subst, ◌∙◌, ⊎_elim, arith, ◌≢◌, ◌⊎◌, inl, inr}
 use Rattle.std.proofs.lemmas.Bool.{cases_lt, cases_eq, cases_order}
 use Rattle.std.proofs.lemmas.Nat.{row_fits}
@@ -36,7 +36,7 @@ item-with_number_outside : (b : List Bool) (s n v i : ℕ) → s + n ≤ length 
 item-with_number_outside b s n v i within where_ =
     ⊎_elim (λ before. item-with_number_below b s n v i within before) (λ after. item-with_number_above b s n v i within after) where_
 
--- of two writes to one place the second stays
+-- of two writes to one position the second stays
 pub with_number-with_number : (b : List Bool) (s n u v : ℕ) → s + n ≤ length b
     → with_number (with_number b s n u) s n v ≡ with_number b s n v
 with_number-with_number b s n u v within =
@@ -123,7 +123,7 @@ with_swapped-itself b i width within =
     with_number-with_number b (i * width) width (number_at b (i * width) width) (number_at b (i * width) width) within
     ∙ with_number-number_at b (i * width) width within
 
--- the numbers x and y at s and t, put in each other's place, and then in each other's place again
+-- the numbers x and y at s and t, put in each other's position, and then in each other's position again
 module _ (b : List Bool) (s t n : ℕ) (within : s + n ≤ length b) (room : t + n ≤ length b) (apart : Apart s n t n) where
   abbrev x : ℕ
   x = number_at b s n

@@ -1,5 +1,5 @@
 //! Laws of words, of 0 bits and of what a write leaves, for items, numbers and counts.
-ghost use Rattle.bit_lists.specs.WriteLaws.{BitsAreCounted, PlaceIsInside, WordIsItsBits};
+ghost use Rattle.bit_lists.specs.WriteLaws.{BitsAreCounted, PositionIsInside, WordIsItsBits};
 ghost use Rattle.bit_lists.specs.WriteLaws.{ZerosHaveNoOnes, ZerosAreCounted, ZerosAreZero, NoItemsAreZero};
 ghost use Rattle.bit_lists.specs.WriteLaws.{LengthIsKept, OneBitIsSet, ItemIsWritten, ItemBesideIsKept};
 ghost use Rattle.bit_lists.specs.WriteLaws.{NumberBesideIsKept, CountBeforeIsKept};
@@ -12,9 +12,9 @@ pub fn bits_are_counted()
 {}
 
 /// A position is inside exactly where its word is.
-#[tactic(auto, using(crate::proofs::BitLaws::place_is_inside))]
-pub fn place_is_inside()
-    ensures { PlaceIsInside }
+#[tactic(auto, using(crate::proofs::BitLaws::position_is_inside))]
+pub fn position_is_inside()
+    ensures { PositionIsInside }
 {}
 
 /// A word is the number of its 64 bits.

@@ -173,31 +173,31 @@ module _ (bytes ys : List ℕ) (at n k v : ℕ) (same : n ≡ k) (is : ys ≡ by
 
   -- item i, at digit r of byte q, by where it lies
   item_below : (i q r : ℕ) → i ≡ 8 * q + r → r < 8 → q < at → item (byte_bits_of new) i ≡ item (with_number b (8 * at) (8 * k) v) i
-  item_below i q r place low before =
-      item-byte_bits_of new i q r place low (omega (arith, len))
+  item_below i q r position low before =
+      item-byte_bits_of new i q r position low (omega (arith, len))
       ∙ ap (λ x. digit x r) (byte_below q before)
       ∙ sym (item-with_number_below b (8 * at) (8 * k) v i room (omega arith)
-      ∙ item-byte_bits_of bytes i q r place low (omega arith))
+      ∙ item-byte_bits_of bytes i q r position low (omega arith))
 
   item_among : (i q r : ℕ) → i ≡ 8 * q + r → r < 8 → at ≤ q → q < at + k
       → item (byte_bits_of new) i ≡ item (with_number b (8 * at) (8 * k) v) i
-  item_among i q r place low from among =
+  item_among i q r position low from among =
       let j = i - 8 * at in
       let there : 8 * at + j ≡ i = omega arith in
-      let digit_place : 8 * (q - at) + r ≡ j = omega arith in
-      item-byte_bits_of new i q r place low (omega (arith, len))
+      let digit_position : 8 * (q - at) + r ≡ j = omega arith in
+      item-byte_bits_of new i q r position low (omega (arith, len))
       ∙ ap (λ x. digit x r) (byte_among q from among)
-      ∙ ap (λ d. eqb d 1) (bit_at-byte_at (q - at) v r low ∙ ap (bit_at v) digit_place)
+      ∙ ap (λ d. eqb d 1) (bit_at-byte_at (q - at) v r low ∙ ap (bit_at v) digit_position)
       ∙ sym (ap (item (with_number b (8 * at) (8 * k) v)) (sym there)
       ∙ item-with_number_inside b (8 * at) (8 * k) v j room (omega arith))
 
   item_above : (i q r : ℕ) → i ≡ 8 * q + r → r < 8 → q < length bytes → at + k ≤ q
       → item (byte_bits_of new) i ≡ item (with_number b (8 * at) (8 * k) v) i
-  item_above i q r place low inside past =
-      item-byte_bits_of new i q r place low (omega (arith, len))
+  item_above i q r position low inside past =
+      item-byte_bits_of new i q r position low (omega (arith, len))
       ∙ ap (λ x. digit x r) (byte_above q past)
       ∙ sym (item-with_number_above b (8 * at) (8 * k) v i room (omega arith)
-      ∙ item-byte_bits_of bytes i q r place low inside)
+      ∙ item-byte_bits_of bytes i q r position low inside)
 
   pub bytes_replaced : byte_bits_of new ≡ with_number b (8 * at) (8 * k) v
   bytes_replaced =
@@ -206,10 +206,10 @@ module _ (bytes ys : List ℕ) (at n k v : ℕ) (same : n ≡ k) (is : ys ≡ by
       (λ i l.
       let q = i / 8 in
       let r = i % 8 in
-      let place : i ≡ 8 * q + r = omega arith in
+      let position : i ≡ 8 * q + r = omega arith in
       let low : r < 8 = omega arith in
       let inside : q < length bytes = omega (arith, length-byte_bits_of new, len) in
-      ⊎_elim (λ before. item_below i q r place low before)
-      (λ from. ⊎_elim (λ among. item_among i q r place low from among) (λ past. item_above i q r place low inside past)
+      ⊎_elim (λ before. item_below i q r position low before)
+      (λ from. ⊎_elim (λ among. item_among i q r position low from among) (λ past. item_above i q r position low inside past)
       (cases_lt q (at + k)))
       (cases_lt q at))

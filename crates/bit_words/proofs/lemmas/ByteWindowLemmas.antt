@@ -25,10 +25,10 @@ number_at_shr b t r m within =
     same_from_bits_below m (number_at b t (r + m) / 2 ^ r) (number_at b (t + r) m)
     (shr_below (number_at b t (r + m)) m r fits) (number_at-lt b (t + r) m within)
     (λ j l.
-    let place : t + (r + j) ≡ t + r + j = omega arith in
+    let position : t + (r + j) ≡ t + r + j = omega arith in
     bit_at-shr (number_at b t (r + m)) r j (r + j) refl
     ∙ bit_at-number_at b t (r + m) (r + j) (omega arith)
-    ∙ ap (λ i. truth (item b i)) place
+    ∙ ap (λ i. truth (item b i)) position
     ∙ sym (bit_at-number_at b (t + r) m j l))
 
 pub window_read : (b : List Bool) (s k : ℕ) → 0 < k → 8 * (s / 8) + 8 * k ≤ length b

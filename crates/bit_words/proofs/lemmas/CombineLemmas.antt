@@ -72,12 +72,12 @@ pub items_combined : (op : ℕ) (old other new : List ℕ) (k i : ℕ) → AreCo
 items_combined op old other new k i are all same within =
     let q = i / 64 in
     let j = i % 64 in
-    let place : i ≡ 64 * q + j = omega arith in
+    let position : i ≡ 64 * q + j = omega arith in
     let low : j < 64 = omega arith in
-    item-bits_of_at new i q j place low (omega (arith, are.len))
+    item-bits_of_at new i q j position low (omega (arith, are.len))
     ∙ are.done q j (omega arith) low
-    ∙ ap (λ x. combined op x (digit (get_or other q 0) j)) (sym (item-bits_of_at old i q j place low (omega arith)))
-    ∙ ap (combined op (item (bits_of old) i)) (sym (item-bits_of_at other i q j place low (omega (arith, same))))
+    ∙ ap (λ x. combined op x (digit (get_or other q 0) j)) (sym (item-bits_of_at old i q j position low (omega arith)))
+    ∙ ap (combined op (item (bits_of old) i)) (sym (item-bits_of_at other i q j position low (omega (arith, same))))
 
 pub combined-else : (op : ℕ) (x y : Bool) → op ≢ 0 → op ≢ 1 → op ≢ 2 → combined op x y ≡ (x && not y)
 combined-else zero x y a b c = absurd (a refl)

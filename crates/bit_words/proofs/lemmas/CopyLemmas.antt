@@ -23,7 +23,7 @@ word_written words k v inside =
   where
     here : (q : ℕ) → q ≡ k → IsPutWord (get_or words q 0) (get_or (set words k v) q 0) (64 * k) 64 v q
     here q same = record {
-      inside = λ i j l e low. ap (λ w. bit_at w j) (get_or-set_at words k q v 0 same inside) ∙ ap (bit_at v) (let place : j ≡ i = omega arith in place);
+      inside = λ i j l e low. ap (λ w. bit_at w j) (get_or-set_at words k q v 0 same inside) ∙ ap (bit_at v) (let position : j ≡ i = omega arith in position);
       below = λ j low l. absurd (omega arith);
       above = λ j low l. absurd (omega arith);
     }

@@ -8,7 +8,7 @@ use Rattle.bit_lists.proofs.lemmas.BitsLemmas.{length-bits_of, item-bits_of_at}
 use Rattle.bit_lists.specs.Bits.{bits_of, item}
 use Rattle.bit_lists.specs.Count.{IsLastOneTo}
 
--- `leading_zeros` of a number that is not 0 gives the place of its highest one
+-- `leading_zeros` of a number that is not 0 gives the position of its highest one
 highest : (n : ℕ) → 0 < n → n < 2 ^ 64
     → (leading_zeros w64 n < 64) × (bit_at n (63 - leading_zeros w64 n) ≡ 1) × ((i : ℕ) → 63 - leading_zeros w64 n < i → bit_at n i ≡ 0)
 highest n some fits =
@@ -59,10 +59,10 @@ passed_back words s q rest h none i to from =
     ⊎_elim
     (λ here.
     let j = i - 64 * q in
-    let place : i ≡ 64 * q + j = omega arith in
+    let position : i ≡ 64 * q + j = omega arith in
     let digit_is : bit_at (get_or words q 0) j ≡ 0 =
     sym (h.kept j (omega arith) (omega arith)) ∙ ap (λ r. bit_at r j) none ∙ bit_at-zero j in
-    item-bits_of_at words i q j place (omega arith) h.within ∙ ap (λ d. eqb d 1) digit_is)
+    item-bits_of_at words i q j position (omega arith) h.within ∙ ap (λ d. eqb d 1) digit_is)
     (λ later. h.passed i to later)
     (cases_lt i (64 * (q + 1)))
 
@@ -113,9 +113,9 @@ last_left words s q rest h some =
           ⊎_elim
           (λ here.
           let j = i - 64 * q in
-          let place : i ≡ 64 * q + j = omega arith in
+          let position : i ≡ 64 * q + j = omega arith in
           let zero_there : bit_at (get_or words q 0) j ≡ 0 = sym (h.kept j (omega arith) (omega arith)) ∙ top.2 j (omega arith) in
-          item-bits_of_at words i q j place (omega arith) h.within ∙ ap (λ d. eqb d 1) zero_there)
+          item-bits_of_at words i q j position (omega arith) h.within ∙ ap (λ d. eqb d 1) zero_there)
           (λ later. h.passed i to later)
           (cases_lt i (64 * (q + 1)));
     }

@@ -51,10 +51,10 @@ passed_word words s q rest h none i from before =
     (λ earlier. h.passed i from earlier)
     (λ here.
     let j = i - 64 * q in
-    let place : i ≡ 64 * q + j = omega arith in
+    let position : i ≡ 64 * q + j = omega arith in
     let digit_is : bit_at (get_or words q 0) j ≡ 0 =
     sym (h.kept j (omega arith) (omega arith)) ∙ ap (λ r. bit_at r j) none ∙ bit_at-zero j in
-    item-bits_of_at words i q j place (omega arith) h.within ∙ ap (λ d. eqb d 1) digit_is)
+    item-bits_of_at words i q j position (omega arith) h.within ∙ ap (λ d. eqb d 1) digit_is)
     (cases_lt i (64 * q))
 
 -- then the next word w is read
@@ -124,8 +124,8 @@ first_left words s q rest h some =
           (λ earlier. h.passed i from earlier)
           (λ here.
           let j = i - 64 * q in
-          let place : i ≡ 64 * q + j = omega arith in
+          let position : i ≡ 64 * q + j = omega arith in
           let zero_there : bit_at (get_or words q 0) j ≡ 0 = sym (h.kept j (omega arith) (omega arith)) ∙ lowest.2 j (omega arith) in
-          item-bits_of_at words i q j place (omega arith) h.within ∙ ap (λ d. eqb d 1) zero_there)
+          item-bits_of_at words i q j position (omega arith) h.within ∙ ap (λ d. eqb d 1) zero_there)
           (cases_lt i (64 * q));
     }

@@ -22,10 +22,10 @@ number_at_joined words s n t h small second fits =
     ∙ ⊎_elim
     (λ in_first.
     let same : s / 64 ≡ q = omega arith in
-    let place : r + k ≡ j = omega arith in
+    let position : r + k ≡ j = omega arith in
     let none : bit_at high (r + k) ≡ 0 = bit_at-shl_below second_word 64 128 (r + k) (omega arith) in_first in
     let is : bit_at both (r + k) ≡ bit_at first_word (r + k) = omega (arith, bit_at_or first_word high (r + k), none) in
-    is ∙ ap (bit_at first_word) place ∙ ap (λ a. bit_at (get_or words a 0) j) same)
+    is ∙ ap (bit_at first_word) position ∙ ap (λ a. bit_at (get_or words a 0) j) same)
     (λ in_second.
     let same : t ≡ q = omega (arith, second (omega arith)) in
     let none : bit_at first_word (r + k) ≡ 0 = bit_at_above first_word 64 (r + k) fits in_second in

@@ -36,7 +36,7 @@ module _ (b : List Bool) (v : Bool) where
         none_between s d (omega arith) (λ i from to. others i from (omega (arith, to))),
       )
 
-  -- the first one has as many of the kind before it as the place from which it is sought
+  -- the first one has as many of the kind before it as the position from which it is sought
   pub first_counts : (s p : ℕ) → IsFirstFrom b v s p → count_before b v p ≡ count_before b v s
   first_counts s p f =
       let e : s + (p - s) ≡ p = omega (arith, f.from) in
@@ -63,7 +63,7 @@ module _ (b : List Bool) (v : Bool) where
             )
       ]
 
-  -- no more stand before any place than there are
+  -- no more stand before any position than there are
   pub few_before : (s : ℕ) → count_before b v s ≤ count_of b v
   few_before s =
       elim (cases_lt (length b) s) [

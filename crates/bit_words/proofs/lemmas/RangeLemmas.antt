@@ -1,4 +1,4 @@
--- The places of a range, word by word: which digits of a word they are, and items that are combined
+-- The positions of a range, word by word: which digits of a word they are, and items that are combined
 -- there and kept beside.
 use Rattle.std.proofs.Common.{◌≡◌, ◌≢◌, ℕ, zero, suc, ◌+◌, ◌-◌, ◌*◌, ◌/◌, ◌%◌, ◌^◌, ◌<◌, ◌≤◌, ◌⊎◌, Bool, true, false, not, ◌&&◌, List, length, get_or, min, refl, sym, ap, ◌∙◌, inl, inr, arith, eqb, ltb, bit_and, set, length-set, get_or-set_same, get_or-set_other, ⊎_elim}
 use Rattle.std.proofs.lemmas.Bool.{cases_lt, le-leb, lt-leb, lt-ltb, le-ltb}
@@ -11,7 +11,7 @@ use Rattle.bit_lists.specs.Bits.{bits_of, digit, item}
 use Rattle.bit_words.proofs.lemmas.CombineLemmas.{digit-and_not}
 use Rattle.bit_words.specs.Combined.{combined, in_range}
 
--- ---- whether a place is one of the range
+-- ---- whether a position is one of the range
 
 pub in_range-inside : (from to i : ℕ) → from ≤ i → i < to → in_range from to i ≡ true
 in_range-inside from to i after before = ap (λ x. x && ltb i to) (le-leb from i after) ∙ lt-ltb i to before
@@ -106,14 +106,14 @@ module _ (op from to : ℕ) (old : List ℕ) (some : op ≢ 0) where
     item_ranged i within =
         let q = i / 64 in
         let j = i % 64 in
-        let place : i ≡ 64 * q + j = omega arith in
+        let position : i ≡ 64 * q + j = omega arith in
         let low : j < 64 = omega arith in
-        let then = item-bits_of_at new i q j place low (omega (arith, are.len)) in
-        let was = item-bits_of_at old i q j place low (omega arith) in
+        let then = item-bits_of_at new i q j position low (omega (arith, are.len)) in
+        let was = item-bits_of_at old i q j position low (omega arith) in
         ⊎_elim
         (λ (before : q < k).
         then ∙ are.done q j before low
-        ∙ ap (λ p. combined op (digit (get_or old q 0) j) (in_range from to p)) (sym place)
+        ∙ ap (λ p. combined op (digit (get_or old q 0) j) (in_range from to p)) (sym position)
         ∙ ap (λ x. combined op x (in_range from to i)) (sym was))
         (λ (past : k ≤ q).
         then ∙ ap (λ x. digit x j) (are.rest q past) ∙ sym was

@@ -44,7 +44,7 @@ same_fewer a b s t n s' t' k w es et few all i l =
     let eb : t' + i ≡ t + (k + i) = omega arith in
     ap (item a) ea ∙ all (k + i) (omega arith) ∙ sym (ap (item b) eb)
 
--- a test of two numbers of one width tells whether their bits are the same
+-- a test of two numbers of one width shows whether their bits are the same
 pub decided_same : (a b : List Bool) (s t n x y : ℕ) → s + n ≤ length a → t + n ≤ length b → x ≡ number_at a s n → y ≡ number_at b t n
     → IsTrue (nat_eq x y) ↔ AreSame a s b t n
 decided_same a b s t n x y in_a in_b is_a is_b = (

@@ -25,11 +25,11 @@ bits_of_is_with_number old new s n v len within each =
     (λ i l.
     let q = i / 64 in
     let j = i % 64 in
-    let place : i ≡ 64 * q + j = omega arith in
+    let position : i ≡ 64 * q + j = omega arith in
     let low : j < 64 = omega arith in
     let word : q < length old = omega (arith, length-bits_of new) in
-    let now : item (bits_of new) i ≡ digit (get_or new q 0) j = item-bits_of_at new i q j place low (omega arith) in
-    let was : item (bits_of old) i ≡ digit (get_or old q 0) j = item-bits_of_at old i q j place low word in
+    let now : item (bits_of new) i ≡ digit (get_or new q 0) j = item-bits_of_at new i q j position low (omega arith) in
+    let was : item (bits_of old) i ≡ digit (get_or old q 0) j = item-bits_of_at old i q j position low word in
     let here = each q word in
     ⊎_elim
     (λ before. now ∙ ap (λ d. eqb d 1) (here.below j low (omega arith)) ∙ sym was ∙ sym (item-with_number_below (bits_of old) s n v i room before))

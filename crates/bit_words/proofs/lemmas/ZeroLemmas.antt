@@ -37,12 +37,12 @@ module _ (words : List ℕ) (fits : (k : ℕ) → get_or words k 0 < 2 ^ 64) whe
   item-negation i within =
       let q = i / 64 in
       let j = i % 64 in
-      let place : i ≡ 64 * q + j = omega arith in
+      let position : i ≡ 64 * q + j = omega arith in
       let low : j < 64 = omega arith in
-      item-bits_of_at (negation words) i q j place low (omega (arith, length-negation words))
+      item-bits_of_at (negation words) i q j position low (omega (arith, length-negation words))
       ∙ ap (λ w. digit w j) (get_or-negation words q (omega arith))
       ∙ digit-not (get_or words q 0) j (fits q) low
-      ∙ ap not (sym (item-bits_of_at words i q j place low (omega arith)))
+      ∙ ap not (sym (item-bits_of_at words i q j position low (omega arith)))
 
   -- an item that is negated
   was : (i : ℕ) (v : Bool) → i < 64 * length words → item (bits_of (negation words)) i ≡ v → item (bits_of words) i ≡ not v

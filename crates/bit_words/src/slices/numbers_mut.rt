@@ -28,7 +28,7 @@ pub fn set_number_in(words: &mut [u64], len: usize, begin: usize, width: u32, va
     words::try_set_bits_0_64(words, begin, value, width as u8)
 }
 
-/// Negates each of the `width` bits from `begin` on at whose place `value` has a 1 bit, lowest first. Answers false
+/// Negates each of the `width` bits from `begin` on at whose position `value` has a 1 bit, lowest first. Answers false
 /// exactly where they are not all among the first `len`, or `width` is above 64, and nothing is written then.
 ///
 /// # Conditions

@@ -16,7 +16,7 @@ pub length-simple_table_of : (b : List Bool) → length (simple_table_of b) ≡ 
 unfolding simple_table_of
 length-simple_table_of b = length-map-range_with_len (λ j. ones_before b (512 * j)) 0 (div_ceil (length b) 512)
 
--- a place has its run in the table
+-- a position has its run in the table
 pub run_begun : (n i : ℕ) → i < n → i / 512 < div_ceil n 512
 run_begun n i l = grind arith
 
@@ -24,10 +24,10 @@ run_begun n i l = grind arith
 pub runs_of_words : (n : ℕ) → div_ceil n 8 ≡ div_ceil (64 * n) 512
 runs_of_words n = grind arith
 
--- what is counted up to place i, that one included, from its run and from its word on
+-- what is counted up to position i, that one included, from its run and from its word on
 pub record CountsThrough (b : List Bool) (i run whole part : ℕ) : Type 0 where
   pub word : run + whole ≡ ones_before b (64 * (i / 64))
-  pub place : run + whole + part ≡ ones_before b (i + 1)
+  pub position : run + whole + part ≡ ones_before b (i + 1)
   pub most : ones_before b (i + 1) ≤ ones_before b (length b)
 
 pub counts_through : (words : List ℕ) (i whole : ℕ) → i < 64 * length words → ((j : ℕ) → get_or words j 0 < 2 ^ 64)
@@ -42,6 +42,6 @@ counts_through words i whole inside fit is =
     let word_is : ones_before b (512 * (i / 512)) + whole ≡ ones_before b (64 * (i / 64)) = omega (arith, is, ap (ones_before b) from) in
     record {
       word = word_is;
-      place = omega (arith, word_is, in_word, ap (ones_before b) at);
+      position = omega (arith, word_is, in_word, ap (ones_before b) at);
       most = ones_before-at_most_all b (i + 1);
     }

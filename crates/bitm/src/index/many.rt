@@ -36,32 +36,32 @@ impl<S: SelectForRank101111, S0: Select0ForRank101111, BV: AsSlice<u64>> RankSel
     /// vectors this takes a fraction of the time of single selections. It does without the strategies.
     ///
     /// # Conditions
-    /// `places` is as long as `ranks`, and there are more 1 bits than each rank.
+    /// `positions` is as long as `ranks`, and there are more 1 bits than each rank.
     /// # Cost
     /// With u upper entries, each rank reads at most one more of them than u has binary digits, 22 lower entries and
     /// eight words.
     #[inline]
-    pub fn select_many(&self, ranks: &[usize], places: &mut [usize])
-        requires same_length { length ranks.now ≡ length places.old }
+    pub fn select_many(&self, ranks: &[usize], positions: &mut [usize])
+        requires same_length { length ranks.now ≡ length positions.old }
         requires some { All (λ r. r < ones_of (bits_of (BV.items self.now.content))) ranks.now }
-        ensures { PicksEach (bits_of (BV.items self.now.content)) true ranks.now places.new }
+        ensures { PicksEach (bits_of (BV.items self.now.content)) true ranks.now positions.new }
     {
-        select_many_on::<1, _>(&mut self.probe(), ranks, places)
+        select_many_on::<1, _>(&mut self.probe(), ranks, positions)
     }
 
     /// Writes for each rank the position of the 0 bit with exactly that many 0 bits before it, as `select_many` does
     /// for 1 bits.
     ///
     /// # Conditions
-    /// `places` is as long as `ranks`, and there are more 0 bits than each rank.
+    /// `positions` is as long as `ranks`, and there are more 0 bits than each rank.
     /// # Cost
     /// What `select_many` reads.
     #[inline]
-    pub fn select0_many(&self, ranks: &[usize], places: &mut [usize])
-        requires same_length { length ranks.now ≡ length places.old }
+    pub fn select0_many(&self, ranks: &[usize], positions: &mut [usize])
+        requires same_length { length ranks.now ≡ length positions.old }
         requires some { All (λ r. r < zeros_of (bits_of (BV.items self.now.content))) ranks.now }
-        ensures { PicksEach (bits_of (BV.items self.now.content)) false ranks.now places.new }
+        ensures { PicksEach (bits_of (BV.items self.now.content)) false ranks.now positions.new }
     {
-        select_many_on::<0, _>(&mut self.probe(), ranks, places)
+        select_many_on::<0, _>(&mut self.probe(), ranks, positions)
     }
 }

@@ -7,7 +7,7 @@ ghost use Rattle.bitm_view.specs.Queries.{ranked_by};
 ghost use Rattle.perfect_hash.specs.InPlace.{IsMade};
 ghost use Rattle.perfect_hash.specs.Levels.{left_of, AreSized, IsLevel, Leave};
 ghost use Rattle.perfect_hash.specs.Numbers.{AreLevels};
-ghost use Rattle.perfect_hash.specs.Places.{place_in, words_for};
+ghost use Rattle.perfect_hash.specs.Positions.{position_in, words_for};
 ghost use Rattle.bitm_keys_c.specs.Hash.{made_of, CanBeLevel, HashAnswered};
 ghost use Rattle.bitm_abi.specs.Hash.{parts_of, CanBeHash, IsHashNumber};
 ghost use Rattle.bitm_abi.specs.Lists.{AreAnswersCounted};
@@ -45,9 +45,9 @@ pub extern "C" fn bitm_hash_level(
 ) -> u32
     ensures ok { (result ≡ 0) ↔ CanBeLevel ones.old again.old }
     ensures level { result ≡ 0
-        → IsLevel place_in hashes.old (bits_of ones.new) level 0 (length ones.old) }
+        → IsLevel position_in hashes.old (bits_of ones.new) level 0 (length ones.old) }
     ensures left { result ≡ 0 → take left.new hashes.new
-        ≡ left_of place_in hashes.old (bits_of ones.new) level 0 (length ones.old) }
+        ≡ left_of position_in hashes.old (bits_of ones.new) level 0 (length ones.old) }
     ensures few { result ≡ 0 → left.new ≤ length hashes.old }
     ensures unchanged { result ≢ 0 → (result ≡ 2) × (hashes.new ≡ hashes.old)
         × (ones.new ≡ ones.old) × (again.new ≡ again.old) × (left.new ≡ left.old) }
@@ -76,13 +76,13 @@ pub extern "C" fn bitm_hash_build(
     left: &mut usize,
 ) -> u32
     ensures ok { (result ≡ 0) ↔ IsShort words.old }
-    ensures leave { result ≡ 0 → Leave place_in hashes.old (take levels.new sizes.new)
+    ensures leave { result ≡ 0 → Leave position_in hashes.old (take levels.new sizes.new)
         (take used_words.new words.new) (take left.new hashes.new) }
-    ensures sized { result ≡ 0 → AreSized (words_for percent) place_in hashes.old
+    ensures sized { result ≡ 0 → AreSized (words_for percent) position_in hashes.old
         (bits_of (take used_words.new words.new)) 0 0 (take levels.new sizes.new) }
     ensures made { result ≡ 0 → IsMade percent (length words.old) (length again.old)
         (length sizes.old) (length hashes.old) (made_of levels.new used_words.new left.new) }
-    ensures numbers { result ≡ 0 → left.new ≡ 0 → AreLevels place_in (λ (hash : ℕ). hash)
+    ensures numbers { result ≡ 0 → left.new ≡ 0 → AreLevels position_in (λ (hash : ℕ). hash)
         hashes.old (take levels.new sizes.new) (take used_words.new words.new) }
     ensures ones { result ≡ 0 → left.new ≡ 0
         → ones_of (bits_of (take used_words.new words.new)) ≡ length hashes.old }

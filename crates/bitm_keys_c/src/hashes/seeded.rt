@@ -8,7 +8,7 @@ ghost use Rattle.bitm_view.specs.Queries.{ranked_by};
 ghost use Rattle.perfect_hash.specs.InPlace.{IsMade};
 ghost use Rattle.perfect_hash.specs.Levels.{fall_in, left_of, AreChosen, AreSized, IsLevel, Leave};
 ghost use Rattle.perfect_hash.specs.Numbers.{AreLevels};
-ghost use Rattle.perfect_hash.specs.Places.{place_by, words_for};
+ghost use Rattle.perfect_hash.specs.Positions.{position_by, words_for};
 ghost use Rattle.perfect_hash.specs.Seeds.{AreBestSeeds, HasBest};
 ghost use Rattle.perfect_hash.specs.Seeded.{seeds_with, StandFrom};
 ghost use Rattle.bitm_keys_c.specs.Hash.{made_of, CanBeSeeded, CanBeSeededLevel, HashAnswered};
@@ -40,19 +40,19 @@ pub extern "C" fn bitm_hash_build_seeded(
 ) -> u32
     ensures ok { (result ≡ 0) ↔ CanBeSeeded hashes.old words.old seeds.old sorted.old }
     ensures leave { result ≡ 0 → Leave
-        (fall_in (place_by (take used_words.new seeds.new)) (take levels.new sizes.new))
+        (fall_in (position_by (take used_words.new seeds.new)) (take levels.new sizes.new))
         hashes.old (take levels.new sizes.new) (take used_words.new words.new) (take left.new hashes.new) }
     ensures sized { result ≡ 0 → AreSized (words_for percent)
-        (fall_in (place_by (take used_words.new seeds.new)) (take levels.new sizes.new))
+        (fall_in (position_by (take used_words.new seeds.new)) (take levels.new sizes.new))
         hashes.old (bits_of (take used_words.new words.new)) 0 0 (take levels.new sizes.new) }
     ensures chosen { result ≡ 0 → AreChosen HasBest
-        (fall_in (place_by (take used_words.new seeds.new)) (take levels.new sizes.new))
+        (fall_in (position_by (take used_words.new seeds.new)) (take levels.new sizes.new))
         hashes.old (bits_of (take used_words.new words.new)) 0 0 0 (take levels.new sizes.new)
         (seeds_with [] tries) (seeds_with (take used_words.new seeds.new) tries) }
     ensures made { result ≡ 0 → IsMade percent (length words.old) (length again.old)
         (length sizes.old) (length hashes.old) (made_of levels.new used_words.new left.new) }
     ensures numbers { result ≡ 0 → left.new ≡ 0 → AreLevels
-        (fall_in (place_by (take used_words.new seeds.new)) (take levels.new sizes.new))
+        (fall_in (position_by (take used_words.new seeds.new)) (take levels.new sizes.new))
         (λ (hash : ℕ). hash) hashes.old (take levels.new sizes.new) (take used_words.new words.new) }
     ensures ones { result ≡ 0 → left.new ≡ 0
         → ones_of (bits_of (take used_words.new words.new)) ≡ length hashes.old }
@@ -87,10 +87,10 @@ pub extern "C" fn bitm_hash_level_seeded(
 ) -> u32
     ensures ok { (result ≡ 0) ↔ CanBeSeededLevel hashes.old ones.old seeds.old again.old sorted.old }
     ensures level { result ≡ 0 → (all : List ℕ) → (first : ℕ) → StandFrom all first seeds.new
-        → IsLevel (place_by all first) hashes.old (bits_of ones.new) level 0 (length ones.old) }
+        → IsLevel (position_by all first) hashes.old (bits_of ones.new) level 0 (length ones.old) }
     ensures left { result ≡ 0 → (all : List ℕ) → (first : ℕ) → StandFrom all first seeds.new
         → take left.new hashes.new
-        ≡ left_of (place_by all first) hashes.old (bits_of ones.new) level 0 (length ones.old) }
+        ≡ left_of (position_by all first) hashes.old (bits_of ones.new) level 0 (length ones.old) }
     ensures few { result ≡ 0 → left.new ≤ length hashes.old }
     ensures best { result ≡ 0 → AreBestSeeds level hashes.old (min tries 256) seeds.new }
     ensures unchanged { result ≢ 0 → (result ≡ 2) × (hashes.new ≡ hashes.old)

@@ -26,7 +26,7 @@ fn are_sized(cursors: &[Cursor<'_>]) -> bool
 
 /// Reports how a merge ended, and writes how many numbers it wrote where no list turned out wrong.
 #[inline(always)]
-fn tell_merged(merged: Merged, written: &mut usize) -> u32
+fn report_merged(merged: Merged, written: &mut usize) -> u32
     ensures { IsMergeStatus merged result written.old written.new }
 {
     match merged {
@@ -180,7 +180,7 @@ pub extern "C" fn bitm_cursors_intersect(
     if !are_sized(cursors) {
         return WRONG;
     }
-    tell_merged(share(cursors, from, out), written)
+    report_merged(share(cursors, from, out), written)
 }
 
 /// Writes the numbers from `from` on that stand in the sequence of any cursor, from the cursors on, and how many. A
@@ -208,5 +208,5 @@ pub extern "C" fn bitm_cursors_union(
     if !are_sized(cursors) {
         return WRONG;
     }
-    tell_merged(unite(cursors, from, out), written)
+    report_merged(unite(cursors, from, out), written)
 }

@@ -68,8 +68,8 @@ pub extern "C" fn bitm_matrix_get_list(
     stop_status(&view, indices, *written)
 }
 
-/// How often each number stands before an index, of a group that goes from level to level together, with as many places
-/// to work with.
+/// How often each number stands before an index, of a group that goes from level to level together, with as many
+/// positions to work with.
 fn rank_with(
     view: &MatrixView<'_>,
     numbers: &[u64],
@@ -87,7 +87,7 @@ fn rank_with(
     ensures len { length out.new ≡ length out.old }
 {
     let (levels, mut source) = view.parts();
-    levels.total_places_of_many_on(&mut source, numbers, indices, &mut *firsts, &mut *lasts);
+    levels.total_positions_of_many_on(&mut source, numbers, indices, &mut *firsts, &mut *lasts);
     for at in 0..numbers.len() {
         let answer = levels.rank_between(numbers[at], indices[at], firsts[at], lasts[at]);
         out[at] = code_of(answer);

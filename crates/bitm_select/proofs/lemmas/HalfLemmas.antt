@@ -52,7 +52,7 @@ pub record IsRun (m : List Bool) (r end at rest left : ℕ) : Type 0 where
   pub bound : at + left ≤ end
   pub next : at + left < end → r < ones_before m (64 * (at + left))
 
--- the half of the words that are left which the count of the first half tells
+-- the half of the words that are left which the count of the first half shows
 pub run_passes : (m : List Bool) (r end at rest w count : ℕ) (new : ℕ × ℕ) → IsRun m r end at rest (w + w)
     → ones_before m (64 * at) + count ≡ ones_before m (64 * (at + w))
     → (count ≤ rest → (new.0 ≡ at + w) × (new.1 ≡ rest - count)) → (rest < count → (new.0 ≡ at) × (new.1 ≡ rest))

@@ -7,55 +7,55 @@ use Rattle.std.proofs.lemmas.Nat.{pow-add}
 use Rattle.bit_lists.specs.Bits.{bits_of, IsShort}
 use Rattle.bit_lists.specs.Count.{ones_before, count_of, as_bit}
 use Rattle.bitm_tables.specs.Entry.{before_in_part, field_0, lower_entry, record_field}
-use Rattle.bitm_select.specs.Answers.{told_in, IsSelected, IsSelectedFrom, SelectTold}
-use Rattle.bitm_select.specs.Many.{IsInPart, IsInRecord, IsNarrowed, IsToldRecord}
+use Rattle.bitm_select.specs.Answers.{list_code, IsSelected, IsSelectedFrom, IsSelectCode}
+use Rattle.bitm_select.specs.Many.{IsInPart, IsInRecord, IsNarrowed, IsClaimedRecord}
 use Rattle.bitm_select.specs.Search.{sought_bits, sought_in, IsLastPart, IsLastEntry, IsPartOf}
 use Rattle.bitm_tables.specs.Tables.{Lists, HasSizes, HasTables, bits_in}
-use Rattle.bitm_select.specs.Told.{count_from_word, told_entry, told_part, told_to, wrong_for_absent, TellsNone}
+use Rattle.bitm_select.specs.Claims.{count_from_word, claimed_entry, claimed_part, claimed_to, wrong_for_absent, ClaimsNone}
 use Rattle.bitm_tables.specs.Answers.{IfAbsent}
 use Rattle.bitm_select.specs.declared.many.loaded.InRecord.{InRecord}
 use Rattle.bitm_tables.specs.declared.answer.Answer.{Answer}
 use Rattle.bitm_tables.specs.declared.answer.Answer.TheVariants.{Found, Absent, Wrong}
 use Rattle.bitm_select.proofs.lemmas.MarkLemmas.{none_in_nothing}
 use Rattle.bitm_tables.proofs.lemmas.LengthLemmas.{first_of_part, sizes_of}
-use Rattle.bitm_select.proofs.lemmas.SelectedLemmas.{bit_kept, has_bit, never_absent, selected, told_is}
-use Rattle.bitm_select.proofs.lemmas.ToldLemmas.{from_word}
+use Rattle.bitm_select.proofs.lemmas.SelectedLemmas.{bit_kept, has_bit, never_absent, selected, claimed_is}
+use Rattle.bitm_select.proofs.lemmas.ClaimedLemmas.{from_word}
 use Rattle.bitm_select.proofs.lemmas.SoughtLemmas.{first_none, next_is, rank_is}
 use Rattle.bitm_tables.proofs.lemmas.TableLemmas.{entries}
 use borrow.Rule.Slice.PartMut.{put_mid}
 
--- a record behind which no word stands tells none where what is left of the rank did not wrap and the
+-- a record behind which no word stands claims none where what is left of the rank did not wrap and the
 -- words have no more
-pub record_none : (lists : Lists) (v : Bool) (rank : ℕ) (at : InRecord) → HasSizes lists → IsToldRecord v lists rank at → rank < 2 ^ 64
+pub record_none : (lists : Lists) (v : Bool) (rank : ℕ) (at : InRecord) → HasSizes lists → IsClaimedRecord v lists rank at → rank < 2 ^ 64
     → at.rest ≤ rank → (s : Answer ℕ) → IfAbsent s (length lists.words ≤ at.first + 8)
     → IsSelectedFrom lists.words v at.first (ones_before (sought_bits v (bits_of lists.words)) (64 * at.first) + at.rest) s
-    → IfAbsent s (TellsNone v lists rank)
-record_none lists v rank at sized told fits within (Found p) last is = tt
-record_none lists v rank at sized told fits within Wrong last is = tt
-record_none lists v rank at sized told fits within Absent last is =
-    let e = told.entry in
-    let k = told.k in
-    let p = told.part in
-    let entry_is : length lists.lower - 1 ≡ e = omega (arith, sized.lower_len, told.inside, told.first, told.few, last) in
+    → IfAbsent s (ClaimsNone v lists rank)
+record_none lists v rank at sized claimed fits within (Found p) last is = tt
+record_none lists v rank at sized claimed fits within Wrong last is = tt
+record_none lists v rank at sized claimed fits within Absent last is =
+    let e = claimed.entry in
+    let k = claimed.k in
+    let p = claimed.part in
+    let entry_is : length lists.lower - 1 ≡ e = omega (arith, sized.lower_len, claimed.inside, claimed.first, claimed.few, last) in
     let part_is : length lists.upper - 1 ≡ p =
-    omega (arith, sized.upper_len, sized.lower_len, told.there, told.inside, told.from, told.to, told.first, told.few, last) in
+    omega (arith, sized.upper_len, sized.lower_len, claimed.there, claimed.inside, claimed.from, claimed.to, claimed.first, claimed.few, last) in
     let none : count_from_word lists v at.first ≤ at.rest = from_word lists.words v at.first at.rest is in
-    let first : at.first ≡ 32 * e + 8 * k = omega (arith, told.first) in
+    let first : at.first ≡ 32 * e + 8 * k = omega (arith, claimed.first) in
     let after : count_from_word lists v (32 * e + 8 * k) ≤ at.rest = subst (λ (n : ℕ). count_from_word lists v n ≤ at.rest) first none in
-    let total : (told_part v lists p + told_to (told_entry v lists e) k) % 2 ^ 64 + count_from_word lists v (32 * e + 8 * k) ≤ rank =
-    omega (arith, after, told.total, within, fits) in
+    let total : (claimed_part v lists p + claimed_to (claimed_entry v lists e) k) % 2 ^ 64 + count_from_word lists v (32 * e + 8 * k) ≤ rank =
+    omega (arith, after, claimed.total, within, fits) in
     record {
       k = k;
-      inside = told.few;
+      inside = claimed.few;
       last = omega (arith, last, first, entry_is);
       count =
           subst
           (λ (q : ℕ).
-          (told_part v lists q + told_to (told_entry v lists (length lists.lower - 1)) k) % 2 ^ 64
+          (claimed_part v lists q + claimed_to (claimed_entry v lists (length lists.lower - 1)) k) % 2 ^ 64
           + count_from_word lists v (32 * (length lists.lower - 1) + 8 * k) ≤ rank)
           (sym part_is)
           (subst
-          (λ (a : ℕ). (told_part v lists p + told_to (told_entry v lists a) k) % 2 ^ 64 + count_from_word lists v (32 * a + 8 * k) ≤ rank)
+          (λ (a : ℕ). (claimed_part v lists p + claimed_to (claimed_entry v lists a) k) % 2 ^ 64 + count_from_word lists v (32 * a + 8 * k) ≤ rank)
           (sym entry_is) total);
     }
 
@@ -67,7 +67,7 @@ module _ (bit : ℕ) (lists : Lists) (rank rest : ℕ) where
       record {
         part = part;
         low = 0;
-        place = omega arith;
+        position = omega arith;
         last = subst (λ (n : ℕ). IsLastPart (sought_in bit lists.words) (length lists.upper) n part) is.total is.last;
         total = sym is.total;
         inside = omega (arith, first_of_part lists (sizes_of lists t short) part is.last.inside);
@@ -84,15 +84,15 @@ module _ (bit : ℕ) (lists : Lists) (rank rest : ℕ) where
     pub near_up : at + 2 ^ size < length lists.lower → before_in_part (sought_in bit lists.words) (at + 2 ^ size) ≤ rest
         → IsNarrowed bit lists rank rest (at + 2 ^ size) size
     near_up inside at_most =
-        let there : near.part * 2 ^ 21 + (near.low + 2 ^ size) ≡ at + 2 ^ size = omega (arith, near.place) in
+        let there : near.part * 2 ^ 21 + (near.low + 2 ^ size) ≡ at + 2 ^ size = omega (arith, near.position) in
         let end : near.low + 2 ^ (size + 1) ≡ near.low + 2 ^ size + 2 ^ size = omega (arith, doubled) in
         record {
           part = near.part;
           low = near.low + 2 ^ size;
-          place = sym there;
+          position = sym there;
           last = near.last;
           total = near.total;
-          inside = omega (arith, inside, near.place, near.room, doubled);
+          inside = omega (arith, inside, near.position, near.room, doubled);
           at_most = subst (λ (n : ℕ). before_in_part (sought_in bit lists.words) n ≤ rest) (sym there) at_most;
           next =
               λ h.
@@ -105,11 +105,11 @@ module _ (bit : ℕ) (lists : Lists) (rank rest : ℕ) where
     pub near_stays : (at + 2 ^ size < length lists.lower → rest < before_in_part (sought_in bit lists.words) (at + 2 ^ size))
         → IsNarrowed bit lists rank rest at size
     near_stays above =
-        let there : near.part * 2 ^ 21 + (near.low + 2 ^ size) ≡ at + 2 ^ size = omega (arith, near.place) in
+        let there : near.part * 2 ^ 21 + (near.low + 2 ^ size) ≡ at + 2 ^ size = omega (arith, near.position) in
         record {
           part = near.part;
           low = near.low;
-          place = near.place;
+          position = near.position;
           last = near.last;
           total = near.total;
           inside = near.inside;
@@ -132,7 +132,7 @@ near_between bit lists rank rest at low size t near one_part few inside room at_
     record {
       part = near.part;
       low = low;
-      place = sym here;
+      position = sym here;
       last = near.last;
       total = near.total;
       inside = omega (arith, first, few, inside);
@@ -150,7 +150,7 @@ near_enough bit lists rank rest at size near most enough =
     record {
       part = near.part;
       low = near.low;
-      place = near.place;
+      position = near.position;
       last = near.last;
       total = near.total;
       inside = near.inside;
@@ -179,7 +179,7 @@ near_found bit lists rank rest part low is last =
     record {
       part = part;
       low = low;
-      place = omega arith;
+      position = omega arith;
       last = subst (λ (n : ℕ). IsLastPart (sought_in bit lists.words) (length lists.upper) n part) is.total is.last;
       total = sym is.total;
       inside = last.inside;
@@ -209,43 +209,43 @@ part_up v lists rank rest at i is =
     }
 
 -- the record that is chosen in the entry where the search ends
-module _ (bit : ℕ) (lists : Lists) (rank rest at packed count place before : ℕ) (t : HasTables lists)
+module _ (bit : ℕ) (lists : Lists) (rank rest at packed count position before : ℕ) (t : HasTables lists)
     (near : IsNarrowed bit lists rank rest at 0) (packed_is : packed ≡ lower_entry (sought_in bit lists.words) at)
-    (count_is : count ≡ field_0 packed) (small : place < 4) (before_is : before ≡ record_field packed place)
-    (at_most : before ≤ rest - count) (next : place < 3 → rest - count < record_field packed (place + 1)) where
+    (count_is : count ≡ field_0 packed) (small : position < 4) (before_is : before ≡ record_field packed position)
+    (at_most : before ≤ rest - count) (next : position < 3 → rest - count < record_field packed (position + 1)) where
   there : ℕ
   there = near.part * 2 ^ 21 + near.low
 
   packed_there : packed ≡ lower_entry (sought_in bit lists.words) (near.part * 2 ^ 21 + near.low)
-  packed_there = packed_is ∙ ap (lower_entry (sought_in bit lists.words)) near.place
+  packed_there = packed_is ∙ ap (lower_entry (sought_in bit lists.words)) near.position
 
   part : IsLastPart (sought_in bit lists.words) (length lists.upper)
       (ones_before (sought_in bit lists.words) (near.part * 2 ^ 32) + rest) near.part
   part =
       subst (λ (r : ℕ). IsLastPart (sought_in bit lists.words) (length lists.upper) r near.part) near.total near.last
 
-  total : ones_before (sought_in bit lists.words) (64 * ((near.part * 2 ^ 21 + near.low) * 32 + place * 8)) + (rest - count - before)
+  total : ones_before (sought_in bit lists.words) (64 * ((near.part * 2 ^ 21 + near.low) * 32 + position * 8)) + (rest - count - before)
       ≡ ones_before (sought_in bit lists.words) (near.part * 2 ^ 32) + rest
   total =
-      rank_is lists.words lists.upper lists.lower t (sought_in bit lists.words) near.part rest near.low place packed count before
+      rank_is lists.words lists.upper lists.lower t (sought_in bit lists.words) near.part rest near.low position packed count before
       part (near_ends bit lists rank rest at near) packed_there count_is small before_is at_most next
 
-  after : (near.part * 2 ^ 21 + near.low) * 32 + place * 8 + 8 < length lists.words
-      → ones_before (sought_in bit lists.words) (64 * ((near.part * 2 ^ 21 + near.low) * 32 + place * 8)) + (rest - count - before)
-      < ones_before (sought_in bit lists.words) (64 * ((near.part * 2 ^ 21 + near.low) * 32 + place * 8 + 8))
+  after : (near.part * 2 ^ 21 + near.low) * 32 + position * 8 + 8 < length lists.words
+      → ones_before (sought_in bit lists.words) (64 * ((near.part * 2 ^ 21 + near.low) * 32 + position * 8)) + (rest - count - before)
+      < ones_before (sought_in bit lists.words) (64 * ((near.part * 2 ^ 21 + near.low) * 32 + position * 8 + 8))
   after =
-      next_is lists.words lists.upper lists.lower t (sought_in bit lists.words) near.part rest near.low place packed count before
+      next_is lists.words lists.upper lists.lower t (sought_in bit lists.words) near.part rest near.low position packed count before
       part (near_ends bit lists rank rest at near) packed_there count_is small before_is at_most next
 
-  pub near_loads : (rank ≡ ones_before (sought_in bit lists.words) (64 * (at * 32 + place * 8)) + (rest - count - before))
-      × (at * 32 + place * 8 + 8 < length lists.words → rank < ones_before (sought_in bit lists.words) (64 * (at * 32 + place * 8 + 8)))
+  pub near_loads : (rank ≡ ones_before (sought_in bit lists.words) (64 * (at * 32 + position * 8)) + (rest - count - before))
+      × (at * 32 + position * 8 + 8 < length lists.words → rank < ones_before (sought_in bit lists.words) (64 * (at * 32 + position * 8 + 8)))
   near_loads =
-      let same : (near.part * 2 ^ 21 + near.low) * 32 + place * 8 ≡ at * 32 + place * 8 = omega (arith, near.place) in
+      let same : (near.part * 2 ^ 21 + near.low) * 32 + position * 8 ≡ at * 32 + position * 8 = omega (arith, near.position) in
       let here = ap (λ (n : ℕ). ones_before (sought_in bit lists.words) (64 * n)) same in
       let end = ap (λ (n : ℕ). ones_before (sought_in bit lists.words) (64 * (n + 8))) same in
       (omega (arith, near.total, total, here), λ h. omega (arith, near.total, total, after (omega (arith, h, same)), end))
 
--- what is told of a selection in the record, where what is left of the rank did not wrap, and where it did
+-- what is reported of a selection in the record, where what is left of the rank did not wrap, and where it did
 module _ (bit : ℕ) (lists : Lists) (rank : ℕ) (at : InRecord) (sized : HasSizes lists) (there : IsInRecord bit lists rank at) where
   right : (s : Answer ℕ) → IsSelectedFrom lists.words (as_bit bit) at.first (ones_before (sought_in bit lists.words) (64 * at.first) + at.rest) s
       → HasTables lists → IsSelected (bits_in lists) (as_bit bit) rank s
@@ -253,22 +253,22 @@ module _ (bit : ℕ) (lists : Lists) (rank : ℕ) (at : InRecord) (sized : HasSi
       selected lists.words (as_bit bit) at.first rank s (there.next t)
       (subst (λ (n : ℕ). IsSelectedFrom lists.words (as_bit bit) at.first n s) (sym (there.total t)) is)
 
-  pub told_record : (s s' : Answer ℕ) → rank < 2 ^ 64 → (at.rest ≤ rank → s' ≡ s) → (rank < at.rest → s' ≡ wrong_for_absent s)
+  pub claimed_record : (s s' : Answer ℕ) → rank < 2 ^ 64 → (at.rest ≤ rank → s' ≡ s) → (rank < at.rest → s' ≡ wrong_for_absent s)
       → IfAbsent s (length lists.words ≤ at.first + 8)
       → IsSelectedFrom lists.words (as_bit bit) at.first (ones_before (sought_in bit lists.words) (64 * at.first) + at.rest) s
-      → SelectTold (as_bit bit) lists rank (told_in s')
-  told_record s s' fits kept wrapped last is =
+      → IsSelectCode (as_bit bit) lists rank (list_code s')
+  claimed_record s s' fits kept wrapped last is =
       let R = ones_before (sought_in bit lists.words) (64 * at.first) + at.rest in
       elim (cases_lt rank at.rest) [
         | inl over ↦
-            subst (λ (x : Answer ℕ). SelectTold (as_bit bit) lists rank (told_in x)) (sym (wrapped over))
-            (told_is (as_bit bit) lists rank sized.short (wrong_for_absent s)
-            (bit_kept (bits_in lists) (as_bit bit) s (has_bit lists.words (as_bit bit) at.first R s is)) (never_absent (TellsNone (as_bit bit) lists rank) s)
+            subst (λ (x : Answer ℕ). IsSelectCode (as_bit bit) lists rank (list_code x)) (sym (wrapped over))
+            (claimed_is (as_bit bit) lists rank sized.short (wrong_for_absent s)
+            (bit_kept (bits_in lists) (as_bit bit) s (has_bit lists.words (as_bit bit) at.first R s is)) (never_absent (ClaimsNone (as_bit bit) lists rank) s)
             (λ t. absurd (omega (arith, over, there.total t))))
         | inr within ↦
-            subst (λ (x : Answer ℕ). SelectTold (as_bit bit) lists rank (told_in x)) (sym (kept within))
-            (told_is (as_bit bit) lists rank sized.short s (has_bit lists.words (as_bit bit) at.first R s is)
-            (record_none lists (as_bit bit) rank at sized there.told fits within s last is)
+            subst (λ (x : Answer ℕ). IsSelectCode (as_bit bit) lists rank (list_code x)) (sym (kept within))
+            (claimed_is (as_bit bit) lists rank sized.short s (has_bit lists.words (as_bit bit) at.first R s is)
+            (record_none lists (as_bit bit) rank at sized there.claimed fits within s last is)
             (right s is))
       ]
 
@@ -323,21 +323,21 @@ pub part_item : (xs : List ℕ) (a n j : ℕ) → j < n → slice_index (take (a
 part_item xs a n j h = get_or-take (a + n - a) (drop a xs) j 0 (omega arith) ∙ get_or-drop a xs j 0
 
 -- what is written at once are the answers of a part, after those that stand
-pub answers_follow : (P : ℕ → ℕ → Type 0) (from n : ℕ) (ranks places new : List ℕ) → from + n ≤ length places → length new ≡ n
-    → ((j : ℕ) → j < from → P (slice_index ranks j) (slice_index places j))
+pub answers_follow : (P : ℕ → ℕ → Type 0) (from n : ℕ) (ranks positions new : List ℕ) → from + n ≤ length positions → length new ≡ n
+    → ((j : ℕ) → j < from → P (slice_index ranks j) (slice_index positions j))
     → ((j : ℕ) → j < n → P (slice_index (take (from + n - from) (drop from ranks)) j) (slice_index new j))
-    → (j : ℕ) → j < from + n → P (slice_index ranks j) (slice_index (put_mid from (from + n - from) places new) j)
-answers_follow P from n ranks places new inside long old added j h =
-    let after = put_mid from (from + n - from) places new in
+    → (j : ℕ) → j < from + n → P (slice_index ranks j) (slice_index (put_mid from (from + n - from) positions new) j)
+answers_follow P from n ranks positions new inside long old added j h =
+    let after = put_mid from (from + n - from) positions new in
     elim (cases_lt j from) [
       | inl below ↦
-          subst (P (slice_index ranks j)) (sym (put_below from (from + n - from) places new j below (omega (arith, inside)))) (old j below)
+          subst (P (slice_index ranks j)) (sym (put_below from (from + n - from) positions new j below (omega (arith, inside)))) (old j below)
       | inr over ↦
           let at : from + (j - from) ≡ j = omega (arith, over) in
           let k : j - from < n = omega (arith, over, h) in
           let there : slice_index after j ≡ slice_index new (j - from) =
           ap (slice_index after) (sym at)
-          ∙ put_inside from (from + n - from) places new (j - from) (omega (arith, k, long)) (omega (arith, inside)) in
+          ∙ put_inside from (from + n - from) positions new (j - from) (omega (arith, k, long)) (omega (arith, inside)) in
           let rank : slice_index (take (from + n - from) (drop from ranks)) (j - from) ≡ slice_index ranks j =
           part_item ranks from n (j - from) k ∙ ap (slice_index ranks) at in
           subst (P (slice_index ranks j)) (sym there) (subst (λ (r : ℕ). P r (slice_index new (j - from))) rank (added (j - from) k))

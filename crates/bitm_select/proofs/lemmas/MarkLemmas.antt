@@ -1,4 +1,4 @@
--- Ones of the sought bits are bits of the kind that is sought; what a word of them tells of a place.
+-- Ones of the sought bits are bits of the kind that is sought; what a word of them shows of a position.
 use Rattle.std.proofs.Common.{◌≡◌, ◌≢◌, ℕ, zero, suc, ◌+◌, ◌-◌, ◌*◌, ◌%◌, ◌^◌, ◌<◌, ◌≤◌, Bool, true, false, not, List, length, replicate, length-append, slice_index, count_ones, arith, refl, sym, ap, ◌∙◌}
 use Rattle.std.proofs.lemmas.List.{length-map}
 use Rattle.std.proofs.lemmas.Nat.{ones_le_self}
@@ -39,7 +39,7 @@ pub count_before-sought_bits : (b : List Bool) (v : Bool) (i : ℕ) → i ≤ le
 count_before-sought_bits b true i h = ones_before-sought_bits b i
 count_before-sought_bits b false i h = omega (arith, zeros_before-sought_bits b i h, ones_before-add-zeros_before b i h)
 
--- ---- a place is picked where the count rises
+-- ---- a position is picked where the count rises
 
 truth_one : (x : Bool) → truth x ≡ 1 → x ≡ true
 truth_one true e = refl
@@ -70,7 +70,7 @@ picked b false r p h e f =
 
 -- ---- a word of the sought bits
 
--- what the number of a word tells of counts
+-- what the number of a word shows of counts
 abbrev pub CountsWord : List Bool → ℕ → ℕ → Type 0
 CountsWord m k w = (j : ℕ) → j ≤ 64 → ones_before m (64 * k + j) ≡ ones_before m (64 * k) + count_ones (w % 2 ^ j)
 
@@ -169,7 +169,7 @@ module _ (words : List ℕ) (v : Bool) (k w R rest : ℕ) (word : CountsWord (so
 
 -- ---- nothing is picked
 
--- there are no more of the kind than the sought bits have ones before a place past the end
+-- there are no more of the kind than the sought bits have ones before a position past the end
 pub none_counted : (b : List Bool) (v : Bool) (r i : ℕ) → length b ≤ i → ones_before (sought_bits v b) i ≤ r → count_before b v (length b) ≤ r
 none_counted b v r i past le =
     omega (arith, count_before-sought_bits b v (length b) (omega arith), (ones_before-between (sought_bits v b) (length b) i past).0)

@@ -4,17 +4,17 @@ use Rattle.bit_lists.proofs.lemmas.BitsLemmas.{length-bits_of}
 use Rattle.bit_lists.proofs.lemmas.PickLemmas.{rank_below}
 use Rattle.bit_lists.specs.Bits.{bits_of, IsShort}
 use Rattle.bit_lists.specs.Count.{ones_before, count_of, IsSelect}
-use Rattle.bitm_select.specs.Answers.{place_in, told_in, HasBit, IsFoundFrom, IsSelected, IsSelectedFrom, SelectTold}
+use Rattle.bitm_select.specs.Answers.{position_in, list_code, HasBit, IsFoundFrom, IsSelected, IsSelectedFrom, IsSelectCode}
 use Rattle.bitm_select.specs.Search.{sought_bits}
 use Rattle.bitm_tables.specs.Tables.{HasTables, Lists, bits_in}
-use Rattle.bitm_select.specs.Told.{wrong_for_absent, TellsNone}
+use Rattle.bitm_select.specs.Claims.{wrong_for_absent, ClaimsNone}
 use Rattle.bitm_tables.specs.Answers.{IfAbsent}
 use Rattle.bitm_tables.specs.declared.answer.Answer.{Answer}
 use Rattle.bitm_tables.specs.declared.answer.Answer.TheVariants.{Found, Absent, Wrong}
 use Rattle.bitm_select.proofs.lemmas.MarkLemmas.{none_counted}
 
 module _ (words : List ℕ) (v : Bool) (k r : ℕ) where
-  -- a place that is picked has the bit
+  -- a position that is picked has the bit
   pub has_bit : (s : Answer ℕ) → IsSelectedFrom words v k r s → HasBit (bits_of words) v s
   has_bit (Found p) is = (is.inside, is.item)
   has_bit Absent is = tt
@@ -34,25 +34,25 @@ module _ (words : List ℕ) (v : Bool) (k r : ℕ) where
       none_counted (bits_of words) v r (64 * (k + count)) (omega (arith, length-bits_of words, is, ends)) le
 
 module _ (b : List Bool) (v : Bool) (r : ℕ) where
-  -- where the tables are right the place that is found is the one that is sought
-  pub is_select : (s : Answer ℕ) → IsSelected b v r s → IsSelect b v r (place_in s)
+  -- where the tables are right the position that is found is the one that is sought
+  pub is_select : (s : Answer ℕ) → IsSelected b v r s → IsSelect b v r (position_in s)
   is_select (Found p) is = is
   is_select Absent is = is
   is_select Wrong is = absurd is
 
--- a place that is found between two others is between those around them
+-- a position that is found between two others is between those around them
 pub found_within : (i j i' j' : ℕ) → i' ≤ i → j ≤ j' → (s : Answer ℕ) → IsFoundFrom i j s → IsFoundFrom i' j' s
 found_within i j i' j' low high (Found p) is = (omega (arith, is.0, low), omega (arith, is.1, high))
 found_within i j i' j' low high Absent is = tt
 found_within i j i' j' low high Wrong is = tt
 
--- a place from the entry's first bit on and before the next entry is in the entry
-pub in_entry : (k : ℕ) (s : Answer ℕ) → IsFoundFrom (2048 * k) (2048 * (k + 1)) s → IfSome (place_in s) (λ p. p / 2048 ≡ k)
+-- a position from the entry's first bit on and before the next entry is in the entry
+pub in_entry : (k : ℕ) (s : Answer ℕ) → IsFoundFrom (2048 * k) (2048 * (k + 1)) s → IfSome (position_in s) (λ p. p / 2048 ≡ k)
 in_entry k (Found p) is = omega (arith, is.0, is.1)
 in_entry k Absent is = tt
 in_entry k Wrong is = tt
 
--- where Wrong stands for Absent, a place that was found is found, and nothing is absent
+-- where Wrong stands for Absent, a position that was found is found, and nothing is absent
 pub bit_kept : (b : List Bool) (v : Bool) (s : Answer ℕ) → HasBit b v s → HasBit b v (wrong_for_absent s)
 bit_kept b v (Found p) is = is
 bit_kept b v Absent is = tt
@@ -64,21 +64,21 @@ never_absent P Absent = tt
 never_absent P Wrong = tt
 
 -- what a list of answers says of a selection
-pub told_is : (v : Bool) (lists : Lists) (r : ℕ) → IsShort lists.words → (s : Answer ℕ) → HasBit (bits_in lists) v s
-    → IfAbsent s (TellsNone v lists r) → (HasTables lists → IsSelected (bits_in lists) v r s) → SelectTold v lists r (told_in s)
-told_is v lists r short (Found p) bit none answer = record {
+pub claimed_is : (v : Bool) (lists : Lists) (r : ℕ) → IsShort lists.words → (s : Answer ℕ) → HasBit (bits_in lists) v s
+    → IfAbsent s (ClaimsNone v lists r) → (HasTables lists → IsSelected (bits_in lists) v r s) → IsSelectCode v lists r (list_code s)
+claimed_is v lists r short (Found p) bit none answer = record {
   bit = λ _. bit;
   absent = λ e. absurd (omega (arith, e, bit.0, short, length-bits_of lists.words));
   some = λ t _. answer t;
   none = λ t past. absurd (omega (arith, past, rank_below (bits_in lists) v r p (answer t)));
 }
-told_is v lists r short Absent bit none answer = record {
+claimed_is v lists r short Absent bit none answer = record {
   bit = λ h. absurd (omega (arith, h));
   absent = λ _. none;
   some = λ t some. absurd (omega (arith, some, answer t));
   none = λ _ _. refl {A = ℕ};
 }
-told_is v lists r short Wrong bit none answer = record {
+claimed_is v lists r short Wrong bit none answer = record {
   bit = λ h. absurd (omega (arith, h));
   absent = λ e. absurd (omega (arith, e));
   some = λ t. absurd (answer t);

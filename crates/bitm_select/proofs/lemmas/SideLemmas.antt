@@ -1,10 +1,10 @@
--- Ranks side by side: what is told of a rank.
+-- Ranks side by side: what is reported of a rank.
 use Rattle.std.proofs.Common.{◌≡◌, ℕ, ◌-◌, ◌^◌, ◌<◌, ◌≤◌, Bool, length, ap, arith, refl}
 use Rattle.bit_lists.proofs.lemmas.BitsLemmas.{length-bits_of}
 use Rattle.bit_lists.proofs.lemmas.CountLemmas.{count_before-none}
 use Rattle.bit_lists.specs.Bits.{IsShort}
 use Rattle.bit_lists.specs.Count.{count_before}
-use Rattle.bitm_select.specs.Answers.{RankTold}
+use Rattle.bitm_select.specs.Answers.{IsRankCode}
 use Rattle.bitm_tables.specs.Tables.{HasTables, Lists, bits_in}
 
 module _ (v : Bool) (lists : Lists) (index : ℕ) (short : IsShort lists.words) where
@@ -13,18 +13,18 @@ module _ (v : Bool) (lists : Lists) (index : ℕ) (short : IsShort lists.words) 
   few_bits = omega (arith, length-bits_of lists.words, short)
 
   -- a count is none of the numbers that say that there is none
-  pub rank_told : (n : ℕ) → index ≤ length (bits_in lists) → n ≤ index
-      → (HasTables lists → n ≡ count_before (bits_in lists) v index) → RankTold v lists index n
-  rank_told n inside most is =
+  pub rank_claimed : (n : ℕ) → index ≤ length (bits_in lists) → n ≤ index
+      → (HasTables lists → n ≡ count_before (bits_in lists) v index) → IsRankCode v lists index n
+  rank_claimed n inside most is =
       record {
         none = (λ e. absurd (omega (arith, e, inside, most, few_bits)), λ past. absurd (omega (arith, past, inside)));
         most = λ _. most;
         count = λ t _. (omega (arith, inside, most, few_bits), is t);
       }
 
-  -- wrong tables are told
-  pub wrong_told : index ≤ length (bits_in lists) → (HasTables lists → ⊥) → RankTold v lists index (2 ^ 64 - 2)
-  wrong_told inside never =
+  -- wrong tables are reported
+  pub wrong_claimed : index ≤ length (bits_in lists) → (HasTables lists → ⊥) → IsRankCode v lists index (2 ^ 64 - 2)
+  wrong_claimed inside never =
       record {
         none = (λ e. absurd (omega (arith, e)), λ past. absurd (omega (arith, past, inside)));
         most = λ h. absurd (omega (arith, h));
@@ -32,8 +32,8 @@ module _ (v : Bool) (lists : Lists) (index : ℕ) (short : IsShort lists.words) 
       }
 
   -- and so is that there are fewer bits
-  pub past_told : length (bits_in lists) < index → RankTold v lists index (2 ^ 64 - 1)
-  past_told past =
+  pub past_claimed : length (bits_in lists) < index → IsRankCode v lists index (2 ^ 64 - 1)
+  past_claimed past =
       record {
         none = (λ _. past, λ _. refl {A = ℕ});
         most = λ h. absurd (omega (arith, h));
@@ -41,7 +41,7 @@ module _ (v : Bool) (lists : Lists) (index : ℕ) (short : IsShort lists.words) 
       }
 
   -- no bits have none
-  pub none_told : index ≡ 0 → RankTold v lists index 0
-  none_told e =
-      rank_told 0 (omega (arith, e)) (omega arith)
+  pub none_claimed : index ≡ 0 → IsRankCode v lists index 0
+  none_claimed e =
+      rank_claimed 0 (omega (arith, e)) (omega arith)
       (λ _. omega (arith, ap (count_before (bits_in lists) v) e, count_before-none (bits_in lists) v))

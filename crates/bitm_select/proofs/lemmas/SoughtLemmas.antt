@@ -1,4 +1,4 @@
--- What the tables tell of the bits in which ones are sought: before a part, before an entry, and in the record chosen.
+-- What the tables claim of the bits in which ones are sought: before a part, before an entry, and in the record chosen.
 use Rattle.std.proofs.Common.{◌≡◌, ◌≢◌, ℕ, ◌+◌, ◌-◌, ◌*◌, ◌/◌, ◌%◌, ◌^◌, ◌<◌, ◌≤◌, Bool, List, length, slice_index, arith, sym, ap, ◌∙◌, inl, inr}
 use Rattle.std.proofs.lemmas.Bool.{cases_lt}
 use Rattle.bit_lists.proofs.lemmas.BitsLemmas.{length-bits_of}
@@ -174,12 +174,12 @@ module _ (words upper lower : List ℕ) (t : AreTablesOf (bits_of words) upper l
         < ones_before m (64 * ((part * 2 ^ 21 + e) * 32 + k * 8 + 8))
     next_is h = omega (arith, rank_is, next_record words upper lower t m part r e k up low small most after h)
 
-    -- the ones of the record, where its end is told or the words end with it
+    -- the ones of the record, where its end is reported or the words end with it
     pub total_is : (end above : ℕ) → (k < 3 → end ≡ record_field entry (k + 1)) → (k ≡ 3 → end ≡ less above count)
         → above < 2 ^ 64 → (above < 2 ^ 62 → (e + 1 < entries_from (length lower) part) × (above ≡ before_in_part m (part * 2 ^ 21 + (e + 1))))
         → let first = (part * 2 ^ 21 + e) * 32 + k * 8 in let left = r - count - before in let total = less end before in
         left < total → total - left ≤ total / 2 → first + 8 < length words → ones_before m (64 * first) + total ≡ ones_before m (64 * (first + 8))
-    total_is end above inner last fits told less_left near more =
+    total_is end above inner last fits claimed less_left near more =
         let j = part * 2 ^ 21 + e in
         let first = j * 32 + k * 8 in
         let here : 64 * first ≡ 2048 * j + 512 * k = omega arith in
@@ -195,9 +195,9 @@ module _ (words upper lower : List ℕ) (t : AreTablesOf (bits_of words) upper l
                 | inl known ↦
                     let is : k ≡ 3 = omega (arith, small, top) in
                     let there : 64 * (first + 8) ≡ 2048 * (part * 2 ^ 21 + (e + 1)) = omega (arith, is) in
-                    let of_part : (part * 2 ^ 21 + (e + 1)) / 2 ^ 21 * 2 ^ 32 ≡ j / 2 ^ 21 * 2 ^ 32 = omega (arith, (told known).0) in
+                    let of_part : (part * 2 ^ 21 + (e + 1)) / 2 ^ 21 * 2 ^ 32 ≡ j / 2 ^ 21 * 2 ^ 32 = omega (arith, (claimed known).0) in
                     let before_entry = ones_before-between m (j / 2 ^ 21 * 2 ^ 32) (2048 * j) (omega arith) in
-                    omega (arith, last is, (told known).1, counted, field k small, before_is, ap (ones_before m) here, ap (ones_before m) there, ap (ones_before m) of_part, start.0, before_entry.0, record_.0, record_.1)
+                    omega (arith, last is, (claimed known).1, counted, field k small, before_is, ap (ones_before m) here, ap (ones_before m) there, ap (ones_before m) of_part, start.0, before_entry.0, record_.0, record_.1)
                 | inr unknown ↦ absurd (omega (arith, last (omega (arith, small, top)), unknown, near, fits, next_is more, record_.1, before_is, field k small, start.1, count_is))
               ]
         ]

@@ -2,14 +2,14 @@
 ghost use Rattle.std.specs.Prelude.{◌≡◌, ◌+◌, ◌*◌, ◌<◌, ◌≤◌, ℕ, All, length};
 ghost use Rattle.bit_lists.specs.Bits.{digit_count};
 ghost use Rattle.bit_lists.specs.Count.{count_of, as_bit};
-ghost use Rattle.bitm_select.specs.Answers.{RanksTold, ToldEach};
+ghost use Rattle.bitm_select.specs.Answers.{AreRankCodes, AreSelectCodes};
 ghost use Rattle.bitm_select.specs.Many.{RanksEach, PicksEach, AreSearches};
 ghost use Rattle.bitm_tables.specs.Reads.{OnlyReads, ReadsAtMost};
 ghost use Rattle.bitm_tables.specs.Tables.{HasSizes, IsIndexed, bits_in};
 
-use crate::many::loaded::tell_entries;
+use crate::many::loaded::code_entries;
 use crate::many::query::{NO_QUERY, Query, find_by_halves};
-use crate::many::ranks::{tell_blocks, tell_each};
+use crate::many::ranks::{code_blocks, code_each};
 use crate::search::selecting::ByTables;
 use bitm_tables::source::TableSource;
 use tuning::{FEWEST_RANKS, SELECTIONS_SIDE_BY_SIDE, WORDS_NEAR};
@@ -33,17 +33,17 @@ pub fn total_rank_many_on<const BIT: u8, T: TableSource>(
 )
     requires sized { HasSizes (T.lists source.old) }
     requires same_length { length indices.now ≡ length ranks.old }
-    ensures told { RanksTold (as_bit BIT) (T.lists source.old) indices.now ranks.new }
+    ensures claimed { AreRankCodes (as_bit BIT) (T.lists source.old) indices.now ranks.new }
     ensures reads { OnlyReads T.lists T.reads source.old source.new
         (length indices.now) (length indices.now) (8 * length indices.now) }
 {
     // Two branches of the same text: the compiler gives few words a loop of their own.
     if source.words_len() <= WORDS_NEAR {
-        tell_each::<BIT, T>(source, indices, ranks);
+        code_each::<BIT, T>(source, indices, ranks);
     } else if indices.len() < FEWEST_RANKS {
-        tell_each::<BIT, T>(source, indices, ranks);
+        code_each::<BIT, T>(source, indices, ranks);
     } else {
-        tell_blocks::<BIT, T>(source, indices, ranks);
+        code_blocks::<BIT, T>(source, indices, ranks);
     }
 }
 
@@ -104,14 +104,14 @@ fn select_block<const BIT: u8, T: TableSource, F: FindsEntries<BIT, T>>(
     source: &mut T,
     finder: &F,
     ranks: &[usize],
-    places: &mut [usize],
+    positions: &mut [usize],
 )
     requires sized { HasSizes (T.lists source.old) }
     requires part { 0 < length (T.lists source.old).upper }
     requires some { 0 < length ranks.now }
     requires few { length ranks.now ≤ 16 }
-    requires same_length { length ranks.now ≡ length places.old }
-    ensures told { ToldEach (as_bit BIT) (T.lists source.old) ranks.now places.new }
+    requires same_length { length ranks.now ≡ length positions.old }
+    ensures claimed { AreSelectCodes (as_bit BIT) (T.lists source.old) ranks.now positions.new }
     ensures reads { ReadsAtMost (T.reads source.old) (T.reads source.new)
         (length ranks.now * (digit_count (length (T.lists source.old).upper) + 1))
         ((F.lowers + 1) * length ranks.now) (8 * length ranks.now) }
@@ -119,7 +119,7 @@ fn select_block<const BIT: u8, T: TableSource, F: FindsEntries<BIT, T>>(
 {
     let mut queries = [NO_QUERY; SELECTIONS_SIDE_BY_SIDE];
     finder.find(source, ranks, &mut queries);
-    tell_entries::<BIT, T>(source, ranks, &queries, places);
+    code_entries::<BIT, T>(source, ranks, &queries, positions);
 }
 
 /// Writes for each rank what `total_select_many_on` writes; `finder` finds the entries.
@@ -130,16 +130,16 @@ fn select_block<const BIT: u8, T: TableSource, F: FindsEntries<BIT, T>>(
 /// With u upper entries, each rank reads at most one more of them than u has binary digits, one lower entry more than
 /// `finder` reads, and eight words, whatever the tables hold.
 #[inline(always)]
-pub fn tell_many_on<const BIT: u8, T: TableSource, F: FindsEntries<BIT, T>>(
+pub fn code_many_on<const BIT: u8, T: TableSource, F: FindsEntries<BIT, T>>(
     source: &mut T,
     finder: &F,
     ranks: &[usize],
-    places: &mut [usize],
+    positions: &mut [usize],
 )
     requires sized { HasSizes (T.lists source.old) }
     requires part { 0 < length (T.lists source.old).upper }
-    requires same_length { length ranks.now ≡ length places.old }
-    ensures told { ToldEach (as_bit BIT) (T.lists source.old) ranks.now places.new }
+    requires same_length { length ranks.now ≡ length positions.old }
+    ensures claimed { AreSelectCodes (as_bit BIT) (T.lists source.old) ranks.now positions.new }
     ensures reads { OnlyReads T.lists T.reads source.old source.new
         (length ranks.now * (digit_count (length (T.lists source.old).upper) + 1))
         ((F.lowers + 1) * length ranks.now) (8 * length ranks.now) }
@@ -147,7 +147,7 @@ pub fn tell_many_on<const BIT: u8, T: TableSource, F: FindsEntries<BIT, T>>(
     let mut from = 0;
     while from < ranks.len() {
         let to = from + (ranks.len() - from).min(SELECTIONS_SIDE_BY_SIDE);
-        select_block::<BIT, T, F>(source, finder, &ranks[from..to], &mut places[from..to]);
+        select_block::<BIT, T, F>(source, finder, &ranks[from..to], &mut positions[from..to]);
         from = to;
     }
 }
@@ -162,32 +162,32 @@ pub fn tell_many_on<const BIT: u8, T: TableSource, F: FindsEntries<BIT, T>>(
 ///
 /// # Conditions
 /// There is at least one word and there are fewer than 2^58, and the tables have the right lengths; they may hold
-/// anything. `places` is as long as `ranks`.
+/// anything. `positions` is as long as `ranks`.
 /// # Cost
 /// With u upper entries, each rank reads at most one more of them than u has binary digits, 22 lower entries and eight
 /// words, whatever the tables hold.
 pub fn total_select_many_on<const BIT: u8, T: TableSource>(
     source: &mut T,
     ranks: &[usize],
-    places: &mut [usize],
+    positions: &mut [usize],
 )
     requires sized { HasSizes (T.lists source.old) }
     requires part { 0 < length (T.lists source.old).upper }
-    requires same_length { length ranks.now ≡ length places.old }
-    ensures told { ToldEach (as_bit BIT) (T.lists source.old) ranks.now places.new }
+    requires same_length { length ranks.now ≡ length positions.old }
+    ensures claimed { AreSelectCodes (as_bit BIT) (T.lists source.old) ranks.now positions.new }
     ensures reads { OnlyReads T.lists T.reads source.old source.new
         (length ranks.now * (digit_count (length (T.lists source.old).upper) + 1))
         (22 * length ranks.now) (8 * length ranks.now) }
 {
-    tell_many_on::<BIT, T, ByTables>(source, &ByTables, ranks, places);
+    code_many_on::<BIT, T, ByTables>(source, &ByTables, ranks, positions);
 }
 
 /// Writes for each rank the position of the 1 bit of the source's words with that many 1 bits before it; of the 0 bit
 /// with that many 0 bits before it where `BIT` is 0.
 ///
 /// # Conditions
-/// The source's tables match its words, which are fewer than 2^58. `places` is as long as `ranks`, and the words have
-/// more such bits than each rank.
+/// The source's tables match its words, which are fewer than 2^58. `positions` is as long as `ranks`, and the words
+/// have more such bits than each rank.
 /// # Cost
 /// With u upper entries, each rank reads at most one more of them than u has binary digits, 22 lower entries and eight
 /// words.
@@ -195,12 +195,12 @@ pub fn total_select_many_on<const BIT: u8, T: TableSource>(
 pub fn select_many_on<const BIT: u8, T: TableSource>(
     source: &mut T,
     ranks: &[usize],
-    places: &mut [usize],
+    positions: &mut [usize],
 )
     requires indexed { IsIndexed (T.lists source.old) }
-    requires same_length { length ranks.now ≡ length places.old }
+    requires same_length { length ranks.now ≡ length positions.old }
     requires some { All (λ r. r < count_of (bits_in (T.lists source.old)) (as_bit BIT)) ranks.now }
-    ensures answers { PicksEach (bits_in (T.lists source.old)) (as_bit BIT) ranks.now places.new }
+    ensures answers { PicksEach (bits_in (T.lists source.old)) (as_bit BIT) ranks.now positions.new }
     ensures reads { OnlyReads T.lists T.reads source.old source.new
         (length ranks.now * (digit_count (length (T.lists source.old).upper) + 1))
         (22 * length ranks.now) (8 * length ranks.now) }
@@ -208,5 +208,5 @@ pub fn select_many_on<const BIT: u8, T: TableSource>(
     if ranks.len() == 0 {
         return;
     }
-    total_select_many_on::<BIT, T>(source, ranks, places);
+    total_select_many_on::<BIT, T>(source, ranks, positions);
 }

@@ -3,18 +3,18 @@
 ghost use Rattle.std.specs.Prelude.{◌≡◌, ◌+◌, ◌-◌, ◌*◌, ◌^◌, ◌<◌, ◌≤◌, ℕ, length, MatchOption};
 ghost use Rattle.bit_lists.specs.Bits.{IsShort};
 ghost use Rattle.bit_lists.specs.Count.{as_bit, ones_before, Picks};
-ghost use Rattle.bitm_select.specs.Answers.{IsSelectedFrom, ToldEach};
+ghost use Rattle.bitm_select.specs.Answers.{IsSelectedFrom, AreSelectCodes};
 ghost use Rattle.bitm_select.specs.Many.{IsSearch, AreSearches, IsInRecord, AreInRecords};
 ghost use Rattle.bitm_tables.specs.Reads.{word_read, ReadsAtMost};
 ghost use Rattle.bitm_select.specs.Search.{sought_in, IsWord};
 ghost use Rattle.bitm_tables.specs.Tables.{HasSizes, bits_in};
-ghost use Rattle.bitm_select.specs.Told.{wrong_for_absent};
+ghost use Rattle.bitm_select.specs.Claims.{wrong_for_absent};
 ghost use Rattle.bitm_tables.specs.Answers.{IfAbsent};
 
 use crate::many::query::Query;
 use crate::search::entries::sought_entry;
 use crate::search::record::{among, is_at_most, record_of, select_in_word, sought_word};
-use crate::search::selected::told;
+use crate::search::selected::list_code;
 use bitm_tables::answer::Answer;
 use bitm_tables::entry::ones_to_entry;
 use bitm_tables::levels::{U64_PER_L2_ENTRY, U64_PER_L2_RECORDS};
@@ -54,8 +54,8 @@ fn load<const BIT: u8, T: TableSource>(source: &mut T, rest: usize, entry: usize
 {
     let packed = sought_entry::<BIT, T>(source, entry);
     let in_entry = rest.wrapping_sub(ones_to_entry(packed));
-    let (place, before) = record_of(packed, in_entry);
-    let first = entry * U64_PER_L2_ENTRY + place * U64_PER_L2_RECORDS;
+    let (position, before) = record_of(packed, in_entry);
+    let first = entry * U64_PER_L2_ENTRY + position * U64_PER_L2_RECORDS;
     let word = if first < source.words_len() {
         sought_word::<BIT, T>(source, first)
     } else {
@@ -159,7 +159,7 @@ fn in_last<const BIT: u8, T: TableSource>(
         return Answer::Found(first * 64 + select_in_word(word, rest));
     }
     match among::<BIT, T>(source, first + 1, len - (first + 1), rest - count) {
-        Some(place) => Answer::Found(place),
+        Some(position) => Answer::Found(position),
         None => Answer::Absent,
     }
 }
@@ -186,7 +186,7 @@ fn finish<const BIT: u8, T: TableSource>(
         return in_last::<BIT, T>(source, rest, first, word);
     }
     match in_whole::<BIT, T>(source, rest, first, word) {
-        Some(place) => Answer::Found(place),
+        Some(position) => Answer::Found(position),
         None => Answer::Wrong,
     }
 }
@@ -232,12 +232,12 @@ fn finish_each<const BIT: u8, T: TableSource>(
     source: &mut T,
     ranks: &[usize],
     records: &[InRecord],
-    places: &mut [usize],
+    positions: &mut [usize],
 )
     requires sized { HasSizes (T.lists source.old) }
     requires loaded { AreInRecords BIT (T.lists source.old) ranks.now records.now }
-    requires enough { length ranks.now ≤ length places.old }
-    ensures told { ToldEach (as_bit BIT) (T.lists source.old) ranks.now places.new }
+    requires enough { length ranks.now ≤ length positions.old }
+    ensures claimed { AreSelectCodes (as_bit BIT) (T.lists source.old) ranks.now positions.new }
     ensures reads { ReadsAtMost (T.reads source.old) (T.reads source.new)
         0 0 (7 * length ranks.now) }
     ensures same { T.lists source.new ≡ T.lists source.old }
@@ -245,7 +245,7 @@ fn finish_each<const BIT: u8, T: TableSource>(
     for k in 0..ranks.len() {
         let InRecord { rest, first, word } = records[k];
         let selected = finish::<BIT, T>(source, rest, first, word);
-        places[k] = told(unless_wrapped(selected, rest, ranks[k]));
+        positions[k] = list_code(unless_wrapped(selected, rest, ranks[k]));
     }
 }
 
@@ -256,22 +256,22 @@ fn finish_each<const BIT: u8, T: TableSource>(
 /// # Cost
 /// For each rank, one lower entry and at most eight words are read.
 #[inline(always)]
-pub fn tell_entries<const BIT: u8, T: TableSource>(
+pub fn code_entries<const BIT: u8, T: TableSource>(
     source: &mut T,
     ranks: &[usize],
     queries: &[Query],
-    places: &mut [usize],
+    positions: &mut [usize],
 )
     requires sized { HasSizes (T.lists source.old) }
     requires few { length ranks.now ≤ 16 }
     requires searches { AreSearches BIT (T.lists source.old) ranks.now queries.now 0 }
-    requires enough { length ranks.now ≤ length places.old }
-    ensures told { ToldEach (as_bit BIT) (T.lists source.old) ranks.now places.new }
+    requires enough { length ranks.now ≤ length positions.old }
+    ensures claimed { AreSelectCodes (as_bit BIT) (T.lists source.old) ranks.now positions.new }
     ensures reads { ReadsAtMost (T.reads source.old) (T.reads source.new)
         0 (length ranks.now) (8 * length ranks.now) }
     ensures same { T.lists source.new ≡ T.lists source.old }
 {
     let mut records = [NO_RECORD; SELECTIONS_SIDE_BY_SIDE];
     load_each::<BIT, T>(source, ranks, queries, &mut records);
-    finish_each::<BIT, T>(source, ranks, &records, places);
+    finish_each::<BIT, T>(source, ranks, &records, positions);
 }

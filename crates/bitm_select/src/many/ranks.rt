@@ -2,7 +2,7 @@
 ghost use Rattle.std.specs.Prelude.{◌≡◌, ◌+◌, ◌*◌, ◌/◌, ◌^◌, ◌<◌, ◌≤◌, ℕ, length, slice_index};
 ghost use Rattle.bit_lists.specs.Bits.{bits_of, IsShort};
 ghost use Rattle.bit_lists.specs.Count.{as_bit, ones_before};
-ghost use Rattle.bitm_select.specs.Answers.{RankTold, RanksTold};
+ghost use Rattle.bitm_select.specs.Answers.{IsRankCode, AreRankCodes};
 ghost use Rattle.bitm_select.specs.Many.{AreBegun, IsBegun, IsBegunAt};
 ghost use Rattle.bitm_tables.specs.Reads.{OnlyReads, ReadsAtMost};
 ghost use Rattle.bitm_tables.specs.Tables.{HasSizes, HasTables, Lists, bits_in};
@@ -134,10 +134,10 @@ fn finish<T: TableSource>(source: &mut T, last: usize, begun: Begun) -> usize
 
 /// The code of the rank of an index, before which the tables and words claim `ones` 1 bits; of 0 bits where `BIT` is 0.
 #[inline(always)]
-fn told_rank<const BIT: u8>(index: usize, ones: usize) -> usize
+fn rank_code<const BIT: u8>(index: usize, ones: usize) -> usize
     ensures { (lists : Lists) → IsShort lists.words → index ≤ length (bits_in lists)
         → (HasTables lists → ones ≡ ones_before (bits_in lists) index)
-        → RankTold (as_bit BIT) lists index result }
+        → IsRankCode (as_bit BIT) lists index result }
 {
     match index.checked_sub(ones) {
         Some(zeros) => { if BIT == 0 { zeros } else { ones } }
@@ -147,10 +147,10 @@ fn told_rank<const BIT: u8>(index: usize, ones: usize) -> usize
 
 /// The code of a rank whose reads are done.
 #[inline(always)]
-fn tell_begun<const BIT: u8, T: TableSource>(source: &mut T, index: usize, begun: Begun) -> usize
+fn code_begun<const BIT: u8, T: TableSource>(source: &mut T, index: usize, begun: Begun) -> usize
     requires sized { HasSizes (T.lists source.old) }
     requires begun { IsBegun (T.lists source.old) index begun }
-    ensures told { RankTold (as_bit BIT) (T.lists source.old) index result }
+    ensures claimed { IsRankCode (as_bit BIT) (T.lists source.old) index result }
     ensures reads { ReadsAtMost (T.reads source.old) (T.reads source.new) 1 0 6 }
     ensures same { T.lists source.new ≡ T.lists source.old }
 {
@@ -158,18 +158,18 @@ fn tell_begun<const BIT: u8, T: TableSource>(source: &mut T, index: usize, begun
     if last / 64 >= source.words_len() {
         return if index == 0 { 0 } else { NO_ANSWER };
     }
-    told_rank::<BIT>(index, finish(source, last, begun))
+    rank_code::<BIT>(index, finish(source, last, begun))
 }
 
 /// The code of one rank.
 #[inline(always)]
-fn tell_rank<const BIT: u8, T: TableSource>(source: &mut T, index: usize) -> usize
+fn code_rank<const BIT: u8, T: TableSource>(source: &mut T, index: usize) -> usize
     requires sized { HasSizes (T.lists source.old) }
-    ensures told { RankTold (as_bit BIT) (T.lists source.old) index result }
+    ensures claimed { IsRankCode (as_bit BIT) (T.lists source.old) index result }
     ensures reads { OnlyReads T.lists T.reads source.old source.new 1 1 8 }
 {
     match total_rank_on(source, index) {
-        Some(ones) => told_rank::<BIT>(index, ones),
+        Some(ones) => rank_code::<BIT>(index, ones),
         None => NO_ANSWER,
     }
 }
@@ -200,20 +200,20 @@ fn finish_each<const BIT: u8, T: TableSource>(
     requires sized { HasSizes (T.lists source.old) }
     requires begun { AreBegun (T.lists source.old) indices.now begun.now }
     requires enough { length indices.now ≤ length ranks.old }
-    ensures told { RanksTold (as_bit BIT) (T.lists source.old) indices.now ranks.new }
+    ensures claimed { AreRankCodes (as_bit BIT) (T.lists source.old) indices.now ranks.new }
     ensures reads { ReadsAtMost (T.reads source.old) (T.reads source.new)
         (length indices.now) 0 (6 * length indices.now) }
     ensures same { T.lists source.new ≡ T.lists source.old }
 {
     for k in 0..indices.len() {
         let Begun { entry, first, word } = begun[k];
-        ranks[k] = tell_begun::<BIT, T>(source, indices[k], Begun { entry, first, word });
+        ranks[k] = code_begun::<BIT, T>(source, indices[k], Begun { entry, first, word });
     }
 }
 
 /// Writes the codes of the ranks of one group.
 #[inline(always)]
-fn tell_block<const BIT: u8, T: TableSource>(
+fn code_block<const BIT: u8, T: TableSource>(
     source: &mut T,
     indices: &[usize],
     begun: &mut [Begun],
@@ -222,7 +222,7 @@ fn tell_block<const BIT: u8, T: TableSource>(
     requires sized { HasSizes (T.lists source.old) }
     requires room { length indices.now ≤ length begun.old }
     requires enough { length indices.now ≤ length ranks.old }
-    ensures told { RanksTold (as_bit BIT) (T.lists source.old) indices.now ranks.new }
+    ensures claimed { AreRankCodes (as_bit BIT) (T.lists source.old) indices.now ranks.new }
     ensures reads { ReadsAtMost (T.reads source.old) (T.reads source.new)
         (length indices.now) (length indices.now) (8 * length indices.now) }
     ensures same { T.lists source.new ≡ T.lists source.old }
@@ -233,14 +233,14 @@ fn tell_block<const BIT: u8, T: TableSource>(
 
 /// Writes the code of each rank, group by group.
 #[inline(always)]
-pub(crate) fn tell_blocks<const BIT: u8, T: TableSource>(
+pub(crate) fn code_blocks<const BIT: u8, T: TableSource>(
     source: &mut T,
     indices: &[usize],
     ranks: &mut [usize],
 )
     requires sized { HasSizes (T.lists source.old) }
     requires same_length { length indices.now ≡ length ranks.old }
-    ensures told { RanksTold (as_bit BIT) (T.lists source.old) indices.now ranks.new }
+    ensures claimed { AreRankCodes (as_bit BIT) (T.lists source.old) indices.now ranks.new }
     ensures reads { OnlyReads T.lists T.reads source.old source.new
         (length indices.now) (length indices.now) (8 * length indices.now) }
 {
@@ -248,25 +248,25 @@ pub(crate) fn tell_blocks<const BIT: u8, T: TableSource>(
     let mut from = 0;
     while from < indices.len() {
         let to = from + (indices.len() - from).min(RANKS_SIDE_BY_SIDE);
-        tell_block::<BIT, T>(source, &indices[from..to], &mut begun, &mut ranks[from..to]);
+        code_block::<BIT, T>(source, &indices[from..to], &mut begun, &mut ranks[from..to]);
         from = to;
     }
 }
 
 /// Writes the code of each rank, one by one.
 #[inline(always)]
-pub(crate) fn tell_each<const BIT: u8, T: TableSource>(
+pub(crate) fn code_each<const BIT: u8, T: TableSource>(
     source: &mut T,
     indices: &[usize],
     ranks: &mut [usize],
 )
     requires sized { HasSizes (T.lists source.old) }
     requires same_length { length indices.now ≡ length ranks.old }
-    ensures told { RanksTold (as_bit BIT) (T.lists source.old) indices.now ranks.new }
+    ensures claimed { AreRankCodes (as_bit BIT) (T.lists source.old) indices.now ranks.new }
     ensures reads { OnlyReads T.lists T.reads source.old source.new
         (length indices.now) (length indices.now) (8 * length indices.now) }
 {
     for k in 0..indices.len() {
-        ranks[k] = tell_rank::<BIT, T>(source, indices[k]);
+        ranks[k] = code_rank::<BIT, T>(source, indices[k]);
     }
 }

@@ -8,7 +8,7 @@ ghost use Rattle.bitm_tables.specs.Entry.{lower_entry, entries_from};
 ghost use Rattle.bitm_tables.specs.Reads.{lower_read, ReadsAtMost};
 ghost use Rattle.bitm_select.specs.Search.{entry_in, sought_in, IsAmongIn, IsLastEntry, IsLastFound, IsRange};
 ghost use Rattle.bitm_tables.specs.Tables.{HasSizes, HasTables};
-ghost use Rattle.bitm_select.specs.Told.{told_entry};
+ghost use Rattle.bitm_select.specs.Claims.{claimed_entry};
 
 use crate::search::entry_range::{EntryRange, last_in_range, narrow_by_guess};
 use crate::search::record::is_at_most;
@@ -34,7 +34,7 @@ pub fn sought_entry<const BIT: u8, T: TableSource>(source: &mut T, at: usize) ->
     requires { at < length (T.lists source.old).lower }
     ensures entry { HasTables (T.lists source.old) → result
         ≡ lower_entry (sought_in BIT (T.lists source.old).words) at }
-    ensures told { result ≡ told_entry (as_bit BIT) (T.lists source.old) at }
+    ensures claimed { result ≡ claimed_entry (as_bit BIT) (T.lists source.old) at }
     ensures counted { T.reads source.new ≡ lower_read (T.reads source.old) }
     ensures same { T.lists source.new ≡ T.lists source.old }
 {

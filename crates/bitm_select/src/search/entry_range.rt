@@ -7,7 +7,7 @@ ghost use Rattle.bitm_tables.specs.Entry.{lower_entry, entries_from};
 ghost use Rattle.bitm_tables.specs.Reads.{lower_read, ReadsAtMost};
 ghost use Rattle.bitm_select.specs.Search.{entry_in, sought_in, IsAmongIn, IsLastEntry, IsRange};
 ghost use Rattle.bitm_tables.specs.Tables.{HasSizes, HasTables};
-ghost use Rattle.bitm_select.specs.Told.{told_entry};
+ghost use Rattle.bitm_select.specs.Claims.{claimed_entry};
 
 use crate::search::entries::sought_entry;
 use bitm_tables::entry::ones_to_entry;
@@ -161,8 +161,8 @@ pub fn last_in_range<const BIT: u8, T: TableSource>(
         (length (T.lists source.old).lower) part rank result.0 }
     ensures entry { HasTables (T.lists source.old) → result.1
         ≡ lower_entry (sought_in BIT (T.lists source.old).words) (entry_in part result.0) }
-    ensures told { result.1
-        ≡ told_entry (as_bit BIT) (T.lists source.old) (entry_in part result.0) }
+    ensures claimed { result.1
+        ≡ claimed_entry (as_bit BIT) (T.lists source.old) (entry_in part result.0) }
     ensures reads { ReadsAtMost (T.reads source.old) (T.reads source.new)
         0 (digit_count (range.left - 1) + 1) 0 }
     ensures reads_later { 0 < range.low → ReadsAtMost (T.reads source.old) (T.reads source.new)

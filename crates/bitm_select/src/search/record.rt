@@ -12,7 +12,7 @@ ghost use Rattle.bitm_select.specs.Search.{entry_in, sought_in, IsCountAbove, Is
 ghost use Rattle.bitm_select.specs.Search.{IsWord};
 ghost use Rattle.bitm_select.specs.Search.{AreOnesToWords, CountsRise};
 ghost use Rattle.bitm_tables.specs.Tables.{HasSizes, HasTables, bits_in};
-ghost use Rattle.bitm_select.specs.Told.{EntryTellsNone};
+ghost use Rattle.bitm_select.specs.Claims.{EntryClaimsNone};
 ghost use Rattle.bitm_tables.specs.Answers.{IfAbsent};
 
 use bitm_tables::answer::Answer;
@@ -51,8 +51,8 @@ pub fn record_of(entry: u64, rank: usize) -> (usize, usize)
     let one = (entry >> 54) as usize;
     let two = (entry >> 43 & 0x7FF) as usize;
     let three = (entry >> 32 & 0x7FF) as usize;
-    let place = is_at_most(one, rank) + is_at_most(two, rank) + is_at_most(three, rank);
-    (place, ones_to_record(entry, place))
+    let position = is_at_most(one, rank) + is_at_most(two, rank) + is_at_most(three, rank);
+    (position, ones_to_record(entry, position))
 }
 
 /// The position in a word of the 1 bit with `rank` 1 bits before it.
@@ -227,12 +227,12 @@ fn in_record<const BIT: u8, T: TableSource>(
     let len = source.words_len();
     if first + U64_PER_L2_RECORDS < len {
         return match among_eight::<BIT, T>(source, first, rank) {
-            Some(place) => Answer::Found(place),
+            Some(position) => Answer::Found(position),
             None => Answer::Wrong,
         };
     }
     match among::<BIT, T>(source, first, len.saturating_sub(first), rank) {
-        Some(place) => Answer::Found(place),
+        Some(position) => Answer::Found(position),
         None => Answer::Absent,
     }
 }
@@ -302,25 +302,25 @@ fn from_nearer_end<const BIT: u8, T: TableSource>(
         && first + U64_PER_L2_RECORDS < len
         && rest.wrapping_sub(1) < total / 2
     {
-        let Some(place) = among_last::<BIT, T>(source, first, rest) else {
+        let Some(position) = among_last::<BIT, T>(source, first, rest) else {
             return Answer::Wrong;
         };
-        return Answer::Found(place);
+        return Answer::Found(position);
     }
     in_record::<BIT, T>(source, first, rank)
 }
 
-/// The number of bits of the kind in an entry up to the end of its basic block `place`, from its packed counts and from
-/// the number before the next entry in its upper block; any number where that entry was not read.
+/// The number of bits of the kind in an entry up to the end of its basic block `position`, from its packed counts and
+/// from the number before the next entry in its upper block; any number where that entry was not read.
 #[inline(always)]
-fn ones_to_end(packed: u64, place: usize, above: usize) -> usize
-    requires { place < 4 }
-    ensures inner { place < 3 → result ≡ record_field packed (place + 1) }
-    ensures last { place ≡ 3 → result ≡ less above (field_0 packed) }
+fn ones_to_end(packed: u64, position: usize, above: usize) -> usize
+    requires { position < 4 }
+    ensures inner { position < 3 → result ≡ record_field packed (position + 1) }
+    ensures last { position ≡ 3 → result ≡ less above (field_0 packed) }
 {
-    let inner = ones_to_record(packed, (place + 1) % 4);
+    let inner = ones_to_record(packed, (position + 1) % 4);
     let last = above.wrapping_sub(ones_to_entry(packed));
-    if place < 3 { inner } else { last }
+    if position < 3 { inner } else { last }
 }
 
 /// Selection in entry `entry` of an upper block, which packs `packed`: the last with at most `rank` bits of the kind
@@ -356,18 +356,18 @@ pub fn in_packed<const BIT: u8, const TESTS: u8, T: TableSource>(
     ensures inside { IsFoundFrom
         (2048 * entry_in part entry) (2048 * (entry_in part entry + 1)) result }
     ensures none { TESTS ≢ 0 → IfAbsent result
-        (EntryTellsNone (as_bit BIT) (T.lists source.old) (entry_in part entry) packed rank) }
+        (EntryClaimsNone (as_bit BIT) (T.lists source.old) (entry_in part entry) packed rank) }
     ensures reads { ReadsAtMost (T.reads source.old) (T.reads source.new) 0 0 8 }
     ensures same { T.lists source.new ≡ T.lists source.old }
 {
     let in_entry = rank.wrapping_sub(ones_to_entry(packed));
-    let (place, before) = record_of(packed, in_entry);
+    let (position, before) = record_of(packed, in_entry);
     let at = part * L2_ENTRIES_PER_L1_ENTRY + entry;
-    let first = at * U64_PER_L2_ENTRY + place * U64_PER_L2_RECORDS;
+    let first = at * U64_PER_L2_ENTRY + position * U64_PER_L2_RECORDS;
     let left = in_entry.wrapping_sub(before);
     if TESTS != 0 && left > rank {
         return Answer::Wrong;
     }
-    let total = ones_to_end(packed, place, above).wrapping_sub(before);
+    let total = ones_to_end(packed, position, above).wrapping_sub(before);
     from_nearer_end::<BIT, T>(source, first, left, total)
 }

@@ -11,7 +11,7 @@ ghost use Rattle.bitm_tables.specs.Reads.{upper_read, OnlyReads, ReadsAtMost};
 ghost use Rattle.bitm_select.specs.Search.{sought_in, IsLastFound, IsLastPart, IsPartOf};
 ghost use Rattle.bitm_tables.specs.Tables.{HasSizes, HasTables, IsIndexed, Lists, bits_in};
 ghost use Rattle.bitm_tables.specs.Entry.{less};
-ghost use Rattle.bitm_select.specs.Told.{told_part, TellsNone};
+ghost use Rattle.bitm_select.specs.Claims.{claimed_part, ClaimsNone};
 ghost use Rattle.bitm_tables.specs.Answers.{IfAbsent};
 
 use crate::search::entries::last_entry;
@@ -79,7 +79,7 @@ pub fn total_select_on<const BIT: u8, T: TableSource>(source: &mut T, rank: usiz
     ensures bit { HasBit (bits_in (T.lists source.old)) (as_bit BIT) result }
     ensures answer { HasTables (T.lists source.old)
         → IsSelected (bits_in (T.lists source.old)) (as_bit BIT) rank result }
-    ensures none { IfAbsent result (TellsNone (as_bit BIT) (T.lists source.old) rank) }
+    ensures none { IfAbsent result (ClaimsNone (as_bit BIT) (T.lists source.old) rank) }
     ensures reads { OnlyReads T.lists T.reads source.old source.new
         (digit_count (length (T.lists source.old).upper) + 1) 23 8 }
 {
@@ -125,7 +125,7 @@ pub fn search_on<const BIT: u8, const TESTS: u8, T: TableSource, F: FindsEntry<B
     ensures answer { HasTables (T.lists source.old)
         → IsSelected (bits_in (T.lists source.old)) (as_bit BIT) rank result }
     ensures none { TESTS ≢ 0
-        → IfAbsent result (TellsNone (as_bit BIT) (T.lists source.old) rank) }
+        → IfAbsent result (ClaimsNone (as_bit BIT) (T.lists source.old) rank) }
     ensures reads { OnlyReads T.lists T.reads source.old source.new
         (digit_count (length (T.lists source.old).upper) + 1) F.lowers 8 }
     ensures reads_led { F.leads finder.now (T.lists source.old)
@@ -149,7 +149,7 @@ pub fn before_part<const BIT: u8, T: TableSource>(source: &mut T, part: usize) -
     requires { part < length (T.lists source.old).upper }
     ensures count { IsIndexed (T.lists source.old) → result
         ≡ ones_before (sought_in BIT (T.lists source.old).words) (part * 2 ^ 32) }
-    ensures told { result ≡ told_part (as_bit BIT) (T.lists source.old) part }
+    ensures claimed { result ≡ claimed_part (as_bit BIT) (T.lists source.old) part }
     ensures counted { T.reads source.new ≡ upper_read (T.reads source.old) }
     ensures same { T.lists source.new ≡ T.lists source.old }
 {
@@ -202,9 +202,9 @@ pub fn part_of_rank<const BIT: u8, T: TableSource>(source: &mut T, rank: usize) 
     ensures inside { result.0 < length (T.lists source.old).upper }
     ensures part { IsIndexed (T.lists source.old)
         → IsPartOf BIT (T.lists source.old) rank result.0 result.1 }
-    ensures told { result.1
-        ≡ less rank (told_part (as_bit BIT) (T.lists source.old) result.0) }
-    ensures fits { told_part (as_bit BIT) (T.lists source.old) result.0 < 2 ^ 64 }
+    ensures claimed { result.1
+        ≡ less rank (claimed_part (as_bit BIT) (T.lists source.old) result.0) }
+    ensures fits { claimed_part (as_bit BIT) (T.lists source.old) result.0 < 2 ^ 64 }
     ensures reads { ReadsAtMost (T.reads source.old) (T.reads source.new)
         (digit_count (length (T.lists source.old).upper) + 1) 0 0 }
     ensures same { T.lists source.new ≡ T.lists source.old }

@@ -6,7 +6,7 @@ ghost use Rattle.bitm_tables.specs.Entry.{before_in_part, entries_from};
 ghost use Rattle.bitm_tables.specs.Reads.{ReadsAtMost};
 ghost use Rattle.bitm_tables.specs.Tables.{HasSizes, HasTables};
 ghost use Rattle.bitm_select.specs.Search.{entry_in, sought_in, IsLastFound};
-ghost use Rattle.bitm_select.specs.Told.{told_entry};
+ghost use Rattle.bitm_select.specs.Claims.{claimed_entry};
 
 use crate::search::entries::sought_entry;
 use bitm_tables::entry::{entries_of_part, ones_to_entry};
@@ -32,7 +32,7 @@ fn steps_on<const BIT: u8, T: TableSource>(
     requires at { at < entries_from (length (T.lists source.old).lower) part }
     requires at_most { HasTables (T.lists source.old)
         → before_in_part (sought_in BIT (T.lists source.old).words) (entry_in part at) ≤ rank }
-    requires packed { packed ≡ told_entry (as_bit BIT) (T.lists source.old) (entry_in part at) }
+    requires packed { packed ≡ claimed_entry (as_bit BIT) (T.lists source.old) (entry_in part at) }
     ensures last { IfSome result (IsLastFound BIT (T.lists source.old) part rank) }
     ensures reads { ReadsAtMost (T.reads source.old) (T.reads source.new) 0 4 0 }
     ensures same { T.lists source.new ≡ T.lists source.old }

@@ -1,4 +1,4 @@
--- Samples from the tables alone: each part's items, and each item's entry, are what the tables tell.
+-- Samples from the tables alone: each part's items, and each item's entry, are what the tables claim.
 use Rattle.std.proofs.Common.{◌≡◌, ℕ, ◌+◌, ◌-◌, ◌*◌, ◌%◌, ◌^◌, ◌<◌, ◌≤◌, ◌≢◌, Bool, true, false, List, [], ◌∷◌, ◌++◌, map, length, slice_index, min, nat_lt, arith, inl, inr, sym, ap, ap₂, ◌∙◌, subst, lt-ltb, le-ltb, append_assoc}
 use Rattle.std.proofs.Math.Pow.{pow_mono}
 use Rattle.std.proofs.lemmas.Bool.{cases_lt}

@@ -5,12 +5,12 @@ use Rattle.std.proofs.lemmas.List.{take-take}
 use Rattle.std.proofs.lemmas.List.Sums.{sum_by-append}
 use Rattle.std.specs.Int.{div_ceil}
 use Rattle.bit_lists.proofs.lemmas.CountLemmas.{ones_before_more, zeros_before_more}
-use Rattle.bit_lists.proofs.lemmas.PickLemmas.{Picks-places, length-places}
+use Rattle.bit_lists.proofs.lemmas.PickLemmas.{Picks-positions, length-positions}
 use Rattle.bit_lists.proofs.lemmas.WordLemmas.{truth}
 use Rattle.bit_lists.specs.Bits.{item}
 use Rattle.bit_lists.specs.Count.{count_of, ones_before, zeros_before, count_before, Picks}
 use Rattle.bitm_tables.specs.Entry.{before_in_part, negation}
-use Rattle.bitm_strategies.specs.Samples.{part_of, place, entry_of}
+use Rattle.bitm_strategies.specs.Samples.{part_of, position, entry_of}
 use Rattle.bitm_select.specs.Search.{IsLastWithin, sought_bits}
 use Rattle.bitm_tables.proofs.lemmas.EntryLemmas.{ones_before-negation}
 use Rattle.bitm_select.proofs.lemmas.MarkLemmas.{count_before-sought_bits}
@@ -28,17 +28,17 @@ count_before-next : (b : List Bool) (v : Bool) (p : ℕ) → p < length b → it
 count_before-next b true p h e = omega (arith, ones_before_more b p h, ap truth e)
 count_before-next b false p h e = omega (arith, zeros_before_more b p h, ap (λ (x : Bool). truth (not x)) e)
 
--- ---- the place of an item
+-- ---- the position of an item
 
-pub found : (c : List Bool) (v : Bool) (t : ℕ) → t < count_of c v → Picks c v t (place c v t)
-unfolding place
-found c v t h = Picks-places c v t (length c) (omega (arith, length-places v 0 c))
+pub found : (c : List Bool) (v : Bool) (t : ℕ) → t < count_of c v → Picks c v t (position c v t)
+unfolding position
+found c v t h = Picks-positions c v t (length c) (omega (arith, length-positions v 0 c))
 
 -- the entry of an item is the last one with no more items before it
 pub entry_last : (c : List Bool) (v : Bool) (t : ℕ) → t < count_of c v
     → IsLastWithin (λ j. count_before c v (2048 * j)) (div_ceil (length c) 2048) t (entry_of c v t)
 entry_last c v t h =
-    let p = place c v t in
+    let p = position c v t in
     let f = found c v t h in
     let after = count_before-next c v p f.inside f.item in
     record {

@@ -11,7 +11,7 @@ use Rattle.bitm_tables.specs.declared.source.counts.ReadCounts.{ReadCounts}
 use Rattle.bitm_tables.proofs.lemmas.TableLemmas.{HasEntries, entries}
 use Rattle.bitm_strategies.specs.Samples.{part_of, parts, walk_start, samples_of, sample_count_before, rank_in, IsSampledPart, SampledReads}
 use Rattle.bitm_strategies.specs.declared.sampled.PartBegin.{PartBegin}
-use Rattle.bitm_strategies.proofs.lemmas.WalkLemmas.{count_is, outside_none, outside_reads, start_from, start_in, start_below, sampled_reads, interval_inside, first_inside, place_fits}
+use Rattle.bitm_strategies.proofs.lemmas.WalkLemmas.{count_is, outside_none, outside_reads, start_from, start_in, start_below, sampled_reads, interval_inside, first_inside, position_fits}
 
 module _ (bit : ℕ) (l : Lists) (xs : List ℕ) (d rank : ℕ) (begin : PartBegin) (t : HasTables l) (p : IsSampledPart bit l xs d begin rank) where
   tables : HasEntries (bits_of l.words) l.upper l.lower
@@ -21,23 +21,23 @@ module _ (bit : ℕ) (l : Lists) (xs : List ℕ) (d rank : ℕ) (begin : PartBeg
   in_part =
       ap (λ (n : ℕ). rank - n) (p.before_is ∙ count_is (bits_of l.words) l.upper l.lower tables (as_bit bit) rank begin.part p.part)
 
-  place_is : begin.samples + (rank - begin.items) / 2 ^ d
+  position_is : begin.samples + (rank - begin.items) / 2 ^ d
       ≡ sample_count_before (bits_of l.words) (as_bit bit) d begin.part + rank_in (bits_of l.words) (as_bit bit) rank begin.part / 2 ^ d
-  place_is = ap₂ ◌+◌ p.start_is (ap (λ (n : ℕ). n / 2 ^ d) in_part)
+  position_is = ap₂ ◌+◌ p.start_is (ap (λ (n : ℕ). n / 2 ^ d) in_part)
 
-  pub place_small : length (bits_of l.words) < 2 ^ 64 → rank < 2 ^ 64 → begin.samples + (rank - begin.items) / 2 ^ d < 2 ^ 64
-  place_small short fits =
+  pub position_small : length (bits_of l.words) < 2 ^ 64 → rank < 2 ^ 64 → begin.samples + (rank - begin.items) / 2 ^ d < 2 ^ 64
+  position_small short fits =
       let r = rank_in (bits_of l.words) (as_bit bit) rank begin.part in
       let inside : begin.part < parts (bits_of l.words) = omega (arith, p.part.inside, tables.upper_length) in
       let small : r < 2 ^ 64 = omega (arith, fits) in
-      omega (arith, place_is, place_fits (bits_of l.words) (as_bit bit) d r (r / 2 ^ d) begin.part p.low short inside small refl)
+      omega (arith, position_is, position_fits (bits_of l.words) (as_bit bit) d r (r / 2 ^ d) begin.part p.low short inside small refl)
 
   -- ---- no sample
 
   module _ (none : length xs ≤ begin.samples + (rank - begin.items) / 2 ^ d) where
     over : length (samples_of (bits_of l.words) (as_bit bit) d)
         ≤ sample_count_before (bits_of l.words) (as_bit bit) d begin.part + rank_in (bits_of l.words) (as_bit bit) rank begin.part / 2 ^ d
-    over = omega (arith, place_is, none, ap length p.samples)
+    over = omega (arith, position_is, none, ap length p.samples)
 
     pub no_item : count_of (bits_of l.words) (as_bit bit) ≤ rank
     no_item = outside_none (bits_of l.words) l.upper l.lower tables (as_bit bit) rank begin.part p.part d over
@@ -57,14 +57,14 @@ module _ (bit : ℕ) (l : Lists) (xs : List ℕ) (d rank : ℕ) (begin : PartBeg
 
     there : sample_count_before (bits_of l.words) (as_bit bit) d begin.part + rank_in (bits_of l.words) (as_bit bit) rank begin.part / 2 ^ d
         < length (samples_of (bits_of l.words) (as_bit bit) d)
-    there = omega (arith, place_is, some, ap length p.samples)
+    there = omega (arith, position_is, some, ap length p.samples)
 
     start_is : from ≡ walk_start (part_of (bits_of l.words) begin.part) (as_bit bit) d (rank_in (bits_of l.words) (as_bit bit) rank begin.part)
     start_is =
         from_is
         ∙ ap (λ (r : ℕ). s % 2 ^ 21 + (if digit r (d - 1) then s / 2 ^ 21 else 0)) in_part
         ∙ start_from (bits_of l.words) l.upper l.lower tables (as_bit bit) rank begin.part p.part d pos s there
-        (s_is ∙ ap₂ (λ (ys : List ℕ) (i : ℕ). get_or ys i 0) p.samples place_is)
+        (s_is ∙ ap₂ (λ (ys : List ℕ) (i : ℕ). get_or ys i 0) p.samples position_is)
 
     pub begins_inside : from < entries_from (length l.lower) begin.part
     begins_inside =

@@ -232,9 +232,9 @@ count_before-self : (v : Bool) (b : List Bool) (i : ℕ) → i ≤ length b → 
 count_before-self v b i h = omega (arith, count_before-sought_bits b v i h, ones_before-self (sought_bits v b) i)
 
 -- the sum of two counts of samples fits
-pub place_fits : (b : List Bool) (v : Bool) (d n q k : ℕ) → 7 ≤ d → length b < 2 ^ 64 → k < parts b → n < 2 ^ 64 → q ≡ n / 2 ^ d
+pub position_fits : (b : List Bool) (v : Bool) (d n q k : ℕ) → 7 ≤ d → length b < 2 ^ 64 → k < parts b → n < 2 ^ 64 → q ≡ n / 2 ^ d
     → sample_count_before b v d k + q < 2 ^ 64
-place_fits b v d n q k low short inside fits is =
+position_fits b v d n q k low short inside fits is =
     let s = sample_count_before b v d k in
     let p : 2 ^ 7 ≤ 2 ^ d = pow_mono low in
     let f : 2 ^ d * q ≤ n = subst (λ (x : ℕ). 2 ^ d * x ≤ n) (sym is) (mul-div-le n (2 ^ d)) in

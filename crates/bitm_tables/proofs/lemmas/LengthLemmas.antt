@@ -1,4 +1,4 @@
--- What the lengths of the tables tell, whatever they hold.
+-- What the lengths of the tables claim, whatever they hold.
 use Rattle.std.proofs.Common.{ℕ, ◌+◌, ◌*◌, ◌^◌, ◌<◌, length, arith}
 use Rattle.std.specs.Int.{div_ceil}
 use Rattle.bit_lists.proofs.lemmas.BitsLemmas.{length-bits_of}

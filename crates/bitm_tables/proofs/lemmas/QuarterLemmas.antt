@@ -70,7 +70,7 @@ before_record words upper lower t at begun e e_is =
     let part_at : 512 * at / 2 ^ 32 * 2 ^ 32 ≡ at / 2 ^ 23 * 2 ^ 32 = omega arith in
     let record_at : 64 * (512 * at / 512 * 8) ≡ 512 * at = omega arith in
     let entry_at : at / 4 ≡ 512 * at / 2048 = omega arith in
-    let place : 512 * at / 512 ≡ at = omega arith in
+    let position : 512 * at / 512 ≡ at = omega arith in
     let sum : ones_before b (at / 2 ^ 23 * 2 ^ 32) + (field_0 e + e / 2 ^ (11 * (3 - at % 4)) / 2 ^ 32 % 2 ^ 11) ≡ ones_before b (512 * at) =
     omega (
       arith,
@@ -78,7 +78,7 @@ before_record words upper lower t at begun e e_is =
           (e_is ∙ ap (λ (n : ℕ). slice_index lower n) entry_at),
       ap (ones_before b) part_at,
       ap (ones_before b) record_at,
-      ap (λ (n : ℕ). e / 2 ^ (11 * (3 - n % 4)) / 2 ^ 32 % 2 ^ 11) place,
+      ap (λ (n : ℕ). e / 2 ^ (11 * (3 - n % 4)) / 2 ^ 32 % 2 ^ 11) position,
     ) in
     (sum, omega (arith, sum, ones_before-between b (at / 2 ^ 23 * 2 ^ 32) (512 * at) (omega arith)))
 
@@ -92,7 +92,7 @@ record_begun n r h = grind arith
 
 -- ---- a rank by them
 
--- the first word of two counts where the place is in the second
+-- the first word of two counts where the position is in the second
 pair_more : (words : List ℕ) (at w : ℕ) → at < length words → w < 2 ^ 64 → w ≡ slice_index words (at - at % 2)
     → ones_before (bits_of words) (64 * (at - at % 2)) + count_ones w * (at % 2) ≡ ones_before (bits_of words) (64 * at)
 pair_more words at w inside fits is =

@@ -8,7 +8,7 @@ use Rattle.bit_lists.proofs.lemmas.CountLemmas.{ones_before_none}
 use Rattle.bit_lists.specs.Bits.{bits_of, digit, item, IsShort}
 use Rattle.bit_lists.specs.Count.{ones_before}
 
--- the place of the last of the first i bits, as the code has it: above every place where i is 0
+-- the position of the last of the first i bits, as the code has it: above every position where i is 0
 abbrev pub last_of : ℕ → ℕ
 last_of i = (i + (2 ^ 64 - 1)) % 2 ^ 64
 
@@ -24,7 +24,7 @@ rank_outside words i fits h some = omega (arith, length-bits_of words)
 pub rank_of_none : (b : List Bool) (i : ℕ) → i ≡ 0 → (i ≤ length b) × (0 ≡ ones_before b i)
 rank_of_none b i e = (omega arith, omega (arith, ap (ones_before b) e, ones_before_none b))
 
--- a digit moved to the highest place of a word is what is left of the word there
+-- a digit moved to the highest position of a word is what is left of the word there
 digit_shifted : (w k : ℕ) → k < 64 → not (w * 2 ^ (63 - k) % 2 ^ 64 / 2 ^ 63 == 0) ≡ digit w k
 digit_shifted w k l = ap (λ m. not (m == 0)) (top ∙ moved) ∙ by (bit_at w k) (bit_at-lt w k)
   where
@@ -34,21 +34,21 @@ digit_shifted w k l = ap (λ m. not (m == 0)) (top ∙ moved) ∙ by (bit_at w k
     top : n % 2 ^ 64 / 2 ^ 63 ≡ bit_at n 63
     top = omega (arith, mod-pow-add n 1 63)
 
-    place : 63 - (63 - k) ≡ k
-    place = omega (arith, l)
+    position : 63 - (63 - k) ≡ k
+    position = omega (arith, l)
 
     alone : n ≡ n + 0
     alone = omega arith
 
     moved : bit_at n 63 ≡ bit_at w k
-    moved = ap (λ m. bit_at m 63) alone ∙ bit_at_cat_high w (63 - k) 0 63 (pow_pos (63 - k)) (omega arith) ∙ ap (bit_at w) place
+    moved = ap (λ m. bit_at m 63) alone ∙ bit_at_cat_high w (63 - k) 0 63 (pow_pos (63 - k)) (omega arith) ∙ ap (bit_at w) position
 
     by : (d : ℕ) → d < 2 → not (d == 0) ≡ (d == 1)
     by zero less = refl
     by (suc zero) less = refl
     by (suc (suc d)) less = absurd (omega arith)
 
--- the bit at place i is the highest of its word once those above it are shifted out
+-- the bit at position i is the highest of its word once those above it are shifted out
 pub item_shifted : (words : List ℕ) (i : ℕ) → i < 64 * length words
     → not (get_or words (i / 64) 0 * 2 ^ (63 - i % 64) % 2 ^ 64 / 2 ^ 63 == 0) ≡ item (bits_of words) i
 item_shifted words i l = digit_shifted (get_or words (i / 64) 0) (i % 64) (omega arith) ∙ sym (item-bits_of words i l)

@@ -18,7 +18,7 @@ pub ones_before-most : (b : List Bool) (i d : ℕ) → ones_before b (i + d) ≤
 ones_before-most b i d =
     omega (arith, ones_before-add b i d, count_by-le-length (λ (x : Bool). x) (take d (drop i b)), length-take d (drop i b))
 
--- between two places one counts no more than the places
+-- between two positions one counts no more than the positions
 pub ones_before-between : (b : List Bool) (i j : ℕ) → i ≤ j
     → (ones_before b i ≤ ones_before b j) × (ones_before b j ≤ ones_before b i + (j - i))
 ones_before-between b i j h =
@@ -26,7 +26,7 @@ ones_before-between b i j h =
     let same = ap (ones_before b) e in
     (omega (arith, same, ones_before-least b i (j - i)), omega (arith, same, ones_before-most b i (j - i)))
 
--- the ones before a place are at most the place
+-- the ones before a position are at most the position
 pub ones_before-self : (b : List Bool) (n : ℕ) → ones_before b n ≤ n
 ones_before-self b n =
     let e : 0 + n ≡ n = omega arith in
@@ -40,7 +40,7 @@ word_more words k w h fits is =
     let e : 64 * k + 64 ≡ 64 * (k + 1) = omega arith in
     omega (arith, ap (ones_before (bits_of words)) e, ones_before-bits_of_in_word words k h 64 (omega arith), ap count_ones same)
 
--- the bits of a word up to a place, that one included
+-- the bits of a word up to a position, that one included
 pub word_through : (words : List ℕ) (last w : ℕ) → last / 64 < length words → w ≡ slice_index words (last / 64)
     → ones_before (bits_of words) (64 * (last / 64)) + count_ones (w % 2 ^ (last % 64 + 1)) ≡ ones_before (bits_of words) (last + 1)
 word_through words last w h is =

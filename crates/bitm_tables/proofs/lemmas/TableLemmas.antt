@@ -1,4 +1,4 @@
--- The tables entry by entry, and the counts on the way from them to a place.
+-- The tables entry by entry, and the counts on the way from them to a position.
 use Rattle.std.proofs.Common.{◌≡◌, ℕ, ◌+◌, ◌-◌, ◌*◌, ◌/◌, ◌%◌, ◌^◌, ◌<◌, Bool, List, length, get_or, slice_index, arith, ap, ◌∙◌}
 use Rattle.std.proofs.lemmas.List.FromFn.{length-map-range_with_len, get_or-map-range_with_len}
 use Rattle.std.specs.Int.{div_ceil}
@@ -47,9 +47,9 @@ entries b upper lower t =
       lower_is = λ j h. ap (λ (l : List ℕ). get_or l j 0) t.lower_is ∙ get_or-lower_of b j 0 (omega (arith, lowers));
     }
 
--- ---- on the way to a place
+-- ---- on the way to a position
 
--- the counts that lead to the record of place i
+-- the counts that lead to the record of position i
 to_record : (b : List Bool) (i : ℕ)
     → ones_before b (i / 2 ^ 32 * 2 ^ 32) + before_in_part b (i / 2048) + in_records b (i / 2048) (i / 512 % 4)
     ≡ ones_before b (64 * (i / 512 * 8))

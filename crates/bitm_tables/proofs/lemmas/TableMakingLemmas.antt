@@ -27,7 +27,7 @@ ones_before_capped words k =
     omega (arith, ap (ones_before b) e, ones_before_past b (64 * k) (omega (arith, length-bits_of words))))
     (cases_lt k (length words))
 
--- the ones of the words from a place to a later one, or of what is left of them
+-- the ones of the words from a position to a later one, or of what is left of them
 pub ones_between_words : (words part : List ℕ) (a z : ℕ) → a ≤ z → ((j : ℕ) → get_or words j 0 < 2 ^ 64)
     → part ≡ take (min (length words) z - min (length words) a) (drop (min (length words) a) words)
     → ones_before (bits_of words) (64 * a) + ones_of (bits_of part) ≡ ones_before (bits_of words) (64 * z)
@@ -58,26 +58,26 @@ module _ (b : List Bool) (at w x y z : ℕ) (first : ones_before b (64 * (at * 3
     (second : ones_before b (64 * (at * 32 + 8)) + x ≡ ones_before b (64 * (at * 32 + 8 + 8)))
     (third : ones_before b (64 * (at * 32 + 16)) + y ≡ ones_before b (64 * (at * 32 + 16 + 8)))
     (fourth : ones_before b (64 * (at * 32 + 24)) + z ≡ ones_before b (64 * (at * 32 + 24 + 8))) where
-  to_place : (n m : ℕ) → n ≡ m → ones_before b n ≡ ones_before b m
-  to_place n m e = ap (ones_before b) e
+  to_position : (n m : ℕ) → n ≡ m → ones_before b n ≡ ones_before b m
+  to_position n m e = ap (ones_before b) e
 
   one_record : ones_before b (2048 * at) + w ≡ ones_before b (2048 * at + 512 * 1)
-  one_record = omega (arith, first, to_place (64 * (at * 32)) (2048 * at) (omega arith), to_place (64 * (at * 32 + 8)) (2048 * at + 512 * 1) (omega arith))
+  one_record = omega (arith, first, to_position (64 * (at * 32)) (2048 * at) (omega arith), to_position (64 * (at * 32 + 8)) (2048 * at + 512 * 1) (omega arith))
 
   two_records : ones_before b (2048 * at) + (w + x) ≡ ones_before b (2048 * at + 512 * 2)
   two_records =
-      let from : ones_before b (64 * (at * 32 + 8)) ≡ ones_before b (2048 * at + 512 * 1) = to_place _ _ (omega arith) in
-      omega (arith, one_record, second, from, to_place (64 * (at * 32 + 8 + 8)) (2048 * at + 512 * 2) (omega arith))
+      let from : ones_before b (64 * (at * 32 + 8)) ≡ ones_before b (2048 * at + 512 * 1) = to_position _ _ (omega arith) in
+      omega (arith, one_record, second, from, to_position (64 * (at * 32 + 8 + 8)) (2048 * at + 512 * 2) (omega arith))
 
   three_records : ones_before b (2048 * at) + (w + x + y) ≡ ones_before b (2048 * at + 512 * 3)
   three_records =
-      let from : ones_before b (64 * (at * 32 + 16)) ≡ ones_before b (2048 * at + 512 * 2) = to_place _ _ (omega arith) in
-      omega (arith, two_records, third, from, to_place (64 * (at * 32 + 16 + 8)) (2048 * at + 512 * 3) (omega arith))
+      let from : ones_before b (64 * (at * 32 + 16)) ≡ ones_before b (2048 * at + 512 * 2) = to_position _ _ (omega arith) in
+      omega (arith, two_records, third, from, to_position (64 * (at * 32 + 16 + 8)) (2048 * at + 512 * 3) (omega arith))
 
   four_records : ones_before b (2048 * at) + (w + x + y + z) ≡ ones_before b (2048 * (at + 1))
   four_records =
-      let from : ones_before b (64 * (at * 32 + 24)) ≡ ones_before b (2048 * at + 512 * 3) = to_place _ _ (omega arith) in
-      omega (arith, three_records, fourth, from, to_place (64 * (at * 32 + 24 + 8)) (2048 * (at + 1)) (omega arith))
+      let from : ones_before b (64 * (at * 32 + 24)) ≡ ones_before b (2048 * at + 512 * 3) = to_position _ _ (omega arith) in
+      omega (arith, three_records, fourth, from, to_position (64 * (at * 32 + 24 + 8)) (2048 * (at + 1)) (omega arith))
 
   pub counts_records : CountsRecords b at w (w + x) (w + x + y) (w + x + y + z)
   counts_records = record { entry = omega (arith, one_record, two_records, three_records); ones = four_records }

@@ -3,7 +3,7 @@ ghost use Rattle.std.specs.Prelude.{◌≡◌, ◌+◌, ◌*◌, ◌<◌, ◌↔
 ghost use Rattle.bit_lists.specs.Bits.{digit_count};
 ghost use Rattle.bit_lists.specs.Count.{as_bit};
 ghost use Rattle.bitm_view.specs.Queries.{ranked_by, selected_by, RanksIn, SelectsIn};
-ghost use Rattle.bitm_select.specs.Answers.{RanksTold, RankTold, SelectTold, ToldEach};
+ghost use Rattle.bitm_select.specs.Answers.{AreRankCodes, IsRankCode, IsSelectCode, AreSelectCodes};
 ghost use Rattle.bitm_tables.specs.Reads.{OnlyReads};
 
 use crate::view::IndexView;
@@ -60,7 +60,7 @@ impl<'a> IndexView<'a> {
     /// Puts `NO_ANSWER` in place of each rank whose position is past the end of the bit vector.
     fn cut_ranks<const BIT: u8>(&self, positions: &[usize], out: &mut [usize])
         requires same_length { length out.old ≡ length positions.now }
-        requires told { RanksTold (as_bit BIT) self.now.lists positions.now out.old }
+        requires claimed { AreRankCodes (as_bit BIT) self.now.lists positions.now out.old }
         ensures ranks { (j : ℕ) → j < length positions.now → RanksIn (as_bit BIT) self.now
             (slice_index positions.now j) (ranked_by (slice_index out.new j)) }
         ensures len { length out.new ≡ length positions.now }
@@ -73,7 +73,7 @@ impl<'a> IndexView<'a> {
     /// The code of a rank, or `NO_ANSWER` where its position is past the end of the bit vector.
     #[inline(always)]
     fn cut_rank(&self, position: usize, code: usize) -> usize
-        ensures { (v : Bool) (i : ℕ) → i ≡ position → RankTold v self.now.lists i code
+        ensures { (v : Bool) (i : ℕ) → i ≡ position → IsRankCode v self.now.lists i code
             → RanksIn v self.now i (ranked_by result) }
     {
         if position > self.len { NO_ANSWER } else { code }
@@ -133,7 +133,7 @@ impl<'a> IndexView<'a> {
     /// Puts `NO_ANSWER` in place of each position after the bit vector.
     fn cut_each<const BIT: u8>(&self, ranks: &[usize], out: &mut [usize])
         requires same_length { length out.old ≡ length ranks.now }
-        requires told { ToldEach (as_bit BIT) self.now.lists ranks.now out.old }
+        requires claimed { AreSelectCodes (as_bit BIT) self.now.lists ranks.now out.old }
         ensures selects { (j : ℕ) → j < length ranks.now → SelectsIn (as_bit BIT) self.now
             (slice_index ranks.now j) (selected_by (slice_index out.new j)) }
         ensures len { length out.new ≡ length ranks.now }
@@ -146,7 +146,7 @@ impl<'a> IndexView<'a> {
     /// The code of a selection, or `NO_ANSWER` where its position is after the bit vector.
     #[inline(always)]
     fn cut_code(&self, code: usize) -> usize
-        ensures { (v : Bool) (r : ℕ) → SelectTold v self.now.lists r code
+        ensures { (v : Bool) (r : ℕ) → IsSelectCode v self.now.lists r code
             → SelectsIn v self.now r (selected_by result) }
     {
         if code < self.len {

@@ -13,7 +13,7 @@ use Rattle.bit_lists.specs.Count.{ones_before, Picks}
 
 -- ---- counts
 
--- where the digits above place k are shifted out of 64, the ones of the others are left
+-- where the digits above position k are shifted out of 64, the ones of the others are left
 pub ones_shifted : (w k : ℕ) → k < 64 → count_ones (w * 2 ^ (63 - k) % 2 ^ 64) ≡ count_ones (w % 2 ^ (k + 1))
 ones_shifted w k inside =
     let s = 63 - k in
@@ -104,7 +104,7 @@ picked_in_digits k n r p inside low high =
       before = omega (arith, one);
     }
 
--- over the place that a rank picks, the count rises by one
+-- over the position that a rank picks, the count rises by one
 pub ones_before-picked : (k n r p : ℕ) → Picks (low_digits k n) true r p → ones_before (low_digits k n) (p + 1) ≡ r + 1
 ones_before-picked k n r p there =
     omega (arith, ones_before_more (low_digits k n) p there.inside, ap truth there.item, there.before)
@@ -131,11 +131,11 @@ picked_above k n p q r i fits low there =
 pub ones_of_word : (n : ℕ) → n < 2 ^ 64 → ones_before (low_digits 64 n) 64 ≡ count_ones n
 ones_of_word n fits = ones_before-low_digits 64 64 n (le_refl 64) ∙ ap count_ones (mod-eq_of_lt fits)
 
--- a rank below the number of ones picks a place
+-- a rank below the number of ones picks a position
 pub rank_in_word : (n r : ℕ) → n < 2 ^ 64 → r < count_ones n → r < ones_before (low_digits 64 n) 64
 rank_in_word n r fits below = omega (arith, ones_of_word n fits)
 
--- the ones below the place that a rank picks, and with that place
+-- the ones below the position that a rank picks, and with that position
 pub count_ones-picked : (n r p : ℕ) → Picks (low_digits 64 n) true r p → count_ones (n % 2 ^ p) ≡ r
 count_ones-picked n r p there =
     omega (arith, ones_before-low_digits 64 p n (omega (arith, there.inside, length-low_digits 64 n)), there.before)

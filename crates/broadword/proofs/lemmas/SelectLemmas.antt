@@ -156,7 +156,7 @@ module _ (n r ranks : ℕ) (fits : ranks < 2 ^ 64) (left : AreRanksLeft n r rank
         some = omega (arith, ap (ones_before (low_digits 64 n)) turned);
       }
 
-  -- the bit of that byte is the place in the word
+  -- the bit of that byte is the position in the word
   pub picked_in_word : (c i : ℕ) → c ≡ count_ones (bit_and ranks 0x8080808080808000)
       → Picks (low_digits 8 (bit_and (n / 2 ^ (8 * c)) 0xFF)) true (bit_and (ranks / 2 ^ (8 * c)) 0x3F) i
       → Picks (low_digits 64 n) true r (8 * c + i)
@@ -171,22 +171,22 @@ module _ (n r ranks : ℕ) (fits : ranks < 2 ^ 64) (left : AreRanksLeft n r rank
 abbrev pub bound_word : ℕ → ℕ
 bound_word k = (128 + k) * 0x0101010101010101
 
--- ---- the table of places
+-- ---- the table of positions
 
 -- 1 where no more than r of the ones of v stand before bit k
 abbrev pub passed : ℕ → ℕ → ℕ → ℕ
 passed v r k = cond (nat_le (count_ones (v % 2 ^ k)) r) 1 0
 
 -- how many bits of v the one of rank r is after
-abbrev pub place_of : ℕ → ℕ → ℕ
-place_of v r = passed v r 1 + passed v r 2 + passed v r 3 + passed v r 4 + passed v r 5 + passed v r 6 + passed v r 7 + passed v r 8
+abbrev pub position_of : ℕ → ℕ → ℕ
+position_of v r = passed v r 1 + passed v r 2 + passed v r 3 + passed v r 4 + passed v r 5 + passed v r 6 + passed v r 7 + passed v r 8
 
-abbrev pub table_place : ℕ → ℕ
-table_place j = place_of (j / 8) (j % 8)
+abbrev pub table_position : ℕ → ℕ
+table_position j = position_of (j / 8) (j % 8)
 
 is_picked : ℕ → ℕ → Bool
 is_picked v r =
-    let p = place_of v r in
+    let p = position_of v r in
     cond (nat_lt r (count_ones v)) (nat_lt p 8 && (nat_le (count_ones (v % 2 ^ p)) r && nat_lt r (count_ones (v % 2 ^ (p + 1))))) true
 
 is_picked_in_table : (v r : ℕ) → v < 256 → r < 8 → is_picked v r ≡ true
@@ -194,10 +194,10 @@ unfolding all_below ones ones_in is_picked
 is_picked_in_table v r fits inside =
     all_below-at (is_picked v) 8 r (all_below-at (λ u. all_below (is_picked u) 8) 256 v refl fits) inside
 
-pub place_picked : (v r : ℕ) → v < 256 → r < ones_before (low_digits 8 v) 8 → Picks (low_digits 8 v) true r (place_of v r)
+pub position_picked : (v r : ℕ) → v < 256 → r < ones_before (low_digits 8 v) 8 → Picks (low_digits 8 v) true r (position_of v r)
 unfolding is_picked
-place_picked v r fits below =
-    let p = place_of v r in
+position_picked v r fits below =
+    let p = position_of v r in
     let whole : v % 2 ^ 8 ≡ v = omega (arith, fits) in
     let all = ones_before-low_digits 8 8 v (omega arith) ∙ ap count_ones whole in
     let some : r < count_ones v = omega (arith, all, below) in
@@ -215,11 +215,11 @@ module _ (v r : ℕ) (below : r < ones_before (low_digits 8 v) 8) where
   pub rank_small : r < 8
   rank_small = omega (arith, below, ones_before-low_digits_few 8 v)
 
-  pub table_place_picked : v < 256 → Picks (low_digits 8 v) true r (table_place (v * 8 + r))
-  table_place_picked fits =
+  pub table_position_picked : v < 256 → Picks (low_digits 8 v) true r (table_position (v * 8 + r))
+  table_position_picked fits =
       let byte : v ≡ (v * 8 + r) / 8 = omega (arith, rank_small) in
       let rank : r ≡ (v * 8 + r) % 8 = omega (arith, rank_small) in
-      subst₂ (λ b k. Picks (low_digits 8 v) true r (place_of b k)) byte rank (place_picked v r fits below)
+      subst₂ (λ b k. Picks (low_digits 8 v) true r (position_of b k)) byte rank (position_picked v r fits below)
 
   pub table_inside : v < 256 → v * 8 + r < 2048
   table_inside fits = omega (arith, rank_small, fits)

@@ -37,8 +37,8 @@ next_counted xs lines table n entry w d r len short begun low so_far next =
     ))
     (λ (none : entry ≤ 0).
     let zero : entry ≡ 0 = omega arith in
-    let place : 224 * (256 * entry) ≡ 0 = omega arith in
-    next.first zero ∙ sym (ap (digits_before d xs) place ∙ digits_before_none d xs))
+    let position : 224 * (256 * entry) ≡ 0 = omega arith in
+    next.first zero ∙ sym (ap (digits_before d xs) position ∙ digits_before_none d xs))
     (cases_lt 0 entry)
 
 -- where the table is right, each number is the next one

@@ -28,7 +28,7 @@ pub digits_before_more : (d : ℕ) (xs : List ℕ) (i : ℕ) → i < length xs
 unfolding digits_before
 digits_before_more d xs i l = sum_by_more (λ x. truth (x == d)) xs i 0 l
 
--- the digit at place y of part j of line k
+-- the digit at position y of part j of line k
 pub digit_at_part : (words : List ℕ) (k j y : ℕ) → 8 * k + 8 ≤ length words → y < 64 → 64 * j + y < 224
     → get_or (digits_of words) (224 * k + 64 * j + y) 0 ≡ bit_at (low_word words k j) y + 2 * bit_at (high_word words k j) y
 digit_at_part words k j y within low inside =
@@ -36,10 +36,10 @@ digit_at_part words k j y within low inside =
     let line : i / 224 ≡ k = omega arith in
     let rest : i % 224 ≡ 64 * j + y = omega arith in
     let part : (64 * j + y) / 64 ≡ j = omega arith in
-    let place : (64 * j + y) % 64 ≡ y = omega arith in
+    let position : (64 * j + y) % 64 ≡ y = omega arith in
     item-digits_of words i (omega arith)
     ∙ ap₂ (λ l r. digit_in words l r) line rest
-    ∙ ap₂ (λ p q. bit_at (low_word words k p) q + 2 * bit_at (high_word words k p) q) part place
+    ∙ ap₂ (λ p q. bit_at (low_word words k p) q + 2 * bit_at (high_word words k p) q) part position
 
 -- the count over y digits more of part j, from a word that has a one for each digit that counts
 pub digits_of_part : (words : List ℕ) (k j d m : ℕ) → 8 * k + 8 ≤ length words
@@ -114,16 +114,16 @@ digits_of_half words k h d m n within halves of_m of_n x few inside =
     let first = digits_of_part words k (2 * h) d m within (λ i l _. m_is i l) (min x 64) (omega arith) (omega arith) in
     ⊎_elim
     (λ low.
-    let place : 224 * k + 64 * (2 * h) + min x 64 ≡ 224 * k + 128 * h + x = omega arith in
+    let position : 224 * k + 64 * (2 * h) + min x 64 ≡ 224 * k + 128 * h + x = omega arith in
     let none : x - 64 ≡ 0 = omega arith in
     let empty : n % 1 ≡ 0 = omega arith in
     let no_ones : count_ones (n % 2 ^ (x - 64)) ≡ 0 = omega (arith, ap (λ e. count_ones (n % 2 ^ e)) none, ap count_ones empty, ones_le_self 0) in
-    omega (arith, first, ap (digits_before d b) place, ap (digits_before d b) begin, no_ones))
+    omega (arith, first, ap (digits_before d b) position, ap (digits_before d b) begin, no_ones))
     (λ high.
-    let place : 224 * k + 64 * (2 * h) + min x 64 ≡ 224 * k + 64 * (2 * h + 1) = omega arith in
+    let position : 224 * k + 64 * (2 * h) + min x 64 ≡ 224 * k + 64 * (2 * h + 1) = omega arith in
     let end : 224 * k + 64 * (2 * h + 1) + (x - 64) ≡ 224 * k + 128 * h + x = omega arith in
     let second = digits_of_part words k (2 * h + 1) d n within (λ i l _. n_is i l) (x - 64) (omega arith) (omega arith) in
-    omega (arith, first, second, ap (digits_before d b) place, ap (digits_before d b) begin, ap (digits_before d b) end))
+    omega (arith, first, second, ap (digits_before d b) position, ap (digits_before d b) begin, ap (digits_before d b) end))
     (cases_lt x 64)
 
 -- words that are the same have the same digits matched

@@ -78,7 +78,7 @@ ones_above_mask w y mask turned fits few of_mask of_turned =
 pub turned_over : (a : ℕ) → a < 2 ^ 64 → bit_xor a (2 ^ 64 - 1) ≡ 2 ^ 64 - 1 - a
 turned_over a fits = omega (arith, xor_add_and a (2 ^ 64 - 1), and_mask a 64)
 
--- a mask, where its places are fewer than 64 and where they are not
+-- a mask, where its positions are fewer than 64 and where they are not
 pub one_less : (k : ℕ) → k < 64 → 1 * 2 ^ k % 2 ^ 64 - 1 ≡ 2 ^ k - 1
 one_less k l = ap (λ n. n - 1) (one_shl k 64 l)
 

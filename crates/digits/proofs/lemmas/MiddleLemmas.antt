@@ -1,4 +1,4 @@
--- The digits between a place and the middle of its line are counted, and taken off or added.
+-- The digits between a position and the middle of its line are counted, and taken off or added.
 use Rattle.std.proofs.Common.{◌≡◌, ℕ, ◌+◌, ◌-◌, ◌*◌, ◌/◌, ◌%◌, ◌^◌, ◌<◌, ◌≤◌, List, length, get_or, min, count_ones, bit_xor, ap, arith, ⊎_elim}
 use Rattle.std.proofs.lemmas.Bool.{cases_lt}
 use Rattle.std.specs.Int.Bits.{xor_zero_r}

@@ -34,7 +34,7 @@ pub last_word : (words : List ℕ) (k p low high y : ℕ) → 8 * k + 8 ≤ leng
     → bit_at (low_word (set words (8 * k + 1 + 2 * p) (bit_or low (high * 2 ^ 32 % 2 ^ 64))) k p) y
     + 2 * bit_at (high_word (set words (8 * k + 1 + 2 * p) (bit_or low (high * 2 ^ 32 % 2 ^ 64))) k p) y
     ≡ bit_at low y + 2 * bit_at high y
-last_word words k p low high y inside few least place none =
+last_word words k p low high y inside few least position none =
     let v = bit_or low (high * 2 ^ 32 % 2 ^ 64) in
     let at = 8 * k + 1 + 2 * p in
     let new = set words at v in

@@ -19,11 +19,11 @@ mask_bit (suc zero) j few inside = bit_at_ones 32 j (omega (arith, inside))
 mask_bit (suc (suc t)) j few inside = absurd (omega arith)
 
 pub masked_bit : (m p j : ℕ) → p < 4 → j < 64 → 64 * p + j < 224 → bit_at (bit_and m ((2 ^ 64 - 1) / 2 ^ (32 * (p / 3)))) j ≡ bit_at m j
-masked_bit m p j few inside place =
+masked_bit m p j few inside position =
     omega (
       arith,
       bit_at_and m ((2 ^ 64 - 1) / 2 ^ (32 * (p / 3))) j,
-      mask_bit (p / 3) j (omega (arith, few)) (omega (arith, few, inside, place)),
+      mask_bit (p / 3) j (omega (arith, few)) (omega (arith, few, inside, position)),
       bit_at-lt m j,
     )
 
@@ -56,15 +56,15 @@ part_picked words k j d m p r within few part inside before through =
     let y = min 64 (224 - 64 * j) in
     let below : p < y =
     ⊎_elim (λ (l : p < y). l) (λ (above : y ≤ p). absurd (omega (arith, one, bit_at_above m y p part.fits above))) (cases_lt p y) in
-    let place : 64 * j + p < 224 = omega (arith, below, few) in
+    let position : 64 * j + p < 224 = omega (arith, below, few) in
     let whole : (64 * j + p) / 64 ≡ j = omega (arith, inside) in
     let rest : (64 * j + p) % 64 ≡ p = omega (arith, inside) in
     let is : bit_at (low_word words k j) p + 2 * bit_at (high_word words k j) p ≡ d =
-    eqb-true _ _ (of_truth _ (sym (part.bits p inside place) ∙ one)) in
+    eqb-true _ _ (of_truth _ (sym (part.bits p inside position) ∙ one)) in
     let from : 224 * k + 64 * j ≡ 224 * k + min (64 * j) 224 = omega (arith, few) in
     let to : 224 * k + 64 * j + p ≡ 224 * k + (64 * j + p) = omega arith in
-    let count = digits_of_part words k j d m within part.bits p (omega (arith, inside)) (omega (arith, place)) in (
-      place,
+    let count = digits_of_part words k j d m within part.bits p (omega (arith, inside)) (omega (arith, position)) in (
+      position,
       ap₂ (λ (a b : ℕ). bit_at (low_word words k a) b + 2 * bit_at (high_word words k a) b) whole rest ∙ is,
       omega (arith, count, before, ap D from, ap D to),
     )

@@ -11,7 +11,7 @@ use Rattle.bit_lists.proofs.lemmas.WordLemmas.{truth, bit_at-shr}
 use Rattle.bit_lists.specs.Bits.{bits_of, item}
 use Rattle.bit_lists.specs.Number.{number_at, IsInRange}
 use Rattle.bit_lists.specs.Window.{reach_of}
-use Rattle.elias_fano.proofs.lemmas.ItemLemmas.{parts-fragments, upper-short, place-after, held-is, held-fits}
+use Rattle.elias_fano.proofs.lemmas.ItemLemmas.{parts-fragments, upper-short, position-after, held-is, held-fits}
 use Rattle.elias_fano.specs.Ahead.{IsAhead, ReadsAhead}
 use Rattle.elias_fano.specs.Low.{unread, HasFragments}
 use Rattle.elias_fano.specs.Parts.{ArePartsOf, HasOneAt}
@@ -164,13 +164,13 @@ module _ (xs : List ℕ) (n l : ℕ) (low upper : List ℕ) (h : ArePartsOf xs n
       let all = parts-fragments xs n (unread low l) upper h in
       record { width = all.width; short = omega (arith, all.short); inside = omega (arith, times-le end n l within, all.inside) }
 
--- the value of `place - i << l` and a fragment added, each as the machine computes it
+-- the value of `position - i << l` and a fragment added, each as the machine computes it
 pub joined-ahead : (xs : List ℕ) (n l : ℕ) (low upper : List ℕ) (i p digits : ℕ) → HasOneAt xs n l low upper i p
     → digits ≡ number_at (bits_of low) (i * l) l
     → ((p + (2 ^ 64 - i)) % 2 ^ 64 * 2 ^ l % 2 ^ 64 + digits) % 2 ^ 64 ≡ get_or xs i 0
 joined-ahead xs n l low upper i p digits h is =
     let few = upper-short xs n l low upper h.parts in
     let fits : p < 2 ^ 64 = omega (arith, h.one.inside, length-bits_of upper, few) in
-    let above : (p + (2 ^ 64 - i)) % 2 ^ 64 ≡ p - i = omega (arith, fits, place-after xs n l low upper i p h) in
+    let above : (p + (2 ^ 64 - i)) % 2 ^ 64 ≡ p - i = omega (arith, fits, position-after xs n l low upper i p h) in
     let scaled : (p + (2 ^ 64 - i)) % 2 ^ 64 * 2 ^ l ≡ (p - i) * 2 ^ l = ap (λ k. k * 2 ^ l) above in
     omega (arith, scaled, is, held-is xs n l low upper i p h, held-fits xs n l low upper i p h)

@@ -14,23 +14,23 @@ use Rattle.elias_fano.proofs.lemmas.SplitLemmas.{Splits-same}
 use Rattle.elias_fano.proofs.lemmas.UpperLemmas.{one_is, ones_are}
 use Rattle.elias_fano.specs.Buckets.{BeginsAt, CountsTo, CountsBelow, HasEnds, LowsRise, Splits}
 use Rattle.elias_fano.specs.Low.{fragment, Lows}
-use Rattle.elias_fano.specs.Parts.{upper_place, IsUpper, ArePartsOf}
+use Rattle.elias_fano.specs.Parts.{upper_position, IsUpper, ArePartsOf}
 use Rattle.elias_fano.specs.Sequence.{Reaches}
 
--- a zero has at least as many places before it as zeros
+-- a zero has at least as many positions before it as zeros
 pub zeros-at_most : (b : List Bool) (z p : ℕ) → Picks b false z p → z ≤ p
 zeros-at_most b z p h = omega (arith, ones_and_zeros b p (omega (arith, h.inside)), h.before)
 
 -- ---- how many items have at most z above their low digits: the ones before the zero of that number
 
 module _ (xs : List ℕ) (l : ℕ) (upper : List ℕ) (h : IsUpper xs l upper) where
-  one_at : (j : ℕ) → j < length xs → Picks (bits_of upper) true j (upper_place xs l j)
+  one_at : (j : ℕ) → j < length xs → Picks (bits_of upper) true j (upper_position xs l j)
   one_at j inside = one_is xs l upper j h inside
 
-  zeros_at : (j : ℕ) → j < length xs → zeros_before (bits_of upper) (upper_place xs l j) ≡ get_or xs j 0 / 2 ^ l
+  zeros_at : (j : ℕ) → j < length xs → zeros_before (bits_of upper) (upper_position xs l j) ≡ get_or xs j 0 / 2 ^ l
   zeros_at j inside =
       let one = one_at j inside in
-      omega (arith, ones_and_zeros (bits_of upper) (upper_place xs l j) (omega (arith, one.inside)), one.before)
+      omega (arith, ones_and_zeros (bits_of upper) (upper_position xs l j) (omega (arith, one.inside)), one.before)
 
   all_ones : ones_before (bits_of upper) (length (bits_of upper)) ≡ length xs
   all_ones = ones_are xs l upper h
@@ -54,40 +54,40 @@ module _ (xs : List ℕ) (l : ℕ) (upper : List ℕ) (h : IsUpper xs l upper) w
         let within : p ≤ length (bits_of upper) = omega (arith, zero_at.inside) in
         omega (arith, count, all_ones, counts_grow (bits_of upper) true p (length (bits_of upper)) within)
 
-    not_here : (j : ℕ) → j < length xs → upper_place xs l j ≡ p → ⊥
+    not_here : (j : ℕ) → j < length xs → upper_position xs l j ≡ p → ⊥
     not_here j inside e =
         let both : true ≡ false = sym (one_at j inside).item ∙ ap (item (bits_of upper)) e ∙ zero_at.item in
         cc
 
-    before : (j : ℕ) → j < length xs → upper_place xs l j < p → (j < p - z) × (get_or xs j 0 / 2 ^ l ≤ z)
+    before : (j : ℕ) → j < length xs → upper_position xs l j < p → (j < p - z) × (get_or xs j 0 / 2 ^ l ≤ z)
     before j inside less =
         let one = one_at j inside in
-        let place = upper_place xs l j in
-        let next : place + 1 ≤ p = omega arith in
-        let order : place ≤ p = omega arith in (
+        let position = upper_position xs l j in
+        let next : position + 1 ≤ p = omega arith in
+        let order : position ≤ p = omega arith in (
           omega (
             arith,
             count,
             one.before,
-            one_more place one.inside one.item,
-            counts_grow (bits_of upper) true (place + 1) p next,
+            one_more position one.inside one.item,
+            counts_grow (bits_of upper) true (position + 1) p next,
           ),
-          omega (arith, zeros_at j inside, zero_at.before, counts_grow (bits_of upper) false place p order),
+          omega (arith, zeros_at j inside, zero_at.before, counts_grow (bits_of upper) false position p order),
         )
 
-    after : (j : ℕ) → j < length xs → p < upper_place xs l j → (p - z ≤ j) × (z < get_or xs j 0 / 2 ^ l)
+    after : (j : ℕ) → j < length xs → p < upper_position xs l j → (p - z ≤ j) × (z < get_or xs j 0 / 2 ^ l)
     after j inside more =
         let one = one_at j inside in
-        let place = upper_place xs l j in
-        let next : p + 1 ≤ place = omega arith in
-        let order : p ≤ place = omega arith in (
-          omega (arith, count, one.before, counts_grow (bits_of upper) true p place order),
+        let position = upper_position xs l j in
+        let next : p + 1 ≤ position = omega arith in
+        let order : p ≤ position = omega arith in (
+          omega (arith, count, one.before, counts_grow (bits_of upper) true p position order),
           omega (
             arith,
             zeros_at j inside,
             zero_at.before,
             zero_more p zero_at.inside zero_at.item,
-            counts_grow (bits_of upper) false (p + 1) place next,
+            counts_grow (bits_of upper) false (p + 1) position next,
           ),
         )
 
@@ -95,7 +95,7 @@ module _ (xs : List ℕ) (l : ℕ) (upper : List ℕ) (h : IsUpper xs l upper) w
     sides j inside =
         ⊎_elim (λ e. absurd (not_here j inside e))
         (λ apart. ⊎_elim (λ less. inl (before j inside less)) (λ more. inr (after j inside more)) apart)
-        (cases_order (upper_place xs l j) p)
+        (cases_order (upper_position xs l j) p)
 
     pub CountsTo-zero : CountsTo xs l z (p - z)
     CountsTo-zero = record {
@@ -104,7 +104,7 @@ module _ (xs : List ℕ) (l : ℕ) (upper : List ℕ) (h : IsUpper xs l upper) w
       above = λ j from inside. ⊎_elim (λ s. absurd (omega (arith, s.0))) (λ s. s.1) (sides j inside);
     }
 
-  -- before the least place with z zeros before it stand the ones of the items with less above their low digits
+  -- before the least position with z zeros before it stand the ones of the items with less above their low digits
   module _ (z p : ℕ) (at : BeginsAt (bits_of upper) z p) where
     ones_to : ones_before (bits_of upper) p + z ≡ p
     ones_to = omega (arith, ones_and_zeros (bits_of upper) p at.inside, at.before)
@@ -112,33 +112,33 @@ module _ (xs : List ℕ) (l : ℕ) (upper : List ℕ) (h : IsUpper xs l upper) w
     begin-bound : p - z ≤ length xs
     begin-bound = omega (arith, ones_to, all_ones, counts_grow (bits_of upper) true p (length (bits_of upper)) at.inside)
 
-    one-before : (j : ℕ) → j < length xs → j < p - z → upper_place xs l j < p
+    one-before : (j : ℕ) → j < length xs → j < p - z → upper_position xs l j < p
     one-before j inside less =
-        let place = upper_place xs l j in
+        let position = upper_position xs l j in
         ⊎_elim (λ before. before)
-        (λ back. absurd (omega (arith, ones_to, (one_at j inside).before, counts_grow (bits_of upper) true p place back)))
-        (cases_lt place p)
+        (λ back. absurd (omega (arith, ones_to, (one_at j inside).before, counts_grow (bits_of upper) true p position back)))
+        (cases_lt position p)
 
-    one-after : (j : ℕ) → j < length xs → p - z ≤ j → p ≤ upper_place xs l j
+    one-after : (j : ℕ) → j < length xs → p - z ≤ j → p ≤ upper_position xs l j
     one-after j inside more =
-        let place = upper_place xs l j in
+        let position = upper_position xs l j in
         let one = one_at j inside in
         ⊎_elim
         (λ before.
-        let next : place + 1 ≤ p = omega arith in
-        absurd (omega (arith, ones_to, one.before, one_more place one.inside one.item, counts_grow (bits_of upper) true (place + 1) p next)))
+        let next : position + 1 ≤ p = omega arith in
+        absurd (omega (arith, ones_to, one.before, one_more position one.inside one.item, counts_grow (bits_of upper) true (position + 1) p next)))
         (λ back. back)
-        (cases_lt place p)
+        (cases_lt position p)
 
     pub CountsBelow-begin : CountsBelow xs l z (p - z)
     CountsBelow-begin = record {
       bound = begin-bound;
       below = λ j less.
           let inside : j < length xs = omega (arith, begin-bound) in
-          omega (arith, zeros_at j inside, at.least (upper_place xs l j) (one-before j inside less));
+          omega (arith, zeros_at j inside, at.least (upper_position xs l j) (one-before j inside less));
       above = λ j from inside.
           let back = one-after j inside from in
-          omega (arith, zeros_at j inside, at.before, counts_grow (bits_of upper) false p (upper_place xs l j) back);
+          omega (arith, zeros_at j inside, at.before, counts_grow (bits_of upper) false p (upper_position xs l j) back);
     }
 
   -- where there is no such zero
@@ -146,8 +146,8 @@ module _ (xs : List ℕ) (l : ℕ) (upper : List ℕ) (h : IsUpper xs l upper) w
   CountsTo-all z few = record {
     bound = omega arith;
     below = λ j inside.
-        let within : upper_place xs l j ≤ length (bits_of upper) = omega (arith, (one_at j inside).inside) in
-        omega (arith, few, zeros_at j inside, counts_grow (bits_of upper) false (upper_place xs l j) (length (bits_of upper)) within);
+        let within : upper_position xs l j ≤ length (bits_of upper) = omega (arith, (one_at j inside).inside) in
+        omega (arith, few, zeros_at j inside, counts_grow (bits_of upper) false (upper_position xs l j) (length (bits_of upper)) within);
     above = λ j from inside. absurd (omega arith);
   }
 
@@ -291,7 +291,7 @@ zeros-over b s (suc k) inside ones =
     count_after_item b false (s + k) (omega arith) ∙ ap (λ x. zeros_before b (s + k) + cond (is_same false x) 1 0) last ∙ omega arith in
     ap (zeros_before b) (omega arith) ∙ next ∙ rest
 
--- the first zero from a place on has as many before it as the place
+-- the first zero from a position on has as many before it as the position
 pub zero-from : (b : List Bool) (z s p : ℕ) → zeros_before b s ≡ z → IsFirstFrom b false s p → Picks b false z p
 zero-from b z s p count first =
     let over = zeros-over b s (p - s) (omega (arith, first.from, first.inside))
@@ -310,7 +310,7 @@ begin-behind b z p h = record {
   least = λ q less. let back : q ≤ p = omega arith in omega (arith, h.before, counts_grow b false q p back);
 }
 
--- before the first place there are none
+-- before the first position there are none
 pub begin-first : (b : List Bool) → BeginsAt b 0 0
 begin-first b = record {
   inside = omega arith;
@@ -318,9 +318,9 @@ begin-first b = record {
   least = λ q less. absurd (omega arith);
 }
 
--- ---- the bucket of a value, from the least place with so many zeros before it
+-- ---- the bucket of a value, from the least position with so many zeros before it
 
--- no fewer places than zeros stand before it
+-- no fewer positions than zeros stand before it
 pub begin-at_most : (b : List Bool) (z p : ℕ) → BeginsAt b z p → z ≤ p
 begin-at_most b z p h = omega (arith, ones_and_zeros b p h.inside, h.before)
 

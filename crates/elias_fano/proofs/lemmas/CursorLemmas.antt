@@ -6,11 +6,11 @@ use Rattle.std.proofs.lemmas.List.{get_or-drop}
 use Rattle.std.proofs.lemmas.List.FromFn.{length-map-range_with_len, get_or-map-range_with_len}
 use Rattle.bit_lists.proofs.BitLaws.{bits_are_counted, counts_grow, count_after_item}
 use Rattle.bit_lists.specs.Bits.{bits_of, item}
-use Rattle.bit_lists.specs.Count.{ones_before, is_same, places, Picks, IsLastOneTo}
+use Rattle.bit_lists.specs.Count.{ones_before, is_same, bit_positions, Picks, IsLastOneTo}
 use Rattle.elias_fano.proofs.lemmas.ItemLemmas.{items_of-is}
-use Rattle.elias_fano.proofs.lemmas.UpperLemmas.{one_is, place_is, ones_are, upper_place-le, upper_place-rises}
+use Rattle.elias_fano.proofs.lemmas.UpperLemmas.{one_is, position_is, ones_are, upper_position-le, upper_position-rises}
 use Rattle.elias_fano.specs.Numbers.{items_left, IsCursor}
-use Rattle.elias_fano.specs.Parts.{upper_place, upper_places, upper_words_of, width_of, IsUpper, ArePartsOf, HasOneAt, items_of}
+use Rattle.elias_fano.specs.Parts.{upper_position, upper_positions, upper_words_of, width_of, IsUpper, ArePartsOf, HasOneAt, items_of}
 
 -- ---- items of a range
 
@@ -45,11 +45,11 @@ items_left-last xs start end some within =
 -- ---- ones
 
 module _ (xs : List ℕ) (l : ℕ) (upper : List ℕ) (h : IsUpper xs l upper) where
-  one_at : (j : ℕ) → j < length xs → Picks (bits_of upper) true j (upper_place xs l j)
+  one_at : (j : ℕ) → j < length xs → Picks (bits_of upper) true j (upper_position xs l j)
   one_at j inside = one_is xs l upper j h inside
 
   -- each one is that of an item
-  item_of : (p : ℕ) → p < length (bits_of upper) → item (bits_of upper) p ≡ true → (j : ℕ) × (j < length xs) × (p ≡ upper_place xs l j)
+  item_of : (p : ℕ) → p < length (bits_of upper) → item (bits_of upper) p ≡ true → (j : ℕ) × (j < length xs) × (p ≡ upper_position xs l j)
   item_of p inside one =
       let b = bits_of upper in
       let j = ones_before b p in
@@ -58,51 +58,51 @@ module _ (xs : List ℕ) (l : ℕ) (upper : List ℕ) (h : IsUpper xs l upper) w
       let few : j < length xs =
       omega (arith, more, counts_grow b true (p + 1) (length b) next, ones_are xs l upper h) in
       let here : Picks b true j p = record { inside = inside; item = one; before = refl } in
-      (j, few, place_is xs l upper j p h few here)
+      (j, few, position_is xs l upper j p h few here)
 
--- the places of the ones from that of an item on
-places_from : (xs : List ℕ) (l n i : ℕ) → i < n
-    → drop i (upper_places xs l n) ≡ upper_place xs l i ∷ drop (i + 1) (upper_places xs l n)
-places_from xs l n i inside =
+-- the positions of the ones from that of an item on
+positions_from : (xs : List ℕ) (l n i : ℕ) → i < n
+    → drop i (upper_positions xs l n) ≡ upper_position xs l i ∷ drop (i + 1) (upper_positions xs l n)
+positions_from xs l n i inside =
     let next : suc i ≡ i + 1 = omega arith in
-    drop-cons (upper_places xs l n) i 0 (omega (arith, length-map-range_with_len (upper_place xs l) 0 n))
-    ∙ ap₂ (λ p k. p ∷ drop k (upper_places xs l n)) (get_or-map-range_with_len (upper_place xs l) 0 n i i 0 inside (omega arith)) next
+    drop-cons (upper_positions xs l n) i 0 (omega (arith, length-map-range_with_len (upper_position xs l) 0 n))
+    ∙ ap₂ (λ p k. p ∷ drop k (upper_positions xs l n)) (get_or-map-range_with_len (upper_position xs l) 0 n i i 0 inside (omega arith)) next
 
 module _ (xs : List ℕ) (n l : ℕ) (low upper : List ℕ) (start end limit : ℕ) (ones : List ℕ)
     (h : IsCursor xs n l low upper start end limit ones) (some : start < end) where
-  here : Picks (bits_of upper) true start (upper_place xs l start)
+  here : Picks (bits_of upper) true start (upper_position xs l start)
   here = one_at xs l upper h.parts.upper_is start (omega (arith, h.within, h.parts.count))
 
-  there : Picks (bits_of upper) true (end - 1) (upper_place xs l (end - 1))
+  there : Picks (bits_of upper) true (end - 1) (upper_position xs l (end - 1))
   there = one_at xs l upper h.parts.upper_is (end - 1) (omega (arith, h.within, h.parts.count))
 
   -- the first of the ones is that of the first item left, and the others are those of the items after it
-  pub first-ones : ones ≡ upper_place xs l start ∷ drop (start + 1) (upper_places xs l n)
-  first-ones = h.ones ∙ places_from xs l n start (omega (arith, h.within))
+  pub first-ones : ones ≡ upper_position xs l start ∷ drop (start + 1) (upper_positions xs l n)
+  first-ones = h.ones ∙ positions_from xs l n start (omega (arith, h.within))
 
-  first-is : (p : ℕ) (rest : List ℕ) → ones ≡ p ∷ rest → p ≡ upper_place xs l start
+  first-is : (p : ℕ) (rest : List ℕ) → ones ≡ p ∷ rest → p ≡ upper_position xs l start
   first-is p rest found = ap (λ ps. get_or ps 0 0) (sym found ∙ first-ones)
 
   -- the last one before bit limit is that of the last item left
-  pub last-is : (p : ℕ) → IsLastOneTo (bits_of upper) (limit - 1) p → p ≡ upper_place xs l (end - 1)
+  pub last-is : (p : ℕ) → IsLastOneTo (bits_of upper) (limit - 1) p → p ≡ upper_position xs l (end - 1)
   last-is p found =
       let j = item_of xs l upper h.parts.upper_is p found.inside found.is in
       let bound : 0 < limit = omega (arith, h.left start some) in
       let not_after : j.0 ≤ end - 1 =
       ⊎_elim (λ before. omega arith) (λ late. absurd (omega (arith, h.after j.0 late, j.1, j.2, found.to, h.parts.count))) (cases_lt j.0 end) in
-      let to : p ≤ upper_place xs l (end - 1) =
-      omega (arith, j.2, upper_place-le xs l j.0 (end - 1) h.parts.sequence.rising not_after (omega (arith, h.within, h.parts.count))) in
-      let within : upper_place xs l (end - 1) ≤ limit - 1 = omega (arith, h.left (end - 1)) in
-      let from : upper_place xs l (end - 1) ≤ p =
+      let to : p ≤ upper_position xs l (end - 1) =
+      omega (arith, j.2, upper_position-le xs l j.0 (end - 1) h.parts.sequence.rising not_after (omega (arith, h.within, h.parts.count))) in
+      let within : upper_position xs l (end - 1) ≤ limit - 1 = omega (arith, h.left (end - 1)) in
+      let from : upper_position xs l (end - 1) ≤ p =
       ⊎_elim
-      (λ more. absurd (false≢true (sym (found.greatest (upper_place xs l (end - 1)) more within) ∙ there.item)))
+      (λ more. absurd (false≢true (sym (found.greatest (upper_position xs l (end - 1)) more within) ∙ there.item)))
       (λ order. order)
-      (cases_lt p (upper_place xs l (end - 1))) in
+      (cases_lt p (upper_position xs l (end - 1))) in
       omega arith
 
   -- so it is there to be found
   pub some-last : (p : ℕ) × (p ≤ limit - 1) × (item (bits_of upper) p ≡ true)
-  some-last = (upper_place xs l (end - 1), omega (arith, h.left (end - 1)), there.item)
+  some-last = (upper_position xs l (end - 1), omega (arith, h.left (end - 1)), there.item)
 
   pub limit-some : 0 < limit
   limit-some = omega (arith, h.left start some)
@@ -140,19 +140,19 @@ module _ (xs : List ℕ) (n l : ℕ) (low upper : List ℕ) (start end limit : �
     left = λ j to. omega (
       arith,
       last-is p found,
-      upper_place-rises xs l j (end - 1) h.parts.sequence.rising to (omega (arith, h.within, h.parts.count)),
+      upper_position-rises xs l j (end - 1) h.parts.sequence.rising to (omega (arith, h.within, h.parts.count)),
     );
     after = λ j from less. omega (
       arith,
       last-is p found,
-      upper_place-le xs l (end - 1) j h.parts.sequence.rising from (omega (arith, h.parts.count)),
+      upper_position-le xs l (end - 1) j h.parts.sequence.rising from (omega (arith, h.parts.count)),
     );
   }
 
--- all items from a place on, whose ones are those from a bit on with as many before it
+-- all items from a position on, whose ones are those from a bit on with as many before it
 pub IsCursor-whole : (xs : List ℕ) (n l : ℕ) (low upper : List ℕ) (start first limit : ℕ) (ones : List ℕ)
     → ArePartsOf xs n l low upper → start ≤ n → limit ≡ 64 * length upper → ones_before (bits_of upper) first ≡ start
-    → ones ≡ drop (ones_before (bits_of upper) first) (places true 0 (bits_of upper))
+    → ones ≡ drop (ones_before (bits_of upper) first) (bit_positions true 0 (bits_of upper))
     → IsCursor (items_of n l low upper) n l low upper start n limit ones
 IsCursor-whole xs n l low upper start first limit ones h order all before come =
     let P : List ℕ → Type 0 = λ ys. IsCursor ys n l low upper start n limit ones in
@@ -163,7 +163,7 @@ IsCursor-whole xs n l low upper start first limit ones h order all before come =
       room = omega arith;
       ones =
           come
-          ∙ ap₂ drop before (h.upper_is.ones ∙ ap (upper_places xs l) (sym h.count));
+          ∙ ap₂ drop before (h.upper_is.ones ∙ ap (upper_positions xs l) (sym h.count));
       left = λ j less. omega (arith, (one_at xs l upper h.upper_is j (omega (arith, h.count))).inside, bits_are_counted upper);
       after = λ j past less. absurd (omega arith);
     }
@@ -173,8 +173,8 @@ pub HasBefore-one : (xs : List ℕ) (n l : ℕ) (low upper other : List ℕ) (st
     → IsUpper xs (width_of xs) other → start < length xs → Picks (bits_of upper) true start p
     → ones_before (bits_of other) p ≡ start
 HasBefore-one xs n l low upper other start p h there some here =
-    let at = place_is xs l upper start p h.upper_is some here in
-    let same : upper_place xs l start ≡ upper_place xs (width_of xs) start = ap (λ w. upper_place xs w start) h.width in
+    let at = position_is xs l upper start p h.upper_is some here in
+    let same : upper_position xs l start ≡ upper_position xs (width_of xs) start = ap (λ w. upper_position xs w start) h.width in
     ap (ones_before (bits_of other)) (at ∙ same) ∙ (one_at xs (width_of xs) other there start some).before
 
 -- at the end all ones are before

@@ -20,7 +20,7 @@ use Rattle.elias_fano.specs.Sequence.{largest}
 
 -- ---- where the numbers start with as much above their low digits, and how many have less
 
--- at the first place, where there is nothing less
+-- at the first position, where there is nothing less
 pub begin-there : (b : List Bool) (h : ℕ) → h ≡ 0 → BeginsAt b h 0
 begin-there b h none =
     let P : ℕ → Type 0 = λ z. BeginsAt b z 0 in
@@ -33,7 +33,7 @@ begin-next a b h p same some zero =
     let B : List Bool → Type 0 = λ bits. BeginsAt bits (h - 1 + 1) (p + 1) in
     subst P (omega (arith, some)) (subst B same (begin-behind a (h - 1) p zero))
 
--- a zero of few words has a place that can be counted on from
+-- a zero of few words has a position that can be counted on from
 pub found-short : (words : List ℕ) (zero : Answer ℕ) → length words < 2 ^ 58 → HasBit (bits_of words) false zero
     → IsFoundFrom 0 (2 ^ 64 - 1) zero
 found-short words (Found p) short bit = (omega arith, omega (arith, bit.0, length-bits_of words))

@@ -21,7 +21,7 @@ pub joined-same : (above : ℕ) (old new : Lows) (k : ℕ) → new.words ≡ old
 joined-same above old new k words width =
     omega (arith, ap (λ w. above * 2 ^ w) width, fragment-same old new k words width)
 
--- so many places with items that pass a test
+-- so many positions with items that pass a test
 range-counted : (p : ℕ → Bool) (xs : List ℕ) (first end : ℕ) → end ≤ length xs
     → ((j : ℕ) → first ≤ j → j < end → p (get_or xs j 0) ≡ true) → end - first ≤ count_by p xs
 range-counted p [] first end inside has = omega arith

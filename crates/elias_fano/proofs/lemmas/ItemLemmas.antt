@@ -6,18 +6,18 @@ use Rattle.std.proofs.lemmas.Nat.{div-add-mod'}
 use Rattle.std.specs.Int.{div_ceil}
 use Rattle.bit_lists.proofs.BitLaws.{no_items_are_zero}
 use Rattle.bit_lists.specs.Bits.{bits_of, IsShort}
-use Rattle.bit_lists.specs.Count.{places}
+use Rattle.bit_lists.specs.Count.{bit_positions}
 use Rattle.bit_lists.specs.Number.{number_at}
 use Rattle.elias_fano.specs.SequenceParts.{HaveLengths}
 use Rattle.elias_fano.specs.Low.{unread, HasFragments, Lows}
-use Rattle.elias_fano.specs.Parts.{upper_place, IsLow, ArePartsOf, HasFragment, HasOneAt, items_of}
+use Rattle.elias_fano.specs.Parts.{upper_position, IsLow, ArePartsOf, HasFragment, HasOneAt, items_of}
 use Rattle.elias_fano.specs.Sequence.{largest}
 use Rattle.elias_fano.proofs.lemmas.LowLemmas.{fragment-inside}
 use Rattle.elias_fano.proofs.lemmas.SizeLemmas.{upper_few_at, width-small}
-use Rattle.elias_fano.proofs.lemmas.UpperLemmas.{place_of, place_is}
+use Rattle.elias_fano.proofs.lemmas.UpperLemmas.{position_of, position_is}
 
 -- what stands above the low digits, and these, are the item
-item_is : (xs : List ℕ) (l i p : ℕ) (low : List ℕ) → IsLow xs l low → i < length xs → p ≡ upper_place xs l i
+item_is : (xs : List ℕ) (l i p : ℕ) (low : List ℕ) → IsLow xs l low → i < length xs → p ≡ upper_position xs l i
     → (p - i) * 2 ^ l + number_at (bits_of low) (i * l) l ≡ get_or xs i 0
 item_is xs l i p low h inside at =
     let x = get_or xs i 0 in
@@ -33,10 +33,10 @@ items_of-is xs n l low upper h =
     (λ i less.
     let inside : i < length xs = omega (arith, len) in
     get_or-map-range_with_len item 0 n i i 0 (omega (arith, h.count)) (omega arith)
-    ∙ item_is xs l i (get_or (places true 0 (bits_of upper)) i 0) low h.low_is inside (place_of xs l upper i h.upper_is inside))
+    ∙ item_is xs l i (get_or (bit_positions true 0 (bits_of upper)) i 0) low h.low_is inside (position_of xs l upper i h.upper_is inside))
   where
     item : ℕ → ℕ
-    item i = (get_or (places true 0 (bits_of upper)) i 0 - i) * 2 ^ l + number_at (bits_of low) (i * l) l
+    item i = (get_or (bit_positions true 0 (bits_of upper)) i 0 - i) * 2 ^ l + number_at (bits_of low) (i * l) l
 
     len : length (items_of n l low upper) ≡ length xs
     len = length-map-range_with_len item 0 n ∙ h.count
@@ -88,13 +88,13 @@ unread-has xs n l words upper i p low same h =
     let P : Lows → Type 0 = λ digits. HasOneAt xs n digits.width digits.words upper i p in
     subst P (sym same) h
 
--- one item, from the place of its one
+-- one item, from the position of its one
 module _ (xs : List ℕ) (n l : ℕ) (low upper : List ℕ) (i p : ℕ) (h : HasOneAt xs n l low upper i p) where
   inside : i < length xs
   inside = omega (arith, h.parts.count, h.inside)
 
-  at : p ≡ upper_place xs l i
-  at = place_is xs l upper i p h.parts.upper_is inside h.one
+  at : p ≡ upper_position xs l i
+  at = position_is xs l upper i p h.parts.upper_is inside h.one
 
   -- its low digits are inside
   pub fragment-of : HasFragment low i l
@@ -104,9 +104,9 @@ module _ (xs : List ℕ) (n l : ℕ) (low upper : List ℕ) (i p : ℕ) (h : Has
     inside = fragment-inside xs l i low inside h.parts.low_is.words;
   }
 
-  -- no place comes before as many ones
-  pub place-after : i ≤ p
-  place-after = omega (arith, at)
+  -- no position comes before as many ones
+  pub position-after : i ≤ p
+  position-after = omega (arith, at)
 
   pub held-is : (p - i) * 2 ^ l + number_at (bits_of low) (i * l) l ≡ get_or xs i 0
   held-is = item_is xs l i p low h.parts.low_is inside at

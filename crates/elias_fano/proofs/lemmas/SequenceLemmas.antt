@@ -1,4 +1,4 @@
--- Numbers that were tested are a sequence, and what the first place that reaches a value parts.
+-- Numbers that were tested are a sequence, and what the first position that reaches a value parts.
 use Rattle.std.proofs.Common.{◌≡◌, ℕ, ◌+◌, ◌^◌, ◌<◌, ◌≤◌, ◌↔◌, List, length, get_or, sym, ◌∙◌, ⊎_elim, arith}
 use Rattle.std.proofs.lemmas.Bool.{cases_lt}
 use Rattle.std.proofs.lemmas.List.{get_or_default}
@@ -13,7 +13,7 @@ is_sequence xs short rising fits = record {
   small = λ k d inside. omega (arith, get_or_default xs k d 0 inside, fits k);
 }
 
--- what stands from that place on reaches the value too
+-- what stands from that position on reaches the value too
 pub reached-from : (xs : List ℕ) (v i j : ℕ) → IsNonDecreasing xs → Reaches xs v i → j < length xs → (v ≤ get_or xs j 0) ↔ (i ≤ j)
 reached-from xs v i j rising h inside = (
   λ reaches. ⊎_elim (λ less. absurd (omega (arith, reaches, h.before j less))) (λ from. from) (cases_lt j i),

@@ -12,7 +12,7 @@ pub record Parting (lows : ℕ → ℕ) (first end rest from left : ℕ) : Type 
   pub less : (j : ℕ) → first ≤ j → j < from → lows j < rest
   pub at_least : (j : ℕ) → from + left ≤ j → j < end → rest ≤ lows j
 
--- one test more, of any place among those that are left
+-- one test more, of any position among those that are left
 module _ (lows : ℕ → ℕ) (first end rest from left : ℕ) (rising : (i j : ℕ) → first ≤ i → i ≤ j → j < end → lows i ≤ lows j)
     (h : Parting lows first end rest from left) (tested : ℕ) (inside : tested < left) where
   pub Parting-up : lows (from + tested) < rest → Parting lows first end rest (from + (tested + 1)) (left - (tested + 1))
@@ -31,7 +31,7 @@ module _ (lows : ℕ → ℕ) (first end rest from left : ℕ) (rising : (i j : 
     at_least = λ j at before. omega (arith, reaches, rising (from + tested) j (omega (arith, h.begin)) at before);
   }
 
--- numbers that are the same split at the same place
+-- numbers that are the same split at the same position
 pub Splits-same : (f g : ℕ → ℕ) (first end rest k : ℕ) → ((j : ℕ) → j < end → f j ≡ g j) → Splits f first end rest k
     → Splits g first end rest k
 Splits-same f g first end rest k same s = record {

@@ -1,9 +1,9 @@
 //! The predecessor of a value, and whether a value is one of the numbers.
 ghost use Rattle.std.specs.Prelude.{◌≡◌, ◌↔◌, ℕ, false, IfSome, IsTrue, List, IsSomeAnd};
 ghost use Rattle.std.specs.List.{Contains};
-ghost use Rattle.elias_fano.specs.Answers.{IsPlaceOf, IsPredecessorOf};
+ghost use Rattle.elias_fano.specs.Answers.{IsIndexIn, IsPredecessorOf};
 ghost use Rattle.elias_fano.specs.SequenceParts.{Holds};
-ghost use Rattle.elias_fano.specs.Told.{IfLast, TellsAtMost, TellsLess};
+ghost use Rattle.elias_fano.specs.Claims.{IfLast, ClaimsAtMost, ClaimsLess};
 
 use crate::sequence::SequenceView;
 use bitm_tables::answer::Answer;
@@ -18,8 +18,8 @@ impl<'a> SequenceView<'a> {
     /// The cost of `hinted_last_at_most_on`: the cost of `first_at_least` of `v + 1`.
     #[inline]
     pub fn last_at_most(&self, v: u64) -> Answer<usize>
-        ensures inside { IsPlaceOf self.now.len result }
-        ensures told { IfLast result (TellsAtMost self.now v) }
+        ensures inside { IsIndexIn self.now.len result }
+        ensures claimed { IfLast result (ClaimsAtMost self.now v) }
         ensures answer { (xs : List ℕ) → Holds xs self.now → IsPredecessorOf xs v result }
     {
         let (source, low) = (&mut self.upper.probe(), &mut self.low_digits());
@@ -36,7 +36,7 @@ impl<'a> SequenceView<'a> {
     pub fn contains(&self, v: u64) -> Option<bool>
         ensures answer { (xs : List ℕ) → Holds xs self.now
             → IsSomeAnd result (λ is. IsTrue is ↔ Contains xs v) }
-        ensures told { IfSome result (λ is. (p : ℕ) × TellsLess self.now v p
+        ensures claimed { IfSome result (λ is. (p : ℕ) × ClaimsLess self.now v p
             × (p ≡ self.now.len → is ≡ false)) }
     {
         let (source, low) = (&mut self.upper.probe(), &mut self.low_digits());

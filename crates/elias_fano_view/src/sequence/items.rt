@@ -42,9 +42,9 @@ fn write_ones_of(
     requires ones { end ≤ begin + count_ones rest }
     requires some { (i : ℕ) → i < from + end → HasFragment low.old.words i low.old.width }
     requires room { end ≤ length out.old }
-    ensures items { (xs : List ℕ) (n : ℕ) (upper : List ℕ) (place : ℕ)
+    ensures items { (xs : List ℕ) (n : ℕ) (upper : List ℕ) (position : ℕ)
         → ArePartsOf xs n low.old.width low.old.words upper → from + end ≤ n
-        → IsRestFrom upper place at rest → ones_before (bits_of upper) place ≡ from + begin
+        → IsRestFrom upper position at rest → ones_before (bits_of upper) position ≡ from + begin
         → AreItemsFrom xs from begin out.old → AreItemsFrom xs from end out.new }
     ensures kept { IsKeptFrom end out.old out.new }
     ensures fragments { ReadsFragments low.old low.new (end - begin) }

@@ -1,4 +1,4 @@
--- The numbers that two lists share: one place further in the first.
+-- The numbers that two lists share: one position further in the first.
 use Rattle.std.proofs.Common.{◌≡◌, ℕ, ◌+◌, ◌<◌, ◌≤◌, List, [], ◌∷◌, ◌++◌, length, get_or, sym, ap, ◌∙◌, ⊎_elim, subst, arith}
 use Rattle.std.proofs.lemmas.Bool.{cases_lt}
 use Rattle.std.proofs.lemmas.List.{get_or_default}
@@ -52,7 +52,7 @@ AreCommonTo-more xs ys at found h inside there = record {
         let P : ℕ → Type 0 = λ y. Contains xs y × Contains ys y in
         subst P is (stands xs at inside, there)
 
--- the next items, up to a place, do not stand in ys
+-- the next items, up to a position, do not stand in ys
 pub AreCommonTo-past : (xs ys : List ℕ) (at to : ℕ) (found : List ℕ) → AreCommonTo xs ys at found → to ≤ length xs
     → ((k : ℕ) → at ≤ k → k < to → Contains ys (get_or xs k 0) → ⊥) → AreCommonTo xs ys to found
 AreCommonTo-past xs ys at to found h bound none = record {
@@ -61,7 +61,7 @@ AreCommonTo-past xs ys at to found h bound none = record {
   all = λ k less shared. ⊎_elim (λ before. h.all k before shared) (λ from. absurd (none k from less shared)) (cases_lt k at);
 }
 
--- a number of ys below v stands before the place from which on they are at least v
+-- a number of ys below v stands before the position from which on they are at least v
 pub none-between : (xs ys : List ℕ) (at there k : ℕ) → IsNonDecreasing xs → IsNonDecreasing ys → at ≤ k → k < length xs
     → ((j : ℕ) → j < there → get_or ys j 0 < get_or xs at 0) → (there < length ys → get_or xs k 0 < get_or ys there 0)
     → Contains ys (get_or xs k 0) → ⊥
@@ -76,7 +76,7 @@ none-between xs ys at there k xs_rise ys_rise from inside less next c =
 
 -- ---- a turn of the loop, at the number v of xs, of which ys has the first that is no less at there
 
--- nothing is shared up to the place from which on numbers are at least the one there
+-- nothing is shared up to the position from which on numbers are at least the one there
 pub passed-to : (xs ys found : List ℕ) (at there to v : ℕ) → IsNonDecreasing xs → IsNonDecreasing ys → AreCommonTo xs ys at found
     → v ≡ get_or xs at 0 → ((j : ℕ) → j < there → get_or ys j 0 < v) → to ≤ length xs
     → ((k : ℕ) → k < to → there < length ys → get_or xs k 0 < get_or ys there 0) → AreCommonTo xs ys to found

@@ -1,7 +1,7 @@
-//! Selection by a list of all places.
+//! Selection by a list of all positions.
 ghost use Rattle.std.specs.Prelude.{◌≡◌, Bool, List, true, false, IfOk};
 ghost use Rattle.bitm.specs.Bits.{bits_of, IsShort};
-ghost use Rattle.bitm.specs.Count.{as_bit, places, IsSelect};
+ghost use Rattle.bitm.specs.Count.{as_bit, bit_positions, IsSelect};
 
 use bitm::{BitBIterator, Select0ForRank101111, SelectForRank101111};
 use std::alloc::{AllocError, Global};
@@ -11,18 +11,18 @@ use std::marker::Model;
 /// Selects by a look into the list of positions, which it owns.
 #[derive(Drop)]
 pub struct Listed {
-    places: Vec<usize>,
+    positions: Vec<usize>,
 }
 
 /// The positions of the bits of the kind, in one allocation of exactly their size.
-fn places_of<const BIT: u8>(alloc: Global, content: &[u64]) -> Result<Vec<usize>, AllocError>
+fn positions_of<const BIT: u8>(alloc: Global, content: &[u64]) -> Result<Vec<usize>, AllocError>
     requires { IsShort content.now }
-    ensures { IfOk result (λ list. list.items ≡ places (as_bit BIT) 0 (bits_of content.now)) }
+    ensures { IfOk result (λ list. list.items ≡ bit_positions (as_bit BIT) 0 (bits_of content.now)) }
 {
     let bits = BitBIterator::<BIT>::new(content);
-    let mut places = Vec::with_capacity(alloc, bits.len())?;
-    places.extend(bits)?;
-    Ok(places)
+    let mut positions = Vec::with_capacity(alloc, bits.len())?;
+    positions.extend(bits)?;
+    Ok(positions)
 }
 
 impl Model for Listed {
@@ -30,21 +30,21 @@ impl Model for Listed {
 
     ghost Value = { List ℕ };
 
-    ghost view = { λ s. s.places.items };
+    ghost view = { λ s. s.positions.items };
 }
 
 impl Listed {
     /// Item `rank` of the list: where it has the positions of a kind of bit, the position of the bit with that rank.
     fn look_up(&self, rank: usize) -> Option<usize>
-        ensures { (b : List Bool) (v : Bool) → self.now ≡ places v 0 b
+        ensures { (b : List Bool) (v : Bool) → self.now ≡ bit_positions v 0 b
             → IsSelect b v rank result }
     {
-        self.places.get(rank).copied()
+        self.positions.get(rank).copied()
     }
 }
 
 impl SelectForRank101111 for Listed {
-    ghost supports = { λ list words. list ≡ places true 0 (bits_of words) };
+    ghost supports = { λ list words. list ≡ bit_positions true 0 (bits_of words) };
 
     fn new(
         alloc: Global,
@@ -53,8 +53,8 @@ impl SelectForRank101111 for Listed {
         _l2ranks: &[u64],
         _total_rank: usize,
     ) -> Result<Self, AllocError> {
-        let places = places_of::<1>(alloc, content)?;
-        Ok(Listed { places })
+        let positions = positions_of::<1>(alloc, content)?;
+        Ok(Listed { positions })
     }
 
     fn select(
@@ -69,7 +69,7 @@ impl SelectForRank101111 for Listed {
 }
 
 impl Select0ForRank101111 for Listed {
-    ghost supports0 = { λ list words. list ≡ places false 0 (bits_of words) };
+    ghost supports0 = { λ list words. list ≡ bit_positions false 0 (bits_of words) };
 
     fn new0(
         alloc: Global,
@@ -78,8 +78,8 @@ impl Select0ForRank101111 for Listed {
         _l2ranks: &[u64],
         _total_rank: usize,
     ) -> Result<Self, AllocError> {
-        let places = places_of::<0>(alloc, content)?;
-        Ok(Listed { places })
+        let positions = positions_of::<0>(alloc, content)?;
+        Ok(Listed { positions })
     }
 
     fn select0(

@@ -2,8 +2,8 @@
 ghost use Rattle.std.specs.Prelude.{◌≡◌, ◌≢◌, ℕ, ◌+◌, ◌*◌, ◌/◌, ◌^◌, ◌<◌, ◌≤◌, IfOk, length, slice_index, SomeIff};
 ghost use Rattle.std.specs.Int.{div_ceil};
 ghost use Rattle.bitm_tables.specs.Reads.{word_read};
-ghost use Rattle.perfect_hash.specs.Inside.{places_inside};
-ghost use Rattle.perfect_hash.specs.Places.{place_by};
+ghost use Rattle.perfect_hash.specs.Inside.{positions_inside};
+ghost use Rattle.perfect_hash.specs.Positions.{position_by};
 ghost use Rattle.hash_block.specs.SeededBlock.{AreZeroFrom};
 ghost use Rattle.hash_block.specs.Seeds.{seed_of, seeds_of};
 
@@ -109,14 +109,14 @@ impl<'a> PackedSeeds<'a> {
 }
 
 impl<'a> Placing for PackedSeeds<'a> {
-    ghost fall = { place_by };
+    ghost fall = { position_by };
 
     ghost seeds_each = { 1 };
 
     ghost chooses = { λ old new _ _ _ _. new ≡ old };
 
     #[inline(always)]
-    fn place(
+    fn position(
         &self,
         begin: usize,
         hash: u64,
@@ -146,7 +146,7 @@ impl<'a> Placing for PackedSeeds<'a> {
         Ok(PackedSeeds { words, len })
     }
 
-    ghost inside = { places_inside };
+    ghost inside = { positions_inside };
 }
 
 /// Writes seed `k` of words.

@@ -2,7 +2,7 @@
 ghost use Rattle.std.specs.Prelude.{◌≡◌, ◌<◌, ◌≤◌, ◌↔◌, IsTrue, length, slice_index};
 ghost use Rattle.hash_block.specs.Given.{string_begin, AreGiven};
 
-/// Where string `i` begins, of strings that end at the given places; where the last one ends, where there are `i`.
+/// Where string `i` begins, of strings that end at the given positions; where the last one ends, where there are `i`.
 #[inline(always)]
 #[tactic(auto, using(crate::proofs::GivenLemmas::after_first))]
 pub(crate) fn begin_at(ends: &[usize], i: usize) -> usize

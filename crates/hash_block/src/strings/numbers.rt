@@ -26,7 +26,7 @@ pub(crate) fn word_from(bytes: &[u8], begin: usize, at: usize) -> u64
 /// A number of `j` bytes with one more.
 #[inline(always)]
 fn with_byte(number: u64, byte: u64, j: usize) -> u64
-    requires place { j < 8 }
+    requires position { j < 8 }
     requires number { number < 256 ^ j }
     requires byte { byte < 256 }
     ensures value { result ≡ number + byte * 256 ^ j }

@@ -7,8 +7,8 @@ use Rattle.std.proofs.lemmas.List.Sums.{sum_by_more, sum_by-take-le}
 use Rattle.bit_lists.specs.Bits.{item}
 use Rattle.bit_lists.specs.Number.{with_number}
 use Rattle.bit_lists.proofs.BitLaws.{item_after_write}
-use Rattle.hash_buckets.specs.declared.places.Level.{Level}
-use Rattle.hash_buckets.specs.Places.{slice_of, slot_of}
+use Rattle.hash_buckets.specs.declared.positions.Level.{Level}
+use Rattle.hash_buckets.specs.Positions.{slice_of, slot_of}
 use Rattle.hash_buckets.specs.Seeds.{one_if, count_at, AddsBits, HaveFreeSlots, AreBegins}
 
 -- one more hash

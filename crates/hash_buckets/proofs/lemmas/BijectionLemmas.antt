@@ -13,11 +13,11 @@ use Rattle.bit_lists.specs.Count.{ones_before, ones_of}
 use Rattle.bit_lists.proofs.lemmas.CountLemmas.{ones_before_more, ones_before_none}
 use Rattle.perfect_hash.specs.Inside.{fraction_below}
 use Rattle.perfect_hash.specs.Perfect.{is_number, IsMinimalPerfect}
-use Rattle.perfect_hash.specs.Places.{folded_by, spread}
-use Rattle.perfect_hash.proofs.lemmas.CountingLemmas.{counted, one_place}
+use Rattle.perfect_hash.specs.Positions.{folded_by, spread}
+use Rattle.perfect_hash.proofs.lemmas.CountingLemmas.{counted, one_position}
 use Rattle.perfect_hash.proofs.lemmas.PerfectLemmas.{minimal_perfect}
-use Rattle.hash_buckets.specs.declared.places.Level.{Level}
-use Rattle.hash_buckets.specs.Places.{bucket_of, mixed, next_of, slot_of, IsBucketLevel}
+use Rattle.hash_buckets.specs.declared.positions.Level.{Level}
+use Rattle.hash_buckets.specs.Positions.{bucket_of, mixed, next_of, slot_of, IsBucketLevel}
 use Rattle.hash_buckets.specs.Numbers.{slot_number, bucket_number, slot_from, slots_of}
 use Rattle.hash_buckets.specs.Seeds.{one_if}
 use Rattle.hash_buckets.specs.Building.{count_left, is_none, slots_at}
@@ -127,7 +127,7 @@ module _ (n : ℕ) (free : List ℕ) (used : List Bool) (stand : StandForUsed us
       ⊎_elim
       (λ before. absurd (omega (arith, e, stand.apart (p - n) (q - n) before (omega arith) (back p high_p used_p) (back q high_q used_q))))
       (λ after. ⊎_elim
-      (λ same_place. omega (arith, same_place))
+      (λ same_position. omega (arith, same_position))
       (λ other. absurd (omega (arith, e, stand.apart (q - n) (p - n) (omega arith) (omega arith) (back q high_q used_q) (back p high_p used_p))))
       (cases_eq (p - n) (q - n)))
       (cases_lt (p - n) (q - n))
@@ -173,7 +173,7 @@ module _ (levels : List Level) (seeds : List ℕ) (used : List Bool) (keys : Lis
       let pass_y = ap (is_number p) is_y ∙ eq-eqb p p refl in
       let once : count_by (λ k. is_number p (slot k)) keys ≡ 1 =
       omega (arith, counts p, one_few (item used p), counted (λ k. is_number p (slot k)) keys i x at_i pass_x) in
-      one_place (λ k. is_number p (slot k)) keys i j x y once at_i pass_x at_j pass_y
+      one_position (λ k. is_number p (slot k)) keys i j x y once at_i pass_x at_j pass_y
 
   module _ (none : count_left levels seeds 0 keys ≡ 0) where
     slot_is : (i x : ℕ) → slice_get keys i ≡ Some x → (o : Option ℕ) → slot x ≡ o → (p : ℕ) × (slot x ≡ Some p)

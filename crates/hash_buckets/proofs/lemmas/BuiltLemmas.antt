@@ -7,9 +7,9 @@ use Rattle.std.proofs.lemmas.List.Sums.{sum_by-cons}
 use Rattle.bit_lists.specs.Bits.{item}
 use Rattle.bit_lists.specs.Count.{ones_of}
 use Rattle.perfect_hash.specs.Perfect.{is_number}
-use Rattle.hash_buckets.specs.declared.places.Level.{Level}
+use Rattle.hash_buckets.specs.declared.positions.Level.{Level}
 use Rattle.hash_buckets.specs.declared.levels.Made.{Made}
-use Rattle.hash_buckets.specs.Places.{bucket_of, next_of, slot_of, IsBucketLevel}
+use Rattle.hash_buckets.specs.Positions.{bucket_of, next_of, slot_of, IsBucketLevel}
 use Rattle.hash_buckets.specs.Numbers.{buckets_of, slot_from, slots_of}
 use Rattle.hash_buckets.specs.Seeds.{one_if, AddsBits}
 use Rattle.hash_buckets.specs.Building.{count_left, is_none, slots_at, AreLeft, AreMade, IfEqual, IfLeft, IsBuilt}
@@ -97,6 +97,6 @@ left_so made levels seeds keys copy limit are same left = record {
 }
 
 -- an error that says how far levels were built
-pub left_told : (error : BuildError) (made : Made) (P : Made → Type 0) (equal : ℕ → ℕ → Type 0) → IfEqual error equal (λ told. told ≡ made) → P made → IfLeft error P
-left_told (Equal i j) made P equal told holds = tt
-left_told (Left other) made P equal told holds = subst P (sym told) holds
+pub left_claimed : (error : BuildError) (made : Made) (P : Made → Type 0) (equal : ℕ → ℕ → Type 0) → IfEqual error equal (λ reported. reported ≡ made) → P made → IfLeft error P
+left_claimed (Equal i j) made P equal reported holds = tt
+left_claimed (Left other) made P equal reported holds = subst P (sym reported) holds

@@ -8,9 +8,9 @@ use Rattle.std.proofs.lemmas.List.Elements.{All-cons}
 use Rattle.std.proofs.lemmas.List.Sums.{sum_by-cons}
 use Rattle.perfect_hash.specs.Perfect.{is_number}
 use Rattle.perfect_hash.proofs.lemmas.CountingLemmas.{count_by-cons, count_by-filter, count_by-none}
-use Rattle.hash_buckets.specs.declared.places.Level.{Level}
+use Rattle.hash_buckets.specs.declared.positions.Level.{Level}
 use Rattle.hash_buckets.specs.declared.levels.Made.{Made}
-use Rattle.hash_buckets.specs.Places.{bucket_of, next_of, slot_of, IsBucketLevel}
+use Rattle.hash_buckets.specs.Positions.{bucket_of, next_of, slot_of, IsBucketLevel}
 use Rattle.hash_buckets.specs.Numbers.{slot_from}
 use Rattle.hash_buckets.specs.Seeds.{one_if, has_slot, next_hashes, AddsBits}
 use Rattle.hash_buckets.specs.Building.{count_left, is_none, slots_at, AreMade}

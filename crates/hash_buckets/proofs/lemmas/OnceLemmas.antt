@@ -3,7 +3,7 @@ use Rattle.std.proofs.Common.{◌≡◌, ℕ, zero, suc, ◌+◌, ◌-◌, ◌<�
 use Rattle.std.specs.List.{count_by, slice_get}
 use Rattle.std.proofs.lemmas.Bool.{cases_lt, le-ltb}
 use Rattle.perfect_hash.specs.Perfect.{is_number}
-use Rattle.perfect_hash.proofs.lemmas.CountingLemmas.{one_if, below_more, count_by-cons, count_by-either, count_by-none, some_place}
+use Rattle.perfect_hash.proofs.lemmas.CountingLemmas.{one_if, below_more, count_by-cons, count_by-either, count_by-none, some_position}
 
 -- no two items pass
 abbrev pub AloneAt : (ℕ → Bool) → List ℕ → Type 0
@@ -14,7 +14,7 @@ one_first p x xs true e alone rest =
     ⊎_elim
     (λ none. omega (arith, none, count_by-cons p x xs, ap one_if e))
     (λ some.
-    let found = some_place p xs some in
+    let found = some_position p xs some in
     let no : 0 ≡ suc found.0 = alone 0 (suc found.0) x found.1 refl found.2 e found.3 in
     absurd (omega (arith, no)))
     (cases_lt (count_by p xs) 1)

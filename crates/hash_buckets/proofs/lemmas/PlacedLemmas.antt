@@ -6,9 +6,9 @@ use Rattle.std.proofs.lemmas.Grind.{get_or-set_at}
 use Rattle.std.proofs.lemmas.List.{get_or-set_other}
 use Rattle.perfect_hash.proofs.lemmas.CountingLemmas.{count_by-agree, count_by-cons, count_by-either, count_by-filter, count_by-none}
 use Rattle.perfect_hash.specs.Inside.{fraction_below}
-use Rattle.hash_buckets.specs.declared.places.Level.{Level}
+use Rattle.hash_buckets.specs.declared.positions.Level.{Level}
 use Rattle.hash_buckets.specs.Groups.{bucket_group}
-use Rattle.hash_buckets.specs.Places.{bucket_of, slot_of}
+use Rattle.hash_buckets.specs.Positions.{bucket_of, slot_of}
 use Rattle.hash_buckets.specs.Seeds.{one_if, count_at, has_slot, AddsBits, AddsSlots}
 
 -- whether a hash has slot q by one seed

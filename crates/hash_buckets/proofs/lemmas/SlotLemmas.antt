@@ -4,8 +4,8 @@ use Rattle.std.specs.Prelude.{Some, None}
 use Rattle.std.proofs.lemmas.Bool.{eq-eqb, ne_eqb}
 use Rattle.std.proofs.lemmas.List.{drop-drop, get_or-drop}
 use Rattle.std.proofs.lemmas.List.Sums.{sum_by_more, sum_by_more_le}
-use Rattle.hash_buckets.specs.declared.places.Level.{Level}
-use Rattle.hash_buckets.specs.Places.{bucket_of, next_of, slot_of, IsBucketLevel}
+use Rattle.hash_buckets.specs.declared.positions.Level.{Level}
+use Rattle.hash_buckets.specs.Positions.{bucket_of, next_of, slot_of, IsBucketLevel}
 use Rattle.hash_buckets.specs.Numbers.{buckets_of, slots_of, slot_from, AreBucketLevels}
 
 -- no level

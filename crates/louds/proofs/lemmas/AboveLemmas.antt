@@ -4,7 +4,7 @@ use Rattle.std.proofs.lemmas.Bool.{cases_lt, eq-eqb, eqb-true}
 use Rattle.std.specs.List.{sum}
 use Rattle.louds.proofs.lemmas.TreeLemmas.{find, one_parent, parent_of, sum_more, sum_order}
 use Rattle.louds.specs.Above.{AreBelow, IsAbove, IsAncestor, IsClimbed}
-use Rattle.louds.specs.Held.{zero_place}
+use Rattle.louds.specs.Held.{zero_position}
 use Rattle.louds.specs.Laws.{OneDepth}
 use Rattle.louds.specs.Tree.{IsChild, IsTree}
 
@@ -64,7 +64,7 @@ ancestor_low d a v tree inside up = above_low d up.0 a v tree inside up.1
 -- ---- down
 
 -- the children of the nodes between are those between
-pub below_between : (d : List ℕ) (a b first past : ℕ) → a ≤ b → b ≤ length d → first + a ≡ zero_place d a → past + b ≡ zero_place d b
+pub below_between : (d : List ℕ) (a b first past : ℕ) → a ≤ b → b ≤ length d → first + a ≡ zero_position d a → past + b ≡ zero_position d b
     → AreBelow d a b first past
 below_between d a b first past order inside from to v = (
   (λ h.

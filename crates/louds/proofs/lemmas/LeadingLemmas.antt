@@ -5,7 +5,7 @@ use Rattle.std.proofs.lemmas.Bool.{cases_lt}
 use Rattle.std.proofs.lemmas.List.{get_or-take, length-take-le, take_more}
 use Rattle.louds.proofs.lemmas.LabelLemmas.{between, child_between, labels_order, leads_more, leads_rest}
 use Rattle.louds.specs.Labels.{IsChildWith, Leads, Rise}
-use Rattle.louds.specs.Leading.{Grow, IsLabelPlace}
+use Rattle.louds.specs.Leading.{Grow, IsLabelPosition}
 use Rattle.louds.specs.Tree.{AreChildren}
 
 -- ---- children by their labels
@@ -19,7 +19,7 @@ module _ (d ls : List ℕ) (i first past : ℕ) (rise : Rise d ls) (are : AreChi
   is_child label low from to is = ((low - first, child_between d ls i first past are rise low from to), is)
 
   -- where the first label that is not less is another one, or there is none, no child has it
-  pub no_child : (label low : ℕ) → first ≤ low → IsLabelPlace ls first past label low → (low < past → get_or ls low 0 ≢ label)
+  pub no_child : (label low : ℕ) → first ≤ low → IsLabelPosition ls first past label low → (low < past → get_or ls low 0 ≢ label)
       → (u : ℕ) → IsChildWith d ls i label u → ⊥
   no_child label low from at other u child =
       let b = between d ls i first past are rise child.0.0 u child.0.1 in

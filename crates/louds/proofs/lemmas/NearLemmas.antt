@@ -1,4 +1,4 @@
--- Zeros of one word up to a place, as they stand among all.
+-- Zeros of one word up to a position, as they stand among all.
 use Rattle.std.proofs.Common.{◌≡◌, ℕ, ◌+◌, ◌*◌, ◌/◌, ◌%◌, ◌<◌, ◌≤◌, true, false, List, [], ◌∷◌, length, get_or, refl, sym, ◌∙◌, ⊎_elim, arith}
 use Rattle.std.proofs.lemmas.Bool.{cases_lt}
 use Rattle.bit_lists.proofs.BitLaws.{bit_is_digit, bits_are_counted}
@@ -21,11 +21,11 @@ module _ (words : List ℕ) (end w : ℕ) (inside : end < length (bits_of words)
     pub last-found : (p : ℕ) → IsLastTo (bits_of (w ∷ [])) false (end % 64) p → IsLastTo (bits_of words) false to (64 * (end / 64) + p)
     last-found p h =
         let low : p < 64 = omega (arith, h.inside, bits_are_counted (w ∷ [])) in
-        let place : (64 * (end / 64) + p) % 64 ≡ p = omega arith in
+        let position : (64 * (end / 64) + p) % 64 ≡ p = omega arith in
         record {
           to = omega (arith, h.to);
           inside = omega (arith, h.to);
-          is = sym (alone (64 * (end / 64) + p) (omega (arith, h.to)) (omega arith)) ∙ rw place h.is;
+          is = sym (alone (64 * (end / 64) + p) (omega (arith, h.to)) (omega arith)) ∙ rw position h.is;
           greatest = λ i more most.
               ⊎_elim (λ late. ones i late most)
               (λ early. sym (alone i (omega arith) (omega arith)) ∙ h.greatest (i % 64) (omega arith) (omega arith))

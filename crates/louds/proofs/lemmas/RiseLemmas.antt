@@ -7,7 +7,7 @@ use Rattle.bit_lists.proofs.BitLaws.{count_after_item, counts_grow, ones_and_zer
 use Rattle.louds.proofs.lemmas.HeldLemmas.{last_of_one, next_of_one, one_is}
 use Rattle.louds.proofs.lemmas.LabelLemmas.{child_inside, next_number}
 use Rattle.louds.proofs.lemmas.TreeLemmas.{sum_all}
-use Rattle.louds.specs.Held.{zero_place, IsHeld, IsOneOf}
+use Rattle.louds.specs.Held.{zero_position, IsHeld, IsOneOf}
 use Rattle.louds.specs.Labels.{Rise}
 use Rattle.louds.specs.Tree.{IsNextSibling, IsTree}
 
@@ -49,7 +49,7 @@ module _ (d : List ℕ) (n : ℕ) (b : List Bool) (h : IsHeld d n b) where
   pub ones_all : ones_before b (2 * n) ≡ n
   ones_all =
       let last = h.zeros n (omega arith) in
-      let at : zero_place d n ≡ 2 * n = omega (arith, h.count, sum_all d n h.count, h.tree.count) in
+      let at : zero_position d n ≡ 2 * n = omega (arith, h.count, sum_all d n h.count, h.tree.count) in
       omega (arith, ones_and_zeros b (2 * n) (omega (arith, room)), subst (λ (p : ℕ). Picks b false n p) at last)
 
   -- a one before it is that of a node

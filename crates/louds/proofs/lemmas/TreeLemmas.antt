@@ -4,7 +4,7 @@ use Rattle.std.proofs.lemmas.Bool.{cases_lt, cases_order}
 use Rattle.std.proofs.lemmas.List.{take_all}
 use Rattle.std.proofs.lemmas.List.Sums.{sum_by_more, sum_by-take-le}
 use Rattle.std.specs.List.{sum}
-use Rattle.louds.specs.Held.{zero_place}
+use Rattle.louds.specs.Held.{zero_position}
 use Rattle.louds.specs.Laws.{OneParent, TreesHaveParents}
 use Rattle.louds.specs.Tree.{AreChildren, IsChild, IsTree}
 
@@ -32,8 +32,8 @@ sum_order d i j order inside =
     omega (arith, ap (λ k. sum (take k d)) e, sum_grows d i (j - i) (omega arith))
 
 -- the zero after the ones of a node
-pub zero_place_more : (d : List ℕ) (i : ℕ) → i < length d → zero_place d (i + 1) ≡ zero_place d i + 1 + get_or d i 0
-zero_place_more d i inside = omega (arith, sum_more d i inside)
+pub zero_position_more : (d : List ℕ) (i : ℕ) → i < length d → zero_position d (i + 1) ≡ zero_position d i + 1 + get_or d i 0
+zero_position_more d i inside = omega (arith, sum_more d i inside)
 
 -- the node among whose children the v-th of all is
 pub find : (d : List ℕ) (v m : ℕ) → 0 < v → v ≤ sum (take m d) → m ≤ length d
@@ -94,9 +94,9 @@ trees_have_parents d = (
 )
 
 -- the children of a node stand side by side
-pub children_of : (d : List ℕ) (i first past : ℕ) → i < length d → first + i ≡ zero_place d i → past + i + 1 ≡ zero_place d (i + 1)
+pub children_of : (d : List ℕ) (i first past : ℕ) → i < length d → first + i ≡ zero_position d i → past + i + 1 ≡ zero_position d (i + 1)
     → AreChildren d i first past
 children_of d i first past inside from to = record {
-  count = omega (arith, from, to, zero_place_more d i inside);
+  count = omega (arith, from, to, zero_position_more d i inside);
   each = λ k some. record { node = inside; some = some; number = omega (arith, from) };
 }

@@ -11,8 +11,8 @@ use Rattle.std.proofs.Math.Seq.{take-add}
 use Rattle.bit_lists.specs.Bits.{digit, item}
 use Rattle.bit_lists.specs.Count.{count_before, count_of, ones_before, zeros_before, zeros_of, Picks}
 use Rattle.bit_lists.proofs.BitLaws.{one_picked_for_each_rank}
-use Rattle.matrix_levels.specs.Levels.{has_digit, partition, column, columns, level, partition_place}
-use Rattle.matrix_levels.specs.Matrix.{level_items, low_part, next_place}
+use Rattle.matrix_levels.specs.Levels.{has_digit, partition, column, columns, level, partition_position}
+use Rattle.matrix_levels.specs.Matrix.{level_items, low_part, next_position}
 use Rattle.matrix_levels.proofs.lemmas.ColumnLemmas.{count-column, item-column, length-column, length-level}
 use Rattle.matrix_levels.proofs.lemmas.PartLemmas.{both-digits, item-moved}
 
@@ -43,7 +43,7 @@ unfolding low_part
 low-small b w n zero p = lit< tt
 low-small b w n (suc r) p =
     let c = take n (drop ((w - suc r) * n) b) in
-    low-more (item c p) r (low_part b w n r (next_place c p)) (low-small b w n r (next_place c p))
+    low-more (item c p) r (low_part b w n r (next_position c p)) (low-small b w n r (next_position c p))
 
 -- where level d of some numbers has the low digits that the bits hold from there on
 abbrev HasLow : List Bool → List ℕ → ℕ → ℕ → ℕ → ℕ → Type 0
@@ -66,16 +66,16 @@ module _ (b : List Bool) (xs : List ℕ) (w n d r : ℕ) (room : w * n ≤ lengt
   ys-len : length ys ≡ n
   ys-len = length-level xs w d ∙ count
 
-  split : (p : ℕ) → p < n → (digit (get_or ys p 0) r ≡ item c p) × (get_or ys p 0 % 2 ^ r ≡ low_part b w n r (next_place c p))
+  split : (p : ℕ) → p < n → (digit (get_or ys p 0) r ≡ item c p) × (get_or ys p 0 % 2 ^ r ≡ low_part b w n r (next_position c p))
   unfolding low_part
   split p inside =
       let same : w - suc r ≡ d = omega (arith, e) in
       let bit : Bool = digit (get_or ys p 0) r in
-      let step : low_part b w n (suc r) p ≡ (if item c p then 2 ^ r else 0) + low_part b w n r (next_place c p) =
-      ap (λ k. (if item (take n (drop (k * n) b)) p then 2 ^ r else 0) + low_part b w n r (next_place (take n (drop (k * n) b)) p)) same in
-      same_parts bit (item c p) (get_or ys p 0 % 2 ^ r) (low_part b w n r (next_place c p)) (2 ^ r)
+      let step : low_part b w n (suc r) p ≡ (if item c p then 2 ^ r else 0) + low_part b w n r (next_position c p) =
+      ap (λ k. (if item (take n (drop (k * n) b)) p then 2 ^ r else 0) + low_part b w n r (next_position (take n (drop (k * n) b)) p)) same in
+      same_parts bit (item c p) (get_or ys p 0 % 2 ^ r) (low_part b w n r (next_position c p)) (2 ^ r)
       (mod-lt (get_or ys p 0) (pow_pos r))
-      (low-small b w n r (next_place c p))
+      (low-small b w n r (next_position c p))
       (digit-more (get_or ys p 0) r ∙ low p inside ∙ step)
 
   pub is-column : c ≡ column r ys
@@ -85,8 +85,8 @@ module _ (b : List Bool) (xs : List ℕ) (w n d r : ℕ) (room : w * n ≤ lengt
       let within : p < n = omega (arith, inside, c-len) in
       sym (split p within).0 ∙ sym (item-column r ys p (omega (arith, within, ys-len))))
 
-  -- the bit that comes to place q of the next level, and its item
-  from : (v : Bool) (k q p : ℕ) → Picks c v k p → next_place c p ≡ q → partition_place r v ys p ≡ q
+  -- the bit that comes to position q of the next level, and its item
+  from : (v : Bool) (k q p : ℕ) → Picks c v k p → next_position c p ≡ q → partition_position r v ys p ≡ q
       → get_or (partition r ys) q 0 % 2 ^ r ≡ low_part b w n r q
   from v k q p picked next moves =
       let within : p < n = omega (arith, picked.inside, c-len) in
@@ -108,7 +108,7 @@ module _ (b : List Bool) (xs : List ℕ) (w n d r : ℕ) (room : w * n ≤ lengt
   both = omega (arith, all-counted false, all-counted true, both-digits r ys, ys-len)
 
   from-zero : (q : ℕ) → q < zeros_of c → get_or (partition r ys) q 0 % 2 ^ r ≡ low_part b w n r q
-  unfolding partition_place
+  unfolding partition_position
   from-zero q less =
       let found = one_picked_for_each_rank c false q less in
       let picked = found.1 in
@@ -117,7 +117,7 @@ module _ (b : List Bool) (xs : List ℕ) (w n d r : ℕ) (room : w * n ≤ lengt
       (sym (counted false found.0) ∙ picked.before)
 
   from-one : (q k : ℕ) → zeros_of c + k ≡ q → k < count_of c true → get_or (partition r ys) q 0 % 2 ^ r ≡ low_part b w n r q
-  unfolding partition_place
+  unfolding partition_position
   from-one q k at less =
       let found = one_picked_for_each_rank c true k less in
       let picked = found.1 in
@@ -129,8 +129,8 @@ module _ (b : List Bool) (xs : List ℕ) (w n d r : ℕ) (room : w * n ≤ lengt
   pub next-low : HasLow b xs w n (suc d) r
   unfolding level
   next-low q inside =
-      let place : w - 1 - d ≡ r = omega (arith, e) in
-      ap (λ k. get_or (partition k ys) q 0 % 2 ^ r) place
+      let position : w - 1 - d ≡ r = omega (arith, e) in
+      ap (λ k. get_or (partition k ys) q 0 % 2 ^ r) position
       ∙ ⊎_elim (λ l. from-zero q l) (λ g. from-one q (q - zeros_of c) (omega (arith, g)) (omega (arith, g, both, inside)))
       (cases_lt q (zeros_of c))
 
@@ -169,14 +169,14 @@ module _ (b : List Bool) (w n : ℕ) (room : w * n ≤ length b) where
   fronts (suc d) r e =
       let f : d + suc r ≡ w = omega (arith, e) in
       let own : take n (drop (d * n) b) ≡ column r (level xs w d) = is-column b xs w n d r room items-len f (lows d (suc r) f) in
-      let place : w - 1 - d ≡ r = omega (arith, e) in
+      let position : w - 1 - d ≡ r = omega (arith, e) in
       let more : suc d * length xs ≡ d * length xs + length xs = omega arith in
       ap (λ k. take k b) more
       ∙ take-add (d * length xs) (length xs) b
       ∙ ap (λ l. l ++ take (length xs) (drop (d * length xs) b)) (fronts d (suc r) f)
       ∙ ap (λ m. columns xs w d ++ take m (drop (d * m) b)) items-len
       ∙ ap (λ l. columns xs w d ++ l) own
-      ∙ ap (λ k. columns xs w d ++ column k (level xs w d)) (sym place)
+      ∙ ap (λ k. columns xs w d ++ column k (level xs w d)) (sym position)
 
   -- the bits are the levels of the numbers that they hold
   pub any-levels : take (w * n) b ≡ columns xs w w

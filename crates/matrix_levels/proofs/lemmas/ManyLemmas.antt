@@ -3,19 +3,19 @@ use Rattle.std.proofs.Common.{◌≡◌, ℕ, ◌+◌, ◌-◌, ◌*◌, ◌/◌
 use Rattle.std.proofs.lemmas.Bool.{cases_lt}
 use Rattle.std.proofs.lemmas.List.{get_or-set_same, get_or-set_other}
 use Rattle.bit_lists.specs.Bits.{digit}
-use Rattle.matrix_levels.specs.Levels.{level, level_place, partition_place}
+use Rattle.matrix_levels.specs.Levels.{level, level_position, partition_position}
 use Rattle.matrix_levels.proofs.lemmas.PrefixLemmas.{with_digit, prefix-all, prefix-more}
-use Rattle.matrix_levels.proofs.lemmas.WalkLemmas.{digits-first, level_place-first, level_place-item, prefix-fits, step-place}
+use Rattle.matrix_levels.proofs.lemmas.WalkLemmas.{digits-first, level_position-first, level_position-item, prefix-fits, step-position}
 use mir.Val.{bool_byte}
 
 -- where item i stands on level d, and its first d digits
 pub record IsAtLevel (xs : List ℕ) (w d i p n : ℕ) : Type 0 where
-  pub place : p ≡ level_place xs w (get_or xs i 0) d i
+  pub position : p ≡ level_position xs w (get_or xs i 0) d i
   pub digits : n ≡ get_or xs i 0 / 2 ^ (w - d)
 
--- place q is where number k stands on level d that comes from place k
+-- position q is where number k stands on level d that comes from position k
 abbrev pub StandsAt : List ℕ → ℕ → List ℕ → List ℕ → ℕ → ℕ → ℕ → Type 0
-StandsAt xs w numbers places d k q = q ≡ level_place xs w (get_or numbers k 0) d (get_or places k 0)
+StandsAt xs w numbers positions d k q = q ≡ level_position xs w (get_or numbers k 0) d (get_or positions k 0)
 
 -- the number so far and one digit more
 one-more : (n : ℕ) (v : Bool) → 2 * n + bool_byte v ≡ with_digit n v
@@ -24,27 +24,27 @@ one-more n false = refl
 
 module _ (xs : List ℕ) (w : ℕ) (fit : All (λ x. x < 2 ^ w) xs) (most : w ≤ 64) (i : ℕ) (inside : i < length xs) where
   pub level-first : IsAtLevel xs w 0 i i 0
-  level-first = record { place = level_place-first xs w (get_or xs i 0) i; digits = digits-first (get_or xs i 0) w (fit i 0 inside) }
+  level-first = record { position = level_position-first xs w (get_or xs i 0) i; digits = digits-first (get_or xs i 0) w (fit i 0 inside) }
 
   pub level-last : (d p n : ℕ) → d ≡ w → IsAtLevel xs w d i p n → n ≡ get_or xs i 0
   level-last d p n e h = h.digits ∙ prefix-all (get_or xs i 0) w d e
 
-  pub level-last-place : (d p n : ℕ) → d ≡ w → IsAtLevel xs w d i p n → p ≡ level_place xs w n w i
-  level-last-place d p n e h =
-      h.place ∙ ap (λ k. level_place xs w (get_or xs i 0) k i) e ∙ ap (λ x. level_place xs w x w i) (sym (level-last d p n e h))
+  pub level-last-position : (d p n : ℕ) → d ≡ w → IsAtLevel xs w d i p n → p ≡ level_position xs w n w i
+  level-last-position d p n e h =
+      h.position ∙ ap (λ k. level_position xs w (get_or xs i 0) k i) e ∙ ap (λ x. level_position xs w x w i) (sym (level-last d p n e h))
 
   pub level-inside : (d p n : ℕ) → IsAtLevel xs w d i p n → p < length xs
-  level-inside d p n h = omega (arith, h.place, (level_place-item xs w (get_or xs i 0) d i inside refl).0)
+  level-inside d p n h = omega (arith, h.position, (level_position-item xs w (get_or xs i 0) d i inside refl).0)
 
   -- one level on, by a level and a digit that are these
   module _ (d p n next : ℕ) (v : Bool) (ys : List ℕ) (less : d < w) (h : IsAtLevel xs w d i p n) (same : ys ≡ level xs w d)
-      (is : v ≡ digit (get_or ys p 0) (w - 1 - d)) (moves : next ≡ partition_place (w - 1 - d) v ys p) where
+      (is : v ≡ digit (get_or ys p 0) (w - 1 - d)) (moves : next ≡ partition_position (w - 1 - d) v ys p) where
     own : v ≡ digit (get_or xs i 0) (w - 1 - d)
     own =
         is
         ∙ ap (λ m. digit (get_or m p 0) (w - 1 - d)) same
-        ∙ ap (λ q. digit (get_or (level xs w d) q 0) (w - 1 - d)) h.place
-        ∙ ap (λ y. digit y (w - 1 - d)) (level_place-item xs w (get_or xs i 0) d i inside refl).1
+        ∙ ap (λ q. digit (get_or (level xs w d) q 0) (w - 1 - d)) h.position
+        ∙ ap (λ y. digit y (w - 1 - d)) (level_position-item xs w (get_or xs i 0) d i inside refl).1
 
     more : 2 * n + bool_byte v ≡ with_digit (get_or xs i 0 / 2 ^ (w - d)) (digit (get_or xs i 0) (w - 1 - d))
     more = one-more n v ∙ ap (λ k. with_digit k v) h.digits ∙ ap (with_digit (get_or xs i 0 / 2 ^ (w - d))) own
@@ -54,7 +54,7 @@ module _ (xs : List ℕ) (w : ℕ) (fit : All (λ x. x < 2 ^ w) xs) (most : w �
 
     pub level-next-item : IsAtLevel xs w (d + 1) i next (2 * n + bool_byte v)
     level-next-item = record {
-      place = step-place xs w (get_or xs i 0) d i p next v ys same own h.place moves;
+      position = step-position xs w (get_or xs i 0) d i p next v ys same own h.position moves;
       digits = more ∙ prefix-more (get_or xs i 0) w d less;
     }
 

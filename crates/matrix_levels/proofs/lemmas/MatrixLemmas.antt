@@ -12,24 +12,24 @@ use Rattle.bitm_tables.specs.Quarters.{AreQuartersOf}
 use Rattle.bitm_tables.specs.Tables.{IsIndexed, Lists, bits_in}
 use Rattle.bit_lists.specs.Count.{count_before, ones_before, zeros_before}
 use Rattle.bit_lists.proofs.BitLaws.{bits_are_counted, count_in_stretch, item_of_stretch, ones_and_zeros}
-use Rattle.matrix_levels.specs.Levels.{has_digit, partition, column, columns, level, known_of, level_place, partition_place}
-use Rattle.matrix_levels.specs.Matrix.{IsMatrix, IsMatrixOf, IsTight, LevelTables, digit_place, level_items, low_part, matrix_words, next_place, numbers_in, quarters_for}
+use Rattle.matrix_levels.specs.Levels.{has_digit, partition, column, columns, level, known_of, level_position, partition_position}
+use Rattle.matrix_levels.specs.Matrix.{IsMatrix, IsMatrixOf, IsTight, LevelTables, digit_position, level_items, low_part, matrix_words, next_position, numbers_in, quarters_for}
 use Rattle.matrix_levels.proofs.lemmas.DecodeLemmas.{any-levels, items-fit, items-len}
 use Rattle.matrix_levels.proofs.lemmas.ColumnLemmas.{column-at, length-level, length-column, count-column, item-column}
 use Rattle.matrix_levels.proofs.lemmas.PartLemmas.{item-moved, moved-inside}
 use Rattle.matrix_levels.proofs.lemmas.StartLemmas.{starts-from-begins, starts-of-none}
 
--- the next place by the bits of a level is where its item stands after the partition
-next-place-moved : (b : ℕ) (xs : List ℕ) (p : ℕ) → p < length xs
-    → next_place (column b xs) p ≡ partition_place b (digit (get_or xs p 0) b) xs p
-unfolding partition_place
-next-place-moved b xs p h =
+-- the next position by the bits of a level is where its item stands after the partition
+next-position-moved : (b : ℕ) (xs : List ℕ) (p : ℕ) → p < length xs
+    → next_position (column b xs) p ≡ partition_position b (digit (get_or xs p 0) b) xs p
+unfolding partition_position
+next-position-moved b xs p h =
     let c = column b xs in
     ap (λ v. if v then zeros_before c (length c) + ones_before c p else zeros_before c p) (item-column b xs p h)
     ∙ by (digit (get_or xs p 0) b)
   where
     by : (v : Bool) → (if v then zeros_before (column b xs) (length (column b xs)) + ones_before (column b xs) p else zeros_before (column b xs) p)
-        ≡ partition_place b v xs p
+        ≡ partition_position b v xs p
     by true =
         let all : take (length (column b xs)) xs ≡ xs = take_all _ xs (omega (arith, length-column b xs)) in
         let zeros = count-column b xs false (length (column b xs)) ∙ ap (count_by (has_digit b false)) all in
@@ -71,26 +71,26 @@ module _ (xs : List ℕ) (w n : ℕ) (b : List Bool) (count : n ≡ length xs) (
       let x = get_or (level xs w d) p 0 in
       let v = digit x r in
       let same : w - suc r ≡ d = omega arith in
-      let place : w - 1 - d ≡ r = omega arith in
+      let position : w - 1 - d ≡ r = omega arith in
       let c = take n (drop ((w - suc r) * n) b) in
       let is : c ≡ column r (level xs w d) =
-      ap (λ k. take n (drop (k * n) b)) same ∙ column-of d (omega arith) ∙ ap (λ k. column k (level xs w d)) place in
+      ap (λ k. take n (drop (k * n) b)) same ∙ column-of d (omega arith) ∙ ap (λ k. column k (level xs w d)) position in
       let len = length-level xs w d in
       let within : p < length (level xs w d) = omega (arith, count) in
       let bit : item c p ≡ v = ap (λ k. item k p) is ∙ item-column r (level xs w d) p within in
-      let to : next_place c p ≡ partition_place r v (level xs w d) p =
-      ap (λ k. next_place k p) is ∙ next-place-moved r (level xs w d) p within in
+      let to : next_position c p ≡ partition_position r v (level xs w d) p =
+      ap (λ k. next_position k p) is ∙ next-position-moved r (level xs w d) p within in
       let goes = moved-inside r v (level xs w d) p within refl in
-      let rest = low-level r (suc d) (partition_place r v (level xs w d) p) (omega arith) (omega (arith, count)) in
-      ap (λ k. (if k then 2 ^ r else 0) + low_part b w n r (next_place c p)) bit
+      let rest = low-level r (suc d) (partition_position r v (level xs w d) p) (omega arith) (omega (arith, count)) in
+      ap (λ k. (if k then 2 ^ r else 0) + low_part b w n r (next_position c p)) bit
       ∙ ap (λ k. (if v then 2 ^ r else 0) + low_part b w n r k) to
-      ∙ ap (λ k. (if v then 2 ^ r else 0) + k) (rest ∙ ap (λ k. k % 2 ^ r) (there place within))
+      ∙ ap (λ k. (if v then 2 ^ r else 0) + k) (rest ∙ ap (λ k. k % 2 ^ r) (there position within))
       ∙ sum x
     where
       there : w - 1 - d ≡ r → p < length (level xs w d)
-          → get_or (level xs w (suc d)) (partition_place r (digit (get_or (level xs w d) p 0) r) (level xs w d) p) 0 ≡ get_or (level xs w d) p 0
-      there place within =
-          ap (λ k. get_or (partition k (level xs w d)) (partition_place r (digit (get_or (level xs w d) p 0) r) (level xs w d) p) 0) place
+          → get_or (level xs w (suc d)) (partition_position r (digit (get_or (level xs w d) p 0) r) (level xs w d) p) 0 ≡ get_or (level xs w d) p 0
+      there position within =
+          ap (λ k. get_or (partition k (level xs w d)) (partition_position r (digit (get_or (level xs w d) p 0) r) (level xs w d) p) 0) position
           ∙ item-moved r _ (level xs w d) p within refl
 
       sum : (x : ℕ) → (if digit x r then 2 ^ r else 0) + x % 2 ^ r ≡ x % 2 ^ (suc r)
@@ -131,23 +131,23 @@ module _ (xs : List ℕ) (l : LevelTables) (b : List Bool) (h : IsMatrixOf xs l 
   pub start-fits : (d p : ℕ) → d < l.width → p ≤ l.len → d * l.len + p < 2 ^ 63
   start-fits d p less inside = omega (arith, h.short, mul-le-mul_right l.len (let e : d + 1 ≤ l.width = omega arith in e))
 
-  pub place-inside : (d p : ℕ) → d < l.width → p ≤ l.len → d * l.len + p ≤ length b
-  place-inside = level-inside xs l.width l.len b h.count h.room h.levels
+  pub position-inside : (d p : ℕ) → d < l.width → p ≤ l.len → d * l.len + p ≤ length b
+  position-inside = level-inside xs l.width l.len b h.count h.room h.levels
 
-  pub digit-is : (d p : ℕ) → d < l.width → p < l.len → item b (d * l.len + p) ≡ digit (get_or (level xs l.width d) p 0) (digit_place l d)
+  pub digit-is : (d p : ℕ) → d < l.width → p < l.len → item b (d * l.len + p) ≡ digit (get_or (level xs l.width d) p 0) (digit_position l d)
   digit-is = digit-level xs l.width l.len b h.count h.room h.levels
 
   -- no more ones stand before a level than bits
   pub ones-to-start : (d : ℕ) → d < l.width → get_or l.ones d 0 ≤ d * l.len
   ones-to-start d less =
-      omega (arith, h.ones_are d less, ones_and_zeros b (d * l.len) (omega (arith, place-inside d 0 less (omega arith))))
+      omega (arith, h.ones_are d less, ones_and_zeros b (d * l.len) (omega (arith, position-inside d 0 less (omega arith))))
 
   -- the ones among the first items of a level
   pub ones-are : (d p : ℕ) → d < l.width → p ≤ l.len
-      → ones_before b (d * l.len + p) ≡ get_or l.ones d 0 + count_by (has_digit (digit_place l d) true) (take p (level xs l.width d))
+      → ones_before b (d * l.len + p) ≡ get_or l.ones d 0 + count_by (has_digit (digit_position l d) true) (take p (level xs l.width d))
   ones-are d p less inside =
       count-level xs l.width l.len b h.count h.room h.levels true d p less inside
-      ∙ ap (λ k. k + count_by (has_digit (digit_place l d) true) (take p (level xs l.width d))) (sym (h.ones_are d less))
+      ∙ ap (λ k. k + count_by (has_digit (digit_position l d) true) (take p (level xs l.width d))) (sym (h.ones_are d less))
 
 -- the tables of what was written are those of the levels
 pub made-matrix : (xs : List ℕ) (l : LevelTables) (b : List Bool) (w : ℕ) → l.len ≡ length xs → l.width ≡ w → 1 ≤ w → w ≤ 64 → w * length xs < 2 ^ 63
@@ -198,7 +198,7 @@ made-of-bits l b w n len width some most short room ones_len zeros_len known sta
 -- and so they are with starts
 pub matrix-with-starts : (xs : List ℕ) (l : LevelTables) (b : List Bool) (known : ℕ) (starts : List ℕ) → IsMatrixOf xs l b
     → known ≤ l.width → length starts ≡ 2 ^ known
-    → ((h : ℕ) → h < 2 ^ known → get_or starts h 0 ≡ level_place xs l.width (h * 2 ^ (l.width - known)) known 0)
+    → ((h : ℕ) → h < 2 ^ known → get_or starts h 0 ≡ level_position xs l.width (h * 2 ^ (l.width - known)) known 0)
     → IsMatrixOf xs (record l { known = known; starts = starts }) b
 matrix-with-starts xs l b known starts h most len each = record {
   count = h.count;

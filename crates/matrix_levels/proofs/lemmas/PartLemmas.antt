@@ -6,7 +6,7 @@ use Rattle.std.proofs.lemmas.List.Elements.{filter_passes}
 use Rattle.std.proofs.lemmas.List.Filters.{length-filter_both}
 use Rattle.std.proofs.lemmas.List.Sums.{length-filter}
 use Rattle.bit_lists.specs.Bits.{digit}
-use Rattle.matrix_levels.specs.Levels.{has_digit, partition, partition_place}
+use Rattle.matrix_levels.specs.Levels.{has_digit, partition, partition_position}
 use Rattle.matrix_levels.specs.Numbers.{PicksItem}
 use Rattle.matrix_levels.proofs.lemmas.FilterLemmas.{range-filter, take-filter, filter-at, count-at, count-take-le, count-grows, count-range, count-filter, count-filter-none}
 
@@ -27,13 +27,13 @@ length-partition b xs =
       length-filter (has_digit b false) xs,
     )
 
-pub moved-le : (b : ℕ) (v : Bool) (xs : List ℕ) (p : ℕ) → partition_place b v xs p ≤ length xs
-unfolding partition_place
+pub moved-le : (b : ℕ) (v : Bool) (xs : List ℕ) (p : ℕ) → partition_position b v xs p ≤ length xs
+unfolding partition_position
 moved-le b false xs p = omega (arith, count-take-le (has_digit b false) p xs, both-digits b xs)
 moved-le b true xs p = omega (arith, count-take-le (has_digit b true) p xs, both-digits b xs)
 
-pub moved-grows : (b : ℕ) (v : Bool) (xs : List ℕ) (s e : ℕ) → s ≤ e → partition_place b v xs s ≤ partition_place b v xs e
-unfolding partition_place
+pub moved-grows : (b : ℕ) (v : Bool) (xs : List ℕ) (s e : ℕ) → s ≤ e → partition_position b v xs s ≤ partition_position b v xs e
+unfolding partition_position
 moved-grows b false xs s e h = count-grows (has_digit b false) s e xs h
 moved-grows b true xs s e h = omega (arith, count-grows (has_digit b true) s e xs h)
 
@@ -51,8 +51,8 @@ range-append-right xs ys n s e len =
 
 -- a range with its items of one digit alone is a range of the partition list
 pub range-moved : (b : ℕ) (v : Bool) (xs : List ℕ) (s e : ℕ) → s ≤ e
-    → slice_range (partition b xs) (partition_place b v xs s) (partition_place b v xs e) ≡ filter (has_digit b v) (slice_range xs s e)
-unfolding partition_place partition
+    → slice_range (partition b xs) (partition_position b v xs s) (partition_position b v xs e) ≡ filter (has_digit b v) (slice_range xs s e)
+unfolding partition_position partition
 range-moved b false xs s e h =
     range-append-left (filter (has_digit b false) xs) (filter (has_digit b true) xs) _ _ (count-grows (has_digit b false) s e xs h)
     (omega (arith, length-filter (has_digit b false) xs, count-take-le (has_digit b false) e xs))
@@ -63,8 +63,8 @@ range-moved b true xs s e h =
 
 -- an item stands in the partition list where it partition_place to
 pub item-moved : (b : ℕ) (v : Bool) (xs : List ℕ) (p : ℕ) → p < length xs → digit (get_or xs p 0) b ≡ v
-    → get_or (partition b xs) (partition_place b v xs p) 0 ≡ get_or xs p 0
-unfolding partition_place partition
+    → get_or (partition b xs) (partition_position b v xs p) 0 ≡ get_or xs p 0
+unfolding partition_position partition
 item-moved b false xs p h e =
     get_or_append_left (filter (has_digit b false) xs) (filter (has_digit b true) xs) 0 _
     (omega (arith, length-filter (has_digit b false) xs, count-at (has_digit b false) p xs 0 h (not_from_false _ e)))
@@ -77,8 +77,8 @@ item-moved b true xs p h e =
 
 -- and it stands inside
 pub moved-inside : (b : ℕ) (v : Bool) (xs : List ℕ) (p : ℕ) → p < length xs → digit (get_or xs p 0) b ≡ v
-    → partition_place b v xs p < length xs
-unfolding partition_place
+    → partition_position b v xs p < length xs
+unfolding partition_position
 moved-inside b false xs p h e = omega (arith, count-at (has_digit b false) p xs 0 h (not_from_false _ e), both-digits b xs)
 moved-inside b true xs p h e = omega (arith, count-at (has_digit b true) p xs 0 h e, both-digits b xs)
 
@@ -88,10 +88,10 @@ digit-of-equal b v s x h e =
     let P : ℕ → Type 0 = λ y. has_digit b v y ≡ true in
     subst P (sym (eqb-true x s e)) h
 
--- as many items are a number before a place as before the place that it partition_place to, for the number's digit
+-- as many items are a number before a position as before the position that it partition_place to, for the number's digit
 pub count-moved : (b : ℕ) (v : Bool) (xs : List ℕ) (s p : ℕ) → has_digit b v s ≡ true
-    → count_by (λ x. x == s) (take (partition_place b v xs p) (partition b xs)) ≡ count_by (λ x. x == s) (take p xs)
-unfolding partition_place partition
+    → count_by (λ x. x == s) (take (partition_position b v xs p) (partition b xs)) ≡ count_by (λ x. x == s) (take p xs)
+unfolding partition_position partition
 count-moved b false xs s p h =
     let zeros = filter (has_digit b false) xs in
     let at = count_by (has_digit b false) (take p xs) in
@@ -117,7 +117,7 @@ count-moved b true xs s p h =
 
 -- an item picked in the partition list is picked where it came from
 pub PicksItem-back : (b : ℕ) (v : Bool) (xs : List ℕ) (s k p q : ℕ) → PicksItem (partition b xs) s k p → has_digit b v s ≡ true
-    → q < length xs → digit (get_or xs q 0) b ≡ v → partition_place b v xs q ≡ p → PicksItem xs s k q
+    → q < length xs → digit (get_or xs q 0) b ≡ v → partition_position b v xs q ≡ p → PicksItem xs s k q
 PicksItem-back b v xs s k p q h has_it inside digit_is moves =
     record {
       inside = inside;
@@ -154,27 +154,27 @@ after-zeros b xs p h e =
     (λ l. l)
     (cases_lt p (count_by (has_digit b false) xs))
 
--- where a place moves to, from the counts of both digits
+-- where a position moves to, from the counts of both digits
 pub moved-one : (b : ℕ) (v : Bool) (xs : List ℕ) (p z o : ℕ) → v ≡ true → z ≡ count_by (has_digit b false) xs → o ≡ count_by (has_digit b true) (take p xs)
-    → z + o ≡ partition_place b v xs p
-unfolding partition_place
-moved-one b v xs p z o one zeros ones = let e : z + o ≡ partition_place b true xs p = omega (arith, zeros, ones) in e ∙ ap (λ k. partition_place b k xs p) (sym one)
+    → z + o ≡ partition_position b v xs p
+unfolding partition_position
+moved-one b v xs p z o one zeros ones = let e : z + o ≡ partition_position b true xs p = omega (arith, zeros, ones) in e ∙ ap (λ k. partition_position b k xs p) (sym one)
 
 pub moved-zero : (b : ℕ) (v : Bool) (xs : List ℕ) (p o : ℕ) → v ≡ false → p ≤ length xs → o ≡ count_by (has_digit b true) (take p xs)
-    → p - o ≡ partition_place b v xs p
-unfolding partition_place
+    → p - o ≡ partition_position b v xs p
+unfolding partition_position
 moved-zero b v xs p o zero inside ones =
-    let e : p - o ≡ partition_place b false xs p = omega (arith, ones, both-digits b (take p xs), length-take-le p xs inside) in
-    e ∙ ap (λ k. partition_place b k xs p) (sym zero)
+    let e : p - o ≡ partition_position b false xs p = omega (arith, ones, both-digits b (take p xs), length-take-le p xs inside) in
+    e ∙ ap (λ k. partition_position b k xs p) (sym zero)
 
--- the counts of both digits, up to a place and of all, are no more than the numbers
+-- the counts of both digits, up to a position and of all, are no more than the numbers
 pub counts-fit : (b : ℕ) (xs : List ℕ) (p z o : ℕ) → z ≡ count_by (has_digit b false) xs → o ≡ count_by (has_digit b true) (take p xs) → z + o ≤ length xs
 counts-fit b xs p z o zeros ones = omega (arith, both-digits b xs, count-take-le (has_digit b true) p xs)
 
 -- a range parts into those with the digit 1 and those with the digit 0
 pub moved-both : (b : ℕ) (xs : List ℕ) (f l : ℕ) → f ≤ l → l ≤ length xs
-    → (partition_place b true xs l - partition_place b true xs f) + (partition_place b false xs l - partition_place b false xs f) ≡ l - f
-unfolding partition_place
+    → (partition_position b true xs l - partition_position b true xs f) + (partition_position b false xs l - partition_position b false xs f) ≡ l - f
+unfolding partition_position
 moved-both b xs f l order inside =
     omega (
       arith,

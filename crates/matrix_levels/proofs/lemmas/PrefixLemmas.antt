@@ -7,7 +7,7 @@ use Rattle.std.proofs.lemmas.List.Elements.{filter_agree}
 use Rattle.std.proofs.lemmas.Nat.{shr-shr, pow_pos}
 use Rattle.std.proofs.Math.Nat.{div-eq_of_lt, div-one, div-lt_iff_lt-mul}
 use Rattle.bit_lists.specs.Bits.{digit}
-use Rattle.matrix_levels.specs.Levels.{has_digit, level, partition_place, has_prefix}
+use Rattle.matrix_levels.specs.Levels.{has_digit, level, partition_position, has_prefix}
 use Rattle.matrix_levels.proofs.lemmas.ColumnLemmas.{length-level}
 use Rattle.matrix_levels.proofs.lemmas.FilterLemmas.{filter-filter, filter-all}
 use Rattle.matrix_levels.proofs.lemmas.PartLemmas.{range-moved, moved-grows, moved-le}
@@ -51,7 +51,7 @@ begins-more b h false x =
 pub filter-more : (b h : ℕ) (v : Bool) (xs : List ℕ) → filter (has_digit b v) (filter (has_prefix (suc b) h) xs) ≡ filter (has_prefix b (with_digit h v)) xs
 filter-more b h v xs = filter-filter (has_digit b v) (has_prefix (suc b) h) (has_prefix b (with_digit h v)) (begins-more b h v) xs
 
--- places f and l of level d are the ends of what begins with h in the list ys, in its order
+-- positions f and l of level d are the ends of what begins with h in the list ys, in its order
 pub record IsPrefixRange (xs : List ℕ) (w d h : ℕ) (ys : List ℕ) (f l : ℕ) : Type 0 where
   pub order : f ≤ l
   pub inside : l ≤ length xs
@@ -59,7 +59,7 @@ pub record IsPrefixRange (xs : List ℕ) (w d h : ℕ) (ys : List ℕ) (f l : �
 
 -- one level on
 pub IsPrefixRange-next : (xs : List ℕ) (w d h : ℕ) (ys : List ℕ) (f l : ℕ) (v : Bool) → d < w → IsPrefixRange xs w d h ys f l
-    → IsPrefixRange xs w (d + 1) (with_digit h v) ys (partition_place (w - 1 - d) v (level xs w d) f) (partition_place (w - 1 - d) v (level xs w d) l)
+    → IsPrefixRange xs w (d + 1) (with_digit h v) ys (partition_position (w - 1 - d) v (level xs w d) f) (partition_position (w - 1 - d) v (level xs w d) l)
 unfolding level
 IsPrefixRange-next xs w d h ys f l v less n =
     let b = w - 1 - d in
@@ -69,13 +69,13 @@ IsPrefixRange-next xs w d h ys f l v less n =
       order = moved-grows b v (level xs w d) f l n.order;
       inside = omega (arith, moved-le b v (level xs w d) l, length-level xs w d);
       items =
-          ap (λ k. slice_range (level xs w k) (partition_place b v (level xs w d) f) (partition_place b v (level xs w d) l)) (add-one d)
+          ap (λ k. slice_range (level xs w k) (partition_position b v (level xs w d) f) (partition_position b v (level xs w d) l)) (add-one d)
           ∙ next n b here
           ∙ ap (λ k. filter (has_prefix k (with_digit h v)) ys) there;
     }
   where
     next : IsPrefixRange xs w d h ys f l → (b : ℕ) → w - d ≡ suc b
-        → slice_range (level xs w (suc d)) (partition_place (w - 1 - d) v (level xs w d) f) (partition_place (w - 1 - d) v (level xs w d) l)
+        → slice_range (level xs w (suc d)) (partition_position (w - 1 - d) v (level xs w d) f) (partition_position (w - 1 - d) v (level xs w d) l)
         ≡ filter (has_prefix (w - 1 - d) (with_digit h v)) ys
     next n b here =
         let p = w - 1 - d in

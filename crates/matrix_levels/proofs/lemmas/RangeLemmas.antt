@@ -4,7 +4,7 @@ use Rattle.std.proofs.lemmas.Bool.{eqb-true, eq-eqb, ne_eqb, lt-ltb, le-ltb, le-
 use Rattle.std.proofs.lemmas.List.Sums.{length-filter, sum_by-cons}
 use Rattle.std.proofs.Math.Nat.{div-one, pow-succ'}
 use Rattle.bit_lists.specs.Bits.{digit}
-use Rattle.matrix_levels.specs.Levels.{level, partition_place, has_prefix, has_lesser_prefix}
+use Rattle.matrix_levels.specs.Levels.{level, partition_position, has_prefix, has_lesser_prefix}
 use Rattle.matrix_levels.specs.Numbers.{count_less, IsSmallest}
 use Rattle.matrix_levels.proofs.lemmas.ColumnLemmas.{length-level}
 use Rattle.matrix_levels.proofs.lemmas.PartLemmas.{moved-both}
@@ -55,7 +55,7 @@ module _ (xs : List ℕ) (w d h : ℕ) (ys : List ℕ) (f l : ℕ) (less : d < w
   width = omega arith
 
   -- how many of a range have a digit
-  pub range-count : (v : Bool) → partition_place (w - 1 - d) v (level xs w d) l - partition_place (w - 1 - d) v (level xs w d) f
+  pub range-count : (v : Bool) → partition_position (w - 1 - d) v (level xs w d) l - partition_position (w - 1 - d) v (level xs w d) f
       ≡ count_by (has_prefix (w - (d + 1)) (with_digit h v)) ys
   range-count v =
       let next = IsPrefixRange-next xs w d h ys f l v less n in
@@ -67,7 +67,7 @@ module _ (xs : List ℕ) (w d h : ℕ) (ys : List ℕ) (f l : ℕ) (less : d < w
   less-next-zero = less-zero (w - (d + 1)) h ys ∙ ap (λ k. count_by (has_lesser_prefix k h) ys) (sym width)
 
   pub less-next-one : count_by (has_lesser_prefix (w - (d + 1)) (with_digit h true)) ys
-      ≡ count_by (has_lesser_prefix (w - d) h) ys + (partition_place (w - 1 - d) false (level xs w d) l - partition_place (w - 1 - d) false (level xs w d) f)
+      ≡ count_by (has_lesser_prefix (w - d) h) ys + (partition_position (w - 1 - d) false (level xs w d) l - partition_position (w - 1 - d) false (level xs w d) f)
   less-next-one =
       less-one (w - (d + 1)) h ys
       ∙ ap (λ k. count_by (has_lesser_prefix k h) ys + count_by (has_prefix (w - (d + 1)) (with_digit h false)) ys) (sym width)
@@ -75,7 +75,7 @@ module _ (xs : List ℕ) (w d h : ℕ) (ys : List ℕ) (f l : ℕ) (less : d < w
 
 -- the count of those less than a number, one level on
 module _ (xs : List ℕ) (w d x : ℕ) (ys : List ℕ) (f l : ℕ) (less : d < w) (n : IsPrefixRange xs w d (x / 2 ^ (w - d)) ys f l) (v : Bool) (dig : v ≡ digit x (w - 1 - d)) where
-  pub less-number-one : v ≡ true → (z k : ℕ) → z ≡ partition_place (w - 1 - d) false (level xs w d) l - partition_place (w - 1 - d) false (level xs w d) f
+  pub less-number-one : v ≡ true → (z k : ℕ) → z ≡ partition_position (w - 1 - d) false (level xs w d) l - partition_position (w - 1 - d) false (level xs w d) f
       → k ≡ count_by (has_lesser_prefix (w - d) (x / 2 ^ (w - d))) ys → k + z ≡ count_by (has_lesser_prefix (w - (d + 1)) (x / 2 ^ (w - (d + 1)))) ys
   less-number-one one z k zs ks =
       let number : with_digit (x / 2 ^ (w - d)) true ≡ x / 2 ^ (w - (d + 1)) = ap (with_digit (x / 2 ^ (w - d))) (sym one ∙ dig) ∙ prefix-more x w d less in
@@ -89,7 +89,7 @@ module _ (xs : List ℕ) (w d x : ℕ) (ys : List ℕ) (f l : ℕ) (less : d < w
 
 -- the number sought among those that begin with the digits so far, one level on
 module _ (xs : List ℕ) (w d h : ℕ) (ys : List ℕ) (f l left k z : ℕ) (less : d < w) (n : IsPrefixRange xs w d h ys f l)
-    (zs : z ≡ partition_place (w - 1 - d) false (level xs w d) l - partition_place (w - 1 - d) false (level xs w d) f)
+    (zs : z ≡ partition_position (w - 1 - d) false (level xs w d) l - partition_position (w - 1 - d) false (level xs w d) f)
     (sum : left + count_by (has_lesser_prefix (w - d) h) ys ≡ k) (some : left < l - f) where
   pub sought-one : z ≤ left → (left - z) + count_by (has_lesser_prefix (w - (d + 1)) (with_digit h true)) ys ≡ k
   sought-one past = omega (arith, zs, sum, past, less-next-one xs w d h ys f l less n)
@@ -97,11 +97,11 @@ module _ (xs : List ℕ) (w d h : ℕ) (ys : List ℕ) (f l left k z : ℕ) (les
   pub sought-zero : left + count_by (has_lesser_prefix (w - (d + 1)) (with_digit h false)) ys ≡ k
   sought-zero = omega (arith, sum, less-next-zero xs w d h ys f l less n)
 
-  pub some-one : z ≤ left → left - z < partition_place (w - 1 - d) true (level xs w d) l - partition_place (w - 1 - d) true (level xs w d) f
+  pub some-one : z ≤ left → left - z < partition_position (w - 1 - d) true (level xs w d) l - partition_position (w - 1 - d) true (level xs w d) f
   some-one past =
       omega (arith, zs, past, some, moved-both (w - 1 - d) (level xs w d) f l n.order (omega (arith, n.inside, length-level xs w d)))
 
-  pub some-zero : left < z → left < partition_place (w - 1 - d) false (level xs w d) l - partition_place (w - 1 - d) false (level xs w d) f
+  pub some-zero : left < z → left < partition_position (w - 1 - d) false (level xs w d) l - partition_position (w - 1 - d) false (level xs w d) f
   some-zero before = omega (arith, zs, before)
 
 -- the number sought begins with the digits h of d levels, and is the one after left among those of the range that do
@@ -112,21 +112,21 @@ pub record IsQuantilePrefix (xs : List ℕ) (w d h : ℕ) (ys : List ℕ) (f l l
   pub small : h < 2 ^ d
 
 pub IsQuantilePrefix-next : (xs : List ℕ) (w d h : ℕ) (ys : List ℕ) (f l left k z h' f' l' left' : ℕ) (v : Bool) → d < w → IsQuantilePrefix xs w d h ys f l left k
-    → z ≡ partition_place (w - 1 - d) false (level xs w d) l - partition_place (w - 1 - d) false (level xs w d) f
-    → h' ≡ with_digit h v → f' ≡ partition_place (w - 1 - d) v (level xs w d) f → l' ≡ partition_place (w - 1 - d) v (level xs w d) l
+    → z ≡ partition_position (w - 1 - d) false (level xs w d) l - partition_position (w - 1 - d) false (level xs w d) f
+    → h' ≡ with_digit h v → f' ≡ partition_position (w - 1 - d) v (level xs w d) f → l' ≡ partition_position (w - 1 - d) v (level xs w d) l
     → ((v ≡ true) × (z ≤ left) × (left' ≡ left - z)) ⊎ ((v ≡ false) × (left < z) × (left' ≡ left))
     → IsQuantilePrefix xs w (d + 1) h' ys f' l' left' k
 IsQuantilePrefix-next xs w d h ys f l left k z h' f' l' left' v less s zs eh ef el way =
     let A : ℕ → Type 0 = λ x. IsQuantilePrefix xs w (d + 1) x ys f' l' left' k in
     let B : ℕ → Type 0 = λ x. IsQuantilePrefix xs w (d + 1) (with_digit h v) ys x l' left' k in
-    let C : ℕ → Type 0 = λ x. IsQuantilePrefix xs w (d + 1) (with_digit h v) ys (partition_place (w - 1 - d) v (level xs w d) f) x left' k in
+    let C : ℕ → Type 0 = λ x. IsQuantilePrefix xs w (d + 1) (with_digit h v) ys (partition_position (w - 1 - d) v (level xs w d) f) x left' k in
     subst A (sym eh) (subst B (sym ef) (subst C (sym el) (by v way)))
   where
     double : 2 ^ (d + 1) ≡ 2 * 2 ^ d
     double = ap (λ n. 2 ^ n) (add-one d) ∙ pow-succ' 2 d
 
     by : (v : Bool) → ((v ≡ true) × (z ≤ left) × (left' ≡ left - z)) ⊎ ((v ≡ false) × (left < z) × (left' ≡ left))
-        → IsQuantilePrefix xs w (d + 1) (with_digit h v) ys (partition_place (w - 1 - d) v (level xs w d) f) (partition_place (w - 1 - d) v (level xs w d) l) left' k
+        → IsQuantilePrefix xs w (d + 1) (with_digit h v) ys (partition_position (w - 1 - d) v (level xs w d) f) (partition_position (w - 1 - d) v (level xs w d) l) left' k
     by true way =
         ⊎_elim
         (λ t. record {
@@ -219,12 +219,12 @@ smallest xs w d h ys f l left k e n less some =
 
 -- ---- as a walk has them
 
--- how many of a range have the digit 0, by a level and places that are these
+-- how many of a range have the digit 0, by a level and positions that are these
 pub part-zeros : (xs : List ℕ) (w d f l first last z : ℕ) (ys : List ℕ) → ys ≡ level xs w d → f ≡ first → l ≡ last
-    → z ≡ partition_place (w - 1 - d) false ys l - partition_place (w - 1 - d) false ys f
-    → z ≡ partition_place (w - 1 - d) false (level xs w d) last - partition_place (w - 1 - d) false (level xs w d) first
+    → z ≡ partition_position (w - 1 - d) false ys l - partition_position (w - 1 - d) false ys f
+    → z ≡ partition_position (w - 1 - d) false (level xs w d) last - partition_position (w - 1 - d) false (level xs w d) first
 part-zeros xs w d f l first last z ys same from to zeros =
     zeros
-    ∙ ap (λ m. partition_place (w - 1 - d) false m l - partition_place (w - 1 - d) false m f) same
-    ∙ ap (λ n. partition_place (w - 1 - d) false (level xs w d) l - partition_place (w - 1 - d) false (level xs w d) n) from
-    ∙ ap (λ n. partition_place (w - 1 - d) false (level xs w d) n - partition_place (w - 1 - d) false (level xs w d) first) to
+    ∙ ap (λ m. partition_position (w - 1 - d) false m l - partition_position (w - 1 - d) false m f) same
+    ∙ ap (λ n. partition_position (w - 1 - d) false (level xs w d) l - partition_position (w - 1 - d) false (level xs w d) n) from
+    ∙ ap (λ n. partition_position (w - 1 - d) false (level xs w d) n - partition_position (w - 1 - d) false (level xs w d) first) to

@@ -8,7 +8,7 @@ use Rattle.std.proofs.Math.Nat.{pow-succ'}
 use Rattle.std.proofs.Math.Pow.{shr_mono}
 use Rattle.std.proofs.Math.Seq.{get_or-append_right}
 use Rattle.bit_lists.specs.Bits.{digit}
-use Rattle.matrix_levels.specs.Levels.{has_digit, level, partition_place, ArePlacesAfter, BeginAlike}
+use Rattle.matrix_levels.specs.Levels.{has_digit, level, partition_position, ArePositionsAfter, BeginAlike}
 use Rattle.matrix_levels.specs.Shared.{AreShared, AddsShared, shared_prefixes}
 use Rattle.matrix_levels.proofs.lemmas.ColumnLemmas.{length-level}
 use Rattle.matrix_levels.proofs.lemmas.CountLemmas.{length-range}
@@ -190,13 +190,13 @@ module _ (xs : List ℕ) (w d h f l : ℕ) (n : BeginAlike xs w d h f l) where
         let P : ℕ → Type 0 = λ k. All (λ x. x / 2 ^ k ≡ h) (slice_range (level xs w d) f l) in
         subst P same n.begin
 
-    module _ (v : Bool) (s e : ℕ) (at : ArePlacesAfter (w - 1 - d) v (level xs w d) f l s e) where
+    module _ (v : Bool) (s e : ℕ) (at : ArePositionsAfter (w - 1 - d) v (level xs w d) f l s e) where
       pub part-next : slice_range (level xs w (d + 1)) s e ≡ filter (has_digit (w - 1 - d) v) (slice_range (level xs w d) f l)
       unfolding level
       part-next =
           ap (λ k. slice_range (level xs w k) s e) (add-one d)
           ∙ ap (λ k. slice_range (level xs w (suc d)) k e) at.0
-          ∙ ap (λ k. slice_range (level xs w (suc d)) (partition_place (w - 1 - d) v (level xs w d) f) k) at.1
+          ∙ ap (λ k. slice_range (level xs w (suc d)) (partition_position (w - 1 - d) v (level xs w d) f) k) at.1
           ∙ range-moved (w - 1 - d) v (level xs w d) f l n.order
 
       pub begin-next : BeginAlike xs w (d + 1) (with_digit h v) s e
@@ -217,7 +217,7 @@ module _ (xs : List ℕ) (w d h f l : ℕ) (n : BeginAlike xs w d h f l) where
 
 -- the same by a list and a beginning that are these
 pub begin-there : (xs ys : List ℕ) (w d h k f l s e : ℕ) (v : Bool) → BeginAlike xs w d h f l → d < w → ys ≡ xs → k ≡ with_digit h v
-    → ArePlacesAfter (w - 1 - d) v (level xs w d) f l s e → BeginAlike ys w (d + 1) k s e
+    → ArePositionsAfter (w - 1 - d) v (level xs w d) f l s e → BeginAlike ys w (d + 1) k s e
 begin-there xs ys w d h k f l s e v n less same is at =
     let P : List ℕ → Type 0 = λ zs. BeginAlike zs w (d + 1) k s e in
     let Q : ℕ → Type 0 = λ m. BeginAlike xs w (d + 1) m s e in
@@ -233,8 +233,8 @@ more-fits h d small =
 
 module _ (xs : List ℕ) (w d h f l p q : ℕ) (n : BeginAlike xs w d h f l) (o : BeginAlike xs w d h p q) (less : d < w)
     (f0 l0 p0 q0 f1 l1 p1 q1 : ℕ)
-    (zeros : ArePlacesAfter (w - 1 - d) false (level xs w d) f l f0 l0) (others0 : ArePlacesAfter (w - 1 - d) false (level xs w d) p q p0 q0)
-    (ones : ArePlacesAfter (w - 1 - d) true (level xs w d) f l f1 l1) (others1 : ArePlacesAfter (w - 1 - d) true (level xs w d) p q p1 q1) where
+    (zeros : ArePositionsAfter (w - 1 - d) false (level xs w d) f l f0 l0) (others0 : ArePositionsAfter (w - 1 - d) false (level xs w d) p q p0 q0)
+    (ones : ArePositionsAfter (w - 1 - d) true (level xs w d) f l f1 l1) (others1 : ArePositionsAfter (w - 1 - d) true (level xs w d) p q p1 q1) where
   -- what both add is what the two ranges share
   pub walk-adds : (old mid new : List ℕ)
       → AddsShared (slice_range (level xs w (d + 1)) f0 l0) (slice_range (level xs w (d + 1)) p0 q0) old mid
@@ -270,7 +270,7 @@ module _ (xs : List ℕ) (w d h f l p q : ℕ) (n : BeginAlike xs w d h f l) (o 
       ∙ ap (λ k. 1 + shared_prefixes (filter (has_digit b false) xs0) (filter (has_digit b false) ys0) (w - (d + 1)) + k)
       (half true f1 l1 p1 q1 ones others1))
     where
-      half : (v : Bool) (s e t u : ℕ) → ArePlacesAfter (w - 1 - d) v (level xs w d) f l s e → ArePlacesAfter (w - 1 - d) v (level xs w d) p q t u
+      half : (v : Bool) (s e t u : ℕ) → ArePositionsAfter (w - 1 - d) v (level xs w d) f l s e → ArePositionsAfter (w - 1 - d) v (level xs w d) p q t u
           → shared_prefixes (slice_range (level xs w (d + 1)) s e) (slice_range (level xs w (d + 1)) t u) (w - (d + 1))
           ≡ shared_prefixes (filter (has_digit (w - 1 - d) v) (slice_range (level xs w d) f l))
           (filter (has_digit (w - 1 - d) v) (slice_range (level xs w d) p q)) (w - (d + 1))

@@ -1,4 +1,4 @@
--- Where numbers stand after some levels, and what stands between two places.
+-- Where numbers stand after some levels, and what stands between two positions.
 use Rattle.std.proofs.Common.{◌≡◌, ℕ, zero, suc, ◌+◌, ◌-◌, ◌/◌, ◌^◌, ◌<◌, ◌≤◌, ◌==◌, Bool, List, length, take, get_or, count_by, filter, slice_range, All, refl, sym, ap, ◌∙◌, subst, arith, add-one, zero-add, ⊎_elim}
 use Rattle.std.proofs.lemmas.Bool.{cases_lt, eqb-true, eq-eqb, ne_eqb}
 use Rattle.std.proofs.lemmas.List.Elements.{filter_passes}
@@ -6,7 +6,7 @@ use Rattle.std.proofs.lemmas.List.Sums.{length-filter}
 use Rattle.std.proofs.lemmas.Nat.{shr_le}
 use Rattle.std.proofs.Math.Nat.{pow-le-pow_right}
 use Rattle.bit_lists.specs.Bits.{digit}
-use Rattle.matrix_levels.specs.Levels.{level, level_place, partition_place}
+use Rattle.matrix_levels.specs.Levels.{level, level_position, partition_position}
 use Rattle.matrix_levels.specs.Numbers.{occurrences_before, PicksItem}
 use Rattle.matrix_levels.proofs.lemmas.BackLemmas.{has-own}
 use Rattle.matrix_levels.proofs.lemmas.ColumnLemmas.{length-level}
@@ -26,101 +26,101 @@ digits-first x w fit = let all : w - 0 ≡ w = omega arith in sym (ap (λ k. x /
 
 -- what begins as a number does, one digit more
 IsPrefixRange-number : (xs : List ℕ) (w d x : ℕ) (ys : List ℕ) (f l : ℕ) → d < w → IsPrefixRange xs w d (x / 2 ^ (w - d)) ys f l
-    → IsPrefixRange xs w (d + 1) (x / 2 ^ (w - (d + 1))) ys (partition_place (w - 1 - d) (digit x (w - 1 - d)) (level xs w d) f)
-    (partition_place (w - 1 - d) (digit x (w - 1 - d)) (level xs w d) l)
+    → IsPrefixRange xs w (d + 1) (x / 2 ^ (w - (d + 1))) ys (partition_position (w - 1 - d) (digit x (w - 1 - d)) (level xs w d) f)
+    (partition_position (w - 1 - d) (digit x (w - 1 - d)) (level xs w d) l)
 IsPrefixRange-number xs w d x ys f l less n =
     let v = digit x (w - 1 - d) in
-    let P : ℕ → Type 0 = λ h. IsPrefixRange xs w (d + 1) h ys (partition_place (w - 1 - d) v (level xs w d) f) (partition_place (w - 1 - d) v (level xs w d) l) in
+    let P : ℕ → Type 0 = λ h. IsPrefixRange xs w (d + 1) h ys (partition_position (w - 1 - d) v (level xs w d) f) (partition_position (w - 1 - d) v (level xs w d) l) in
     subst P (prefix-more x w d less) (IsPrefixRange-next xs w d (x / 2 ^ (w - d)) ys f l v less n)
 
--- ---- the place after some levels
+-- ---- the position after some levels
 
-pub level_place-first : (xs : List ℕ) (w x p : ℕ) → p ≡ level_place xs w x 0 p
-unfolding level_place
-level_place-first xs w x p = refl
+pub level_position-first : (xs : List ℕ) (w x p : ℕ) → p ≡ level_position xs w x 0 p
+unfolding level_position
+level_position-first xs w x p = refl
 
-pub level_place-more : (xs : List ℕ) (w x d p : ℕ)
-    → level_place xs w x (d + 1) p ≡ partition_place (w - 1 - d) (digit x (w - 1 - d)) (level xs w d) (level_place xs w x d p)
-unfolding level_place
-level_place-more xs w x d p = ap (λ k. level_place xs w x k p) (add-one d)
+pub level_position-more : (xs : List ℕ) (w x d p : ℕ)
+    → level_position xs w x (d + 1) p ≡ partition_position (w - 1 - d) (digit x (w - 1 - d)) (level xs w d) (level_position xs w x d p)
+unfolding level_position
+level_position-more xs w x d p = ap (λ k. level_position xs w x k p) (add-one d)
 
-pub level_place-inside : (xs : List ℕ) (w x d p : ℕ) → p ≤ length xs → level_place xs w x d p ≤ length xs
-unfolding level_place
-level_place-inside xs w x zero p h = h
-level_place-inside xs w x (suc d) p h =
-    omega (arith, moved-le (w - 1 - d) (digit x (w - 1 - d)) (level xs w d) (level_place xs w x d p), length-level xs w d)
+pub level_position-inside : (xs : List ℕ) (w x d p : ℕ) → p ≤ length xs → level_position xs w x d p ≤ length xs
+unfolding level_position
+level_position-inside xs w x zero p h = h
+level_position-inside xs w x (suc d) p h =
+    omega (arith, moved-le (w - 1 - d) (digit x (w - 1 - d)) (level xs w d) (level_position xs w x d p), length-level xs w d)
 
 -- one level on, by a level and a digit that are these
-pub step-place : (xs : List ℕ) (w x d p q next : ℕ) (v : Bool) (ys : List ℕ) → ys ≡ level xs w d → v ≡ digit x (w - 1 - d) → q ≡ level_place xs w x d p
-    → next ≡ partition_place (w - 1 - d) v ys q → next ≡ level_place xs w x (d + 1) p
-step-place xs w x d p q next v ys same dig at moves =
+pub step-position : (xs : List ℕ) (w x d p q next : ℕ) (v : Bool) (ys : List ℕ) → ys ≡ level xs w d → v ≡ digit x (w - 1 - d) → q ≡ level_position xs w x d p
+    → next ≡ partition_position (w - 1 - d) v ys q → next ≡ level_position xs w x (d + 1) p
+step-position xs w x d p q next v ys same dig at moves =
     moves
-    ∙ ap (λ m. partition_place (w - 1 - d) v m q) same
-    ∙ ap (λ u. partition_place (w - 1 - d) u (level xs w d) q) dig
-    ∙ ap (λ k. partition_place (w - 1 - d) (digit x (w - 1 - d)) (level xs w d) k) at
-    ∙ sym (level_place-more xs w x d p)
+    ∙ ap (λ m. partition_position (w - 1 - d) v m q) same
+    ∙ ap (λ u. partition_position (w - 1 - d) u (level xs w d) q) dig
+    ∙ ap (λ k. partition_position (w - 1 - d) (digit x (w - 1 - d)) (level xs w d) k) at
+    ∙ sym (level_position-more xs w x d p)
 
 -- the same by a level that is this one
-pub place-same : (b : ℕ) (v : Bool) (xs ys : List ℕ) (q next : ℕ) → ys ≡ xs → next ≡ partition_place b v ys q → next ≡ partition_place b v xs q
-place-same b v xs ys q next same moves = moves ∙ ap (λ m. partition_place b v m q) same
+pub position-same : (b : ℕ) (v : Bool) (xs ys : List ℕ) (q next : ℕ) → ys ≡ xs → next ≡ partition_position b v ys q → next ≡ partition_position b v xs q
+position-same b v xs ys q next same moves = moves ∙ ap (λ m. partition_position b v m q) same
 
 -- an item stands there
-pub level_place-item : (xs : List ℕ) (w x d p : ℕ) → p < length xs → get_or xs p 0 ≡ x
-    → (level_place xs w x d p < length xs) × (get_or (level xs w d) (level_place xs w x d p) 0 ≡ x)
-unfolding level_place level
-level_place-item xs w x zero p inside is = (inside, is)
-level_place-item xs w x (suc d) p inside is =
-    let before = level_place-item xs w x d p inside is in
-    let within : level_place xs w x d p < length (level xs w d) = omega (arith, before.0, length-level xs w d) in
-    let dig : digit (get_or (level xs w d) (level_place xs w x d p) 0) (w - 1 - d) ≡ digit x (w - 1 - d) = ap (λ y. digit y (w - 1 - d)) before.1 in (
-      omega (arith, length-level xs w d, moved-inside (w - 1 - d) (digit x (w - 1 - d)) (level xs w d) (level_place xs w x d p) within dig),
-      item-moved (w - 1 - d) (digit x (w - 1 - d)) (level xs w d) (level_place xs w x d p) within dig ∙ before.1,
+pub level_position-item : (xs : List ℕ) (w x d p : ℕ) → p < length xs → get_or xs p 0 ≡ x
+    → (level_position xs w x d p < length xs) × (get_or (level xs w d) (level_position xs w x d p) 0 ≡ x)
+unfolding level_position level
+level_position-item xs w x zero p inside is = (inside, is)
+level_position-item xs w x (suc d) p inside is =
+    let before = level_position-item xs w x d p inside is in
+    let within : level_position xs w x d p < length (level xs w d) = omega (arith, before.0, length-level xs w d) in
+    let dig : digit (get_or (level xs w d) (level_position xs w x d p) 0) (w - 1 - d) ≡ digit x (w - 1 - d) = ap (λ y. digit y (w - 1 - d)) before.1 in (
+      omega (arith, length-level xs w d, moved-inside (w - 1 - d) (digit x (w - 1 - d)) (level xs w d) (level_position xs w x d p) within dig),
+      item-moved (w - 1 - d) (digit x (w - 1 - d)) (level xs w d) (level_position xs w x d p) within dig ∙ before.1,
     )
 
 -- as many of the number stand before it
-level_place-count : (xs : List ℕ) (w x d p : ℕ) → occurrences_before (level xs w d) x (level_place xs w x d p) ≡ occurrences_before xs x p
-unfolding level_place level
-level_place-count xs w x zero p = refl
-level_place-count xs w x (suc d) p =
-    count-moved (w - 1 - d) (digit x (w - 1 - d)) (level xs w d) x (level_place xs w x d p) (has-own (w - 1 - d) _ x refl)
-    ∙ level_place-count xs w x d p
+level_position-count : (xs : List ℕ) (w x d p : ℕ) → occurrences_before (level xs w d) x (level_position xs w x d p) ≡ occurrences_before xs x p
+unfolding level_position level
+level_position-count xs w x zero p = refl
+level_position-count xs w x (suc d) p =
+    count-moved (w - 1 - d) (digit x (w - 1 - d)) (level xs w d) x (level_position xs w x d p) (has-own (w - 1 - d) _ x refl)
+    ∙ level_position-count xs w x d p
 
--- what of a range begins as the number does stands between the places of its ends
-pub level_place-range : (xs : List ℕ) (w x s e : ℕ) → All (λ y. y < 2 ^ w) xs → x < 2 ^ w → s ≤ e → e ≤ length xs → (d : ℕ) → d ≤ w
-    → IsPrefixRange xs w d (x / 2 ^ (w - d)) (slice_range xs s e) (level_place xs w x d s) (level_place xs w x d e)
-unfolding level_place
-level_place-range xs w x s e all fit order inside zero most =
+-- what of a range begins as the number does stands between the positions of its ends
+pub level_position-range : (xs : List ℕ) (w x s e : ℕ) → All (λ y. y < 2 ^ w) xs → x < 2 ^ w → s ≤ e → e ≤ length xs → (d : ℕ) → d ≤ w
+    → IsPrefixRange xs w d (x / 2 ^ (w - d)) (slice_range xs s e) (level_position xs w x d s) (level_position xs w x d e)
+unfolding level_position
+level_position-range xs w x s e all fit order inside zero most =
     let P : ℕ → Type 0 = λ h. IsPrefixRange xs w 0 h (slice_range xs s e) s e in
     subst P (digits-first x w fit) (IsPrefixRange-first xs w s e all order inside)
-level_place-range xs w x s e all fit order inside (suc d) most =
+level_position-range xs w x s e all fit order inside (suc d) most =
     let less : d < w = omega arith in
     let v = digit x (w - 1 - d) in
     let P : ℕ → Type 0 = λ k. IsPrefixRange xs w k (x / 2 ^ (w - k)) (slice_range xs s e)
-    (partition_place (w - 1 - d) v (level xs w d) (level_place xs w x d s)) (partition_place (w - 1 - d) v (level xs w d) (level_place xs w x d e)) in
+    (partition_position (w - 1 - d) v (level xs w d) (level_position xs w x d s)) (partition_position (w - 1 - d) v (level xs w d) (level_position xs w x d e)) in
     subst P (add-one d)
-    (IsPrefixRange-number xs w d x (slice_range xs s e) _ _ less (level_place-range xs w x s e all fit order inside d (omega arith)))
+    (IsPrefixRange-number xs w d x (slice_range xs s e) _ _ less (level_position-range xs w x s e all fit order inside d (omega arith)))
 
 -- ---- the last level
 
 module _ (xs : List ℕ) (w x : ℕ) (all : All (λ y. y < 2 ^ w) xs) (fit : x < 2 ^ w) where
   -- the number's items of a range stand side by side
   module _ (s e : ℕ) (order : s ≤ e) (inside : e ≤ length xs) where
-    last : IsPrefixRange xs w w (x / 2 ^ (w - w)) (slice_range xs s e) (level_place xs w x w s) (level_place xs w x w e)
-    last = level_place-range xs w x s e all fit order inside w (omega arith)
+    last : IsPrefixRange xs w w (x / 2 ^ (w - w)) (slice_range xs s e) (level_position xs w x w s) (level_position xs w x w e)
+    last = level_position-range xs w x s e all fit order inside w (omega arith)
 
-    items : slice_range (level xs w w) (level_place xs w x w s) (level_place xs w x w e) ≡ filter (λ y. y == x) (slice_range xs s e)
+    items : slice_range (level xs w w) (level_position xs w x w s) (level_position xs w x w e) ≡ filter (λ y. y == x) (slice_range xs s e)
     items =
         IsPrefixRange-last xs w w _ (slice_range xs s e) _ _ refl last
         ∙ ap (λ h. filter (λ y. y == h) (slice_range xs s e)) (prefix-all x w w refl)
 
-    within : level_place xs w x w e ≤ length (level xs w w)
+    within : level_position xs w x w e ≤ length (level xs w w)
     within = omega (arith, last.inside, length-level xs w w)
 
   -- as many as the number stands often in the front
-  pub rank-order : (i : ℕ) → i ≤ length xs → level_place xs w x w 0 ≤ level_place xs w x w i
+  pub rank-order : (i : ℕ) → i ≤ length xs → level_position xs w x w 0 ≤ level_position xs w x w i
   rank-order i inside = (last 0 i (omega arith) inside).order
 
-  pub rank-is : (i : ℕ) → i ≤ length xs → level_place xs w x w i - level_place xs w x w 0 ≡ occurrences_before xs x i
+  pub rank-is : (i : ℕ) → i ≤ length xs → level_position xs w x w i - level_position xs w x w 0 ≡ occurrences_before xs x i
   rank-is i inside =
       let all_of : i - 0 ≡ i = omega arith in
       sym (length-range (level xs w w) _ _ (rank-order i inside) (within 0 i (omega arith) inside))
@@ -129,11 +129,11 @@ module _ (xs : List ℕ) (w x : ℕ) (all : All (λ y. y < 2 ^ w) xs) (fit : x <
       ∙ ap (λ k. count_by (λ y. y == x) (take k xs)) all_of
 
   -- the k-th after the first has k of its kind before it
-  pub picked-last : (k : ℕ) → k < occurrences_before xs x (length xs) → PicksItem (level xs w w) x k (level_place xs w x w 0 + k)
+  pub picked-last : (k : ℕ) → k < occurrences_before xs x (length xs) → PicksItem (level xs w w) x k (level_position xs w x w 0 + k)
   picked-last k some =
-      let f = level_place xs w x w 0 in
+      let f = level_position xs w x w 0 in
       let n = length xs in
-      let l = level_place xs w x w n in
+      let l = level_position xs w x w n in
       let zs = level xs w w in
       let inside : n ≤ length xs = omega arith in
       let end = within 0 n (omega arith) inside in
@@ -147,7 +147,7 @@ module _ (xs : List ℕ) (w x : ℕ) (all : All (λ y. y < 2 ^ w) xs) (fit : x <
         item = sym (get_or-range zs f l k (omega (arith, rank, some))) ∙ passes k (omega (arith, rank, some));
         before =
             count-range (λ y. y == x) f (f + k) zs (omega arith)
-            ∙ ap (λ m. m + count_by (λ y. y == x) (slice_range zs f (f + k))) (level_place-count xs w x w 0)
+            ∙ ap (λ m. m + count_by (λ y. y == x) (slice_range zs f (f + k))) (level_position-count xs w x w 0)
             ∙ zero-add _
             ∙ count-all (λ y. y == x) (slice_range zs f (f + k))
             (λ j h. let near : j < k = omega (arith, length-range zs f (f + k) (omega arith) (omega (arith, rank, some, end))) in

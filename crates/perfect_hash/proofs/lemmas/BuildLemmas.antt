@@ -6,13 +6,13 @@ use Rattle.std.specs.List.{All, sum}
 use Rattle.std.specs.Option.{option_map}
 use Rattle.bit_lists.specs.Bits.{bits_of, item, IsShort}
 use Rattle.bit_lists.specs.Count.{ones_before}
-use Rattle.perfect_hash.specs.Levels.{hits, IsLevel, LeadTo, left_of, place_from, AddsLevel, Leave}
+use Rattle.perfect_hash.specs.Levels.{hits, IsLevel, LeadTo, left_of, position_from, AddsLevel, Leave}
 use Rattle.perfect_hash.specs.Numbers.{AreSizes}
 use Rattle.perfect_hash.specs.Perfect.{IsMinimalPerfect}
 use Rattle.bit_lists.proofs.BitLaws.{bits_are_counted, none_before_the_first}
 use Rattle.perfect_hash.proofs.lemmas.CountingLemmas.{count_by-others}
 use Rattle.perfect_hash.proofs.lemmas.LevelLemmas.{FallsInside}
-use Rattle.perfect_hash.proofs.lemmas.NumberLemmas.{sum-first, IsNumbered, numbered, number_below, place_from-one}
+use Rattle.perfect_hash.proofs.lemmas.NumberLemmas.{sum-first, IsNumbered, numbered, number_below, position_from-one}
 use Rattle.perfect_hash.proofs.lemmas.PerfectLemmas.{minimal_perfect}
 use Rattle.perfect_hash.proofs.lemmas.WordLemmas.{item-first, item-added}
 
@@ -138,13 +138,13 @@ are_sizes fall keys sizes words h few short = record {
 -- and number the keys
 pub perfect : {K : Type 0} (fall : K → ℕ → ℕ → ℕ) (falls : FallsInside fall) (keys : List K) (sizes words : List ℕ)
     → Leave fall keys sizes words []
-    → IsMinimalPerfect (λ k. option_map (ones_before (bits_of words)) (place_from (fall k) (bits_of words) 0 0 sizes)) keys
+    → IsMinimalPerfect (λ k. option_map (ones_before (bits_of words)) (position_from (fall k) (bits_of words) 0 0 sizes)) keys
 perfect {K} fall falls keys sizes words h =
-    minimal_perfect (λ k. option_map (ones_before (bits_of words)) (place_from (fall k) (bits_of words) 0 0 sizes)) keys
-    (λ k. number_below (bits_of words) (0 + 64 * sum sizes) (length keys) (place_from (fall k) (bits_of words) 0 0 sizes)
+    minimal_perfect (λ k. option_map (ones_before (bits_of words)) (position_from (fall k) (bits_of words) 0 0 sizes)) keys
+    (λ k. number_below (bits_of words) (0 + 64 * sum sizes) (length keys) (position_from (fall k) (bits_of words) 0 0 sizes)
     (omega (arith, h.all, bits_are_counted words))
     (omega (arith, all.total, none_before_the_first (bits_of words) true))
-    (place_from-one (fall k) (falls k) (bits_of words) 0 0 (0 + 64 * sum sizes) sizes refl h.some))
+    (position_from-one (fall k) (falls k) (bits_of words) 0 0 (0 + 64 * sum sizes) sizes refl h.some))
     (λ v less. all.once v
     (omega (arith, none_before_the_first (bits_of words) true)) (omega (arith, none_before_the_first (bits_of words) true)))
   where

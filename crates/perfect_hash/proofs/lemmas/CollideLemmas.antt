@@ -6,7 +6,7 @@ use Rattle.std.proofs.lemmas.Option.{slice_get_within, get_or_from_slice_get, sl
 use Rattle.bit_lists.specs.Bits.{item, bits_of}
 use Rattle.std.specs.Prelude.{Result, Ok, Err, IfErr}
 use Rattle.perfect_hash.specs.Collisions.{CollideBySize, CollideOfSize}
-use Rattle.perfect_hash.specs.Places.{place_in}
+use Rattle.perfect_hash.specs.Positions.{position_in}
 use Rattle.perfect_hash.specs.declared.levels.error.BuildError.{BuildError}
 use Rattle.perfect_hash.specs.declared.levels.error.BuildError.TheVariants.{KeysCollide, TooLarge, OutOfMemory}
 use Rattle.perfect_hash.specs.Levels.{hits, AreSized, LeadTo, left_of, Leave, FallsTogether, Collide}
@@ -120,16 +120,16 @@ collide_with H fall falls keys sizes words left count h levels some_left some ho
     (collide fall falls keys sizes words left count h levels some_left some, refl, holds)
 
 -- where hashes alone say where they fall, nothing else does
-error_by_hash : (P : Type 0) (taken : ℕ → ℕ) (error : BuildError) (hashes : List ℕ) → CollideBySize {P = P} taken (λ _ _. place_in) error hashes
+error_by_hash : (P : Type 0) (taken : ℕ → ℕ) (error : BuildError) (hashes : List ℕ) → CollideBySize {P = P} taken (λ _ _. position_in) error hashes
     → CollideOfSize taken error hashes
 error_by_hash P taken (KeysCollide count) hashes (p, sizes, c, same, sized) =
-    let S : List ℕ → Type 0 = λ s. AreSized taken place_in hashes (bits_of c.words) 0 0 s in
+    let S : List ℕ → Type 0 = λ s. AreSized taken position_in hashes (bits_of c.words) 0 0 s in
     (c, subst S (sym same) sized)
 error_by_hash P taken TooLarge hashes h = tt
 error_by_hash P taken OutOfMemory hashes h = tt
 
 pub collides_by_hash : {A E : Type 0} (P : Type 0) (error_of : E → BuildError) (taken : ℕ → ℕ) (result : Result A E) (hashes : List ℕ)
-    → IfErr result (λ e. CollideBySize {P = P} taken (λ _ _. place_in) (error_of e) hashes)
+    → IfErr result (λ e. CollideBySize {P = P} taken (λ _ _. position_in) (error_of e) hashes)
     → IfErr result (λ e. CollideOfSize taken (error_of e) hashes)
 collides_by_hash P error_of taken (Ok made) hashes h = tt
 collides_by_hash P error_of taken (Err e) hashes h = error_by_hash P taken (error_of e) hashes h

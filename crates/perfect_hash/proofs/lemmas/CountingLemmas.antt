@@ -108,19 +108,19 @@ one_later : {K : Type 0} (p : K → Bool) (y : K) (ys : List K) (b : Bool) → p
 one_later p y ys true e one some = absurd (omega (arith, ap one_if e, one, some, count_by-cons p y ys))
 one_later p y ys false e one some = omega (arith, ap one_if e, one, some, count_by-cons p y ys)
 
--- where one item passes, two that pass stand at one place
-pub one_place : {K : Type 0} (p : K → Bool) (xs : List K) (i j : ℕ) (x y : K) → count_by p xs ≡ 1
+-- where one item passes, two that pass stand at one position
+pub one_position : {K : Type 0} (p : K → Bool) (xs : List K) (i j : ℕ) (x y : K) → count_by p xs ≡ 1
     → slice_get xs i ≡ Some x → p x ≡ true → slice_get xs j ≡ Some y → p y ≡ true → i ≡ j
-one_place p [] i j x y one at_i pass_i at_j pass_j = cc
-one_place p (z ∷ zs) zero zero x y one at_i pass_i at_j pass_j = refl
-one_place p (z ∷ zs) zero (suc j) x y one at_i pass_i at_j pass_j =
+one_position p [] i j x y one at_i pass_i at_j pass_j = cc
+one_position p (z ∷ zs) zero zero x y one at_i pass_i at_j pass_j = refl
+one_position p (z ∷ zs) zero (suc j) x y one at_i pass_i at_j pass_j =
     let same : z ≡ x = cc in
     absurd (omega (arith, ap one_if (ap p same ∙ pass_i), one, count_by-cons p z zs, counted p zs j y at_j pass_j))
-one_place p (z ∷ zs) (suc i) zero x y one at_i pass_i at_j pass_j =
+one_position p (z ∷ zs) (suc i) zero x y one at_i pass_i at_j pass_j =
     let same : z ≡ y = cc in
     absurd (omega (arith, ap one_if (ap p same ∙ pass_j), one, count_by-cons p z zs, counted p zs i x at_i pass_i))
-one_place p (z ∷ zs) (suc i) (suc j) x y one at_i pass_i at_j pass_j =
-    ap suc (one_place p zs i j x y (one_later p z zs (p z) refl one (counted p zs i x at_i pass_i)) at_i pass_i at_j pass_j)
+one_position p (z ∷ zs) (suc i) (suc j) x y one at_i pass_i at_j pass_j =
+    ap suc (one_position p zs i j x y (one_later p z zs (p z) refl one (counted p zs i x at_i pass_i)) at_i pass_i at_j pass_j)
 
 -- where some item passes, it stands somewhere
 abbrev pub Stands : {K : Type 0} → (K → Bool) → List K → Type 0
@@ -133,6 +133,6 @@ stands_first p y ys false e some later =
     let found = later (omega (arith, ap one_if e, some, count_by-cons p y ys)) in
     (suc found.0, found.1, found.2, found.3)
 
-pub some_place : {K : Type 0} (p : K → Bool) (xs : List K) → 1 ≤ count_by p xs → Stands p xs
-some_place p [] some = absurd (omega arith)
-some_place p (y ∷ ys) some = stands_first p y ys (p y) refl some (λ h. some_place p ys h)
+pub some_position : {K : Type 0} (p : K → Bool) (xs : List K) → 1 ≤ count_by p xs → Stands p xs
+some_position p [] some = absurd (omega arith)
+some_position p (y ∷ ys) some = stands_first p y ys (p y) refl some (λ h. some_position p ys h)

@@ -7,7 +7,7 @@ use Rattle.std.specs.List.{sum}
 use Rattle.bit_lists.specs.Bits.{item}
 use Rattle.bit_lists.specs.Count.{ones_before, ones_of}
 use Rattle.bit_lists.proofs.BitLaws.{counts_grow}
-use Rattle.bitm_select.specs.Answers.{place_in}
+use Rattle.bitm_select.specs.Answers.{position_in}
 use Rattle.bitm_tables.specs.declared.answer.Answer.{Answer}
 use Rattle.bitm_tables.specs.declared.answer.Answer.TheVariants.{Found, Absent, Wrong}
 use Rattle.perfect_hash.specs.Numbers.{AreSizes}
@@ -41,7 +41,7 @@ pub sizes_fill : (sizes : List ℕ) (b : List Bool) → AreSizes sizes b → Fit
 sizes_fill sizes b h = record { some = h.some; within = omega (arith, h.all) }
 
 -- what is found is the number that there is
-pub numbered_found : (number : Option ℕ) (a : Answer ℕ) → IsNumbered number a → place_in a ≡ number
+pub numbered_found : (number : Option ℕ) (a : Answer ℕ) → IsNumbered number a → position_in a ≡ number
 numbered_found number (Found n) is = sym is
 numbered_found number Absent is = sym is
 numbered_found number Wrong is = absurd is

@@ -12,7 +12,7 @@ use Rattle.perfect_hash.specs.Perfect.{IsMinimalPerfect}
 use Rattle.perfect_hash.proofs.lemmas.BuildLemmas.{are_sizes, perfect}
 use Rattle.perfect_hash.proofs.lemmas.LevelLemmas.{FallsInside}
 
--- a key at a place that is inside
+-- a key at a position that is inside
 pub some_at : {K : Type 0} (keys : List K) (i : ℕ) → i < length keys → (k : K) × (slice_get keys i ≡ Some k)
 some_at [] i inside = absurd (omega (arith, inside))
 some_at (x ∷ xs) zero inside = (x, refl)

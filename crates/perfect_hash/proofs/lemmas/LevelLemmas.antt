@@ -16,7 +16,7 @@ FallsInside {K} fall = (k : K) (level words : ℕ) → 0 < words → fall k leve
 pub one_more_after : (b : List Bool) (p : ℕ) → p < length b → item b p ≡ true → ones_before b (p + 1) ≡ ones_before b p + 1
 one_more_after b p inside one = omega (arith, count_after_item b true p inside, ap one_if one)
 
--- the place that a rank picks between two places
+-- the position that a rank picks between two positions
 pub picked_between : (b : List Bool) (from to v : ℕ) → to ≤ length b → ones_before b from ≤ v → v < ones_before b to
     → (p : ℕ) × (from ≤ p) × (p < to) × Picks b true v p
 picked_between b from to v inside low high =
@@ -34,13 +34,13 @@ picked_between b from to v inside low high =
 
 module _ {K : Type 0} (fall : K → ℕ → ℕ → ℕ) (falls : FallsInside fall) (b : List Bool) (level begin words : ℕ) where
   -- where a key falls in all levels
-  abbrev pub place : K → ℕ
-  place k = begin + fall k level words
+  abbrev pub position : K → ℕ
+  position k = begin + fall k level words
 
   -- each number between those at the level's ends is that of one key
   pub level_once : (keys : List K) (v : ℕ) → begin + 64 * words ≤ length b
       → IsLevel fall keys b level begin words → ones_before b begin ≤ v → v < ones_before b (begin + 64 * words)
-      → 0 < words → count_by (λ k. item b (place k) && eqb (ones_before b (place k)) v) keys ≡ 1
+      → 0 < words → count_by (λ k. item b (position k) && eqb (ones_before b (position k)) v) keys ≡ 1
   level_once keys v inside is low high some =
       let found = picked_between b begin (begin + 64 * words) v inside low high in
       let p = found.0 in
@@ -49,21 +49,21 @@ module _ {K : Type 0} (fall : K → ℕ → ℕ → ℕ) (falls : FallsInside fa
       let here : begin + q ≡ p = omega (arith, found.1) in
       let one : hits fall keys level words q ≡ 1 =
       eqb-true (hits fall keys level words q) 1 (sym (is q (omega (arith, found.1, found.2))) ∙ ap (item b) here ∙ at.item) in
-      count_by-agree (λ k. item b (place k) && eqb (ones_before b (place k)) v) (λ k. eqb (fall k level words) q)
+      count_by-agree (λ k. item b (position k) && eqb (ones_before b (position k)) v) (λ k. eqb (fall k level words) q)
       (λ k.
-      let within : place k < length b = omega (arith, falls k level words some) in
+      let within : position k < length b = omega (arith, falls k level words some) in
       ⊎_elim
       (λ same.
-      let there : place k ≡ p = omega (arith, same, here) in
-      and_from (item b (place k)) (eqb (ones_before b (place k)) v) (ap (item b) there ∙ at.item)
-      (eq-eqb (ones_before b (place k)) v (ap (ones_before b) there ∙ at.before))
+      let there : position k ≡ p = omega (arith, same, here) in
+      and_from (item b (position k)) (eqb (ones_before b (position k)) v) (ap (item b) there ∙ at.item)
+      (eq-eqb (ones_before b (position k)) v (ap (ones_before b) there ∙ at.before))
       ∙ sym (eq-eqb (fall k level words) q same))
       (λ other.
-      false_from_ne_true (item b (place k) && eqb (ones_before b (place k)) v)
+      false_from_ne_true (item b (position k) && eqb (ones_before b (position k)) v)
       (λ both.
-      let parts = and_parts (item b (place k)) (eqb (ones_before b (place k)) v) both in
-      let picked : Picks b true v (place k) = record { inside = within; item = parts.0; before = eqb-true (ones_before b (place k)) v parts.1 } in
-      other (omega (arith, here, at_most_one_picked b true v (place k) p picked at)))
+      let parts = and_parts (item b (position k)) (eqb (ones_before b (position k)) v) both in
+      let picked : Picks b true v (position k) = record { inside = within; item = parts.0; before = eqb-true (ones_before b (position k)) v parts.1 } in
+      other (omega (arith, here, at_most_one_picked b true v (position k) p picked at)))
       ∙ sym (ne_eqb (fall k level words) q other))
       (cases_eq (fall k level words) q))
       keys ∙ one
@@ -71,36 +71,36 @@ module _ {K : Type 0} (fall : K → ℕ → ℕ → ℕ) (falls : FallsInside fa
   -- so many keys fall on the first ones
   first_ones : (keys : List K) (m : ℕ) → begin + 64 * words ≤ length b → 0 < words
       → IsLevel fall keys b level begin words → ones_before b begin + m ≤ ones_before b (begin + 64 * words)
-      → count_by (λ k. item b (place k) && ltb (ones_before b (place k)) (ones_before b begin + m)) keys ≡ m
+      → count_by (λ k. item b (position k) && ltb (ones_before b (position k)) (ones_before b begin + m)) keys ≡ m
   first_ones keys zero inside some is few =
-      count_by-none (λ k. item b (place k) && ltb (ones_before b (place k)) (ones_before b begin + 0))
-      (λ k. and_right (item b (place k)) (ltb (ones_before b (place k)) (ones_before b begin + 0))
-      (le-ltb (ones_before b (place k)) (ones_before b begin + 0) (omega (arith, counts_grow b true begin (place k) (omega arith)))))
+      count_by-none (λ k. item b (position k) && ltb (ones_before b (position k)) (ones_before b begin + 0))
+      (λ k. and_right (item b (position k)) (ltb (ones_before b (position k)) (ones_before b begin + 0))
+      (le-ltb (ones_before b (position k)) (ones_before b begin + 0) (omega (arith, counts_grow b true begin (position k) (omega arith)))))
       keys
   first_ones keys (suc m) inside some is few =
       omega (
         arith,
-        count_by-either (λ k. item b (place k) && ltb (ones_before b (place k)) (ones_before b begin + suc m))
-            (λ k. item b (place k) && ltb (ones_before b (place k)) (ones_before b begin + m))
-            (λ k. item b (place k) && eqb (ones_before b (place k)) (ones_before b begin + m))
-            (λ k. below_more (item b (place k)) (ones_before b (place k)) (ones_before b begin + m) (ones_before b begin + suc m) (omega arith)) keys,
+        count_by-either (λ k. item b (position k) && ltb (ones_before b (position k)) (ones_before b begin + suc m))
+            (λ k. item b (position k) && ltb (ones_before b (position k)) (ones_before b begin + m))
+            (λ k. item b (position k) && eqb (ones_before b (position k)) (ones_before b begin + m))
+            (λ k. below_more (item b (position k)) (ones_before b (position k)) (ones_before b begin + m) (ones_before b begin + suc m) (omega arith)) keys,
         first_ones keys m inside some is (omega arith),
         level_once keys (ones_before b begin + m) inside is (omega arith) (omega arith) some,
       )
 
   -- as many keys fall on ones as there are
   pub level_count : (keys : List K) → begin + 64 * words ≤ length b → 0 < words → IsLevel fall keys b level begin words
-      → ones_before b begin + count_by (λ k. item b (place k)) keys ≡ ones_before b (begin + 64 * words)
+      → ones_before b begin + count_by (λ k. item b (position k)) keys ≡ ones_before b (begin + 64 * words)
   level_count keys inside some is =
       let low : ones_before b begin ≤ ones_before b (begin + 64 * words) = counts_grow b true begin (begin + 64 * words) (omega arith) in
       let m = ones_before b (begin + 64 * words) - ones_before b begin in
       let whole : ones_before b begin + m ≡ ones_before b (begin + 64 * words) = omega (arith, low) in
-      let all : count_by (λ k. item b (place k)) keys ≡ m =
-      count_by-agree (λ k. item b (place k)) (λ k. item b (place k) && ltb (ones_before b (place k)) (ones_before b begin + m))
-      (λ k. on_test (item b (place k)) (ltb (ones_before b (place k)) (ones_before b begin + m))
-      (λ one. lt-ltb (ones_before b (place k)) (ones_before b begin + m)
-      (let within : place k < begin + 64 * words = omega (arith, falls k level words some) in
-      omega (arith, whole, one_more_after b (place k) (omega arith) one, counts_grow b true (place k + 1) (begin + 64 * words) (omega arith)))))
+      let all : count_by (λ k. item b (position k)) keys ≡ m =
+      count_by-agree (λ k. item b (position k)) (λ k. item b (position k) && ltb (ones_before b (position k)) (ones_before b begin + m))
+      (λ k. on_test (item b (position k)) (ltb (ones_before b (position k)) (ones_before b begin + m))
+      (λ one. lt-ltb (ones_before b (position k)) (ones_before b begin + m)
+      (let within : position k < begin + 64 * words = omega (arith, falls k level words some) in
+      omega (arith, whole, one_more_after b (position k) (omega arith) one, counts_grow b true (position k + 1) (begin + 64 * words) (omega arith)))))
       keys
       ∙ first_ones keys m inside some is (omega (arith, whole)) in
       omega (arith, whole, all)
@@ -113,4 +113,4 @@ module _ {K : Type 0} (fall : K → ℕ → ℕ → ℕ) (falls : FallsInside fa
   pub level_left : (keys : List K) → begin + 64 * words ≤ length b → 0 < words → IsLevel fall keys b level begin words
       → ones_before b (begin + 64 * words) + length (left_of fall keys b level begin words) ≡ ones_before b begin + length keys
   level_left keys inside some is =
-      omega (arith, level_count keys inside some is, count_by-others (λ k. item b (place k)) keys)
+      omega (arith, level_count keys inside some is, count_by-others (λ k. item b (position k)) keys)

@@ -9,14 +9,14 @@ use Rattle.bit_lists.specs.Count.{ones_before}
 use Rattle.bitm_tables.specs.Reads.{OnlyReads}
 use Rattle.bitm_tables.specs.Tables.{Lists}
 use Rattle.bitm_tables.specs.declared.source.counts.ReadCounts.{ReadCounts}
-use Rattle.perfect_hash.specs.Levels.{place_from, GoesOn}
-use Rattle.perfect_hash.specs.Many.{told, AreLookedUp, IsLookedUp, IsNumberOfPlace}
+use Rattle.perfect_hash.specs.Levels.{position_from, GoesOn}
+use Rattle.perfect_hash.specs.Many.{number_code, AreLookedUp, IsLookedUp, IsNumberOfPosition}
 use Rattle.perfect_hash.specs.Numbers.{number_in, AreSizes}
-use Rattle.perfect_hash.proofs.lemmas.NumberLemmas.{IsOneBefore, place_from-one}
+use Rattle.perfect_hash.proofs.lemmas.NumberLemmas.{IsOneBefore, position_from-one}
 use Rattle.perfect_hash.proofs.lemmas.LevelLemmas.{FallsInside}
 
 -- at a level, of the first `count` that wait those before i are looked up, and those of them that go on are the first `kept`
-pub record Midway (fall : ℕ → ℕ → ℕ → ℕ) (b : List Bool) (sizes : List ℕ) (level begin next : ℕ) (hashes places waiting : List ℕ) (kept i count : ℕ) : Type 0 where
+pub record Midway (fall : ℕ → ℕ → ℕ → ℕ) (b : List Bool) (sizes : List ℕ) (level begin next : ℕ) (hashes positions waiting : List ℕ) (kept i count : ℕ) : Type 0 where
   pub order : kept ≤ i
   pub most : i ≤ count
   pub room : count ≤ length waiting
@@ -24,19 +24,19 @@ pub record Midway (fall : ℕ → ℕ → ℕ → ℕ) (b : List Bool) (sizes : 
   pub inside_rest : (a : ℕ) → i ≤ a → a < count → slice_index waiting a < length hashes
   pub go_on : (a : ℕ) → a < kept → GoesOn (fall (slice_index hashes (slice_index waiting a))) b sizes (level + 1) next
   pub rest : (a : ℕ) → i ≤ a → a < count → GoesOn (fall (slice_index hashes (slice_index waiting a))) b sizes level begin
-  pub found : (k : ℕ) → k < length hashes → slice_index places k ≢ 2 ^ 64 - 1
-      → place_from (fall (slice_index hashes k)) b 0 0 sizes ≡ Some (slice_index places k)
-  pub wait : (k : ℕ) → k < length hashes → slice_index places k ≡ 2 ^ 64 - 1
+  pub found : (k : ℕ) → k < length hashes → slice_index positions k ≢ 2 ^ 64 - 1
+      → position_from (fall (slice_index hashes k)) b 0 0 sizes ≡ Some (slice_index positions k)
+  pub wait : (k : ℕ) → k < length hashes → slice_index positions k ≡ 2 ^ 64 - 1
       → ((a : ℕ) × (a < kept) × (slice_index waiting a ≡ k)) ⊎ ((a : ℕ) × (i ≤ a) × (a < count) × (slice_index waiting a ≡ k))
 
 -- one of those that wait is looked up
-module _ (fall : ℕ → ℕ → ℕ → ℕ) (b : List Bool) (sizes : List ℕ) (level begin next : ℕ) (hashes places waiting : List ℕ) (kept i count place : ℕ)
-    (h : Midway fall b sizes level begin next hashes places waiting kept i count) (less : i < count) (long : length places ≡ length hashes)
-    (is : IsLookedUp (fall (slice_index hashes (slice_index waiting i))) b sizes (level + 1) next place) where
+module _ (fall : ℕ → ℕ → ℕ → ℕ) (b : List Bool) (sizes : List ℕ) (level begin next : ℕ) (hashes positions waiting : List ℕ) (kept i count position : ℕ)
+    (h : Midway fall b sizes level begin next hashes positions waiting kept i count) (less : i < count) (long : length positions ≡ length hashes)
+    (is : IsLookedUp (fall (slice_index hashes (slice_index waiting i))) b sizes (level + 1) next position) where
   at : ℕ
   at = slice_index waiting i
 
-  at_inside : slice_index waiting i < length places
+  at_inside : slice_index waiting i < length positions
   at_inside = omega (arith, h.inside_rest i (omega arith) less, long)
 
   kept_inside : kept < length waiting
@@ -70,28 +70,28 @@ module _ (fall : ℕ → ℕ → ℕ → ℕ) (b : List Bool) (sizes : List ℕ)
             ]
       ]
 
-  found_then : (k : ℕ) → k < length hashes → slice_index (slice_set places (slice_index waiting i) place) k ≢ 2 ^ 64 - 1
-      → place_from (fall (slice_index hashes k)) b 0 0 sizes ≡ Some (slice_index (slice_set places (slice_index waiting i) place) k)
+  found_then : (k : ℕ) → k < length hashes → slice_index (slice_set positions (slice_index waiting i) position) k ≢ 2 ^ 64 - 1
+      → position_from (fall (slice_index hashes k)) b 0 0 sizes ≡ Some (slice_index (slice_set positions (slice_index waiting i) position) k)
   found_then k low some =
       elim (cases_eq k (slice_index waiting i)) [
         | inl e ↦
-            let now : slice_index (slice_set places (slice_index waiting i) place) k ≡ place =
-            ap (slice_index (slice_set places (slice_index waiting i) place)) e
-            ∙ get_or-set_same places (slice_index waiting i) place 0 at_inside in
-            ap (λ (j : ℕ). place_from (fall (slice_index hashes j)) b 0 0 sizes) e
+            let now : slice_index (slice_set positions (slice_index waiting i) position) k ≡ position =
+            ap (slice_index (slice_set positions (slice_index waiting i) position)) e
+            ∙ get_or-set_same positions (slice_index waiting i) position 0 at_inside in
+            ap (λ (j : ℕ). position_from (fall (slice_index hashes j)) b 0 0 sizes) e
             ∙ is.found (λ none. some (now ∙ none)) ∙ ap Some (sym now)
         | inr not ↦
-            let now = get_or-set_other places (slice_index waiting i) k place 0 not in
+            let now = get_or-set_other positions (slice_index waiting i) k position 0 not in
             h.found k low (λ none. some (now ∙ none)) ∙ ap Some (sym now)
       ]
 
-  still : (k : ℕ) → k ≢ slice_index waiting i → slice_index (slice_set places (slice_index waiting i) place) k ≡ 2 ^ 64 - 1
-      → slice_index places k ≡ 2 ^ 64 - 1
-  still k not none = sym (get_or-set_other places (slice_index waiting i) k place 0 not) ∙ none
+  still : (k : ℕ) → k ≢ slice_index waiting i → slice_index (slice_set positions (slice_index waiting i) position) k ≡ 2 ^ 64 - 1
+      → slice_index positions k ≡ 2 ^ 64 - 1
+  still k not none = sym (get_or-set_other positions (slice_index waiting i) k position 0 not) ∙ none
 
   -- where it goes on
-  pub Midway-on : place ≡ 2 ^ 64 - 1
-      → Midway fall b sizes level begin next hashes (slice_set places (slice_index waiting i) place)
+  pub Midway-on : position ≡ 2 ^ 64 - 1
+      → Midway fall b sizes level begin next hashes (slice_set positions (slice_index waiting i) position)
       (slice_set waiting kept (slice_index waiting i)) (kept + 1) (i + 1) count
   Midway-on none = record {
     order = omega (arith, h.order);
@@ -126,8 +126,8 @@ module _ (fall : ℕ → ℕ → ℕ → ℕ) (b : List Bool) (sizes : List ℕ)
   }
 
   -- where it was found
-  pub Midway-found : place ≢ 2 ^ 64 - 1
-      → Midway fall b sizes level begin next hashes (slice_set places (slice_index waiting i) place)
+  pub Midway-found : position ≢ 2 ^ 64 - 1
+      → Midway fall b sizes level begin next hashes (slice_set positions (slice_index waiting i) position)
       (slice_set waiting kept (slice_index waiting i)) kept (i + 1) count
   Midway-found some = record {
     order = omega (arith, h.order);
@@ -143,13 +143,13 @@ module _ (fall : ℕ → ℕ → ℕ → ℕ) (b : List Bool) (sizes : List ℕ)
     wait = λ k low then.
         elim (cases_eq k (slice_index waiting i)) [
           | inl e ↦
-              absurd (some (sym (ap (slice_index (slice_set places (slice_index waiting i) place)) e
-              ∙ get_or-set_same places (slice_index waiting i) place 0 at_inside) ∙ then))
+              absurd (some (sym (ap (slice_index (slice_set positions (slice_index waiting i) position)) e
+              ∙ get_or-set_same positions (slice_index waiting i) position 0 at_inside) ∙ then))
           | inr not ↦ other_wait k kept (omega arith) not (h.wait k low (still k not then))
         ];
   }
 
--- no answer stands anywhere once it does in each second place from either on
+-- no answer stands anywhere once it does in each second position from either on
 pub all_none : (first second : List ℕ) (n m : ℕ) → m ≡ n
     → ((j : ℕ) → 0 ≤ j → j % 2 ≡ 0 % 2 → j < n → slice_index first j ≡ 2 ^ 64 - 1)
     → ((j : ℕ) → 1 ≤ j → j % 2 ≡ 1 % 2 → j < m → slice_index second j ≡ 2 ^ 64 - 1)
@@ -162,10 +162,10 @@ all_none first second n m same even odd kept k less =
     ]
 
 -- before the first level all wait
-pub looked_up-first : (fall : ℕ → ℕ → ℕ → ℕ) (b : List Bool) (sizes hashes places waiting : List ℕ) → length hashes ≤ length waiting
-    → ((k : ℕ) → k < length hashes → slice_index places k ≡ 2 ^ 64 - 1) → ((k : ℕ) → k < length hashes → slice_index waiting k ≡ k)
-    → AreLookedUp fall b sizes 0 0 hashes places waiting (length hashes)
-looked_up-first fall b sizes hashes places waiting room none own = record {
+pub looked_up-first : (fall : ℕ → ℕ → ℕ → ℕ) (b : List Bool) (sizes hashes positions waiting : List ℕ) → length hashes ≤ length waiting
+    → ((k : ℕ) → k < length hashes → slice_index positions k ≡ 2 ^ 64 - 1) → ((k : ℕ) → k < length hashes → slice_index waiting k ≡ k)
+    → AreLookedUp fall b sizes 0 0 hashes positions waiting (length hashes)
+looked_up-first fall b sizes hashes positions waiting room none own = record {
   room = room;
   inside = λ a less. omega (arith, own a less, less);
   go_on = λ a less. record { begins = refl; found = refl };
@@ -173,23 +173,23 @@ looked_up-first fall b sizes hashes places waiting room none own = record {
   wait = λ k less _. (k, less, own k less);
 }
 
--- after the last level, or where none waits, the places are told
-pub last_is_told : (fall : ℕ → ℕ → ℕ → ℕ) (b : List Bool) (sizes : List ℕ) (level begin : ℕ) (hashes places waiting : List ℕ) (count : ℕ)
-    → AreLookedUp fall b sizes level begin hashes places waiting count → length sizes ≤ level ⊎ count ≡ 0
-    → (k : ℕ) → k < length hashes → slice_index places k ≡ told (place_from (fall (slice_index hashes k)) b 0 0 sizes)
-last_is_told fall b sizes level begin hashes places waiting count h end k less =
-    elim (cases_eq (slice_index places k) (2 ^ 64 - 1)) [
+-- after the last level, or where none waits, the positions are reported
+pub last_is_claimed : (fall : ℕ → ℕ → ℕ → ℕ) (b : List Bool) (sizes : List ℕ) (level begin : ℕ) (hashes positions waiting : List ℕ) (count : ℕ)
+    → AreLookedUp fall b sizes level begin hashes positions waiting count → length sizes ≤ level ⊎ count ≡ 0
+    → (k : ℕ) → k < length hashes → slice_index positions k ≡ number_code (position_from (fall (slice_index hashes k)) b 0 0 sizes)
+last_is_claimed fall b sizes level begin hashes positions waiting count h end k less =
+    elim (cases_eq (slice_index positions k) (2 ^ 64 - 1)) [
       | inl none ↦
           let w = h.wait k less none in
           elim end [
             | inl last ↦
                 let on = h.go_on w.0 w.1 in
-                let own = ap (λ (j : ℕ). place_from (fall (slice_index hashes j)) b 0 0 sizes) (sym w.2) in
-                none ∙ sym (ap told (own ∙ sym on.found
-                ∙ ap (place_from (fall (slice_index hashes (slice_index waiting w.0))) b level (64 * begin)) (drop_all level sizes last)))
+                let own = ap (λ (j : ℕ). position_from (fall (slice_index hashes j)) b 0 0 sizes) (sym w.2) in
+                none ∙ sym (ap number_code (own ∙ sym on.found
+                ∙ ap (position_from (fall (slice_index hashes (slice_index waiting w.0))) b level (64 * begin)) (drop_all level sizes last)))
             | inr zero ↦ absurd (omega (arith, w.1, zero))
           ]
-      | inr some ↦ sym (ap told (h.found k less some))
+      | inr some ↦ sym (ap number_code (h.found k less some))
     ]
 
 -- a word for each of n hashes at each level so far is one at each level at most
@@ -207,34 +207,34 @@ reads_fewer n all level lists_of reads_of old new inside reads = record {
   same = reads.same;
 }
 
--- a place that was told is inside, and its rank tells the number
-told_inside : (b : List Bool) (o : Option ℕ) (end old : ℕ) → end ≤ length b → IfSome o (IsOneBefore b end)
-    → old ≡ told o → old ≢ 2 ^ 64 - 1 → old ≤ length b
-told_inside b None end old inside one is some = absurd (some is)
-told_inside b (Some p) end old inside one is some = omega (arith, is, one.1, inside)
+-- a position that was reported is inside, and its rank shows the number
+claimed_inside : (b : List Bool) (o : Option ℕ) (end old : ℕ) → end ≤ length b → IfSome o (IsOneBefore b end)
+    → old ≡ number_code o → old ≢ 2 ^ 64 - 1 → old ≤ length b
+claimed_inside b None end old inside one is some = absurd (some is)
+claimed_inside b (Some p) end old inside one is some = omega (arith, is, one.1, inside)
 
-rank_is_told : (b : List Bool) (o : Option ℕ) (end old new : ℕ) → end ≤ length b → length b < 2 ^ 64 → IfSome o (IsOneBefore b end)
-    → old ≡ told o → IsNumberOfPlace b old new → new ≡ told (option_map (ones_before b) o)
-rank_is_told b None end old new inside short one is r = r.none is
-rank_is_told b (Some p) end old new inside short one is r =
+rank_is_claimed : (b : List Bool) (o : Option ℕ) (end old new : ℕ) → end ≤ length b → length b < 2 ^ 64 → IfSome o (IsOneBefore b end)
+    → old ≡ number_code o → IsNumberOfPosition b old new → new ≡ number_code (option_map (ones_before b) o)
+rank_is_claimed b None end old new inside short one is r = r.none is
+rank_is_claimed b (Some p) end old new inside short one is r =
     r.some (λ none. omega (arith, none, is, one.1, inside, short)) ∙ ap (ones_before b) is
 
 -- the same of a hash, for bits and sizes under two names each
 module _ (fall : ℕ → ℕ → ℕ → ℕ) (falls : FallsInside fall) (sizes s : List ℕ) (b b' : List Bool) (hash old : ℕ) (h : AreSizes s b) (same : b' ≡ b)
-    (is : old ≡ told (place_from (fall hash) b' 0 0 s)) where
-  one : IfSome (place_from (fall hash) b 0 0 s) (IsOneBefore b (0 + 64 * sum s))
-  one = place_from-one (fall hash) (falls hash) b 0 0 (0 + 64 * sum s) s refl h.some
+    (is : old ≡ number_code (position_from (fall hash) b' 0 0 s)) where
+  one : IfSome (position_from (fall hash) b 0 0 s) (IsOneBefore b (0 + 64 * sum s))
+  one = position_from-one (fall hash) (falls hash) b 0 0 (0 + 64 * sum s) s refl h.some
 
-  told_here : old ≡ told (place_from (fall hash) b 0 0 s)
-  told_here = is ∙ ap (λ (c : List Bool). told (place_from (fall hash) c 0 0 s)) same
+  claimed_here : old ≡ number_code (position_from (fall hash) b 0 0 s)
+  claimed_here = is ∙ ap (λ (c : List Bool). number_code (position_from (fall hash) c 0 0 s)) same
 
-  pub place_inside : (b2 : List Bool) → b2 ≡ b → old ≢ 2 ^ 64 - 1 → old ≤ length b2
-  place_inside b2 same2 some =
+  pub position_inside : (b2 : List Bool) → b2 ≡ b → old ≢ 2 ^ 64 - 1 → old ≤ length b2
+  position_inside b2 same2 some =
       subst (λ (c : List Bool). old ≤ length c) (sym same2)
-      (told_inside b (place_from (fall hash) b 0 0 s) (0 + 64 * sum s) old (omega (arith, h.all)) one told_here some)
+      (claimed_inside b (position_from (fall hash) b 0 0 s) (0 + 64 * sum s) old (omega (arith, h.all)) one claimed_here some)
 
-  pub number_is_told : (new : ℕ) (b2 : List Bool) → b2 ≡ b → s ≡ sizes → IsNumberOfPlace b2 old new → new ≡ told (number_in fall sizes b hash)
-  number_is_told new b2 same2 same_sizes ranked =
-      rank_is_told b (place_from (fall hash) b 0 0 s) (0 + 64 * sum s) old new (omega (arith, h.all)) h.short one told_here
-      (subst (λ (c : List Bool). IsNumberOfPlace c old new) same2 ranked)
-      ∙ ap (λ (z : List ℕ). told (number_in fall z b hash)) same_sizes
+  pub number_is_claimed : (new : ℕ) (b2 : List Bool) → b2 ≡ b → s ≡ sizes → IsNumberOfPosition b2 old new → new ≡ number_code (number_in fall sizes b hash)
+  number_is_claimed new b2 same2 same_sizes ranked =
+      rank_is_claimed b (position_from (fall hash) b 0 0 s) (0 + 64 * sum s) old new (omega (arith, h.all)) h.short one claimed_here
+      (subst (λ (c : List Bool). IsNumberOfPosition c old new) same2 ranked)
+      ∙ ap (λ (z : List ℕ). number_code (number_in fall z b hash)) same_sizes

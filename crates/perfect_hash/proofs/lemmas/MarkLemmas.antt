@@ -37,56 +37,56 @@ module _ {K : Type 0} (fall : K → ℕ → ℕ → ℕ) (keys : List K) (level 
       sum_by_more (λ x. one_if (eqb (fall x level words) p)) keys i d inside
       ∙ ap (λ (x : K). hits fall (take i keys) level words p + one_if (eqb (fall x level words) p)) (sym is)
 
-  module _ (i : ℕ) (k d : K) (place : ℕ) (inside : i < length keys) (is : k ≡ get_or keys i d) (at : place ≡ fall k level words) where
-    here : hits fall (take (i + 1) keys) level words place ≡ hits fall (take i keys) level words place + 1
-    here = omega (arith, hits-more i k d place inside is, ap one_if (eq-eqb (fall k level words) place (sym at)))
+  module _ (i : ℕ) (k d : K) (position : ℕ) (inside : i < length keys) (is : k ≡ get_or keys i d) (at : position ≡ fall k level words) where
+    here : hits fall (take (i + 1) keys) level words position ≡ hits fall (take i keys) level words position + 1
+    here = omega (arith, hits-more i k d position inside is, ap one_if (eq-eqb (fall k level words) position (sym at)))
 
-    beside : (p : ℕ) → p ≢ place → hits fall (take (i + 1) keys) level words p ≡ hits fall (take i keys) level words p
+    beside : (p : ℕ) → p ≢ position → hits fall (take (i + 1) keys) level words p ≡ hits fall (take i keys) level words p
     beside p other =
         omega (arith, hits-more i k d p inside is, ap one_if (ne_eqb (fall k level words) p (λ same. other (sym same ∙ sym at))))
 
-    module _ (hit again : List Bool) (marked : IsMarked fall (take i keys) level words hit again) (within : place < 64 * words) where
-      written : (b : List Bool) → place < length b → item (with_number b place 1 1) place ≡ true
-      written b room = (item_after_write b place 1 room).0
+    module _ (hit again : List Bool) (marked : IsMarked fall (take i keys) level words hit again) (within : position < 64 * words) where
+      written : (b : List Bool) → position < length b → item (with_number b position 1 1) position ≡ true
+      written b room = (item_after_write b position 1 room).0
 
-      kept : (b : List Bool) (p : ℕ) → place < length b → p ≢ place → item (with_number b place 1 1) p ≡ item b p
-      kept b p room other = (item_after_write b place 1 room).1 p other
+      kept : (b : List Bool) (p : ℕ) → position < length b → p ≢ position → item (with_number b position 1 1) p ≡ item b p
+      kept b p room other = (item_after_write b position 1 room).1 p other
 
       -- the first key that falls there
-      pub IsMarked-first : place < length hit → item hit place ≡ false
-          → IsMarked fall (take (i + 1) keys) level words (with_number hit place 1 1) again
+      pub IsMarked-first : position < length hit → item hit position ≡ false
+          → IsMarked fall (take (i + 1) keys) level words (with_number hit position 1 1) again
       IsMarked-first room clear =
-          let none : hits fall (take i keys) level words place ≤ 0 =
-          ltb-false 0 (hits fall (take i keys) level words place) (sym (marked.once place within) ∙ clear) in
+          let none : hits fall (take i keys) level words position ≤ 0 =
+          ltb-false 0 (hits fall (take i keys) level words position) (sym (marked.once position within) ∙ clear) in
           record {
             once = λ p low. ⊎_elim
-                (λ same. ap (item (with_number hit place 1 1)) same ∙ written hit room
+                (λ same. ap (item (with_number hit position 1 1)) same ∙ written hit room
                 ∙ sym (lt-ltb 0 (hits fall (take (i + 1) keys) level words p) (omega (arith, here, ap (hits fall (take (i + 1) keys) level words) same))))
                 (λ other. kept hit p room other ∙ marked.once p low ∙ ap (ltb 0) (sym (beside p other)))
-                (cases_eq p place);
+                (cases_eq p position);
             twice = λ p low. ⊎_elim
-                (λ same. ap (item again) same ∙ marked.twice place within
-                ∙ le-ltb 1 (hits fall (take i keys) level words place) (omega arith)
+                (λ same. ap (item again) same ∙ marked.twice position within
+                ∙ le-ltb 1 (hits fall (take i keys) level words position) (omega arith)
                 ∙ sym (le-ltb 1 (hits fall (take (i + 1) keys) level words p) (omega (arith, here, none, ap (hits fall (take (i + 1) keys) level words) same))))
                 (λ other. marked.twice p low ∙ ap (ltb 1) (sym (beside p other)))
-                (cases_eq p place);
+                (cases_eq p position);
           }
 
       -- another one
-      pub IsMarked-again : place < length again → item hit place ≡ true
-          → IsMarked fall (take (i + 1) keys) level words hit (with_number again place 1 1)
+      pub IsMarked-again : position < length again → item hit position ≡ true
+          → IsMarked fall (take (i + 1) keys) level words hit (with_number again position 1 1)
       IsMarked-again room set =
-          let some : 0 < hits fall (take i keys) level words place =
-          ltb-true 0 (hits fall (take i keys) level words place) (sym (marked.once place within) ∙ set) in
+          let some : 0 < hits fall (take i keys) level words position =
+          ltb-true 0 (hits fall (take i keys) level words position) (sym (marked.once position within) ∙ set) in
           record {
             once = λ p low. ⊎_elim
                 (λ same. ap (item hit) same ∙ set
                 ∙ sym (lt-ltb 0 (hits fall (take (i + 1) keys) level words p) (omega (arith, here, ap (hits fall (take (i + 1) keys) level words) same))))
                 (λ other. marked.once p low ∙ ap (ltb 0) (sym (beside p other)))
-                (cases_eq p place);
+                (cases_eq p position);
             twice = λ p low. ⊎_elim
-                (λ same. ap (item (with_number again place 1 1)) same ∙ written again room
+                (λ same. ap (item (with_number again position 1 1)) same ∙ written again room
                 ∙ sym (lt-ltb 1 (hits fall (take (i + 1) keys) level words p) (omega (arith, here, some, ap (hits fall (take (i + 1) keys) level words) same))))
                 (λ other. kept again p room other ∙ marked.twice p low ∙ ap (ltb 1) (sym (beside p other)))
-                (cases_eq p place);
+                (cases_eq p position);
           }

@@ -8,7 +8,7 @@ use Rattle.std.specs.Option.{option_map, IfSome}
 use Rattle.bit_lists.specs.Bits.{item}
 use Rattle.bit_lists.specs.Count.{ones_before}
 use Rattle.bit_lists.proofs.BitLaws.{counts_grow}
-use Rattle.perfect_hash.specs.Levels.{IsLevel, LeadTo, left_of, place_from}
+use Rattle.perfect_hash.specs.Levels.{IsLevel, LeadTo, left_of, position_from}
 use Rattle.perfect_hash.specs.Perfect.{is_number}
 use Rattle.perfect_hash.proofs.lemmas.CountingLemmas.{count_by-agree, count_by-filter}
 use Rattle.perfect_hash.proofs.lemmas.LevelLemmas.{FallsInside, one_more_after, level_once, level_left}
@@ -17,7 +17,7 @@ use Rattle.perfect_hash.proofs.lemmas.LevelLemmas.{FallsInside, one_more_after, 
 pub sum-first : (w : ℕ) (sizes : List ℕ) → sum (w ∷ sizes) ≡ w + sum sizes
 sum-first w sizes = sum_by-cons (λ x. x) w sizes
 
--- a place that is not before a later level is not before this one
+-- a position that is not before a later level is not before this one
 no_less : (low high : ℕ) (o : Option ℕ) → low ≤ high → IfSome o (λ p. high ≤ p) → IfSome o (λ p. low ≤ p)
 no_less low high None order h = tt
 no_less low high (Some p) order h = omega arith
@@ -27,14 +27,14 @@ first_or_later : (x : Bool) (begin at high : ℕ) (later : Option ℕ) → begin
 first_or_later true begin at high later here order h = here
 first_or_later false begin at high later here order h = no_less begin high later order h
 
--- a key's place is not before the levels
-pub place_from-ge : (fall : ℕ → ℕ → ℕ) (b : List Bool) (level begin : ℕ) (sizes : List ℕ)
-    → IfSome (place_from fall b level begin sizes) (λ p. begin ≤ p)
-place_from-ge fall b level begin [] = tt
-place_from-ge fall b level begin (w ∷ sizes) =
+-- a key's position is not before the levels
+pub position_from-ge : (fall : ℕ → ℕ → ℕ) (b : List Bool) (level begin : ℕ) (sizes : List ℕ)
+    → IfSome (position_from fall b level begin sizes) (λ p. begin ≤ p)
+position_from-ge fall b level begin [] = tt
+position_from-ge fall b level begin (w ∷ sizes) =
     first_or_later (item b (begin + fall level w)) begin (begin + fall level w) (begin + 64 * w)
-    (place_from fall b (level + 1) (begin + 64 * w) sizes) (omega arith) (omega arith)
-    (place_from-ge fall b (level + 1) (begin + 64 * w) sizes)
+    (position_from fall b (level + 1) (begin + 64 * w) sizes) (omega arith) (omega arith)
+    (position_from-ge fall b (level + 1) (begin + 64 * w) sizes)
 
 -- p is that of a one before the end
 abbrev pub IsOneBefore : List Bool → ℕ → ℕ → Type 0
@@ -45,15 +45,15 @@ first_one : (b : List Bool) (x : Bool) (at end : ℕ) (later : Option ℕ) → i
 first_one b true at end later one within h = (one, within)
 first_one b false at end later one within h = h
 
--- a key's place is that of a one of the levels
-pub place_from-one : (fall : ℕ → ℕ → ℕ) (falls : (level words : ℕ) → 0 < words → fall level words < 64 * words) (b : List Bool) (level begin end : ℕ) (sizes : List ℕ) → begin + 64 * sum sizes ≡ end
-    → All (λ size. 0 < size) sizes → IfSome (place_from fall b level begin sizes) (IsOneBefore b end)
-place_from-one fall falls b level begin end [] is some = tt
-place_from-one fall falls b level begin end (w ∷ sizes) is some =
+-- a key's position is that of a one of the levels
+pub position_from-one : (fall : ℕ → ℕ → ℕ) (falls : (level words : ℕ) → 0 < words → fall level words < 64 * words) (b : List Bool) (level begin end : ℕ) (sizes : List ℕ) → begin + 64 * sum sizes ≡ end
+    → All (λ size. 0 < size) sizes → IfSome (position_from fall b level begin sizes) (IsOneBefore b end)
+position_from-one fall falls b level begin end [] is some = tt
+position_from-one fall falls b level begin end (w ∷ sizes) is some =
     first_one b (item b (begin + fall level w)) (begin + fall level w) end
-    (place_from fall b (level + 1) (begin + 64 * w) sizes) refl
+    (position_from fall b (level + 1) (begin + 64 * w) sizes) refl
     (omega (arith, sum-first w sizes, falls level w (All-head (λ size. 0 < size) w sizes some)))
-    (place_from-one fall falls b (level + 1) (begin + 64 * w) end sizes (omega (arith, sum-first w sizes))
+    (position_from-one fall falls b (level + 1) (begin + 64 * w) end sizes (omega (arith, sum-first w sizes))
     (All-tail (λ size. 0 < size) w sizes some))
 
 -- a number that no later level gives
@@ -72,7 +72,7 @@ taken_later f false p v later h = refl
 pub record IsNumbered {K : Type 0} (fall : K → ℕ → ℕ → ℕ) (keys : List K) (b : List Bool) (level begin : ℕ) (sizes : List ℕ) : Type 0 where
   pub total : ones_before b (begin + 64 * sum sizes) ≡ ones_before b begin + length keys
   pub once : (v : ℕ) → ones_before b begin ≤ v → v < ones_before b begin + length keys
-      → count_by (λ k. is_number v (option_map (ones_before b) (place_from (fall k) b level begin sizes))) keys ≡ 1
+      → count_by (λ k. is_number v (option_map (ones_before b) (position_from (fall k) b level begin sizes))) keys ≡ 1
 
 -- one level before levels that are numbered
 numbered_more : {K : Type 0} (fall : K → ℕ → ℕ → ℕ) (falls : FallsInside fall) (keys : List K) (b : List Bool) (level begin w : ℕ) (sizes : List ℕ)
@@ -83,15 +83,15 @@ numbered_more {K} fall falls keys b level begin w sizes inside some is after = r
   total = omega (arith, ap (ones_before b) end, after.total, level_left fall falls b level begin w keys here some is);
   once = λ v low high.
       ⊎_elim
-      (λ less. count_by-agree (number v) (λ k. item b (place k) && eqb (ones_before b (place k)) v)
-      (λ k. taken_here (ones_before b) (item b (place k)) (place k) v (later k)
-      (λ _. not_later v less (later k) (place_from-ge (fall k) b (level + 1) (begin + 64 * w) sizes)))
+      (λ less. count_by-agree (number v) (λ k. item b (position k) && eqb (ones_before b (position k)) v)
+      (λ k. taken_here (ones_before b) (item b (position k)) (position k) v (later k)
+      (λ _. not_later v less (later k) (position_from-ge (fall k) b (level + 1) (begin + 64 * w) sizes)))
       keys ∙ level_once fall falls b level begin w keys v here is low less some)
-      (λ more. count_by-agree (number v) (λ k. not (item b (place k)) && is_number v (option_map (ones_before b) (later k)))
-      (λ k. taken_later (ones_before b) (item b (place k)) (place k) v (later k)
-      (λ one. ne_eqb (ones_before b (place k)) v (λ same. omega (arith, before k one))))
+      (λ more. count_by-agree (number v) (λ k. not (item b (position k)) && is_number v (option_map (ones_before b) (later k)))
+      (λ k. taken_later (ones_before b) (item b (position k)) (position k) v (later k)
+      (λ one. ne_eqb (ones_before b (position k)) v (λ same. omega (arith, before k one))))
       keys
-      ∙ sym (count_by-filter (λ k. is_number v (option_map (ones_before b) (later k))) (λ k. not (item b (place k))) keys)
+      ∙ sym (count_by-filter (λ k. is_number v (option_map (ones_before b) (later k))) (λ k. not (item b (position k))) keys)
       ∙ after.once v more (omega (arith, level_left fall falls b level begin w keys here some is)))
       (cases_lt v (ones_before b (begin + 64 * w)));
 }
@@ -102,14 +102,14 @@ numbered_more {K} fall falls keys b level begin w sizes inside some is after = r
     end : begin + 64 * sum (w ∷ sizes) ≡ begin + 64 * w + 64 * sum sizes
     end = omega (arith, sum-first w sizes)
 
-    place : K → ℕ
-    place k = begin + fall k level w
+    position : K → ℕ
+    position k = begin + fall k level w
 
     later : K → Option ℕ
-    later k = place_from (fall k) b (level + 1) (begin + 64 * w) sizes
+    later k = position_from (fall k) b (level + 1) (begin + 64 * w) sizes
 
     number : ℕ → K → Bool
-    number v k = is_number v (option_map (ones_before b) (place_from (fall k) b level begin (w ∷ sizes)))
+    number v k = is_number v (option_map (ones_before b) (position_from (fall k) b level begin (w ∷ sizes)))
 
     before : (k : K) → item b (begin + fall k level w) ≡ true
         → ones_before b (begin + fall k level w) < ones_before b (begin + 64 * w)

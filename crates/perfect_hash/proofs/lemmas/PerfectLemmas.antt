@@ -5,7 +5,7 @@ use Rattle.std.proofs.lemmas.Option.{slice_get-get_or}
 use Rattle.std.specs.List.{count_by, slice_get}
 use Rattle.std.specs.Option.{IfSome, IsSome}
 use Rattle.perfect_hash.specs.Perfect.{is_number, IsMinimalPerfect}
-use Rattle.perfect_hash.proofs.lemmas.CountingLemmas.{one_if, count_by-either, count_by-none, below_more, passes_all, one_place, some_place}
+use Rattle.perfect_hash.proofs.lemmas.CountingLemmas.{one_if, count_by-either, count_by-none, below_more, passes_all, one_position, some_position}
 
 -- whether a number below n is given
 abbrev is_below : ℕ → Option ℕ → Bool
@@ -42,7 +42,7 @@ module _ {K : Type 0} (number : K → Option ℕ) (keys : List K) where
     some = λ i d inside. given (number (get_or keys i d)) (all i (get_or keys i d) (slice_get-get_or keys i d inside));
     apart = λ i j k l at_i at_j same. by_number i j k l at_i at_j same (number k) refl;
     onto = λ v less.
-        let found = some_place (λ k. is_number v (number k)) keys (omega (arith, once v less)) in
+        let found = some_position (λ k. is_number v (number k)) keys (omega (arith, once v less)) in
         (found.0, found.1, found.2, is_number-is v (number found.1) found.3);
   }
     where
@@ -63,4 +63,4 @@ module _ {K : Type 0} (number : K → Option ℕ) (keys : List K) where
           let less : v < length keys = ltb-true v (length keys) (ap (is_below (length keys)) (sym is) ∙ all i k at_i) in
           let yes_k : is_number v (number k) ≡ true = ap (is_number v) is ∙ eq-eqb v v refl in
           let yes_l : is_number v (number l) ≡ true = ap (is_number v) (sym same) ∙ yes_k in
-          one_place (λ x. is_number v (number x)) keys i j k l (once v less) at_i yes_k at_j yes_l
+          one_position (λ x. is_number v (number x)) keys i j k l (once v less) at_i yes_k at_j yes_l

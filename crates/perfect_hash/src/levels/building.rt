@@ -4,13 +4,13 @@ ghost use Rattle.bit_lists.specs.Bits.{bits_of, IsShort};
 ghost use Rattle.perfect_hash.specs.Collisions.{CollideBySize, CollideChosen, CollideOfSize, IfCollide, IfCollideBy};
 ghost use Rattle.perfect_hash.specs.Levels.{fall_in, AddsLevel, AreChosen, AreSized, Leave};
 ghost use Rattle.perfect_hash.specs.Numbers.{AreLevels};
-ghost use Rattle.perfect_hash.specs.Places.{place_in, words_for};
+ghost use Rattle.perfect_hash.specs.Positions.{position_in, words_for};
 
 use crate::levels::error::BuildError;
 use crate::levels::hashing::KeyHash;
 use crate::levels::level::{Buffers, keep_left, make_level};
-use crate::levels::places::level_words;
 use crate::levels::placing::{Placing, Plain};
+use crate::levels::positions::level_words;
 use std::alloc::{AllocError, Global};
 
 /// The greatest number of levels that are made.
@@ -156,15 +156,15 @@ impl Levels {
         keys: &[K],
         percent: u16,
     ) -> Result<Levels, BuildError>
-        ensures levels { IfOk result (λ levels. AreLevels place_in (H.hash hasher.now) keys.now
+        ensures levels { IfOk result (λ levels. AreLevels position_in (H.hash hasher.now) keys.now
             levels.sizes.items levels.words.items) }
         ensures too_large { IsErrOf result BuildError.TooLarge
             ↔ (2 ^ 50 ≤ words_for percent (length keys.now)) }
         ensures collide { IfErr result (λ error.
             IfCollide error (map (H.hash hasher.now) keys.now)) }
-        ensures sized { IfOk result (λ levels. AreSized (words_for percent) place_in
+        ensures sized { IfOk result (λ levels. AreSized (words_for percent) position_in
             (map (H.hash hasher.now) keys.now) (bits_of levels.words.items) 0 0 levels.sizes.items) }
-        ensures leave { IfOk result (λ levels. Leave place_in
+        ensures leave { IfOk result (λ levels. Leave position_in
             (map (H.hash hasher.now) keys.now) levels.sizes.items levels.words.items []) }
         ensures collide_sized { IfErr result (λ error. CollideOfSize (words_for percent)
             error (map (H.hash hasher.now) keys.now)) }

@@ -6,7 +6,7 @@ ghost use Rattle.bit_lists.specs.Count.{ones_of};
 ghost use Rattle.perfect_hash.specs.InPlace.{made_sizes, made_words, IsMade};
 ghost use Rattle.perfect_hash.specs.Levels.{left_of, AreSized, IsLevel, Leave};
 ghost use Rattle.perfect_hash.specs.Numbers.{AreLevels};
-ghost use Rattle.perfect_hash.specs.Places.{place_in, words_for};
+ghost use Rattle.perfect_hash.specs.Positions.{position_in, words_for};
 
 use crate::levels::level::split_level;
 use bit_words::words;
@@ -54,9 +54,9 @@ fn split_cleared(hashes: &mut [u64], level: u32, ones: &mut [u64], again: &mut [
     requires same { length again.old ≡ length ones.old }
     requires some { 0 < length ones.old }
     requires short { IsShort ones.old }
-    ensures level { IsLevel place_in hashes.old (bits_of ones.new) level 0 (length ones.old) }
+    ensures level { IsLevel position_in hashes.old (bits_of ones.new) level 0 (length ones.old) }
     ensures left { take result hashes.new
-        ≡ left_of place_in hashes.old (bits_of ones.new) level 0 (length ones.old) }
+        ≡ left_of position_in hashes.old (bits_of ones.new) level 0 (length ones.old) }
     ensures few { result ≤ length hashes.old }
 {
     clear(&mut *ones);
@@ -81,9 +81,9 @@ fn add_level(
     requires inside { used + size ≤ length words.old }
     requires short { IsShort words.old }
     requires again { size ≤ length again.old }
-    ensures level { IsLevel place_in (take left hashes.old)
+    ensures level { IsLevel position_in (take left hashes.old)
         (bits_of (take size (drop used words.new))) level 0 size }
-    ensures left { take result hashes.new ≡ left_of place_in (take left hashes.old)
+    ensures left { take result hashes.new ≡ left_of position_in (take left hashes.old)
         (bits_of (take size (drop used words.new))) level 0 size }
     ensures few { result ≤ left }
     ensures before { take used words.new ≡ take used words.old }
@@ -109,13 +109,13 @@ pub fn build_in_place(
     sizes: &mut [usize],
 ) -> Made
     requires { IsShort words.old }
-    ensures leave { Leave place_in hashes.old (made_sizes result sizes.new)
+    ensures leave { Leave position_in hashes.old (made_sizes result sizes.new)
         (made_words result words.new) (take result.left hashes.new) }
-    ensures sized { AreSized (words_for percent) place_in hashes.old
+    ensures sized { AreSized (words_for percent) position_in hashes.old
         (bits_of (made_words result words.new)) 0 0 (made_sizes result sizes.new) }
     ensures made { IsMade percent (length words.old) (length again.old) (length sizes.old)
         (length hashes.old) result }
-    ensures numbers { result.left ≡ 0 → AreLevels place_in (λ (hash : ℕ). hash) hashes.old
+    ensures numbers { result.left ≡ 0 → AreLevels position_in (λ (hash : ℕ). hash) hashes.old
         (made_sizes result sizes.new) (made_words result words.new) }
     ensures ones { result.left ≡ 0
         → ones_of (bits_of (made_words result words.new)) ≡ length hashes.old }

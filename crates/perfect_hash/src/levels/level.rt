@@ -2,7 +2,7 @@
 ghost use Rattle.std.specs.Prelude.{◌≡◌, ℕ, ◌+◌, ◌*◌, ◌<◌, ◌≤◌, ◌^◌, false, length, nat_lt, replicate, take, OnOk};
 ghost use Rattle.bit_lists.specs.Bits.{bits_of, item, IsShort};
 ghost use Rattle.perfect_hash.specs.Levels.{hits, IsLevel, left_of};
-ghost use Rattle.perfect_hash.specs.Places.{place_in};
+ghost use Rattle.perfect_hash.specs.Positions.{position_in};
 
 use crate::levels::placing::{Placing, Plain};
 use bit_words::words;
@@ -49,11 +49,11 @@ fn mark<P: Placing>(
 {
     let words = hit.len();
     for hash in hashes {
-        let place = placing.place(begin, *hash, level, words, &mut ReadCounts::new());
-        if words::get_bit(hit, place) {
-            words::set_bit(again, place);
+        let position = placing.position(begin, *hash, level, words, &mut ReadCounts::new());
+        if words::get_bit(hit, position) {
+            words::set_bit(again, position);
         } else {
-            words::set_bit(hit, place);
+            words::set_bit(hit, position);
         }
     }
 }
@@ -141,8 +141,8 @@ pub(crate) fn keep_left<P: Placing>(
     let mut kept = 0;
     for i in 0..hashes.len() {
         let hash = hashes[i];
-        let place = placing.place(begin, hash, level, ones.len(), &mut ReadCounts::new());
-        if !words::get_bit(ones, place) {
+        let position = placing.position(begin, hash, level, ones.len(), &mut ReadCounts::new());
+        if !words::get_bit(ones, position) {
             hashes[kept] = hash;
             kept += 1;
         }
@@ -166,9 +166,9 @@ pub fn split_level(hashes: &mut [u64], level: u32, ones: &mut [u64], again: &mut
     requires short { IsShort ones.old }
     requires clear { (i : ℕ) → item (bits_of ones.old) i ≡ false }
     requires clear_again { (i : ℕ) → item (bits_of again.old) i ≡ false }
-    ensures level { IsLevel place_in hashes.old (bits_of ones.new) level 0 (length ones.old) }
+    ensures level { IsLevel position_in hashes.old (bits_of ones.new) level 0 (length ones.old) }
     ensures left { take result hashes.new
-        ≡ left_of place_in hashes.old (bits_of ones.new) level 0 (length ones.old) }
+        ≡ left_of position_in hashes.old (bits_of ones.new) level 0 (length ones.old) }
     ensures few { result ≤ length hashes.old }
 {
     split_level_by(&Plain, 0, hashes, level, ones, again)

@@ -1,10 +1,10 @@
 //! What places hashes in levels: their bits alone, or with a seed for each word.
 ghost use Rattle.std.specs.Prelude.{◌≡◌, ◌+◌, ◌*◌, ◌^◌, ◌<◌, ◌≤◌, ℕ, List, IfOk, OnOk};
 ghost use Rattle.bitm_tables.specs.Reads.{ReadsAtMost};
-ghost use Rattle.perfect_hash.specs.Places.{place_in};
+ghost use Rattle.perfect_hash.specs.Positions.{position_in};
 ghost use Rattle.perfect_hash.specs.Inside.{falls_inside};
 
-use crate::levels::places::place_of;
+use crate::levels::positions::position_of;
 use bitm_bits::GetSize;
 use bitm_tables::source::counts::ReadCounts;
 use std::alloc::{AllocError, Global};
@@ -31,7 +31,7 @@ pub trait Placing: Drop {
     /// The level has a word, and ends before word 2^58.
     /// # Cost
     /// At most one seed is read.
-    fn place(
+    fn position(
         &self,
         begin: usize,
         hash: u64,
@@ -84,14 +84,14 @@ pub trait Placing: Drop {
 pub struct Plain;
 
 impl Placing for Plain {
-    ghost fall = { λ _ _. place_in };
+    ghost fall = { λ _ _. position_in };
 
     ghost seeds_each = { 0 };
 
     ghost chooses = { λ old new _ _ _ _. new ≡ old };
 
     #[inline(always)]
-    fn place(
+    fn position(
         &self,
         _begin: usize,
         hash: u64,
@@ -99,7 +99,7 @@ impl Placing for Plain {
         words: usize,
         _reads: &mut ReadCounts,
     ) -> usize {
-        place_of(hash, level, words)
+        position_of(hash, level, words)
     }
 
     fn add_level(

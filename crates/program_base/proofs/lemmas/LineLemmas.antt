@@ -9,7 +9,7 @@ use Rattle.std.proofs.lemmas.List.Sums.{count_by-le-length, fails_before_first}
 use Rattle.std.proofs.lemmas.List.Splits.{join_with_byte-slice_split, length-slice_split, slice_split_first, slice_split_none}
 use Rattle.std.proofs.lemmas.Bool.Decides.{nat_tests}
 
--- a position is the first place, and none means that no element passes
+-- a position is the first position, and none means that no element passes
 position_some : (first n at : ℕ) → cond (nat_lt first n) (Some first) None ≡ Some at → (first ≡ at) × (first < n)
 position_some first n at h = grind (arith, nat_tests)
 

@@ -21,8 +21,8 @@ and_true : (b : Bool) → (b && true) ≡ b
 and_true true = refl
 and_true false = refl
 
-pub changed_inside : (s : State) (place : ℕ) (bit : Bool) (bits : List Bool) → place < length s.bits → bits ≡ set s.bits place bit → record { bits = bits; built = None } ≡ with_bit s place bit
-changed_inside s place bit bits h e = chosen (nat_lt place (length s.bits)) (grind (arith, nat_tests)) _ s _ (ap (λ (l : List Bool). record { bits = l; built = None }) e)
+pub changed_inside : (s : State) (position : ℕ) (bit : Bool) (bits : List Bool) → position < length s.bits → bits ≡ set s.bits position bit → record { bits = bits; built = None } ≡ with_bit s position bit
+changed_inside s position bit bits h e = chosen (nat_lt position (length s.bits)) (grind (arith, nat_tests)) _ s _ (ap (λ (l : List Bool). record { bits = l; built = None }) e)
 
 answers_more : (s mid t : State) (lines : List (List ℕ)) (answers : List Answer) (line : List ℕ) (answer : Answer) → Answers s lines answers mid
     → Step mid (request_of line) answer t → Answers s (lines ++ line ∷ []) (answers ++ answer ∷ []) t
@@ -35,8 +35,8 @@ text_more : (answers : List Answer) (answer : Answer) → answers_text (answers 
 text_more answers answer =
     flat_map-append (λ a. answer_text a ++ 10 ∷ []) answers (answer ∷ []) ∙ ap (λ l. answers_text answers ++ l) (append-nil (answer_text answer ++ 10 ∷ []))
 
-told_more : (answers : List Answer) (answer : Answer) (good : Bool) → good ≡ list_all is_good answers → (good && is_good answer) ≡ list_all is_good (answers ++ answer ∷ [])
-told_more answers answer good h =
+claimed_more : (answers : List Answer) (answer : Answer) (good : Bool) → good ≡ list_all is_good answers → (good && is_good answer) ≡ list_all is_good (answers ++ answer ∷ [])
+claimed_more answers answer good h =
     ap (λ b. b && is_good answer) h ∙ sym (list_all-append is_good answers (answer ∷ []) ∙ ap (λ b. list_all is_good answers && b) (and_true (is_good answer)))
 
 pub wrote_more : (lines : List (List ℕ)) (line : List ℕ) (s t : State) (a b c : Option (List ℕ)) (good : Bool) (answer : Answer) → Wrote lines s a b good
@@ -45,13 +45,13 @@ wrote_more lines line s t a b c good answer h step more = record {
   answers = h.answers ++ answer ∷ [];
   session = answers_more start s t lines h.answers line answer h.session step;
   written = subst (λ l. Appends a c l) (sym (text_more h.answers answer)) (Appends-trans a b c _ _ h.written more);
-  told = told_more h.answers answer good h.told;
+  reported = claimed_more h.answers answer good h.reported;
 }
 
-pub wrote_answer : (lines : List (List ℕ)) (line : List ℕ) (s t : State) (a b c : Option (List ℕ)) (good told : Bool) → Wrote lines s a b good
-    → WroteAnswer line s t b c told → Wrote (lines ++ line ∷ []) t a c (good && told)
-wrote_answer lines line s t a b c good told h one =
-    subst (λ g. Wrote (lines ++ line ∷ []) t a c (good && g)) (sym one.told) (wrote_more lines line s t a b c good one.answer h one.step one.written)
+pub wrote_answer : (lines : List (List ℕ)) (line : List ℕ) (s t : State) (a b c : Option (List ℕ)) (good reported : Bool) → Wrote lines s a b good
+    → WroteAnswer line s t b c reported → Wrote (lines ++ line ∷ []) t a c (good && reported)
+wrote_answer lines line s t a b c good reported h one =
+    subst (λ g. Wrote (lines ++ line ∷ []) t a c (good && g)) (sym one.reported) (wrote_more lines line s t a b c good one.answer h one.step one.written)
 
 -- no words have no bits
 pub starts_empty : bits_of [] ≡ []

@@ -41,11 +41,11 @@ impl fmt::Display for Answer {
 
 impl Answer {
     /// The answer for a position, or that there is none.
-    pub(crate) fn of_place(place: Option<usize>) -> Answer
-        ensures { MatchOption place (result ≡ Answer.Absent) (λ p. result ≡ Answer.Number p) }
+    pub(crate) fn of_position(position: Option<usize>) -> Answer
+        ensures { MatchOption position (result ≡ Answer.Absent) (λ p. result ≡ Answer.Number p) }
     {
-        match place {
-            Some(place) => Answer::Number(place as u64),
+        match position {
+            Some(position) => Answer::Number(position as u64),
             None => Answer::Absent,
         }
     }

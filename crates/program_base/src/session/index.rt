@@ -27,7 +27,7 @@ pub(crate) enum Index {
 }
 
 ghost use Rattle.program_base.specs.Index.{indexed_words, kind_of_index};
-ghost use Rattle.program_base.specs.Session.{IsPlaceAnswer};
+ghost use Rattle.program_base.specs.Session.{IsPositionAnswer};
 
 impl Index {
     /// An index over a copy of the words, and the number of 1 bits.
@@ -85,25 +85,25 @@ impl Index {
 
     /// The position of the 1 bit with `rank` 1 bits before it, if this kind of index selects.
     pub(crate) fn select(&self, rank: usize) -> Answer
-        ensures { IsPlaceAnswer (Some (kind_of_index self.now))
+        ensures { IsPositionAnswer (Some (kind_of_index self.now))
             (bits_of (indexed_words self.now)) true rank result }
     {
         match self {
             Index::Simple(_) => Answer::NotBuilt,
-            Index::Binary(binary) => Answer::of_place(binary.try_select(rank)),
-            Index::Sampled(sampled) => Answer::of_place(sampled.try_select(rank)),
+            Index::Binary(binary) => Answer::of_position(binary.try_select(rank)),
+            Index::Sampled(sampled) => Answer::of_position(sampled.try_select(rank)),
         }
     }
 
     /// The position of the 0 bit with `rank` 0 bits before it, if this kind of index selects.
     pub(crate) fn select0(&self, rank: usize) -> Answer
-        ensures { IsPlaceAnswer (Some (kind_of_index self.now))
+        ensures { IsPositionAnswer (Some (kind_of_index self.now))
             (bits_of (indexed_words self.now)) false rank result }
     {
         match self {
             Index::Simple(_) => Answer::NotBuilt,
-            Index::Binary(binary) => Answer::of_place(binary.try_select0(rank)),
-            Index::Sampled(sampled) => Answer::of_place(sampled.try_select0(rank)),
+            Index::Binary(binary) => Answer::of_position(binary.try_select0(rank)),
+            Index::Sampled(sampled) => Answer::of_position(sampled.try_select0(rank)),
         }
     }
 }

@@ -63,8 +63,8 @@ impl Session {
     {
         match command {
             Command::Words(words) => self.replace(words),
-            Command::Set(place) => self.change(place, true),
-            Command::Clear(place) => self.change(place, false),
+            Command::Set(position) => self.change(position, true),
+            Command::Clear(position) => self.change(position, false),
             Command::Build(kind) => self.build(alloc, kind),
             Command::Rank(index) => self.rank(index),
             Command::Bits(begin, len) => self.bits(begin, len),
@@ -85,16 +85,16 @@ impl Session {
     }
 
     #[tactic(auto, using(crate::proofs::lemmas::SessionLemmas::count_of_bits))]
-    fn change(&mut self, place: u64, value: bool) -> Answer
-        ensures answer { result ≡ changed_answer self.old place }
-        ensures state { self.new ≡ with_bit self.old place value }
+    fn change(&mut self, position: u64, value: bool) -> Answer
+        ensures answer { result ≡ changed_answer self.old position }
+        ensures state { self.new ≡ with_bit self.old position value }
     {
-        if place >= 64 * self.words.len() as u64 {
+        if position >= 64 * self.words.len() as u64 {
             return Answer::Absent;
         }
-        set_bit_to(self.words.as_mut_slice(), place as usize, value);
+        set_bit_to(self.words.as_mut_slice(), position as usize, value);
         self.index = None; // the index counts the bits as they were
-        Answer::Accepted(place)
+        Answer::Accepted(position)
     }
 
     fn build(&mut self, alloc: Global, kind: Kind) -> Answer
@@ -118,12 +118,12 @@ impl Session {
     }
 
     #[tactic(auto, using(crate::proofs::lemmas::SessionLemmas::count_of_bits))]
-    fn rank(&self, place: u64) -> Answer
-        ensures { Step self.now (Some (Rank place)) result self.now }
+    fn rank(&self, position: u64) -> Answer
+        ensures { Step self.now (Some (Rank position)) result self.now }
     {
         match &self.index {
             None => Answer::NotBuilt,
-            Some(index) => match index.try_rank(place as usize) {
+            Some(index) => match index.try_rank(position as usize) {
                 Some(count) => Answer::Number(count as u64),
                 None => Answer::Absent,
             },
@@ -142,12 +142,12 @@ impl Session {
     }
 
     #[tactic(auto, using(crate::proofs::lemmas::SessionLemmas::count_of_bits))]
-    fn rank0(&self, place: u64) -> Answer
-        ensures { Step self.now (Some (Rank0 place)) result self.now }
+    fn rank0(&self, position: u64) -> Answer
+        ensures { Step self.now (Some (Rank0 position)) result self.now }
     {
         match &self.index {
             None => Answer::NotBuilt,
-            Some(index) => match index.try_rank0(place as usize) {
+            Some(index) => match index.try_rank0(position as usize) {
                 Some(zeros) => Answer::Number(zeros as u64),
                 None => Answer::Absent,
             },

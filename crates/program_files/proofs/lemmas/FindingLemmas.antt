@@ -42,7 +42,7 @@ pub wrote-more : (form : Form) (parts : StringParts) (lines : List (List ℕ)) (
     → WroteNumbers form parts lines a b found → WroteNumber form parts line b c one_is → WroteNumbers form parts (lines ++ line ∷ []) a c (found || one_is)
 wrote-more form parts lines line a b c found one_is h one = record {
   answers = h.answers ++ one.answer ∷ [];
-  told = ap (λ f. f || one_is) h.told ∙ ap (λ o. list_any is_number_found h.answers || o) one.told ∙ any-more h.answers one.answer;
+  reported = ap (λ f. f || one_is) h.reported ∙ ap (λ o. list_any is_number_found h.answers || o) one.reported ∙ any-more h.answers one.answer;
   are = answers-more parts lines h.answers line one.answer h.are one.is;
   written = subst (λ l. Appends a c l) (sym (text-more form h.answers one.answer)) (Appends-trans a b c _ _ h.written one.written);
 }

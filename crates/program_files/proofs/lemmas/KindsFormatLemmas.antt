@@ -24,9 +24,9 @@ refused bytes e is = (λ h. let other = sound_format bytes h in cc, λ h. let ot
 -- what `check` says of a file of version 2, and of any other
 pub right_of_old : (bytes : List ℕ) (good : Bool) → format_in bytes ≡ Ok Old → (IsTrue good ↔ IsOldFile bytes)
     → IsTrue good ↔ (IsSoundFile bytes ⊎ IsOldFile bytes)
-right_of_old bytes good is h = (λ told. inr (h.0 told), λ right. ⊎_elim (λ sound. absurd (not_sound bytes is sound)) (λ old. h.1 old) right)
+right_of_old bytes good is h = (λ reported. inr (h.0 reported), λ right. ⊎_elim (λ sound. absurd (not_sound bytes is sound)) (λ old. h.1 old) right)
 
 pub right_of_others : (bytes : List ℕ) (good : Bool) → (¬ (format_in bytes ≡ Ok Old)) → (IsTrue good ↔ IsSoundFile bytes)
     → IsTrue good ↔ (IsSoundFile bytes ⊎ IsOldFile bytes)
 right_of_others bytes good other h =
-    (λ told. inl (h.0 told), λ right. ⊎_elim (λ sound. h.1 sound) (λ old. absurd (other (old_file_format bytes old))) right)
+    (λ reported. inl (h.0 reported), λ right. ⊎_elim (λ sound. h.1 sound) (λ old. absurd (other (old_file_format bytes old))) right)

@@ -19,7 +19,7 @@ did_info known form path bytes before after is h = record { done = (bytes, is, h
 
 -- what was done stays so by a flush
 check_kept : (form : Form) (bytes : List ℕ) (a b c : Option (List ℕ)) (good : Bool) → Keeps b c → WroteCheck form bytes a b good → WroteCheck form bytes a c good
-check_kept form bytes a b c good k h = record { told = h.told; written = Appends-kept a b c _ h.written k }
+check_kept form bytes a b c good k h = record { reported = h.reported; written = Appends-kept a b c _ h.written k }
 
 info_kept : (form : Form) (bytes : List ℕ) (a b c : Option (List ℕ)) → Keeps b c → WroteInfoOfFile form bytes a b → WroteInfoOfFile form bytes a c
 info_kept form bytes a b c k (inl h) = inl (record { block = h.block; words = h.words; sound = h.sound; written = Appends-kept a b c _ h.written k })

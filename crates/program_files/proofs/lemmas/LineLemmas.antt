@@ -1,4 +1,4 @@
--- The places of patterns, and the lines of a text by the places of its line feeds.
+-- The positions of patterns, and the lines of a text by the positions of its line feeds.
 use Rattle.std.proofs.Common.{◌≡◌, ℕ, zero, suc, ◌+◌, ◌<◌, ◌≤◌, ◌==◌, ◌&&◌, Bool, true, false, cond, List, [], ◌∷◌, ◌++◌, eqb, All, length, take, drop, get_or, filter, count_by, refl, sym, ap, ◌∙◌, subst, arith, add-one, zero-add, eq-eqb, ⊎_elim}
 use Rattle.std.proofs.lemmas.Bool.{cases_Bool, cases_lt, eqb-true, true≢false}
 use Rattle.std.proofs.lemmas.Bool.Decides.{nat_tests}
@@ -18,7 +18,7 @@ use Rattle.text_index.proofs.lemmas.SearchLemmas.{begins_from, begins_to}
 use Rattle.text_index.proofs.lemmas.TotalLemmas.{range_more, suffixes-count}
 use Rattle.text_index.specs.Text.{begins_with, stands_at}
 use Rattle.program_files.specs.Answers.{AreFound, ArePositions}
-use Rattle.program_files.specs.Lines.{bytes_in, line_among, line_at, AreFoundOf, AreLinesOf, ArePlacesOf, LinesWith, SomeStandsAt}
+use Rattle.program_files.specs.Lines.{bytes_in, line_among, line_at, AreFoundOf, AreLinesOf, AreAllPositions, LinesWith, SomeStandsAt}
 use denote.Ref.{Bor}
 
 -- as many pass as there are before the point from which on none does
@@ -30,7 +30,7 @@ count-point p xs i inside point =
     let counted = count_range p xs 0 i (omega arith) (λ r _ h. point.0 r 0 (omega arith) h) only (length xs) (omega arith) in
     sym (sym (ap (count_by p) (take_all (length xs) xs (omega arith))) ∙ counted ∙ omega (arith, inside))
 
--- ---- a count of places
+-- ---- a count of positions
 
 one-more : (g q : ℕ → Bool) (x : ℕ) (xs : List ℕ) (b : Bool) → count_by q (filter g xs) ≡ count_by (λ y. g y && q y) xs
     → count_by q (cond b (x ∷ filter g xs) (filter g xs)) ≡ cond (b && q x) 1 0 + count_by (λ y. g y && q y) xs
@@ -136,30 +136,30 @@ module _ (text pattern found : List ℕ) (are : AreFound text pattern found) whe
       let (k, k_in, k_is) = suffixes.each p inside in
       subst (λ xs. Contains xs p) (sym found-are) (contains-filter (stands_at text pattern) order k p k_in k_is stands)
 
--- those below a place are counted as all that are below it and at which the pattern stands
-count-there : (text pattern places : List ℕ) (are : ArePositions text pattern places) (p : ℕ) → p ≤ length text
-    → count_by (λ x. nat_lt x p) places ≡ count_by (stands_at text pattern) (range_with_len 0 p)
-count-there text pattern places are p inside =
+-- those below a position are counted as all that are below it and at which the pattern stands
+count-there : (text pattern all_positions : List ℕ) (are : ArePositions text pattern all_positions) (p : ℕ) → p ≤ length text
+    → count_by (λ x. nat_lt x p) all_positions ≡ count_by (stands_at text pattern) (range_with_len 0 p)
+count-there text pattern all_positions are p inside =
     let (order, suffixes, at) = are.are.located in
     let g = stands_at text pattern in
     let q : ℕ → Bool = λ x. nat_lt x p in
-    sum_by-IsPermutation (λ x. cond (q x) 1 0) are.found places are.same
+    sum_by-IsPermutation (λ x. cond (q x) 1 0) are.found all_positions are.same
     ∙ ap (count_by q) (found-are text pattern are.found are.are)
     ∙ count-filtered g q order
     ∙ suffixes-count text order suffixes (λ x. g x && q x)
     ∙ cut g p (length text + 1) (omega arith)
 
--- ---- all places of some patterns
+-- ---- all positions of some patterns
 
-pub places-of-none : (text : List ℕ) → AreFoundOf [] text []
-places-of-none text = record {
+pub all_positions-of-none : (text : List ℕ) → AreFoundOf [] text []
+all_positions-of-none text = record {
   each = All-nil (SomeStandsAt [] text);
-  all = λ place has. let (k, inside, is) = has.one in absurd (omega (arith, inside));
+  all = λ position has. let (k, inside, is) = has.one in absurd (omega (arith, inside));
 }
 
-pub places-of-more : (patterns : List (List ℕ)) (text found pattern more : List ℕ) (n : ℕ) → n ≡ length text → AreFoundOf patterns text found
+pub all_positions-of-more : (patterns : List (List ℕ)) (text found pattern more : List ℕ) (n : ℕ) → n ≡ length text → AreFoundOf patterns text found
     → AreFound text pattern more → All (λ p. p ≤ n) more → AreFoundOf (patterns ++ pattern ∷ []) text (found ++ more)
-places-of-more patterns text found pattern more n long so_far are within = record {
+all_positions-of-more patterns text found pattern more n long so_far are within = record {
   each = All-append (SomeStandsAt (patterns ++ pattern ∷ []) text) found more
       (λ k d h. let old = so_far.each k d h in record {
         pattern = old.pattern;
@@ -173,11 +173,11 @@ places-of-more patterns text found pattern more n long so_far are within = recor
         inside = omega (arith, within k d h, long);
         stands = found-stand text pattern more are k d h;
       });
-  all = λ place has. ⊎_elim
-      (λ old. Contains-append_left found more place
-      (so_far.all place (record { pattern = has.pattern; one = old; inside = has.inside; stands = has.stands })))
-      (λ here. Contains-append_right found more place (found-there text pattern more are place has.inside
-      (subst (λ q. stands_at text q place ≡ true) (sym here) has.stands)))
+  all = λ position has. ⊎_elim
+      (λ old. Contains-append_left found more position
+      (so_far.all position (record { pattern = has.pattern; one = old; inside = has.inside; stands = has.stands })))
+      (λ here. Contains-append_right found more position (found-there text pattern more are position has.inside
+      (subst (λ q. stands_at text q position ≡ true) (sym here) has.stands)))
       (Contains-push_cases patterns pattern has.pattern has.one);
 }
 
@@ -187,13 +187,13 @@ pub bytes-more : (xs : List (Bor (List ℕ))) (i : ℕ) (d : Bor (List ℕ)) →
 bytes-more xs i d h = ap bytes_in (take_more xs i d h) ∙ map-append (λ pattern. pattern.now) (take i xs) (get_or xs i d ∷ [])
 
 -- sorted, each once
-pub places-sorted : (patterns : List (List ℕ)) (text found sorted made : List ℕ) → AreFoundOf patterns text found → IsPermutation found sorted
-    → made ≡ dedup eqb sorted → IsStrictlyIncreasing made → ArePlacesOf patterns text made
-places-sorted patterns text found sorted made are same is rises = record {
+pub all_positions-sorted : (patterns : List (List ℕ)) (text found sorted made : List ℕ) → AreFoundOf patterns text found → IsPermutation found sorted
+    → made ≡ dedup eqb sorted → IsStrictlyIncreasing made → AreAllPositions patterns text made
+all_positions-sorted patterns text found sorted made are same is rises = record {
   each = subst (All (SomeStandsAt patterns text)) (sym is)
       (All-dedup eqb (SomeStandsAt patterns text) sorted (All-permutation (SomeStandsAt patterns text) found sorted same are.each));
-  all = λ place has. subst (λ xs. Contains xs place) (sym is)
-      (Contains-dedup_nat sorted place (Contains-permutation found sorted place same (are.all place has)));
+  all = λ position has. subst (λ xs. Contains xs position) (sym is)
+      (Contains-dedup_nat sorted position (Contains-permutation found sorted position same (are.all position has)));
   rising = rises;
 }
 
@@ -202,27 +202,27 @@ places-sorted patterns text found sorted made are same is rises = record {
 line-is : (text ends : List ℕ) (p : ℕ) → ArePositions text (10 ∷ []) ends → p ≤ length text → line_among ends p ≡ line_at text p
 line-is text ends p are inside = ap (λ n. n + 1) (count-there text (10 ∷ []) ends are p inside ∙ feeds text p inside)
 
-pub lines-found : (patterns : List (List ℕ)) (text places ends lines : List ℕ) (n : ℕ) → n ≡ length text → ArePositions text (10 ∷ []) ends
-    → ArePlacesOf patterns text places → AreLinesOf places ends n lines → LinesWith patterns text lines
-lines-found patterns text places ends lines n long feeds_are are of = record {
+pub lines-found : (patterns : List (List ℕ)) (text all_positions ends lines : List ℕ) (n : ℕ) → n ≡ length text → ArePositions text (10 ∷ []) ends
+    → AreAllPositions patterns text all_positions → AreLinesOf all_positions ends n lines → LinesWith patterns text lines
+lines-found patterns text all_positions ends lines n long feeds_are are of = record {
   each = λ k d h.
       let has = of.each k d h in
       let (j, j_in, j_is) = has.one in
       record {
-        place = has.place;
+        position = has.position;
         inside = omega (arith, has.inside, long);
-        stands = subst (SomeStandsAt patterns text) j_is (are.each j has.place j_in);
-        line_is = has.line_is ∙ line-is text ends has.place feeds_are (omega (arith, has.inside, long));
+        stands = subst (SomeStandsAt patterns text) j_is (are.each j has.position j_in);
+        line_is = has.line_is ∙ line-is text ends has.position feeds_are (omega (arith, has.inside, long));
       };
   all = λ line has. of.all line (record {
-    place = has.place;
+    position = has.position;
     inside = omega (arith, has.inside, long);
-    one = are.all has.place has.stands;
-    line_is = has.line_is ∙ sym (line-is text ends has.place feeds_are (omega (arith, has.inside)));
+    one = are.all has.position has.stands;
+    line_is = has.line_is ∙ sym (line-is text ends has.position feeds_are (omega (arith, has.inside)));
   });
   rising = of.rising;
 }
 
 -- the first line is 1
-pub lines-positive : (places ends : List ℕ) (n : ℕ) (lines : List ℕ) → AreLinesOf places ends n lines → All (λ line. 0 < line) lines
-lines-positive places ends n lines of = λ k d h. let has = of.each k d h in omega (arith, has.line_is)
+pub lines-positive : (all_positions ends : List ℕ) (n : ℕ) (lines : List ℕ) → AreLinesOf all_positions ends n lines → All (λ line. 0 < line) lines
+lines-positive all_positions ends n lines of = λ k d h. let has = of.each k d h in omega (arith, has.line_is)

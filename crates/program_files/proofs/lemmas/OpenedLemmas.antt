@@ -3,7 +3,7 @@ use Rattle.std.proofs.Common.{◌≡◌, List, ℕ, Bool, Option, None, Some, Re
 use Rattle.program_base.specs.declared.runs.form.Form.{Form}
 use Rattle.program_files.specs.Bytes.{words_of_bytes}
 use Rattle.program_files.specs.Kind.{number_kind_in}
-use Rattle.program_files.specs.Query.{Told, WroteAnswers, WroteReplies}
+use Rattle.program_files.specs.Query.{Replies, WroteAnswers, WroteReplies}
 use Rattle.program_files.specs.Sound.{AreSoundNumbersOf}
 use Rattle.program_files.specs.declared.blocks.kind.Kind.{Kind}
 use Rattle.program_files.specs.declared.blocks.question.Question.{Question}
@@ -25,13 +25,13 @@ pub answers_kept : {E V : Type 0} (form : Form) (r : Result Bool E) (o : Option 
 answers_kept form (Ok good) o S v R lines a b iff h = (opened_has o S v (λ view. WroteReplies form (R view) lines a b good) iff h).1
 answers_kept form (Err e) o S v R lines a b iff h = tt
 
-pub told_of_kind : {E : Type 0} (form : Form) (r : Result Bool E) (bytes text block : List ℕ) (kind : Kind) (a b : Option (List ℕ)) → words_of_bytes bytes ≡ Some block
+pub replies_of_kind : {E : Type 0} (form : Form) (r : Result Bool E) (bytes text block : List ℕ) (kind : Kind) (a b : Option (List ℕ)) → words_of_bytes bytes ≡ Some block
     → number_kind_in block ≡ Some kind → IfOk r (λ good. AreSoundNumbersOf kind block) → IfOk r (λ good. WroteAnswers form kind block text a b good)
-    → IfOk r (λ good. Told form bytes text a b good)
-told_of_kind form (Ok good) bytes text block kind a b words says sound wrote = record {
+    → IfOk r (λ good. Replies form bytes text a b good)
+replies_of_kind form (Ok good) bytes text block kind a b words says sound wrote = record {
   block = block;
   words = words;
   sound = record { kind = kind; says = says; sound = sound };
   wrote = wrote;
 }
-told_of_kind form (Err e) bytes text block kind a b words says sound wrote = tt
+replies_of_kind form (Err e) bytes text block kind a b words says sound wrote = tt

@@ -6,8 +6,8 @@ use Rattle.program_base.specs.Known.{IsKnownAs, Known}
 use Rattle.program_base.specs.declared.runs.form.Form.{Form}
 use Rattle.program_files.specs.Building.{WroteBlock}
 use Rattle.program_files.specs.Program.{Did, DidAsAsked, IsDone}
-use Rattle.program_files.specs.Old.{ToldOfFile, WroteOldBits, WroteOldSequence}
-use Rattle.program_files.specs.Query.{Told, WroteReplies}
+use Rattle.program_files.specs.Old.{RepliesOfFile, WroteOldBits, WroteOldSequence}
+use Rattle.program_files.specs.Query.{Replies, WroteReplies}
 use Rattle.program_files.specs.declared.blocks.command.Command.{Command}
 use Rattle.program_files.specs.declared.blocks.command.Command.TheVariants.{Build, Query}
 use Rattle.program_files.specs.declared.blocks.kind.Kind.{Kind}
@@ -19,7 +19,7 @@ pub did_build : (known : Known) (kind : Kind) (operand text : List ℕ) (before 
 did_build known kind operand text before after is h = record { done = (text, is, h, refl) }
 
 pub did_query : (known : Known) (form : Form) (path bytes text : List ℕ) (before after : Option (List ℕ)) (good : Bool) → IsKnownAs (known.files path) bytes
-    → IsKnownAs known.input text → ToldOfFile form bytes text before after good → Did known (Query form) path before after good
+    → IsKnownAs known.input text → RepliesOfFile form bytes text before after good → Did known (Query form) path before after good
 did_query known form path bytes text before after good is asked h = record { done = (bytes, text, is, asked, h) }
 
 -- what was done stays so by a flush
@@ -28,18 +28,18 @@ block_kept kind text a b c k h = record { right = h.right; block = h.block; bloc
 
 replies_kept : (form : Form) (R : Question → Reply → Type 0) (lines : List (List ℕ)) (a b c : Option (List ℕ)) (good : Bool) → Keeps b c → WroteReplies form R lines a b good
     → WroteReplies form R lines a c good
-replies_kept form R lines a b c good k h = record { replies = h.replies; answers = h.answers; written = Appends-kept a b c _ h.written k; told = h.told }
+replies_kept form R lines a b c good k h = record { replies = h.replies; answers = h.answers; written = Appends-kept a b c _ h.written k; reported = h.reported }
 
-told_kept : (form : Form) (bytes text : List ℕ) (a b c : Option (List ℕ)) (good : Bool) → Keeps b c → Told form bytes text a b good → Told form bytes text a c good
-told_kept form bytes text a b c good k h = record { block = h.block; words = h.words; sound = h.sound; wrote = replies_kept _ _ _ a b c good k h.wrote }
+claimed_kept : (form : Form) (bytes text : List ℕ) (a b c : Option (List ℕ)) (good : Bool) → Keeps b c → Replies form bytes text a b good → Replies form bytes text a c good
+claimed_kept form bytes text a b c good k h = record { block = h.block; words = h.words; sound = h.sound; wrote = replies_kept _ _ _ a b c good k h.wrote }
 
 old_kept : (form : Form) (file text : List ℕ) (a b c : Option (List ℕ)) (good : Bool) → Keeps b c → WroteOldBits form file text a b good ⊎ WroteOldSequence form file text a b good
     → WroteOldBits form file text a c good ⊎ WroteOldSequence form file text a c good
 old_kept form file text a b c good k (inl h) = inl (record { fits = h.fits; wrote = replies_kept _ _ _ a b c good k h.wrote })
 old_kept form file text a b c good k (inr h) = inr (record { fits = h.fits; wrote = replies_kept _ _ _ a b c good k h.wrote })
 
-file_kept : (form : Form) (bytes text : List ℕ) (a b c : Option (List ℕ)) (good : Bool) → Keeps b c → ToldOfFile form bytes text a b good → ToldOfFile form bytes text a c good
-file_kept form bytes text a b c good k (inl h) = inl (told_kept form bytes text a b c good k h)
+file_kept : (form : Form) (bytes text : List ℕ) (a b c : Option (List ℕ)) (good : Bool) → Keeps b c → RepliesOfFile form bytes text a b good → RepliesOfFile form bytes text a c good
+file_kept form bytes text a b c good k (inl h) = inl (claimed_kept form bytes text a b c good k h)
 file_kept form bytes text a b c good k (inr h) = inr (record { file = h.file; words = h.words; wrote = old_kept form h.file text a b c good k h.wrote })
 
 done_kept : (known : Known) (command : Command) (operand : List ℕ) (a b c : Option (List ℕ)) (good : Bool) → Keeps b c

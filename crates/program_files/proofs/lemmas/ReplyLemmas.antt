@@ -27,16 +27,16 @@ text_more : (form : Form) (replies : List Reply) (reply : Reply) → replies_tex
 text_more form replies reply =
     flat_map-append (λ r. reply_in form r ++ 10 ∷ []) replies (reply ∷ []) ∙ ap (λ l. replies_text form replies ++ l) (append-nil (reply_in form reply ++ 10 ∷ []))
 
-told_more : (replies : List Reply) (reply : Reply) (good told : Bool) → good ≡ list_all is_good_reply replies → told ≡ is_good_reply reply → (good && told) ≡ list_all is_good_reply (replies ++ reply ∷ [])
-told_more replies reply good told h one =
-    ap (λ b. b && told) h ∙ ap (λ b. list_all is_good_reply replies && b) one
+claimed_more : (replies : List Reply) (reply : Reply) (good reported : Bool) → good ≡ list_all is_good_reply replies → reported ≡ is_good_reply reply → (good && reported) ≡ list_all is_good_reply (replies ++ reply ∷ [])
+claimed_more replies reply good reported h one =
+    ap (λ b. b && reported) h ∙ ap (λ b. list_all is_good_reply replies && b) one
     ∙ sym (list_all-append is_good_reply replies (reply ∷ []) ∙ ap (λ b. list_all is_good_reply replies && b) (and_true (is_good_reply reply)))
 
-pub wrote_more : (form : Form) (R : Question → Reply → Type 0) (lines : List (List ℕ)) (line : List ℕ) (a b c : Option (List ℕ)) (good told : Bool) → WroteReplies form R lines a b good
-    → WroteReply form R line b c told → WroteReplies form R (lines ++ line ∷ []) a c (good && told)
-wrote_more form R lines line a b c good told h one = record {
+pub wrote_more : (form : Form) (R : Question → Reply → Type 0) (lines : List (List ℕ)) (line : List ℕ) (a b c : Option (List ℕ)) (good reported : Bool) → WroteReplies form R lines a b good
+    → WroteReply form R line b c reported → WroteReplies form R (lines ++ line ∷ []) a c (good && reported)
+wrote_more form R lines line a b c good reported h one = record {
   replies = h.replies ++ one.reply ∷ [];
   answers = replies_more R lines h.replies line one.reply h.answers one.answers;
   written = subst (λ l. Appends a c l) (sym (text_more form h.replies one.reply)) (Appends-trans a b c _ _ h.written one.written);
-  told = told_more h.replies one.reply good told h.told one.told;
+  reported = claimed_more h.replies one.reply good reported h.reported one.reported;
 }

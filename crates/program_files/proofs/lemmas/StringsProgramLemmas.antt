@@ -29,7 +29,7 @@ as_asked (Err e) known args command path a b asked did = tt
 -- what was done stays so by a flush
 numbers_kept : (form : Form) (parts : StringParts) (lines : List (List ℕ)) (a b c : Option (List ℕ)) (found : Bool) → Keeps b c → WroteNumbers form parts lines a b found
     → WroteNumbers form parts lines a c found
-numbers_kept form parts lines a b c found k h = record { answers = h.answers; told = h.told; are = h.are; written = Appends-kept a b c _ h.written k }
+numbers_kept form parts lines a b c found k h = record { answers = h.answers; reported = h.reported; are = h.are; written = Appends-kept a b c _ h.written k }
 
 done_kept : (known : Known) (command : Command) (path : List ℕ) (a b c : Option (List ℕ)) (good : Bool) → Keeps b c
     → IsDone known command path a b good → IsDone known command path a c good

@@ -3,8 +3,9 @@ ghost use Rattle.std.specs.Prelude.{◌≡◌, ◌⊎◌, Err, IfErr, IfOk, IfSo
 ghost use Rattle.program_base.specs.Text.{lines_of};
 ghost use Rattle.program_files.specs.Failure.{IsAnswerFailure, IsRefusal};
 ghost use Rattle.program_files.specs.Format.{format_in};
-ghost use Rattle.program_files.specs.Old.{IsOld, IsOldFile, ToldOfFile, ToldOld, WroteOldBits, WroteOldSequence};
-ghost use Rattle.program_files.specs.Query.{Told, WroteAnswers, WroteReplies, WroteReply};
+ghost use Rattle.program_files.specs.Old.{IsOld, IsOldFile, WroteOldBits, WroteOldSequence};
+ghost use Rattle.program_files.specs.Old.{RepliesOfFile, RepliesOfOld};
+ghost use Rattle.program_files.specs.Query.{Replies, WroteAnswers, WroteReplies, WroteReply};
 ghost use Rattle.program_files.specs.Sound.{AreSoundNumbersOf, IsFileOfSoundNumbers};
 
 use crate::blocks::bits::open_bits;
@@ -44,7 +45,7 @@ pub fn query<W: Write>(
     form: Form,
     out: &mut W,
 ) -> Result<bool, Failure>
-    ensures answers { IfOk result (λ good. ToldOfFile form block.now text.now
+    ensures answers { IfOk result (λ good. RepliesOfFile form block.now text.now
         (W.contents out.old) (W.contents out.new) good) }
     ensures refused { IfErr (format_in block.now) (λ e. result ≡ Err e) }
     ensures failure { IfOk (format_in block.now) (λ _. IfErr result IsAnswerFailure) }
@@ -67,7 +68,7 @@ fn query_block<W: Write>(
     form: Form,
     out: &mut W,
 ) -> Result<bool, Failure>
-    ensures answers { IfOk result (λ good. Told form block.now text.now
+    ensures answers { IfOk result (λ good. Replies form block.now text.now
         (W.contents out.old) (W.contents out.new) good) }
     ensures failure { IfErr result IsAnswerFailure }
     ensures wrong { IsErrOf result Failure.WrongBlock → ¬ (IsFileOfSoundNumbers block.now) }
@@ -90,7 +91,7 @@ fn query_old<W: Write>(
     form: Form,
     out: &mut W,
 ) -> Result<bool, Failure>
-    ensures answers { IfOk result (λ good. ToldOld form file.now text.now
+    ensures answers { IfOk result (λ good. RepliesOfOld form file.now text.now
         (W.contents out.old) (W.contents out.new) good) }
     ensures failure { IfErr result IsAnswerFailure }
     ensures wrong { IsErrOf result Failure.WrongBlock → ¬ (IsOldFile file.now) }

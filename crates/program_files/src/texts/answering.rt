@@ -9,10 +9,10 @@ ghost use Rattle.program_files.specs.Lines.{bytes_in};
 ghost use Rattle.text_block.specs.Block.{parts_in, HoldsIndex, bytes_of_parts};
 
 use crate::blocks::words_of_bytes;
+use crate::texts::all_positions::{all_positions, counts};
 use crate::texts::command::Asked;
 use crate::texts::failure::Failure;
 use crate::texts::numbering::lines_with;
-use crate::texts::places::{counts, places};
 use bitm_block::is_verified;
 use program_base::runs::CannotWrite;
 use std::alloc::Global;
@@ -161,7 +161,7 @@ fn answers(
 {
     match asked {
         Asked::Count => counts(alloc, text, patterns),
-        Asked::Locate => places(alloc, text, patterns),
+        Asked::Locate => all_positions(alloc, text, patterns),
         Asked::Lines => lines_with(alloc, text, patterns),
     }
 }

@@ -4,8 +4,8 @@ ghost use Rattle.std.specs.List.Sorted.{IsNonDecreasing, IsStrictlyIncreasing};
 ghost use Rattle.program_files.specs.Lines.{bytes_in, line_among, AreLinesOf, LinesWith};
 ghost use Rattle.text_block.specs.Block.{HoldsIndex, bytes_of_parts};
 
+use crate::texts::all_positions::{all_positions, positions};
 use crate::texts::failure::Failure;
-use crate::texts::places::{places, positions};
 use std::alloc::{AllocError, Global};
 use text_block::TextView;
 
@@ -21,28 +21,28 @@ pub(crate) fn lines_with(
     ensures rising { IfOk result (λ lines. IsStrictlyIncreasing lines.items) }
     ensures wrong { HoldsIndex text.now → ¬ (IsErrOf result Failure.WrongBlock) }
 {
-    let places = places(alloc, text, patterns)?;
+    let all_positions = all_positions(alloc, text, patterns)?;
     let ends = positions(alloc, text, b"\n".as_slice())?;
-    Ok(lines_of(alloc, places.as_slice(), ends.as_slice(), text.len())?)
+    Ok(lines_of(alloc, all_positions.as_slice(), ends.as_slice(), text.len())?)
 }
 
 /// The numbers of the lines in which these positions are, less those from `len` on, where the lines end at `ends`;
 /// each once and in their order.
 fn lines_of(
     alloc: Global,
-    places: &[usize],
+    all_positions: &[usize],
     ends: &[usize],
     len: usize,
 ) -> Result<Vec<usize>, AllocError>
-    requires places { IsNonDecreasing places.now }
+    requires all_positions { IsNonDecreasing all_positions.now }
     requires ends { IsNonDecreasing ends.now }
-    ensures { IfOk result (λ lines. AreLinesOf places.now ends.now len lines.items) }
+    ensures { IfOk result (λ lines. AreLinesOf all_positions.now ends.now len lines.items) }
 {
     let mut lines = Vec::new(alloc);
     let mut last = 0;
-    for place in places {
-        let line = line_of(ends, *place);
-        if *place < len && last < line {
+    for position in all_positions {
+        let line = line_of(ends, *position);
+        if *position < len && last < line {
             lines.push(line)?;
             last = line;
         }
@@ -51,9 +51,9 @@ fn lines_of(
 }
 
 /// The number of the line in which a position is, where the lines end at `ends`.
-fn line_of(ends: &[usize], place: usize) -> usize
+fn line_of(ends: &[usize], position: usize) -> usize
     requires { IsNonDecreasing ends.now }
-    ensures { result ≡ line_among ends.now place }
+    ensures { result ≡ line_among ends.now position }
 {
-    ends.partition_point(|end| *end < place) + 1
+    ends.partition_point(|end| *end < position) + 1
 }

@@ -2,7 +2,7 @@
 ghost use Rattle.std.specs.Prelude.{◌≡◌, ◌≢◌, ◌^◌, ◌<◌, ◌≤◌, ◌↔◌, IfErr, IfOk, IsErrOf, length};
 ghost use Rattle.bitm_block.specs.Layout.{end_of};
 ghost use Rattle.sequence_block.specs.Block.{sections_of};
-ghost use Rattle.sparse_bits.specs.Positions.{ArePlaces, HasNoRise, HasPast, Rises};
+ghost use Rattle.sparse_bits.specs.Positions.{AreBitPositions, HasNoRise, HasPast, Rises};
 ghost use Rattle.sequence_block.specs.SparseBlock.{IsBlockOf};
 
 use crate::sparse::error::BuildError;
@@ -13,7 +13,7 @@ use sparse_bits::{SparseError, check_positions};
 
 /// Tests numbers that are to be the positions of the 1 bits among `len` bits.
 fn check_ones(positions: &[u64], len: usize) -> Result<(), BuildError>
-    ensures places { IfOk result (λ _. ArePlaces len 0 positions.now) }
+    ensures positions { IfOk result (λ _. AreBitPositions len 0 positions.now) }
     ensures short { IfOk result (λ _. length positions.now < 2 ^ 56) }
     ensures too_long { IsErrOf result BuildError.TooLong ↔ (2 ^ 56 ≤ length positions.now) }
     ensures not_rising { IsErrOf result BuildError.NotRising

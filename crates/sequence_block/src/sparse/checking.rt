@@ -1,7 +1,7 @@
 //! A check of what a block of sparse bits holds.
 ghost use Rattle.std.specs.Prelude.{◌↔◌, IsTrue, List, ℕ};
 ghost use Rattle.elias_fano.specs.SequenceParts.{Holds};
-ghost use Rattle.sparse_bits.specs.Positions.{ArePlaces};
+ghost use Rattle.sparse_bits.specs.Positions.{AreBitPositions};
 ghost use Rattle.sequence_block.specs.SparseBlock.{IsSoundBlock};
 
 use crate::check_as;
@@ -11,7 +11,7 @@ use elias_fano_view::SequenceView;
 
 /// Whether each number of a sequence is greater than the one before it, and less than `end`.
 fn rise_below(numbers: &SequenceView<'_>, end: u64) -> bool
-    ensures { (xs : List ℕ) → Holds xs numbers.now → IsTrue result ↔ ArePlaces end 0 xs }
+    ensures { (xs : List ℕ) → Holds xs numbers.now → IsTrue result ↔ AreBitPositions end 0 xs }
 {
     if numbers.len() == 0 {
         return true;

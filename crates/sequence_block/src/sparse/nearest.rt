@@ -3,7 +3,7 @@ ghost use Rattle.std.specs.Prelude.{◌+◌, List, ℕ, min};
 ghost use Rattle.bitm_select.specs.Answers.{IsFoundFrom, IsSelected};
 ghost use Rattle.tables_view.specs.Nearest.{IsNext, IsPrevious};
 ghost use Rattle.tables_view.specs.Ranks.{IsCountWithin, IsRanked};
-ghost use Rattle.elias_fano.specs.Answers.{IsPlaceOf};
+ghost use Rattle.elias_fano.specs.Answers.{IsIndexIn};
 ghost use Rattle.sequence_block.specs.SparseBlock.{bits_of, HoldsOnes};
 
 use crate::sparse::view::SparseView;
@@ -42,7 +42,7 @@ impl<'a> SparseView<'a> {
     /// ```
     #[inline]
     pub fn select_of(&self, one: bool, rank: usize) -> Answer<usize>
-        ensures inside { IsPlaceOf self.now.len result }
+        ensures inside { IsIndexIn self.now.len result }
         ensures counts { (xs : List ℕ) → HoldsOnes xs self.now
             → IsSelected (bits_of xs self.now) one rank result }
     {

@@ -5,16 +5,16 @@ use Rattle.std.specs.List.{All}
 use Rattle.bitm_tables.specs.declared.answer.Answer.TheVariants.{Found}
 use Rattle.elias_fano.specs.Sequence.{Reaches}
 use Rattle.tables_view.specs.Ranks.{IsRanked}
-use Rattle.sparse_bits.proofs.lemmas.PositionLemmas.{at_least_place, bits_count, rank_none, rank_some}
-use Rattle.sparse_bits.specs.Positions.{bits_at, ArePlaces}
+use Rattle.sparse_bits.proofs.lemmas.PositionLemmas.{at_least_position, bits_count, rank_none, rank_some}
+use Rattle.sparse_bits.specs.Positions.{bits_at, AreBitPositions}
 
-module _ (n : ℕ) (xs : List ℕ) (are : ArePlaces n 0 xs) where
+module _ (n : ℕ) (xs : List ℕ) (are : AreBitPositions n 0 xs) where
   -- no more positions are less than i than there are numbers below i
   pub few_before : (i c : ℕ) → c ≤ length xs → ((j : ℕ) → j < c → get_or xs j 0 < i) → c ≤ i
   few_before i c inside less = ⊎_elim
       (λ (none : c < 1). omega (arith, none))
       (λ (some : 1 ≤ c).
-      omega (arith, some, at_least_place xs (c - 1) are.rising (omega (arith, some, inside)), less (c - 1) (omega (arith, some))))
+      omega (arith, some, at_least_position xs (c - 1) are.rising (omega (arith, some, inside)), less (c - 1) (omega (arith, some))))
       (cases_lt c 1)
 
   pub ranked_at : (i c : ℕ) → i ≤ n → Reaches xs i c → IsRanked (bits_at n 0 xs) true i (Found c)

@@ -4,7 +4,7 @@ ghost use Rattle.bit_lists.specs.Count.{as_bit};
 ghost use Rattle.bitm_strategies.specs.Density.{clamped_log};
 ghost use Rattle.bitm_tables.specs.Tables.{HasTables, bits_in};
 ghost use Rattle.bitm_select.specs.Answers.{HasBit, IsSelected};
-ghost use Rattle.bitm_select.specs.Told.{TellsNone};
+ghost use Rattle.bitm_select.specs.Claims.{ClaimsNone};
 ghost use Rattle.bitm_tables.specs.Answers.{IfAbsent};
 ghost use Rattle.tables_view.specs.Samples.{AreSamples, HasSampleRoom};
 
@@ -47,7 +47,7 @@ impl<'a> TablesView<'a> {
         if samples.len() < samples_len(self.words.len(), log2) || starts.len() != self.upper.len() {
             return None;
         }
-        let Some(total) = self.told_ones(len) else {
+        let Some(total) = self.claimed_ones(len) else {
             return None;
         };
         let summary = Summary {
@@ -76,7 +76,7 @@ impl<'a> TablesView<'a> {
     ) -> Answer<usize>
         ensures bit { HasBit (bits_in self.now) (as_bit BIT) result }
         ensures counts { HasTables self.now → IsSelected (bits_in self.now) (as_bit BIT) rank result }
-        ensures absent { IfAbsent result (TellsNone (as_bit BIT) self.now rank) }
+        ensures absent { IfAbsent result (ClaimsNone (as_bit BIT) self.now rank) }
     {
         sampled_select_on::<BIT, Probe<'_>>(&mut self.probe(), samples, rank)
     }

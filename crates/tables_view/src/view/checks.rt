@@ -24,7 +24,7 @@ impl<'a> TablesView<'a> {
         if samples.starts.len() != self.upper.len() {
             return false;
         }
-        let Some(total) = self.told_ones(len) else {
+        let Some(total) = self.claimed_ones(len) else {
             return false;
         };
         let summary = Summary {

@@ -47,7 +47,7 @@ fn finds_reach_a_fragment_from_both_sides(rt: HostRuntime) {
 fn finds_pass_over_words(rt: HostRuntime) {
     let array = [1u64, 4];
     let content = array.as_slice();
-    for (start, place) in [
+    for (start, position) in [
         (0, Some(0)),
         (1, Some(66)),
         (66, Some(66)),
@@ -55,7 +55,7 @@ fn finds_pass_over_words(rt: HostRuntime) {
         (128, None),
         (usize::MAX, None),
     ] {
-        assert!(rt; content.find_bit_one(start) == place);
+        assert!(rt; content.find_bit_one(start) == position);
     }
     let array = [1u64, 0];
     assert!(rt; last_to(&array.as_slice(), 127, 0) == Some(0));

@@ -217,8 +217,8 @@ fn a_swap_crosses_a_word_border(rt: HostRuntime) {
 fn prefetch_leaves_the_words_as_they_are(rt: HostRuntime) {
     let array = [0b101, u64::MAX];
     let content = array.as_slice();
-    for place in [0, 1, 63, 64, 127, 128, usize::MAX] {
-        content.prefetch_bit(place);
+    for position in [0, 1, 63, 64, 127, 128, usize::MAX] {
+        content.prefetch_bit(position);
     }
     for (index, s) in [(0, 3), (1, 3), (42, 3), (usize::MAX, 64)] {
         content.prefetch_fragment(index, s);

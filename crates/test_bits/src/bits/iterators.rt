@@ -3,7 +3,7 @@
 use bitm_bits::{BitAccess, BitBIterator, BitIterator, BitOnesIterator, BitZerosIterator};
 
 #[test]
-fn places_of_ones_come_with_how_many_are_left(rt: HostRuntime) {
+fn positions_of_ones_come_with_how_many_are_left(rt: HostRuntime) {
     let array = [0b101u64, 0b10];
     let content = array.as_slice();
     let mut ones = content.bit_ones();
@@ -38,7 +38,7 @@ fn bits_come_with_how_many_are_left(rt: HostRuntime) {
 }
 
 #[test]
-fn no_words_give_no_places_and_no_bits(rt: HostRuntime) {
+fn no_words_give_no_positions_and_no_bits(rt: HostRuntime) {
     let array: [u64; 0] = [];
     let content = array.as_slice();
     let mut ones = content.bit_ones();
@@ -50,12 +50,12 @@ fn no_words_give_no_places_and_no_bits(rt: HostRuntime) {
 }
 
 #[test]
-fn places_of_zeros_come_with_how_many_are_left(rt: HostRuntime) {
+fn positions_of_zeros_come_with_how_many_are_left(rt: HostRuntime) {
     let array = [0, u64::MAX];
     let content = array.as_slice();
     let mut zeros = content.bit_zeros();
-    for (left, passed, place) in [(64, 0, Some(0)), (63, 62, Some(63)), (0, 0, None)] {
-        assert!(rt; (zeros.len(), zeros.nth(passed)) == (left, place));
+    for (left, passed, position) in [(64, 0, Some(0)), (63, 62, Some(63)), (0, 0, None)] {
+        assert!(rt; (zeros.len(), zeros.nth(passed)) == (left, position));
     }
 }
 
@@ -74,10 +74,10 @@ fn a_word_of_ones_has_no_zeros(rt: HostRuntime) {
 /// Whether, of the bits that come, exactly those at the given positions are 1 bits.
 fn has_ones_at(bits: BitIterator<'_>, ones: &[usize]) -> bool {
     let range = bits.bit_range();
-    let places = range.start..range.end;
-    places
+    let positions = range.start..range.end;
+    positions
         .zip(bits)
-        .all(|(place, bit)| bit == ones.contains(&place))
+        .all(|(position, bit)| bit == ones.contains(&position))
 }
 
 /// How many bits come.
@@ -96,7 +96,7 @@ fn each_bit_of_a_range_comes_once(rt: HostRuntime) {
 }
 
 #[test]
-fn as_many_bits_of_a_range_come_as_it_has_places(rt: HostRuntime) {
+fn as_many_bits_of_a_range_come_as_it_has_positions(rt: HostRuntime) {
     let array = [0b1011_0011u64, 1];
     let content = array.as_slice();
     assert!(rt; how_many(content.bit_iter()) == 128);
@@ -148,7 +148,7 @@ fn a_reversed_range_has_no_bits_and_stays(rt: HostRuntime) {
 }
 
 #[test]
-fn places_rise_and_end(rt: HostRuntime) {
+fn positions_rise_and_end(rt: HostRuntime) {
     let array = [0b1011_0011u64, 1];
     let content = array.as_slice();
     let expected = [0, 1, 4, 5, 7, 64];

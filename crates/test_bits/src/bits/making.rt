@@ -82,10 +82,10 @@ fn size<V: GetSize>(value: &V) -> (usize, bool) {
 fn sizes_are_those_of_the_items(rt: HostRuntime) {
     let alloc = rt.alloc();
     let words = BoxedSlice::from_slice(alloc, &[1u64, 2, 3]).expect(&rt, "memory is left");
-    let places = BoxedSlice::from_slice(alloc, &[1usize, 2]).expect(&rt, "memory is left");
+    let positions = BoxedSlice::from_slice(alloc, &[1usize, 2]).expect(&rt, "memory is left");
     let halves = BoxedSlice::from_slice(alloc, &[1u32, 2, 3]).expect(&rt, "memory is left");
     assert!(rt; size(&words) == (24, true));
-    assert!(rt; size(&places) == (16, true));
+    assert!(rt; size(&positions) == (16, true));
     assert!(rt; size(&halves) == (12, true));
     assert!(rt; size(&words.as_slice()) == (0, false));
     assert!(rt; size(&()) == (0, false));

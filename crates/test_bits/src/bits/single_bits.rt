@@ -28,19 +28,19 @@ fn n_lowest_bits_are_so_many_ones_at_the_bottom(rt: HostRuntime) {
 }
 
 /// The answers of `try_get_bit` at the positions, for any value whose words can be borrowed.
-fn tried<B: BitAccess>(bits: &B, places: [usize; 4]) -> [Option<bool>; 4] {
-    places.map(|place| bits.try_get_bit(place))
+fn tried<B: BitAccess>(bits: &B, positions: [usize; 4]) -> [Option<bool>; 4] {
+    positions.map(|position| bits.try_get_bit(position))
 }
 
 /// Clears the bit and sets it again, and answers the counts of ones and zeros in between.
-fn counts_while_clear<B: BitAccessMut>(bits: &mut B, place: usize) -> (usize, usize)
-    requires inside { place < 64 * length (B.words bits.old) }
+fn counts_while_clear<B: BitAccessMut>(bits: &mut B, position: usize) -> (usize, usize)
+    requires inside { position < 64 * length (B.words bits.old) }
     requires short { IsShort (B.words bits.old) }
     ensures { length (B.words bits.new) ≡ length (B.words bits.old) }
 {
-    bits.clear_bit(place);
+    bits.clear_bit(position);
     let counts = (bits.count_bit_ones(), bits.count_bit_zeros());
-    bits.set_bit(place);
+    bits.set_bit(position);
     counts
 }
 

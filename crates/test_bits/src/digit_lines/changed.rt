@@ -12,8 +12,8 @@ fn stays(made: &Made) -> bool {
         stays &= (made.rank(0, index) == None) == (index > made.len);
         stays &= (made.digit_and_rank(index) == None) == (index >= made.len);
         for digit in 0..4u8 {
-            if let Some(Answer::Found(place)) = made.select(digit, index) {
-                stays &= place < made.len && made.digit(place) == Some(digit);
+            if let Some(Answer::Found(position)) = made.select(digit, index) {
+                stays &= position < made.len && made.digit(position) == Some(digit);
             }
         }
     }

@@ -20,15 +20,20 @@ pub struct Made {
     pub len: usize,
 }
 
-/// The digits of numbers from bit `place` on, as lines and table that held ones before.
-pub fn make_lines(alloc: Global, numbers: &[u64], place: u8) -> Result<Made, Fail> {
+/// The digits of numbers from bit `position` on, as lines and table that held ones before.
+pub fn make_lines(alloc: Global, numbers: &[u64], position: u8) -> Result<Made, Fail> {
     let len = numbers.len();
     let mut lines = vec![in alloc; u64::MAX; lines_len(len)]?;
     let mut table = vec![in alloc; u64::MAX; table_len(len)]?;
-    if place > 63 || !have_sizes(lines.as_slice(), table.as_slice(), len) {
+    if position > 63 || !have_sizes(lines.as_slice(), table.as_slice(), len) {
         return Err("there are too many numbers".into());
     }
-    build(numbers, place, lines.as_mut_slice(), table.as_mut_slice());
+    build(
+        numbers,
+        position,
+        lines.as_mut_slice(),
+        table.as_mut_slice(),
+    );
     Ok(Made { lines, table, len })
 }
 
@@ -67,9 +72,9 @@ impl Made {
     }
 
     /// `digit_on` these.
-    pub fn digit(&self, place: usize) -> Option<u8> {
+    pub fn digit(&self, position: usize) -> Option<u8> {
         let mut source = self.probe()?;
-        digit_on(&mut source, place)
+        digit_on(&mut source, position)
     }
 
     /// `digit_rank_on` these, of the lowest two bits of a digit.
@@ -85,9 +90,9 @@ impl Made {
     }
 
     /// `digit_and_rank_on` these.
-    pub fn digit_and_rank(&self, place: usize) -> Option<(u8, usize)> {
+    pub fn digit_and_rank(&self, position: usize) -> Option<(u8, usize)> {
         let mut source = self.probe()?;
-        digit_and_rank_on(&mut source, place)
+        digit_and_rank_on(&mut source, position)
     }
 
     /// `digit_select_on` these, of the lowest two bits of a digit.

@@ -21,14 +21,14 @@ fn agrees_at_end(made: &Made, counts: &[usize; 4]) -> bool {
 }
 
 /// Whether the queries of a position are right: its digit, and how many of each are before it.
-fn agrees_at(made: &Made, place: usize, digit: u8, counts: &[usize; 4]) -> bool {
+fn agrees_at(made: &Made, position: usize, digit: u8, counts: &[usize; 4]) -> bool {
     let seen = counts[digit as usize % 4];
-    let mut agrees = made.digit(place) == Some(digit);
+    let mut agrees = made.digit(position) == Some(digit);
     for other in 0..4u8 {
-        agrees &= made.rank(other, place) == Some(counts[other as usize]);
+        agrees &= made.rank(other, position) == Some(counts[other as usize]);
     }
-    agrees &= made.digit_and_rank(place) == Some((digit, seen));
-    agrees && made.select(digit, seen) == Some(Answer::Found(place))
+    agrees &= made.digit_and_rank(position) == Some((digit, seen));
+    agrees && made.select(digit, seen) == Some(Answer::Found(position))
 }
 
 /// Whether the queries are as a walk over the numbers counts, of which a digit is worked out by division: at each of
@@ -36,10 +36,10 @@ fn agrees_at(made: &Made, place: usize, digit: u8, counts: &[usize; 4]) -> bool 
 fn agrees(made: &Made, numbers: &[u64], power: u64, step: usize) -> bool {
     let mut counts = [0usize; 4];
     let mut agrees = made.len == numbers.len() && made.is_right();
-    for place in 0..numbers.len() {
-        let value = (numbers[place] / power.max(1) % 4) as usize;
-        if place % step.max(1) == 0 || numbers.len() - place <= 300 {
-            agrees &= agrees_at(made, place, value as u8, &counts);
+    for position in 0..numbers.len() {
+        let value = (numbers[position] / power.max(1) % 4) as usize;
+        if position % step.max(1) == 0 || numbers.len() - position <= 300 {
+            agrees &= agrees_at(made, position, value as u8, &counts);
         }
         counts[value] = counts[value].wrapping_add(1);
     }
@@ -79,11 +79,11 @@ fn queries_around_the_end_of_an_entry_agree_with_a_walk(rt: HostRuntime) -> Resu
 }
 
 #[test]
-fn digits_are_the_two_bits_from_any_place_on(rt: HostRuntime) -> Result<(), Fail> {
+fn digits_are_the_two_bits_from_any_position_on(rt: HostRuntime) -> Result<(), Fail> {
     let numbers = drawn(rt.alloc(), 500, 0)?;
     let numbers = numbers.as_slice();
-    for (place, power) in [(0, 1), (1, 2), (31, 1 << 31), (62, 1 << 62), (63, 1 << 63)] {
-        let made = make_lines(rt.alloc(), numbers, place)?;
+    for (position, power) in [(0, 1), (1, 2), (31, 1 << 31), (62, 1 << 62), (63, 1 << 63)] {
+        let made = make_lines(rt.alloc(), numbers, position)?;
         assert!(rt; agrees(&made, numbers, power, 1));
     }
     Ok(())

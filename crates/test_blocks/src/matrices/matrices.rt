@@ -92,7 +92,7 @@ pub(crate) const MATRIX: [u64; 80] = [
 ];
 
 /// The number that was found, or 100 for `Absent`, 101 for `Wrong`.
-pub(crate) fn told(answer: Answer<usize>) -> usize {
+pub(crate) fn coded(answer: Answer<usize>) -> usize {
     match answer {
         Answer::Found(number) => number,
         Answer::Absent => 100,
@@ -101,7 +101,7 @@ pub(crate) fn told(answer: Answer<usize>) -> usize {
 }
 
 /// The number that was found, or 100 for `Absent`, 101 for `Wrong`.
-pub(crate) fn number_told(answer: Answer<u64>) -> u64 {
+pub(crate) fn number_coded(answer: Answer<u64>) -> u64 {
     match answer {
         Answer::Found(number) => number,
         Answer::Absent => 100,
@@ -113,7 +113,7 @@ pub(crate) fn number_told(answer: Answer<u64>) -> u64 {
 fn numbers(matrix: &MatrixView<'_>) -> [u64; 7] {
     let mut all = [0u64; 7];
     for i in 0..7usize {
-        all[i] = number_told(matrix.get(i));
+        all[i] = number_coded(matrix.get(i));
     }
     all
 }
@@ -122,9 +122,9 @@ fn numbers(matrix: &MatrixView<'_>) -> [u64; 7] {
 fn ranks(matrix: &MatrixView<'_>) -> [usize; 24] {
     let mut all = [0usize; 24];
     for i in 0..8usize {
-        all[i] = told(matrix.rank(1, i));
-        all[i + 8] = told(matrix.rank(4, i));
-        all[i + 16] = told(matrix.rank(9, i));
+        all[i] = coded(matrix.rank(1, i));
+        all[i + 8] = coded(matrix.rank(4, i));
+        all[i + 16] = coded(matrix.rank(9, i));
     }
     all
 }
@@ -195,9 +195,9 @@ fn a_matrix_is_written_and_answers(rt: HostRuntime) -> Result<(), Fail> {
         return Ok(());
     };
     assert!(rt; matrix.check());
-    assert!(rt; told(matrix.select(1, 2)) == 5);
-    assert!(rt; told(matrix.select(5, 0)) == 4);
-    assert!(rt; told(matrix.select(4, 1)) == 100);
+    assert!(rt; coded(matrix.select(1, 2)) == 5);
+    assert!(rt; coded(matrix.select(5, 0)) == 4);
+    assert!(rt; coded(matrix.select(4, 1)) == 100);
     assert!(rt; numbers(&matrix) == [3, 1, 4, 1, 5, 1, 100]);
     assert!(rt;
         ranks(&matrix)

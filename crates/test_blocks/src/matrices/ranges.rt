@@ -1,5 +1,5 @@
 //! The ranges of a matrix in a block, beside plain loops, and the ranges of other words in its place.
-use crate::matrices::matrices::{MATRIX, NUMBERS, number_told, told};
+use crate::matrices::matrices::{MATRIX, NUMBERS, coded, number_coded};
 use matrix_block::{Answer, MatrixView};
 use std::process::Abort;
 use std::test::Fail;
@@ -63,7 +63,7 @@ fn counts(matrix: &MatrixView<'_>) -> [usize; 7] {
     let bounds = [0u64, 1, 2, 4, 5, 6, 9];
     let mut all = [0usize; 7];
     for i in 0..7usize {
-        all[i] = told(matrix.count_less(1, 5, bounds[i]));
+        all[i] = coded(matrix.count_less(1, 5, bounds[i]));
     }
     all
 }
@@ -77,15 +77,15 @@ fn ranges_are_counted_as_a_loop_counts(rt: HostRuntime) -> Result<(), Fail> {
     };
     assert!(rt; counts(&matrix) == [0, 0, 2, 2, 3, 4, 4]);
     assert!(rt; wrong_counts(&matrix, NUMBERS.as_slice()) == 0);
-    assert!(rt; told(matrix.count_less(0, 6, 4)) == 4);
-    assert!(rt; told(matrix.count_less(6, 6, 4)) == 0);
-    assert!(rt; told(matrix.range_count(1, 5, 1, 5)) == 3);
-    assert!(rt; told(matrix.range_count(1, 5, 4, u64::MAX)) == 2);
-    assert!(rt; told(matrix.range_count(1, 5, 5, 1)) == 0);
-    assert!(rt; told(matrix.range_count(1, 7, 5, 1)) == 100);
-    assert!(rt; told(matrix.count_less(2, 1, 4)) == 100);
-    assert!(rt; told(matrix.count_less(0, 7, 4)) == 100);
-    assert!(rt; told(matrix.count_less(usize::MAX, 3, u64::MAX)) == 100);
+    assert!(rt; coded(matrix.count_less(0, 6, 4)) == 4);
+    assert!(rt; coded(matrix.count_less(6, 6, 4)) == 0);
+    assert!(rt; coded(matrix.range_count(1, 5, 1, 5)) == 3);
+    assert!(rt; coded(matrix.range_count(1, 5, 4, u64::MAX)) == 2);
+    assert!(rt; coded(matrix.range_count(1, 5, 5, 1)) == 0);
+    assert!(rt; coded(matrix.range_count(1, 7, 5, 1)) == 100);
+    assert!(rt; coded(matrix.count_less(2, 1, 4)) == 100);
+    assert!(rt; coded(matrix.count_less(0, 7, 4)) == 100);
+    assert!(rt; coded(matrix.count_less(usize::MAX, 3, u64::MAX)) == 100);
     Ok(())
 }
 
@@ -131,7 +131,7 @@ fn wrong_quantiles(matrix: &MatrixView<'_>, numbers: &[u64]) -> usize {
 fn quantiles(matrix: &MatrixView<'_>) -> [u64; 5] {
     let mut all = [0u64; 5];
     for k in 0..5usize {
-        all[k] = number_told(matrix.quantile(1, 5, k));
+        all[k] = number_coded(matrix.quantile(1, 5, k));
     }
     all
 }
@@ -146,10 +146,10 @@ fn the_numbers_of_a_range_come_in_order(rt: HostRuntime) -> Result<(), Fail> {
     assert!(rt; quantiles(&matrix) == [1, 1, 4, 5, 100]);
     assert!(rt; wrong_quantiles(&matrix, NUMBERS.as_slice()) == 0);
     assert!(rt; matrix.quantile_and_count(0, 6, 2) == Answer::Found((1, 3)));
-    assert!(rt; number_told(matrix.quantile(0, 6, 5)) == 5);
-    assert!(rt; number_told(matrix.quantile(0, 7, 0)) == 100);
-    assert!(rt; number_told(matrix.quantile(5, 1, 0)) == 100);
-    assert!(rt; number_told(matrix.quantile(0, 6, usize::MAX)) == 100);
+    assert!(rt; number_coded(matrix.quantile(0, 6, 5)) == 5);
+    assert!(rt; number_coded(matrix.quantile(0, 7, 0)) == 100);
+    assert!(rt; number_coded(matrix.quantile(5, 1, 0)) == 100);
+    assert!(rt; number_coded(matrix.quantile(0, 6, usize::MAX)) == 100);
     Ok(())
 }
 
@@ -182,8 +182,8 @@ fn wrong_bounds(matrix: &MatrixView<'_>, numbers: &[u64]) -> usize {
         for end in start..numbers.len() + 1 {
             let range = &numbers[start..end];
             for bound in 0..10u64 {
-                let next = number_told(matrix.next_value(start, end, bound));
-                let previous = number_told(matrix.previous_value(start, end, bound));
+                let next = number_coded(matrix.next_value(start, end, bound));
+                let previous = number_coded(matrix.previous_value(start, end, bound));
                 wrong = wrong.wrapping_add((next != next_of(range, bound)) as usize);
                 wrong = wrong.wrapping_add((previous != previous_of(range, bound)) as usize);
             }
@@ -197,8 +197,8 @@ fn beside(matrix: &MatrixView<'_>) -> [u64; 14] {
     let bounds = [0u64, 1, 2, 4, 5, 6, 9];
     let mut all = [0u64; 14];
     for i in 0..7usize {
-        all[i] = number_told(matrix.next_value(1, 5, bounds[i]));
-        all[i + 7] = number_told(matrix.previous_value(1, 5, bounds[i]));
+        all[i] = number_coded(matrix.next_value(1, 5, bounds[i]));
+        all[i + 7] = number_coded(matrix.previous_value(1, 5, bounds[i]));
     }
     all
 }
@@ -212,10 +212,10 @@ fn the_numbers_beside_a_bound_are_found(rt: HostRuntime) -> Result<(), Fail> {
     };
     assert!(rt; beside(&matrix) == [1, 1, 4, 4, 5, 100, 100, 100, 100, 1, 1, 4, 5, 5]);
     assert!(rt; wrong_bounds(&matrix, NUMBERS.as_slice()) == 0);
-    assert!(rt; number_told(matrix.next_value(0, 7, 0)) == 100);
-    assert!(rt; number_told(matrix.next_value(3, 2, 0)) == 100);
-    assert!(rt; number_told(matrix.previous_value(0, 7, 9)) == 100);
-    assert!(rt; number_told(matrix.previous_value(0, 6, u64::MAX)) == 5);
+    assert!(rt; number_coded(matrix.next_value(0, 7, 0)) == 100);
+    assert!(rt; number_coded(matrix.next_value(3, 2, 0)) == 100);
+    assert!(rt; number_coded(matrix.previous_value(0, 7, 9)) == 100);
+    assert!(rt; number_coded(matrix.previous_value(0, 6, u64::MAX)) == 5);
     Ok(())
 }
 

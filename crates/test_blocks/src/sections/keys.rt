@@ -72,7 +72,7 @@ fn least_keys() -> [u64; 3] {
 }
 
 /// Whether the words are opened as a dictionary, and whether they hold one.
-fn told_of_keys(block: &[u64]) -> (bool, bool) {
+fn checks_of_keys(block: &[u64]) -> (bool, bool) {
     (open_dictionary(block).is_some(), check_dictionary(block))
 }
 
@@ -88,12 +88,12 @@ fn found_in(block: &[u64], key: u64) -> usize {
 fn other_sections_are_not_taken_for_keys(rt: HostRuntime) -> Result<(), Fail> {
     let plain = plain();
     let words = least_keys();
-    assert!(rt; check(plain.as_slice()) && told_of_keys(plain.as_slice()) == (false, false));
+    assert!(rt; check(plain.as_slice()) && checks_of_keys(plain.as_slice()) == (false, false));
     // as many words as there are keys, but of a note, of samples, and of sizes of levels
     for (role, count) in [(NOTE, 24u64), (7, 6), (4, 3)] {
         let more = extended_by(plain.as_slice(), role, count, words.as_slice());
         assert!(rt; is_the_same(more.as_slice()));
-        assert!(rt; told_of_keys(more.as_slice()) == (false, false));
+        assert!(rt; checks_of_keys(more.as_slice()) == (false, false));
     }
     Ok(())
 }
@@ -106,7 +106,7 @@ fn role_5_with_more_or_fewer_words_is_no_keys(rt: HostRuntime) -> Result<(), Fai
         let words = &words.as_slice()[..count];
         let more = extended_by(plain.as_slice(), KEYS, count as u64, words);
         assert!(rt; is_the_same(more.as_slice()));
-        assert!(rt; told_of_keys(more.as_slice()) == (false, false));
+        assert!(rt; checks_of_keys(more.as_slice()) == (false, false));
     }
     Ok(())
 }
@@ -116,11 +116,11 @@ fn role_5_with_a_word_for_each_key_is_taken_for_keys(rt: HostRuntime) -> Result<
     let plain = plain();
     let any = extended_by(plain.as_slice(), KEYS, 3, [9, 9, 9].as_slice());
     assert!(rt; is_the_same(any.as_slice()));
-    assert!(rt; told_of_keys(any.as_slice()) == (true, false));
+    assert!(rt; checks_of_keys(any.as_slice()) == (true, false));
     let keys = least_keys();
     let own = extended_by(plain.as_slice(), KEYS, 3, keys.as_slice());
     assert!(rt; is_the_same(own.as_slice()));
-    assert!(rt; told_of_keys(own.as_slice()) == (true, true));
+    assert!(rt; checks_of_keys(own.as_slice()) == (true, true));
     for i in 0..3usize {
         assert!(rt; found_in(own.as_slice(), keys[i]) == i);
     }
@@ -149,7 +149,7 @@ fn a_dictionary_takes_its_fifth_section_alone_for_keys(rt: HostRuntime) -> Resul
         .is_ok()
     );
     assert!(rt; is_the_same(twice.as_slice()));
-    assert!(rt; told_of_keys(twice.as_slice()) == (true, true));
+    assert!(rt; checks_of_keys(twice.as_slice()) == (true, true));
     for i in 0..3usize {
         assert!(rt; found_in(twice.as_slice(), keys[i]) == i);
     }
@@ -178,6 +178,6 @@ fn a_note_before_them_keeps_words_from_being_keys(rt: HostRuntime) -> Result<(),
         .is_ok()
     );
     assert!(rt; is_the_same(twice.as_slice()));
-    assert!(rt; told_of_keys(twice.as_slice()) == (false, false));
+    assert!(rt; checks_of_keys(twice.as_slice()) == (false, false));
     Ok(())
 }

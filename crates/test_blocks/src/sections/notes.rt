@@ -337,7 +337,7 @@ fn extended_in_place(words: &mut [u64]) -> usize {
 }
 
 /// How many sections the block of the first `len` words has, whether it is right, and whether it can be extended.
-fn told_of(words: &[u64], len: usize) -> (usize, bool, bool) {
+fn read_of(words: &[u64], len: usize) -> (usize, bool, bool) {
     if len > words.len() {
         return (99, false, false);
     }
@@ -357,6 +357,6 @@ fn sixteen_sections_and_no_more(rt: HostRuntime) -> Result<(), Fail> {
     }
     let len = extended_in_place(words.as_mut_slice());
     assert!(rt; len == 112);
-    assert!(rt; told_of(words.as_slice(), len) == (16, true, false));
+    assert!(rt; read_of(words.as_slice(), len) == (16, true, false));
     Ok(())
 }

@@ -1,5 +1,5 @@
 //! Blocks of sequences with hints, without them, and with wrong ones.
-use crate::sequences::sequences::{BLOCK, NUMBERS, numbers, places};
+use crate::sequences::sequences::{BLOCK, NUMBERS, numbers, positions};
 use bitm_block::checksum_of;
 use sequence_block::{Answer, SequenceView, build, check, open, size};
 use std::process::Abort;
@@ -33,14 +33,14 @@ fn a_block_without_hints_answers_too(rt: HostRuntime) -> Result<(), Fail> {
         return Ok(());
     };
     assert!(rt; numbers(&sequence) == [2, 3, 5, 7, 11, 13, 24, 1000]);
-    assert!(rt; places(&sequence) == [0, 4, 6, 1000, 1000, 0, 4, 6]);
+    assert!(rt; positions(&sequence) == [0, 4, 6, 1000, 1000, 0, 4, 6]);
     Ok(())
 }
 
 /// Whether each index is one of the seven numbers, or none.
-fn are_within(places: &[usize]) -> bool {
-    for i in 0..places.len() {
-        if places[i] >= NUMBERS.len() && places[i] < 1000 {
+fn are_within(positions: &[usize]) -> bool {
+    for i in 0..positions.len() {
+        if positions[i] >= NUMBERS.len() && positions[i] < 1000 {
             return false;
         }
     }
@@ -57,7 +57,7 @@ fn wrong_hints_are_seen_by_check(rt: HostRuntime) -> Result<(), Fail> {
         return Ok(());
     };
     assert!(rt; !sequence.check());
-    assert!(rt; are_within(places(&sequence).as_slice()));
+    assert!(rt; are_within(positions(&sequence).as_slice()));
     Ok(())
 }
 

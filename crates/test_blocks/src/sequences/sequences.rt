@@ -101,9 +101,9 @@ fn number_of(answer: Answer<u64>) -> u64 {
 }
 
 /// The index that was found, or 1000 for `Absent`, 1001 for `Wrong`.
-fn place_of(answer: Answer<usize>) -> usize {
+fn position_of(answer: Answer<usize>) -> usize {
     match answer {
-        Answer::Found(place) => place,
+        Answer::Found(position) => position,
         Answer::Absent => 1000,
         Answer::Wrong => 1001,
     }
@@ -119,16 +119,16 @@ pub fn numbers(sequence: &SequenceView<'_>) -> [u64; 8] {
 }
 
 /// The successors of 0, 8, 24 and 25, and the predecessors of 1, 2, 12 and 100.
-pub fn places(sequence: &SequenceView<'_>) -> [usize; 8] {
+pub fn positions(sequence: &SequenceView<'_>) -> [usize; 8] {
     [
-        place_of(sequence.first_at_least(0)),
-        place_of(sequence.first_at_least(8)),
-        place_of(sequence.first_at_least(24)),
-        place_of(sequence.first_at_least(25)),
-        place_of(sequence.last_at_most(1)),
-        place_of(sequence.last_at_most(2)),
-        place_of(sequence.last_at_most(12)),
-        place_of(sequence.last_at_most(100)),
+        position_of(sequence.first_at_least(0)),
+        position_of(sequence.first_at_least(8)),
+        position_of(sequence.first_at_least(24)),
+        position_of(sequence.first_at_least(25)),
+        position_of(sequence.last_at_most(1)),
+        position_of(sequence.last_at_most(2)),
+        position_of(sequence.last_at_most(12)),
+        position_of(sequence.last_at_most(100)),
     ]
 }
 
@@ -168,7 +168,7 @@ fn numbers_are_written_and_answer(rt: HostRuntime) -> Result<(), Fail> {
     };
     assert!(rt; sequence.len() == 7);
     assert!(rt; numbers(&sequence) == [2, 3, 5, 7, 11, 13, 24, 1000]);
-    assert!(rt; places(&sequence) == [0, 4, 6, 1000, 1000, 0, 4, 6]);
+    assert!(rt; positions(&sequence) == [0, 4, 6, 1000, 1000, 0, 4, 6]);
     Ok(())
 }
 
@@ -200,7 +200,7 @@ fn other_words_are_no_sequence(rt: HostRuntime) -> Result<(), Fail> {
 }
 
 #[test]
-fn a_wrong_length_is_told_before_numbers_that_fall(rt: HostRuntime) -> Result<(), Fail> {
+fn a_wrong_length_is_reported_before_numbers_that_fall(rt: HostRuntime) -> Result<(), Fail> {
     let mut longer = [7u64; 80];
     assert!(rt; build([3u64, 2].as_slice(), longer.as_mut_slice()) == Err(BuildError::WrongLength));
     let mut block = [7u64; 72];

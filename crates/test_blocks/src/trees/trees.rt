@@ -73,7 +73,7 @@ const TREE: [u64; 64] = [
 ];
 
 /// The number that was found, or 100 for `Absent`, 101 for `Wrong`.
-fn told(answer: Answer<usize>) -> usize {
+fn coded(answer: Answer<usize>) -> usize {
     match answer {
         Answer::Found(number) => number,
         Answer::Absent => 100,
@@ -85,10 +85,10 @@ fn told(answer: Answer<usize>) -> usize {
 fn answers(tree: &LoudsView<'_>) -> [usize; 20] {
     let mut all = [0usize; 20];
     for node in 0..5usize {
-        all[node] = told(tree.parent(node));
-        all[node + 5] = told(tree.degree(node));
-        all[node + 10] = told(tree.child(node, 0));
-        all[node + 15] = told(tree.child(node, 1));
+        all[node] = coded(tree.parent(node));
+        all[node + 5] = coded(tree.degree(node));
+        all[node + 10] = coded(tree.child(node, 0));
+        all[node + 15] = coded(tree.child(node, 1));
     }
     all
 }
@@ -259,7 +259,7 @@ fn no_tree_is_written_where_there_is_none(rt: HostRuntime) -> Result<(), Fail> {
 }
 
 #[test]
-fn a_wrong_length_is_told_before_degrees_of_no_tree(rt: HostRuntime) -> Result<(), Fail> {
+fn a_wrong_length_is_reported_before_degrees_of_no_tree(rt: HostRuntime) -> Result<(), Fail> {
     let mut words = [7u64; 40];
     assert!(rt;
         build([1usize, 1].as_slice(), words.as_mut_slice()) == Err(BuildError::WrongLength)

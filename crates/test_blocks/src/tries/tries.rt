@@ -98,7 +98,7 @@ pub(crate) const TRIE: [u64; 88] = [
 ];
 
 /// The number that was found, or 1000 for `Absent`, 1001 for `Wrong`.
-fn told(answer: Answer<usize>) -> usize {
+fn coded(answer: Answer<usize>) -> usize {
     match answer {
         Answer::Found(number) => number,
         Answer::Absent => 1000,
@@ -107,7 +107,7 @@ fn told(answer: Answer<usize>) -> usize {
 }
 
 /// The label that was found, or 1000 for `Absent`, 1001 for `Wrong`.
-fn told_label(answer: Answer<u64>) -> usize {
+fn coded_label(answer: Answer<u64>) -> usize {
     match answer {
         Answer::Found(label) => label as usize,
         Answer::Absent => 1000,
@@ -116,7 +116,7 @@ fn told_label(answer: Answer<u64>) -> usize {
 }
 
 /// 1 or 0 as a bit was found, or 1000 for `Absent`, 1001 for `Wrong`.
-fn told_end(answer: Answer<bool>) -> usize {
+fn coded_end(answer: Answer<bool>) -> usize {
     match answer {
         Answer::Found(end) => end as usize,
         Answer::Absent => 1000,
@@ -128,12 +128,12 @@ fn told_end(answer: Answer<bool>) -> usize {
 pub(crate) fn answers(trie: &TrieView<'_>) -> [usize; 30] {
     let mut all = [0usize; 30];
     for node in 0..5usize {
-        all[node] = told_label(trie.label(node));
-        all[node + 5] = told_end(trie.is_end(node));
-        all[node + 10] = told(trie.child_by_label(node, 97));
-        all[node + 15] = told(trie.child_by_label(node, 98));
-        all[node + 20] = told(trie.child_by_label(node, 101));
-        all[node + 25] = told(trie.child_by_label(node, 96));
+        all[node] = coded_label(trie.label(node));
+        all[node + 5] = coded_end(trie.is_end(node));
+        all[node + 10] = coded(trie.child_by_label(node, 97));
+        all[node + 15] = coded(trie.child_by_label(node, 98));
+        all[node + 20] = coded(trie.child_by_label(node, 101));
+        all[node + 25] = coded(trie.child_by_label(node, 96));
     }
     all
 }
@@ -159,9 +159,9 @@ fn unseen_flips(words: &mut [u64]) -> usize {
             unseen = unseen.wrapping_add(TrieView::open_checked(&*words).is_some() as usize);
             if let Some(trie) = TrieView::open(&*words) {
                 unseen = unseen.wrapping_add(!are_within(answers(&trie).as_slice()) as usize);
-                let found = told(trie.find([98u64, 101].as_slice()));
+                let found = coded(trie.find([98u64, 101].as_slice()));
                 unseen = unseen.wrapping_add((found < 1000 && found >= 4) as usize);
-                let labels = told(trie.word(3, [0u64; 4].as_mut_slice()));
+                let labels = coded(trie.word(3, [0u64; 4].as_mut_slice()));
                 unseen = unseen.wrapping_add((labels < 1000 && labels > 3) as usize);
             }
             words[i] ^= 1u64 << bit;
@@ -191,7 +191,7 @@ fn a_trie_is_written_and_answers(rt: HostRuntime) -> Result<(), Fail> {
         return Ok(());
     };
     assert!(rt; trie.len() == 4 && trie.width() == 8);
-    assert!(rt; told(trie.tree().parent(3)) == 2);
+    assert!(rt; coded(trie.tree().parent(3)) == 2);
     assert!(rt;
         answers(&trie)
             == [
@@ -209,18 +209,18 @@ fn words_lead_to_their_nodes(rt: HostRuntime) -> Result<(), Fail> {
         assert!(rt; false, "not opened");
         return Ok(());
     };
-    assert!(rt; told(trie.find([0u64; 0].as_slice())) == 0);
-    assert!(rt; told(trie.find([97u64].as_slice())) == 1);
-    assert!(rt; told(trie.find([98u64].as_slice())) == 2);
-    assert!(rt; told(trie.find([98u64, 101].as_slice())) == 3);
-    assert!(rt; told(trie.find([97u64, 101].as_slice())) == 1000);
-    assert!(rt; told(trie.find([98u64, 101, 97].as_slice())) == 1000);
-    assert!(rt; told(trie.find([99u64].as_slice())) == 1000);
+    assert!(rt; coded(trie.find([0u64; 0].as_slice())) == 0);
+    assert!(rt; coded(trie.find([97u64].as_slice())) == 1);
+    assert!(rt; coded(trie.find([98u64].as_slice())) == 2);
+    assert!(rt; coded(trie.find([98u64, 101].as_slice())) == 3);
+    assert!(rt; coded(trie.find([97u64, 101].as_slice())) == 1000);
+    assert!(rt; coded(trie.find([98u64, 101, 97].as_slice())) == 1000);
+    assert!(rt; coded(trie.find([99u64].as_slice())) == 1000);
     Ok(())
 }
 
 /// The node and the number of labels that were found, as 10 times the node and that number, or 1001 for `Wrong`.
-fn told_longest(answer: Answer<(usize, usize)>) -> usize {
+fn coded_longest(answer: Answer<(usize, usize)>) -> usize {
     match answer {
         Answer::Found((node, matched)) => node.wrapping_mul(10).wrapping_add(matched),
         Answer::Absent => 1000,
@@ -235,13 +235,13 @@ fn beginnings_of_words_lead_to_the_deepest_nodes(rt: HostRuntime) -> Result<(), 
         assert!(rt; false, "not opened");
         return Ok(());
     };
-    assert!(rt; told(trie.find(b"be".as_slice())) == 3);
-    assert!(rt; told(trie.find(b"ab".as_slice())) == 1000);
-    assert!(rt; told_longest(trie.longest(b"be".as_slice())) == 32);
-    assert!(rt; told_longest(trie.longest(b"bee".as_slice())) == 32);
-    assert!(rt; told_longest(trie.longest(b"bat".as_slice())) == 21);
-    assert!(rt; told_longest(trie.longest([97u64, 1 << 63].as_slice())) == 11);
-    assert!(rt; told_longest(trie.longest(b"".as_slice())) == 0);
+    assert!(rt; coded(trie.find(b"be".as_slice())) == 3);
+    assert!(rt; coded(trie.find(b"ab".as_slice())) == 1000);
+    assert!(rt; coded_longest(trie.longest(b"be".as_slice())) == 32);
+    assert!(rt; coded_longest(trie.longest(b"bee".as_slice())) == 32);
+    assert!(rt; coded_longest(trie.longest(b"bat".as_slice())) == 21);
+    assert!(rt; coded_longest(trie.longest([97u64, 1 << 63].as_slice())) == 11);
+    assert!(rt; coded_longest(trie.longest(b"".as_slice())) == 0);
     Ok(())
 }
 
@@ -253,16 +253,16 @@ fn nodes_have_their_words(rt: HostRuntime) -> Result<(), Fail> {
         return Ok(());
     };
     let mut out = [7u64; 4];
-    assert!(rt; told(trie.word(3, out.as_mut_slice())) == 2);
+    assert!(rt; coded(trie.word(3, out.as_mut_slice())) == 2);
     assert!(rt; out == [7, 7, 98, 101]);
     let mut out = [7u64; 4];
-    assert!(rt; told(trie.word(1, out.as_mut_slice())) == 1);
+    assert!(rt; coded(trie.word(1, out.as_mut_slice())) == 1);
     assert!(rt; out == [7, 7, 7, 97]);
-    assert!(rt; told(trie.word(0, out.as_mut_slice())) == 0);
-    assert!(rt; told(trie.word(4, out.as_mut_slice())) == 1000);
+    assert!(rt; coded(trie.word(0, out.as_mut_slice())) == 0);
+    assert!(rt; coded(trie.word(4, out.as_mut_slice())) == 1000);
     assert!(rt; out == [7, 7, 7, 97]);
     // without room for all labels there is still their number
-    assert!(rt; told(trie.word(3, &mut out.as_mut_slice()[..1])) == 2);
+    assert!(rt; coded(trie.word(3, &mut out.as_mut_slice()[..1])) == 2);
     Ok(())
 }
 

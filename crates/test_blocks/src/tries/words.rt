@@ -45,7 +45,7 @@ fn a_trie_is_grown_of_its_words(rt: HostRuntime) -> Result<(), Fail> {
 
 /// The node that was found and whether a word ends there, as twice the node and 1 or 0, or 1000 for `Absent`, 1001 for
 /// `Wrong`.
-fn told(trie: &TrieView<'_>, word: &[u8]) -> usize {
+fn coded(trie: &TrieView<'_>, word: &[u8]) -> usize {
     match trie.find(word) {
         Answer::Found(node) => match trie.is_end(node) {
             Answer::Found(end) => node.wrapping_mul(2).wrapping_add(end as usize),
@@ -75,18 +75,18 @@ fn a_block_of_words_finds_them(rt: HostRuntime) -> Result<(), Fail> {
         return Ok(());
     };
     assert!(rt; trie.len() == 9 && trie.width() == 8);
-    assert!(rt; told(&trie, b"".as_slice()) == 1);
-    assert!(rt; told(&trie, b"a".as_slice()) == 3);
-    assert!(rt; told(&trie, b"ab".as_slice()) == 9);
-    assert!(rt; told(&trie, b"abc".as_slice()) == 13);
-    assert!(rt; told(&trie, b"b".as_slice()) == 5);
-    assert!(rt; told(&trie, b"bca".as_slice()) == 15);
-    assert!(rt; told(&trie, b"bcd".as_slice()) == 17);
-    assert!(rt; told(&trie, b"c".as_slice()) == 7);
+    assert!(rt; coded(&trie, b"".as_slice()) == 1);
+    assert!(rt; coded(&trie, b"a".as_slice()) == 3);
+    assert!(rt; coded(&trie, b"ab".as_slice()) == 9);
+    assert!(rt; coded(&trie, b"abc".as_slice()) == 13);
+    assert!(rt; coded(&trie, b"b".as_slice()) == 5);
+    assert!(rt; coded(&trie, b"bca".as_slice()) == 15);
+    assert!(rt; coded(&trie, b"bcd".as_slice()) == 17);
+    assert!(rt; coded(&trie, b"c".as_slice()) == 7);
     // the beginning of two words, and no words
-    assert!(rt; told(&trie, b"bc".as_slice()) == 10);
-    assert!(rt; told(&trie, b"bcb".as_slice()) == 1000);
-    assert!(rt; told(&trie, b"ca".as_slice()) == 1000);
+    assert!(rt; coded(&trie, b"bc".as_slice()) == 10);
+    assert!(rt; coded(&trie, b"bcb".as_slice()) == 1000);
+    assert!(rt; coded(&trie, b"ca".as_slice()) == 1000);
     Ok(())
 }
 

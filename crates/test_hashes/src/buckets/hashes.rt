@@ -80,9 +80,9 @@ fn numbers_hit(alloc: Global, hash: &Built, keys: &[u64]) -> Result<usize, Alloc
     let mut hit = vec![in alloc; false; keys.len()]?;
     let hash = view(hash, keys.len());
     for key in keys {
-        if let Answer::Found(place) = hash.get(*key) {
-            if place < hit.len() {
-                hit[place] = true;
+        if let Answer::Found(position) = hash.get(*key) {
+            if position < hit.len() {
+                hit[position] = true;
             }
         }
     }

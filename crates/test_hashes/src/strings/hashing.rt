@@ -125,7 +125,7 @@ fn joined_by_fnv(bytes: &mut [u8; 13_312], ends: &mut [usize; 512]) {
 }
 
 #[test]
-fn strings_that_no_seed_of_fnv_tells_apart_have_hashes_of_their_own(
+fn strings_that_no_seed_of_fnv_separates_have_hashes_of_their_own(
     rt: HostRuntime,
 ) -> Result<(), Fail> {
     let mut bytes = [0u8; 13_312];

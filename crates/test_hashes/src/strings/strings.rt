@@ -68,7 +68,7 @@ fn sum_up(words: &mut [u64; 112]) {
     words[15] = checksum_in(version, &words.as_slice()[..15]);
 }
 
-/// Whether strings that end at the given places are written, and why not.
+/// Whether strings that end at the given positions are written, and why not.
 fn built(
     hash: &HashView<'_>,
     bytes: &[u8],

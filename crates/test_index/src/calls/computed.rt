@@ -1,8 +1,8 @@
 //! A source of words whose lowest bit alone is one, and of their tables: formulas in place of memory.
 //!
-//! By hand: word `i` is 1, so the ones before place `p` are `p / 64`, rounded up, and the one of rank `r` is at `64 r`.
-//! A part of 2^32 bits has 2^26 words, so upper entry `k` is `2^26 k`. A lower entry has 32 words and each record of it
-//! eight: its first field is the words of its part before it, and the others 8, 16 and 24.
+//! By hand: word `i` is 1, so the ones before position `p` are `p / 64`, rounded up, and the one of rank `r` is at `64
+//! r`. A part of 2^32 bits has 2^26 words, so upper entry `k` is `2^26 k`. A lower entry has 32 words and each record
+//! of it eight: its first field is the words of its part before it, and the others 8, 16 and 24.
 ghost use Rattle.std.specs.Prelude.{◌≡◌, ◌%◌, ◌<◌, ◌^◌};
 ghost use Rattle.bitm.specs.Tables.{IsIndexed, bits_in};
 ghost use Rattle.bitm.specs.Count.{ones_of, zeros_of};

@@ -127,14 +127,14 @@ const SIXTY_WORDS: Case<'static> = Case {
 /// Whether an index answers as the rows say.
 fn rows_agree<I: Rank + Select + Select0>(index: &I, case: &Case<'_>) -> bool {
     let mut agrees = true;
-    for (place, count) in case.ranks {
-        agrees &= rank_agrees(index, *place, *count);
+    for (position, count) in case.ranks {
+        agrees &= rank_agrees(index, *position, *count);
     }
-    for (rank, place) in case.ones {
-        agrees &= one_agrees(index, *rank, *place);
+    for (rank, position) in case.ones {
+        agrees &= one_agrees(index, *rank, *position);
     }
-    for (rank, place) in case.zeros {
-        agrees &= zero_agrees(index, *rank, *place);
+    for (rank, position) in case.zeros {
+        agrees &= zero_agrees(index, *rank, *position);
     }
     agrees
 }

@@ -10,10 +10,10 @@ const EIGHT_ONES: u64 = 0x3000_8002_0200_8084;
 /// The position of the 1 bit with `rank` 1 bits before it, found bit by bit.
 fn found(n: u64, rank: u8) -> Option<u8> {
     let mut left = rank;
-    for place in 0..64u8 {
-        if (n >> place) & 1 == 1 {
+    for position in 0..64u8 {
+        if (n >> position) & 1 == 1 {
             if left == 0 {
-                return Some(place);
+                return Some(position);
             }
             left -= 1;
         }
@@ -39,8 +39,8 @@ fn ones_are_selected_by_their_ranks(rt: HostRuntime) {
         (0, 0, None),
         (u64::MAX, 64, None),
     ];
-    for (n, rank, place) in rows {
-        assert!(rt; selected_in_word(n, rank) == place);
+    for (n, rank, position) in rows {
+        assert!(rt; selected_in_word(n, rank) == position);
     }
 }
 
@@ -60,9 +60,9 @@ fn each_rank_is_selected_as_bit_by_bit(rt: HostRuntime) {
 }
 
 #[test]
-fn a_one_alone_is_selected_at_each_place(rt: HostRuntime) {
-    for place in 0..64u8 {
-        assert!(rt; selected_in_word(1 << place, 0) == Some(place));
+fn a_one_alone_is_selected_at_each_position(rt: HostRuntime) {
+    for position in 0..64u8 {
+        assert!(rt; selected_in_word(1 << position, 0) == Some(position));
     }
 }
 

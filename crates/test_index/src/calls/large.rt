@@ -12,7 +12,7 @@ use std::convert::AsSlice;
 
 type Words = BoxedSlice<u64, Global>;
 
-/// Words whose ones are at the even places.
+/// Words whose ones are at the even positions.
 fn even_ones(alloc: Global) -> Result<Words, AllocError> {
     Words::with_64bit_segments(alloc, 0x5555_5555_5555_5555, 0x10_0000)
 }
@@ -26,8 +26,8 @@ fn ranks_agree<I: Rank>(index: &I) -> bool {
     agrees
 }
 
-/// Each two places have one bit of each kind, by the calls that answer `None` and by those that do not.
-fn places_agree<I: Select + Select0>(index: &I) -> bool {
+/// Each two positions have one bit of each kind, by the calls that answer `None` and by those that do not.
+fn positions_agree<I: Select + Select0>(index: &I) -> bool {
     let mut agrees = true;
     for k in 0..0x4_0000usize {
         agrees &= one_agrees(index, 128 * k, Some(256 * k));
@@ -38,7 +38,7 @@ fn places_agree<I: Select + Select0>(index: &I) -> bool {
 
 /// Whether an index answers so, and the number of 1 bits is half of the bits.
 fn all_agree<I: Rank + Select + Select0>(index: &I, total: usize) -> bool {
-    total == 0x200_0000 && ranks_agree(index) && places_agree(index)
+    total == 0x200_0000 && ranks_agree(index) && positions_agree(index)
 }
 
 /// Whether an index with these strategies over the words answers so.
@@ -71,16 +71,16 @@ fn simple_agrees(alloc: Global) -> bool {
 }
 
 #[test]
-fn simple_rank_is_half_of_each_even_place(rt: HostRuntime) {
+fn simple_rank_is_half_of_each_even_position(rt: HostRuntime) {
     assert!(rt; simple_agrees(rt.alloc()));
 }
 
 #[test]
-fn rank_is_half_of_each_even_place_and_binary_search_selects_it(rt: HostRuntime) {
+fn rank_is_half_of_each_even_position_and_binary_search_selects_it(rt: HostRuntime) {
     assert!(rt; index_agrees::<BinaryRankSearch, BinaryRankSearch>(rt.alloc()));
 }
 
 #[test]
-fn rank_is_half_of_each_even_place_and_samples_select_it(rt: HostRuntime) {
+fn rank_is_half_of_each_even_position_and_samples_select_it(rt: HostRuntime) {
     assert!(rt; index_agrees::<Sampled, Sampled>(rt.alloc()));
 }

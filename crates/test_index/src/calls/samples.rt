@@ -30,8 +30,8 @@ type Row = (usize, Option<usize>);
 /// Whether the 1 bits of these ranks are at the positions beside them.
 fn select_rows<I: Select>(index: &I, rows: &[Row]) -> bool {
     let mut agrees = true;
-    for (rank, place) in rows {
-        agrees &= one_agrees(index, *rank, *place);
+    for (rank, position) in rows {
+        agrees &= one_agrees(index, *rank, *position);
     }
     agrees
 }
@@ -214,14 +214,14 @@ fn are_walked(samples: &[u32], words: &[u64], kind: bool, log2: u8) -> bool {
     let in_interval = 1u64.wrapping_shl(u32::from(log2)).wrapping_sub(1);
     let (mut items, mut count, mut sample) = (0u64, 0usize, 0u32);
     let mut agrees = true;
-    for place in 0..usize::MAX {
-        let Some(bit) = words.try_get_bit(place) else {
+    for position in 0..usize::MAX {
+        let Some(bit) = words.try_get_bit(position) else {
             break;
         };
         if bit != kind {
             continue;
         }
-        let entry = (place / 2048 % 0x20_0000) as u32;
+        let entry = (position / 2048 % 0x20_0000) as u32;
         if items & in_interval == 0 {
             agrees &= is_last(samples, count, sample);
             (count, sample) = (count.wrapping_add(1), entry);

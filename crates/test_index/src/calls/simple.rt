@@ -11,17 +11,17 @@ type Row = (usize, Option<usize>);
 /// Whether the calls of the trait answer what the rows say.
 fn ranks_agree<R: Rank>(index: &R, rows: &[Row]) -> bool {
     let mut agrees = true;
-    for (place, ones) in rows {
-        agrees &= rank_agrees(index, *place, *ones);
-        index.prefetch(*place);
+    for (position, ones) in rows {
+        agrees &= rank_agrees(index, *position, *ones);
+        index.prefetch(*position);
     }
     agrees
 }
 
 /// Whether the type's own calls, whose answers have 32 bits, answer the number of 1 bits before an index.
-fn narrow_agrees(index: &ArrayWithRankSimple, place: usize, ones: u32) -> bool {
-    match index.try_rank(place) {
-        Some(count) => count == ones && index.rank(place) == ones,
+fn narrow_agrees(index: &ArrayWithRankSimple, position: usize, ones: u32) -> bool {
+    match index.try_rank(position) {
+        Some(count) => count == ones && index.rank(position) == ones,
         None => false,
     }
 }
@@ -52,8 +52,8 @@ fn is_full(index: &ArrayWithRankSimple) -> bool {
         (usize::MAX, None),
     ];
     let mut agrees = ranks_agree(index, rows.as_slice());
-    for (place, ones) in [(0, 0), (512, 512), (575, 575), (576, 576)] {
-        agrees &= narrow_agrees(index, place, ones);
+    for (position, ones) in [(0, 0), (512, 512), (575, 575), (576, 576)] {
+        agrees &= narrow_agrees(index, position, ones);
     }
     agrees && index.try_rank(577) == None && index.size_bytes_dyn() == 80
 }
@@ -67,7 +67,7 @@ fn full_agrees(alloc: Global) -> bool {
 }
 
 #[test]
-fn ranks_of_full_words_are_their_places_up_to_the_length(rt: HostRuntime) {
+fn ranks_of_full_words_are_their_positions_up_to_the_length(rt: HostRuntime) {
     assert!(rt; full_agrees(rt.alloc()));
 }
 
@@ -101,6 +101,6 @@ fn ranks_of_two_words_are_counted_by_hand(rt: HostRuntime) {
 }
 
 #[test]
-fn no_words_have_rank_0_at_place_0_alone(rt: HostRuntime) {
+fn no_words_have_rank_0_at_position_0_alone(rt: HostRuntime) {
     assert!(rt; words_agree(rt.alloc(), &[], 0, [(0, Some(0)), (1, None)].as_slice()));
 }

@@ -14,11 +14,11 @@ use std::alloc::Global;
 fn selects_in<I: Select + Select0>(index: &I, word: u16) -> bool {
     let word = word as usize;
     let mut agrees = true;
-    for (nth, place) in [(0, 0), (1, 2), (2, 3)] {
-        agrees &= index.try_select(3 * word + nth) == Some(64 * word + place);
+    for (nth, position) in [(0, 0), (1, 2), (2, 3)] {
+        agrees &= index.try_select(3 * word + nth) == Some(64 * word + position);
     }
-    for (nth, place) in [(0, 1), (1, 4), (60, 63)] {
-        agrees &= index.try_select0(61 * word + nth) == Some(64 * word + place);
+    for (nth, position) in [(0, 1), (1, 4), (60, 63)] {
+        agrees &= index.try_select0(61 * word + nth) == Some(64 * word + position);
     }
     agrees
 }
@@ -58,9 +58,9 @@ fn an_index_selects_by_strategies_that_a_user_wrote(rt: HostRuntime) {
 /// Whether an index selects as by hand.
 fn selects_few<I: Select + Select0>(index: &I) -> bool {
     let mut agrees = true;
-    for (rank, place, rank0, place0) in [(0, 0, 0, 1), (2, 3, 60, 63), (4, 66, 61, 64)] {
-        agrees &= index.try_select(rank) == Some(place);
-        agrees &= index.try_select0(rank0) == Some(place0);
+    for (rank, position, rank0, position0) in [(0, 0, 0, 1), (2, 3, 60, 63), (4, 66, 61, 64)] {
+        agrees &= index.try_select(rank) == Some(position);
+        agrees &= index.try_select0(rank0) == Some(position0);
     }
     agrees && index.try_select(1) == Some(2)
 }

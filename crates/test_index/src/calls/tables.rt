@@ -101,9 +101,10 @@ const PLACES: [usize; 6] = [0, 511, 512, 2047, 2048, 2111];
 /// Whether full words are counted as by hand, up to their end.
 fn counts_full<I: Rank + Select + Select0>(full: &I) -> bool {
     let mut agrees = full.try_select(2112) == None;
-    for place in PLACES {
-        agrees &= (full.try_rank(place), full.try_select(place)) == (Some(place), Some(place));
-        agrees &= full.try_select0(place) == None;
+    for position in PLACES {
+        agrees &= (full.try_rank(position), full.try_select(position))
+            == (Some(position), Some(position));
+        agrees &= full.try_select0(position) == None;
     }
     agrees && (full.try_rank(2112), full.try_rank(2113)) == (Some(2112), None)
 }
@@ -111,9 +112,10 @@ fn counts_full<I: Rank + Select + Select0>(full: &I) -> bool {
 /// Whether empty words are counted as by hand, up to their end.
 fn counts_empty<I: Rank + Select + Select0>(empty: &I) -> bool {
     let mut agrees = empty.try_select0(2112) == None;
-    for place in PLACES {
-        agrees &= (empty.try_rank0(place), empty.try_select0(place)) == (Some(place), Some(place));
-        agrees &= empty.try_select(place) == None;
+    for position in PLACES {
+        agrees &= (empty.try_rank0(position), empty.try_select0(position))
+            == (Some(position), Some(position));
+        agrees &= empty.try_select(position) == None;
     }
     agrees
 }
@@ -149,8 +151,8 @@ fn is_set(words: &mut [u64]) -> bool {
 /// Whether an index over one bit that is set, and the number of 1 bits, are as by hand.
 fn counts_one<I: Rank>(index: &I, ones: usize) -> bool {
     let mut agrees = ones == 1;
-    for (place, count) in [(100, 0), (101, 1), (999, 1)] {
-        agrees &= index.try_rank(place) == Some(count);
+    for (position, count) in [(100, 0), (101, 1), (999, 1)] {
+        agrees &= index.try_rank(position) == Some(count);
     }
     agrees
 }
@@ -177,7 +179,7 @@ fn set_is_counted<S: SelectForRank101111, S0: Select0ForRank101111>(alloc: Globa
 }
 
 #[test]
-fn one_bit_that_is_set_counts_from_the_next_place_on(rt: HostRuntime) {
+fn one_bit_that_is_set_counts_from_the_next_position_on(rt: HostRuntime) {
     assert!(rt; set_is_counted::<BinaryRankSearch, BinaryRankSearch>(rt.alloc()));
 }
 

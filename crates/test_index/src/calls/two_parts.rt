@@ -1,6 +1,6 @@
 //! Answers round the end of the first part of 2^32 bits, and in the second, over words that are all 1. By hand: the
-//! ones before place p are p / 64, rounded up; the one of rank r is at 64 r, and the zero of rank r at r + r / 63 + 1.
-//! A part has 2^26 = 67108864 ones; the words here fill a part and a half.
+//! ones before position p are p / 64, rounded up; the one of rank r is at 64 r, and the zero of rank r at r + r / 63 +
+//! 1. A part has 2^26 = 67108864 ones; the words here fill a part and a half.
 ghost use Rattle.std.specs.Prelude.{◌≡◌, length};
 
 use crate::calls::computed::Computed;
@@ -12,25 +12,25 @@ use std::process::Abort;
 const WORDS: usize = 100_663_296;
 
 /// Writes the positions of the 1 bits with these ranks, and returns whether each rank has such a bit.
-fn select_each(ranks: &[usize], places: &mut [usize]) -> bool
-    requires { length ranks.now ≡ length places.old }
+fn select_each(ranks: &[usize], positions: &mut [usize]) -> bool
+    requires { length ranks.now ≡ length positions.old }
 {
     let mut source = Computed::new(WORDS);
     let each = all_below(ranks, source.ones());
     if each {
-        select_many_on::<1, Computed>(&mut source, ranks, places);
+        select_many_on::<1, Computed>(&mut source, ranks, positions);
     }
     each
 }
 
 /// Writes the positions of the 0 bits with these ranks, and returns whether each rank has such a bit.
-fn select0_each(ranks: &[usize], places: &mut [usize]) -> bool
-    requires { length ranks.now ≡ length places.old }
+fn select0_each(ranks: &[usize], positions: &mut [usize]) -> bool
+    requires { length ranks.now ≡ length positions.old }
 {
     let mut source = Computed::new(WORDS);
     let each = all_below(ranks, source.zeros());
     if each {
-        select_many_on::<0, Computed>(&mut source, ranks, places);
+        select_many_on::<0, Computed>(&mut source, ranks, positions);
     }
     each
 }
@@ -50,13 +50,13 @@ fn rank_each(indices: &[usize], ranks: &mut [usize]) -> bool
 }
 
 /// The 1 bits before a position.
-fn rank(place: usize) -> Option<usize> {
-    rank_on(&mut Computed::new(WORDS), place)
+fn rank(position: usize) -> Option<usize> {
+    rank_on(&mut Computed::new(WORDS), position)
 }
 
 #[test]
 fn ranks_round_the_end_of_a_part_count_both(rt: HostRuntime) {
-    for (place, ones) in [
+    for (position, ones) in [
         (0, Some(0)),
         (1, Some(1)),
         (4_294_967_232, Some(67_108_863)),
@@ -70,7 +70,7 @@ fn ranks_round_the_end_of_a_part_count_both(rt: HostRuntime) {
         (6_442_450_945, None),
         (usize::MAX, None),
     ] {
-        assert!(rt; rank(place) == ones);
+        assert!(rt; rank(position) == ones);
     }
 }
 
@@ -81,7 +81,7 @@ fn select(rank: usize) -> Option<usize> {
 
 #[test]
 fn the_ones_of_both_parts_are_selected(rt: HostRuntime) {
-    for (rank, place) in [
+    for (rank, position) in [
         (0, Some(0)),
         (67_108_863, Some(4_294_967_232)),
         (67_108_864, Some(4_294_967_296)),
@@ -90,7 +90,7 @@ fn the_ones_of_both_parts_are_selected(rt: HostRuntime) {
         (100_663_296, None),
         (usize::MAX, None),
     ] {
-        assert!(rt; select(rank) == place);
+        assert!(rt; select(rank) == position);
     }
 }
 
@@ -101,7 +101,7 @@ fn select0(rank: usize) -> Option<usize> {
 
 #[test]
 fn the_zeros_of_both_parts_are_selected(rt: HostRuntime) {
-    for (rank, place) in [
+    for (rank, position) in [
         (0, Some(1)),
         (62, Some(63)),
         (63, Some(65)),
@@ -111,18 +111,18 @@ fn the_zeros_of_both_parts_are_selected(rt: HostRuntime) {
         (6_341_787_648, None),
         (usize::MAX, None),
     ] {
-        assert!(rt; select0(rank) == place);
+        assert!(rt; select0(rank) == position);
     }
 }
 
 /// The bit at a position.
-fn bit(place: usize) -> Option<bool> {
-    bit_on(&mut Computed::new(WORDS), place)
+fn bit(position: usize) -> Option<bool> {
+    bit_on(&mut Computed::new(WORDS), position)
 }
 
 #[test]
 fn bits_round_the_end_of_a_part_are_read(rt: HostRuntime) {
-    for (place, expected) in [
+    for (position, expected) in [
         (0, Some(true)),
         (1, Some(false)),
         (4_294_967_295, Some(false)),
@@ -132,7 +132,7 @@ fn bits_round_the_end_of_a_part_are_read(rt: HostRuntime) {
         (6_442_450_943, Some(false)),
         (6_442_450_944, None),
     ] {
-        assert!(rt; bit(place) == expected);
+        assert!(rt; bit(position) == expected);
     }
 }
 
@@ -192,8 +192,8 @@ fn many_ones_of_both_parts_are_selected_at_once(rt: HostRuntime) {
         80_000_000,
         10,
     ];
-    let mut places = [0; 17];
-    assert!(rt; select_each(ranks.as_slice(), places.as_mut_slice()));
+    let mut positions = [0; 17];
+    assert!(rt; select_each(ranks.as_slice(), positions.as_mut_slice()));
     let expected = [
         4_294_967_296,
         0,
@@ -213,15 +213,15 @@ fn many_ones_of_both_parts_are_selected_at_once(rt: HostRuntime) {
         5_120_000_000,
         640,
     ];
-    assert!(rt; places == expected);
+    assert!(rt; positions == expected);
     assert!(rt; !select_each([0, 100_663_296].as_slice(), [7, 7].as_mut_slice()));
 }
 
 #[test]
 fn many_zeros_of_both_parts_are_selected_at_once(rt: HostRuntime) {
     let ranks = [4_227_858_432, 0, 6_341_787_647, 4_227_858_431, 63];
-    let mut places = [0; 5];
-    assert!(rt; select0_each(ranks.as_slice(), places.as_mut_slice()));
-    assert!(rt; places == [4_294_967_297, 1, 6_442_450_943, 4_294_967_295, 65]);
+    let mut positions = [0; 5];
+    assert!(rt; select0_each(ranks.as_slice(), positions.as_mut_slice()));
+    assert!(rt; positions == [4_294_967_297, 1, 6_442_450_943, 4_294_967_295, 65]);
     assert!(rt; !select0_each([6_341_787_648].as_slice(), [7].as_mut_slice()));
 }

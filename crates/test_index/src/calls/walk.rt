@@ -48,44 +48,47 @@ pub fn owned<S: SelectForRank101111, S0: Select0ForRank101111>(
     RankSelect101111::build(alloc, content).map_err(|_| AllocError)
 }
 
-/// Whether the calls of rank at one place give the ones before it.
-pub fn rank_agrees<I: Rank>(index: &I, place: usize, ones: Option<usize>) -> bool {
+/// Whether the calls of rank at one position give the ones before it.
+pub fn rank_agrees<I: Rank>(index: &I, position: usize, ones: Option<usize>) -> bool {
     let zeros = match ones {
-        Some(count) => Some(place.wrapping_sub(count)),
+        Some(count) => Some(position.wrapping_sub(count)),
         None => None,
     };
-    let tried = (index.try_rank(place), index.try_rank0(place)) == (ones, zeros);
-    if !tried || index.try_rank(place).is_none() {
+    let tried = (index.try_rank(position), index.try_rank0(position)) == (ones, zeros);
+    if !tried || index.try_rank(position).is_none() {
         return tried;
     }
-    let plain = (index.rank(place), index.rank0(place));
-    let unchecked = (index.rank_unchecked(place), index.rank0_unchecked(place));
+    let plain = (index.rank(position), index.rank0(position));
+    let unchecked = (
+        index.rank_unchecked(position),
+        index.rank0_unchecked(position),
+    );
     (Some(plain.0), Some(plain.1)) == (ones, zeros) && unchecked == plain
 }
 
 /// Whether the calls of select at one rank answer the position of that 1 bit.
 #[tactic(auto, using(bitm::proofs::Callers::one_below))]
-pub fn one_agrees<I: Select>(index: &I, rank: usize, place: Option<usize>) -> bool {
+pub fn one_agrees<I: Select>(index: &I, rank: usize, position: Option<usize>) -> bool {
     let found = index.try_select(rank);
     if found.is_none() {
-        return place.is_none();
+        return position.is_none();
     }
     let plain = (Some(index.select(rank)), Some(index.select_unchecked(rank)));
-    found == place && plain == (place, place)
+    found == position && plain == (position, position)
 }
 
 /// Whether the calls of select0 at one rank answer the position of that 0 bit.
 #[tactic(auto, using(bitm::proofs::Callers::zero_below))]
-pub fn zero_agrees<I: Select0>(index: &I, rank: usize, place: Option<usize>) -> bool {
+pub fn zero_agrees<I: Select0>(index: &I, rank: usize, position: Option<usize>) -> bool {
     let found = index.try_select0(rank);
     if found.is_none() {
-        return place.is_none();
+        return position.is_none();
     }
     let plain = (
         Some(index.select0(rank)),
         Some(index.select0_unchecked(rank)),
     );
-    found == place && plain == (place, place)
+    found == position && plain == (position, position)
 }
 
 /// Whether no call answers from these numbers of bits on, to two past the length and at the greatest number.
@@ -110,15 +113,15 @@ fn ends_agree<I: Rank + Select + Select0>(index: &I, ones: usize, zeros: usize) 
 fn walk_agrees<I: Rank + Select + Select0>(index: &I, words: &[u64]) -> (bool, usize) {
     let (mut ones, mut zeros) = (0usize, 0usize);
     let mut agrees = true;
-    for place in 0..usize::MAX {
-        agrees &= rank_agrees(index, place, Some(ones));
-        match words.try_get_bit(place) {
+    for position in 0..usize::MAX {
+        agrees &= rank_agrees(index, position, Some(ones));
+        match words.try_get_bit(position) {
             Some(true) => {
-                agrees &= one_agrees(index, ones, Some(place));
+                agrees &= one_agrees(index, ones, Some(position));
                 ones = ones.wrapping_add(1);
             }
             Some(false) => {
-                agrees &= zero_agrees(index, zeros, Some(place));
+                agrees &= zero_agrees(index, zeros, Some(position));
                 zeros = zeros.wrapping_add(1);
             }
             None => break,

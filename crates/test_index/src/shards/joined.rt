@@ -174,14 +174,14 @@ fn shards_of_any_lengths_answer_as_walks_over_their_bits(rt: HostRuntime) -> Res
 }
 
 #[test]
-fn a_place_is_found_as_by_hand(rt: HostRuntime) -> Result<(), Fail> {
+fn a_position_is_found_as_by_hand(rt: HostRuntime) -> Result<(), Fail> {
     // shards of 7, 0 and 5 bits, of which 4, 0 and 2 are 1 bits, so 3, 0 and 3 are 0 bits
     let bits = [0u64, 7, 7, 12];
     let ones = [0u64, 4, 4, 6];
     let Some(counts) = PrefixCounts::over(bits.as_slice(), ones.as_slice()) else {
         return Err("the numbers were not taken".into());
     };
-    for (kind, number, place) in [
+    for (kind, number, location) in [
         (Kind::Positions, 6, Some((0, 6))),
         (Kind::Positions, 7, Some((2, 0))),
         (Kind::Positions, 11, Some((2, 4))),
@@ -195,11 +195,11 @@ fn a_place_is_found_as_by_hand(rt: HostRuntime) -> Result<(), Fail> {
         (Kind::Zeros, 6, None),
     ] {
         let found = match counts.find(kind, number) {
-            Answer::Found(place) => Some((place.shard, place.within)),
+            Answer::Found(location) => Some((location.shard, location.within)),
             Answer::Absent => None,
             Answer::Wrong => return Err("right numbers are wrong".into()),
         };
-        assert!(rt; found == place);
+        assert!(rt; found == location);
     }
     Ok(())
 }

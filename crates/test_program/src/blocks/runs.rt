@@ -125,7 +125,7 @@ fn other_bytes_are_a_wrong_block(rt: HostRuntime) -> Result<(), Fail> {
 }
 
 #[test]
-fn a_write_that_fails_is_told(rt: HostRuntime) -> Result<(), Fail> {
+fn a_write_that_fails_is_reported(rt: HostRuntime) -> Result<(), Fail> {
     let block = built(&rt, NUMBERS)?;
     let block = block.as_slice();
     let mut out = Failing::new(rt.alloc(), 0, true);
@@ -186,7 +186,7 @@ fn start_ends_with_the_status_and_text_of_its_file(rt: HostRuntime) -> Result<()
 }
 
 #[test]
-fn start_tells_that_a_flush_failed(rt: HostRuntime) -> Result<(), Fail> {
+fn start_reports_that_a_flush_failed(rt: HostRuntime) -> Result<(), Fail> {
     let args = [
         String::from_str(rt.alloc(), "build")?,
         String::from_str(rt.alloc(), "matrix")?,

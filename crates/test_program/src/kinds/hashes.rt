@@ -1,5 +1,5 @@
 //! Perfect hashes, with seeds, with keys and with notes.
-use crate::kinds::told::{expect_said_of_block, file_of};
+use crate::kinds::saying::{expect_said_of_block, file_of};
 use bitm_block::{Section, checksum_of};
 use block_sections::extend;
 use hash_block::{Added, build_dictionary};
@@ -25,7 +25,7 @@ fn squares(rt: &(impl Abort + AllocGlobal)) -> Result<[u64; 88], Fail> {
 }
 
 #[test]
-fn a_hash_is_told_from_one_with_seeds(rt: HostRuntime) -> Result<(), Fail> {
+fn a_hash_is_distinguished_from_one_with_seeds(rt: HostRuntime) -> Result<(), Fail> {
     let said = "kind hash\nlen 3\nwidth 0\nbytes 512\nbits_per_item 1365.33\n";
     expect_said_of_block(&rt, hash().as_slice(), said)?;
     let mut block = [0u64; 80];

@@ -1,5 +1,5 @@
 //! Blocks of each kind but perfect hashes.
-use crate::kinds::told::{expect_said, expect_said_of_block};
+use crate::kinds::saying::{expect_said, expect_said_of_block};
 use program_files::blocks::{Kind, build};
 use program_files::kinds::check;
 use std::process::Abort;

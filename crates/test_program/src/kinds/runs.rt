@@ -3,7 +3,7 @@ ghost use Rattle.std.specs.Prelude.{◌≡◌, IfOk, None, Some, if◌then◌els
 ghost use Rattle.std.specs.Str.{bytes_eq};
 ghost use Rattle.program_base.specs.Known.{Known};
 
-use crate::kinds::told::file_of;
+use crate::kinds::saying::file_of;
 use program_base::runs::{CannotRead, Form, Sources};
 use program_files::blocks::Failure;
 use program_files::kinds::{info, start};
@@ -92,7 +92,7 @@ fn arguments_that_are_no_command_get_the_usage(rt: HostRuntime) -> Result<(), Fa
 }
 
 #[test]
-fn the_file_that_is_named_is_told_of(rt: HostRuntime) -> Result<(), Fail> {
+fn the_file_that_is_named_is_reported(rt: HostRuntime) -> Result<(), Fail> {
     let mut file = hash(&rt)?;
     expect_start(
         &rt,
@@ -124,7 +124,7 @@ fn the_file_that_is_named_is_told_of(rt: HostRuntime) -> Result<(), Fail> {
 }
 
 #[test]
-fn a_write_that_fails_is_told(rt: HostRuntime) -> Result<(), Fail> {
+fn a_write_that_fails_is_reported(rt: HostRuntime) -> Result<(), Fail> {
     let file = hash(&rt)?;
     let mut out = Failing::new(rt.alloc(), 0, true);
     let said = info(rt.alloc(), file.as_slice(), Form::Text, &mut out);
@@ -133,7 +133,7 @@ fn a_write_that_fails_is_told(rt: HostRuntime) -> Result<(), Fail> {
 }
 
 #[test]
-fn a_flush_that_fails_is_told(rt: HostRuntime) -> Result<(), Fail> {
+fn a_flush_that_fails_is_reported(rt: HostRuntime) -> Result<(), Fail> {
     let file = hash(&rt)?;
     let args = [
         String::from_str(rt.alloc(), "info")?,

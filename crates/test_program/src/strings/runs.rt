@@ -41,7 +41,7 @@ fn arguments_that_are_no_command_get_the_usage(rt: HostRuntime) -> Result<(), Fa
 }
 
 #[test]
-fn a_file_that_is_no_block_of_strings_is_told(rt: HostRuntime) -> Result<(), Fail> {
+fn a_file_that_is_no_block_of_strings_is_reported(rt: HostRuntime) -> Result<(), Fail> {
     let path = "bitm_strings.block";
     fs::write(&rt, path, b"ada\n".as_slice())?;
     let wrong = "bitm: not a block of strings, or not as it was written\n";
@@ -51,7 +51,7 @@ fn a_file_that_is_no_block_of_strings_is_told(rt: HostRuntime) -> Result<(), Fai
 }
 
 #[test]
-fn a_write_that_fails_is_told(rt: HostRuntime) -> Result<(), Fail> {
+fn a_write_that_fails_is_reported(rt: HostRuntime) -> Result<(), Fail> {
     let mut file = Vec::new(rt.alloc());
     let text = b"ada\nbob\n".as_slice();
     build(rt.alloc(), text, &mut file)?;

@@ -96,7 +96,7 @@ fn the_lines_of_a_list_are_patterns(rt: HostRuntime) -> Result<(), Fail> {
 }
 
 #[test]
-fn a_write_that_fails_is_told(rt: HostRuntime) -> Result<(), Fail> {
+fn a_write_that_fails_is_reported(rt: HostRuntime) -> Result<(), Fail> {
     let mut file = Vec::new(rt.alloc());
     build(rt.alloc(), b"banana".as_slice(), &mut file)?;
     let mut out = Failing::new(rt.alloc(), 0, true);

@@ -39,7 +39,7 @@ fn enough_to_run(alloc: Global) -> Option<u32> {
 }
 
 #[test]
-fn run_tells_that_a_write_failed_and_else_answers_all(rt: HostRuntime) -> Result<(), Fail> {
+fn run_reports_that_a_write_failed_and_else_answers_all(rt: HostRuntime) -> Result<(), Fail> {
     assert!(rt; enough_to_run(rt.alloc()).is_some_and(|writes| writes >= 4));
     Ok(())
 }
@@ -146,7 +146,7 @@ fn enough_for_file(rt: &(impl Files + AllocGlobal), path: &str) -> Result<Option
 }
 
 #[test]
-fn start_tells_that_a_write_failed_and_else_answers_all(rt: HostRuntime) -> Result<(), Fail> {
+fn start_reports_that_a_write_failed_and_else_answers_all(rt: HostRuntime) -> Result<(), Fail> {
     let path = "bitm_vectors_failed_writes.txt";
     fs::write(&rt, path, FOUR_LINES)?;
     let enough = enough_for_file(&rt, path)?;
@@ -157,7 +157,7 @@ fn start_tells_that_a_write_failed_and_else_answers_all(rt: HostRuntime) -> Resu
 
 /// Whether `start` over the four lines in this file and a writer that cannot be flushed ends with status 2, and says
 /// why.
-fn tells_of_flush(rt: &(impl Files + AllocGlobal), path: &str) -> Result<bool, Fail> {
+fn reports_flush(rt: &(impl Files + AllocGlobal), path: &str) -> Result<bool, Fail> {
     let args = strings(rt.alloc(), &[path])?;
     let mut out = Failing::new(rt.alloc(), 100, false);
     let (status, text) = start_over(rt, args.as_slice(), &mut out);
@@ -165,7 +165,7 @@ fn tells_of_flush(rt: &(impl Files + AllocGlobal), path: &str) -> Result<bool, F
 }
 
 /// What `start` without arguments ends with over a writer of texts that fails.
-fn status_untold(rt: &(impl Files + AllocGlobal)) -> u8 {
+fn status_unreported(rt: &(impl Files + AllocGlobal)) -> u8 {
     let mut out = Vec::new(rt.alloc());
     let mut err = Failing::new(rt.alloc(), 0, true);
     start(rt, &[], &mut out, &mut err)
@@ -175,8 +175,8 @@ fn status_untold(rt: &(impl Files + AllocGlobal)) -> u8 {
 fn a_failed_flush_or_text_ends_start_with_status_2(rt: HostRuntime) -> Result<(), Fail> {
     let path = "bitm_vectors_failed_flush.txt";
     fs::write(&rt, path, FOUR_LINES)?;
-    assert!(rt; tells_of_flush(&rt, path)?);
+    assert!(rt; reports_flush(&rt, path)?);
     fs::remove_file(&rt, path)?;
-    assert!(rt; status_untold(&rt) == 2);
+    assert!(rt; status_unreported(&rt) == 2);
     Ok(())
 }

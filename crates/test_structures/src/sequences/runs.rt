@@ -144,7 +144,7 @@ fn both_strategies_select_ones_and_zeros(rt: HostRuntime) -> Result<(), Fail> {
 }
 
 #[test]
-fn places_are_decimal_and_inside_the_vector(rt: HostRuntime) -> Result<(), Fail> {
+fn positions_are_decimal_and_inside_the_vector(rt: HostRuntime) -> Result<(), Fail> {
     let rows = [
         ("words 0", "ok 1"),
         ("set 00000000000000000003", "ok 3"),

@@ -69,8 +69,8 @@ fn is_kept(sequence: &EliasFano, case: &Case<'_>) -> bool {
         return false;
     }
     let mut agrees = sequence.low_width() == case.width;
-    for (i, place) in case.ones.iter().enumerate() {
-        agrees &= upper.bit_ones().nth(i) == Some(*place);
+    for (i, position) in case.ones.iter().enumerate() {
+        agrees &= upper.bit_ones().nth(i) == Some(*position);
     }
     agrees
 }
@@ -78,8 +78,8 @@ fn is_kept(sequence: &EliasFano, case: &Case<'_>) -> bool {
 /// Whether values are found as the rows say, and none past the end.
 fn finds(sequence: &EliasFano, len: usize, asked: &[(u64, Option<usize>)]) -> bool {
     let mut agrees = (sequence.try_get(len), sequence.try_get(usize::MAX)) == (None, None);
-    for (value, place) in asked {
-        agrees &= sequence.first_at_least(*value) == *place;
+    for (value, position) in asked {
+        agrees &= sequence.first_at_least(*value) == *position;
     }
     agrees
 }
@@ -147,8 +147,8 @@ const NEAREST: [(u64, Option<usize>, bool); 8] = [
 /// Stops where what is near a value in the first case is another than by hand.
 fn expect_nearest(rt: &impl Abort, sequence: &EliasFano) {
     assert!(rt; sequence.low_words() == [0b0111110u64].as_slice());
-    for (v, place, is_kept) in NEAREST {
-        assert!(rt; (sequence.last_at_most(v), sequence.contains(v)) == (place, is_kept));
+    for (v, position, is_kept) in NEAREST {
+        assert!(rt; (sequence.last_at_most(v), sequence.contains(v)) == (position, is_kept));
     }
 }
 
@@ -203,7 +203,7 @@ fn are_found(alloc: Global, items: &[u64]) -> Result<bool, EfError> {
 }
 
 #[test]
-fn each_of_many_numbers_is_found_at_its_place(rt: HostRuntime) -> Result<(), Fail> {
+fn each_of_many_numbers_is_found_at_its_position(rt: HostRuntime) -> Result<(), Fail> {
     let items = multiples(rt.alloc(), 1 << 18)?;
     assert!(rt; are_found(rt.alloc(), items.as_slice())?);
     Ok(())

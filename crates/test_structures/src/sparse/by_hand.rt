@@ -106,8 +106,8 @@ fn ranks_agree<I: Access>(bits: &I, case: &Case<'_>) -> bool {
         };
         agrees &= bits.try_rank(*index) == *ones && bits.try_rank0(*index) == zeros;
     }
-    for (place, bit) in case.read {
-        agrees &= bits.try_get_bit(*place) == *bit;
+    for (position, bit) in case.read {
+        agrees &= bits.try_get_bit(*position) == *bit;
     }
     agrees
 }
@@ -115,11 +115,11 @@ fn ranks_agree<I: Access>(bits: &I, case: &Case<'_>) -> bool {
 /// Whether selections of both kinds match the rows.
 fn selections_agree<I: Select + Select0>(bits: &I, case: &Case<'_>) -> bool {
     let mut agrees = true;
-    for (rank, place) in case.ones {
-        agrees &= bits.try_select(*rank) == *place;
+    for (rank, position) in case.ones {
+        agrees &= bits.try_select(*rank) == *position;
     }
-    for (rank, place) in case.zeros {
-        agrees &= bits.try_select0(*rank) == *place;
+    for (rank, position) in case.zeros {
+        agrees &= bits.try_select0(*rank) == *position;
     }
     agrees
 }
@@ -340,7 +340,7 @@ fn says(alloc: Global, error: SparseError, text: &str) -> bool {
 }
 
 #[test]
-fn errors_are_told_apart_and_print_why(rt: HostRuntime) {
+fn errors_differ_and_print_why(rt: HostRuntime) {
     assert!(rt; are_refused(rt.alloc()));
     for (error, text) in TEXTS {
         assert!(rt; says(rt.alloc(), error, text));

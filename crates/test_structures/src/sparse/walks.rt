@@ -38,19 +38,19 @@ fn agrees<I: Access + Select + Select0>(bits: &I, words: &[u64]) -> bool {
     let len = words.len().wrapping_mul(64);
     let (mut ones, mut zeros) = (0usize, 0usize);
     let mut agrees = bits.len() == len;
-    for place in 0..len {
-        let bit = words::try_get_bit(words, place);
-        agrees &= bits.try_rank(place) == Some(ones) && bits.try_rank0(place) == Some(zeros);
-        agrees &= bits.try_get_bit(place) == bit;
-        if place < bits.len() {
-            let (read, rank) = bits.bit_and_rank(place);
+    for position in 0..len {
+        let bit = words::try_get_bit(words, position);
+        agrees &= bits.try_rank(position) == Some(ones) && bits.try_rank0(position) == Some(zeros);
+        agrees &= bits.try_get_bit(position) == bit;
+        if position < bits.len() {
+            let (read, rank) = bits.bit_and_rank(position);
             agrees &= Some(read) == bit && rank == ones;
         }
         if bit == Some(true) {
-            agrees &= bits.try_select(ones) == Some(place);
+            agrees &= bits.try_select(ones) == Some(position);
             ones = ones.wrapping_add(1);
         } else {
-            agrees &= bits.try_select0(zeros) == Some(place);
+            agrees &= bits.try_select0(zeros) == Some(position);
             zeros = zeros.wrapping_add(1);
         }
     }
@@ -67,11 +67,11 @@ fn come_in_order<S: SelectForRank101111, S0: Select0ForRank101111>(
     let mut rising = bits.bit_ones();
     let mut agrees = rising.len() == bits.count_bit_ones();
     let mut rank = 0usize;
-    for place in 0..words.len().wrapping_mul(64) {
-        if words::try_get_bit(words, place) == Some(true) {
-            agrees &= rising.next() == Some(place as u64);
+    for position in 0..words.len().wrapping_mul(64) {
+        if words::try_get_bit(words, position) == Some(true) {
+            agrees &= rising.next() == Some(position as u64);
             if rank <= bits.count_bit_ones() {
-                agrees &= bits.bit_ones_from(rank).next() == Some(place as u64);
+                agrees &= bits.bit_ones_from(rank).next() == Some(position as u64);
             }
             rank = rank.wrapping_add(1);
         }

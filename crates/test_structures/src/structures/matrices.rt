@@ -295,8 +295,12 @@ fn many_are_worked_out<S: SelectForRank101111, S0: Select0ForRank101111>(
         return false;
     }
     let mut ranks = [9usize; 3];
-    let (numbers, places) = ([1u64, 4, 7], [4usize, 6, 6]);
-    matrix.rank_many(numbers.as_slice(), places.as_slice(), ranks.as_mut_slice());
+    let (numbers, positions) = ([1u64, 4, 7], [4usize, 6, 6]);
+    matrix.rank_many(
+        numbers.as_slice(),
+        positions.as_slice(),
+        ranks.as_mut_slice(),
+    );
     ranks == [2usize, 1, 0]
 }
 

@@ -5,10 +5,10 @@ use std::alloc::Global;
 use std::process::Abort;
 
 /// What is known of a node from its parent: the parent, which child it is, and its next sibling, where it has them.
-type Place = (Option<usize>, Option<usize>, Option<usize>);
+type Position = (Option<usize>, Option<usize>, Option<usize>);
 
 /// The parent, the rank among its children and the next sibling of a node, by the definition.
-fn place_of(degrees: &[usize], node: usize) -> Place {
+fn position_of(degrees: &[usize], node: usize) -> Position {
     let mut number = 1usize;
     for (i, degree) in degrees.iter().enumerate() {
         for k in 0..*degree {
@@ -35,7 +35,7 @@ fn has_parents(degrees: &[usize]) -> bool {
     }
     for node in 1..degrees.len() {
         // None is before it where there is none.
-        if place_of(degrees, node).0.unwrap_or(node) >= node {
+        if position_of(degrees, node).0.unwrap_or(node) >= node {
             return false;
         }
     }
@@ -55,7 +55,7 @@ fn has_number(found: Option<Node>, wanted: Option<usize>) -> bool {
     }
 }
 
-/// Whether what a node says of its parent and siblings, by its number and by its place, is what the list says.
+/// Whether what a node says of its parent and siblings, by its number and by its position, is what the list says.
 fn goes_up<S: SelectForRank101111, S0: Select0ForRank101111>(
     tree: &Louds<S, S0>,
     degrees: &[usize],
@@ -65,7 +65,7 @@ fn goes_up<S: SelectForRank101111, S0: Select0ForRank101111>(
         return false;
     }
     let node = tree.node(i);
-    let (parent, k, next) = place_of(degrees, i);
+    let (parent, k, next) = position_of(degrees, i);
     let mut agrees = i == 0 || !same(parent, None);
     agrees &= same(tree.parent(i), parent);
     agrees &= same(tree.child_rank(i), k);
@@ -74,7 +74,7 @@ fn goes_up<S: SelectForRank101111, S0: Select0ForRank101111>(
     agrees & has_number(tree.next_sibling_of(node), next)
 }
 
-/// Whether what a node says of its degree and its children, by its number and by its place, is that it has the given
+/// Whether what a node says of its degree and its children, by its number and by its position, is that it has the given
 /// number of children, which are the nodes from the given one on.
 fn has_children<S: SelectForRank101111, S0: Select0ForRank101111>(
     tree: &Louds<S, S0>,

@@ -9,7 +9,7 @@ use text_block::{Answer, TextView};
 use text_index::{Letters, TextIndex};
 
 /// The number that was found, or 1000 for `Absent`, 1001 for `Wrong`.
-fn told(answer: Answer<usize>) -> usize {
+fn coded(answer: Answer<usize>) -> usize {
     match answer {
         Answer::Found(number) => number,
         Answer::Absent => 1000,
@@ -20,7 +20,7 @@ fn told(answer: Answer<usize>) -> usize {
 /// The positions of a pattern, at most four, or 9 where none was written.
 fn located(text: &TextView<'_>, pattern: &[u8], from: usize) -> [usize; 5] {
     let mut out = [9usize; 4];
-    let count = told(text.locate_bytes(pattern, from, out.as_mut_slice()));
+    let count = coded(text.locate_bytes(pattern, from, out.as_mut_slice()));
     [count, out[0], out[1], out[2], out[3]]
 }
 
@@ -49,11 +49,11 @@ fn patterns_of_bytes_are_counted(rt: HostRuntime) -> Result<(), Fail> {
         (b"\x01".as_slice(), 0),
         (b"\xff".as_slice(), 0),
     ] {
-        assert!(rt; told(text.count_bytes(pattern)) == count);
+        assert!(rt; coded(text.count_bytes(pattern)) == count);
     }
     // As numbers, the letters are 0, 1 and 2.
-    assert!(rt; told(text.count([0u64, 2, 0].as_slice())) == 2);
-    assert!(rt; told(text.count([0x61u64].as_slice())) == 0);
+    assert!(rt; coded(text.count([0u64, 2, 0].as_slice())) == 2);
+    assert!(rt; coded(text.count([0x61u64].as_slice())) == 0);
     Ok(())
 }
 
@@ -86,7 +86,7 @@ fn bytes_are_extracted(rt: HostRuntime) -> Result<(), Fail> {
     assert!(rt; three.as_slice() == b"nan".as_slice());
     assert!(rt; text.extract_bytes(4, three.as_mut_slice()) == Some(Answer::Absent));
     assert!(rt; three.as_slice() == b"nan".as_slice());
-    assert!(rt; told(text.extract(0, letters.as_mut_slice())) == 6);
+    assert!(rt; coded(text.extract(0, letters.as_mut_slice())) == 6);
     assert!(rt; letters == [1, 0, 2, 0, 2, 0]);
     Ok(())
 }
@@ -171,7 +171,7 @@ fn has_bytes(alloc: Global, text: &TextView<'_>, bytes: &[u8]) -> Result<bool, F
     let mut right = whole && room.as_slice() == bytes && text.check();
     for byte in 0..=255u8 {
         let count = bytes.iter().filter(|it| **it == byte).count();
-        right &= told(text.count_bytes([byte].as_slice())) == count;
+        right &= coded(text.count_bytes([byte].as_slice())) == count;
     }
     Ok(right)
 }
@@ -287,7 +287,7 @@ fn sets_have_the_bytes_of_a_text(rt: HostRuntime) -> Result<(), Fail> {
         bytes: b"nab".as_slice(),
         codes: &codes,
     };
-    assert!(rt; letters.letters_len() == 3);
+    assert!(rt; letters.len() == 3);
     assert!(rt;
         letters.letter_at(0) == 2 && letters.letter_at(1) == 0 && letters.letter_at(2) == 1
     );

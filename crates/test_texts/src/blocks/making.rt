@@ -28,7 +28,7 @@ fn is_built<T: Letters>(
     step: u32,
     block: &[u64],
 ) -> Result<bool, Fail> {
-    let Some(len) = scratch_len(text.letters_len(), letters) else {
+    let Some(len) = scratch_len(text.len(), letters) else {
         return Ok(false);
     };
     let mut scratch = vec![in alloc; 9u32; len]?;
@@ -130,7 +130,7 @@ fn errors_leave_block_and_scratch(rt: HostRuntime) -> Result<(), Fail> {
 }
 
 #[test]
-fn wrong_lengths_are_told_before_letters_outside(rt: HostRuntime) -> Result<(), Fail> {
+fn wrong_lengths_are_reported_before_letters_outside(rt: HostRuntime) -> Result<(), Fail> {
     let (mut short, mut fewer) = ([9u32; 23], [7u64; 167]);
     let (mut scratch, mut words) = ([9u32; 24], [7u64; 168]);
     let text = LETTERS.as_slice();

@@ -181,7 +181,7 @@ pub(crate) fn small_text() -> &'static [u64; 168] {
 }
 
 /// The number that was found, or 100 for `Absent`, 101 for `Wrong`.
-fn told(answer: Answer<usize>) -> usize {
+fn coded(answer: Answer<usize>) -> usize {
     match answer {
         Answer::Found(number) => number,
         Answer::Absent => 100,
@@ -192,16 +192,16 @@ fn told(answer: Answer<usize>) -> usize {
 /// The counts of ten patterns: none, 0, 1, 2, 3, then 0 2, 2 0, 2 0 2, 0 0, and one letter of many bits.
 fn counts(text: &TextView<'_>) -> [usize; 10] {
     [
-        told(text.count([].as_slice())),
-        told(text.count([0u64].as_slice())),
-        told(text.count([1u64].as_slice())),
-        told(text.count([2u64].as_slice())),
-        told(text.count([3u64].as_slice())),
-        told(text.count([0u64, 2].as_slice())),
-        told(text.count([2u64, 0].as_slice())),
-        told(text.count([2u64, 0, 2].as_slice())),
-        told(text.count([0u64, 0].as_slice())),
-        told(text.count([1u64 << 40].as_slice())),
+        coded(text.count([].as_slice())),
+        coded(text.count([0u64].as_slice())),
+        coded(text.count([1u64].as_slice())),
+        coded(text.count([2u64].as_slice())),
+        coded(text.count([3u64].as_slice())),
+        coded(text.count([0u64, 2].as_slice())),
+        coded(text.count([2u64, 0].as_slice())),
+        coded(text.count([2u64, 0, 2].as_slice())),
+        coded(text.count([0u64, 0].as_slice())),
+        coded(text.count([1u64 << 40].as_slice())),
     ]
 }
 
@@ -254,8 +254,8 @@ fn a_text_is_opened_and_counts(rt: HostRuntime) -> Result<(), Fail> {
     };
     assert!(rt; text.len() == 6);
     assert!(rt; counts(&text) == [7, 3, 1, 2, 0, 2, 2, 1, 0, 0]);
-    assert!(rt; told(text.count([1u64, 0, 2, 0, 2, 0].as_slice())) == 1);
-    assert!(rt; told(text.count([1u64, 0, 2, 0, 2, 0, 1].as_slice())) == 0);
+    assert!(rt; coded(text.count([1u64, 0, 2, 0, 2, 0].as_slice())) == 1);
+    assert!(rt; coded(text.count([1u64, 0, 2, 0, 2, 0, 1].as_slice())) == 0);
     Ok(())
 }
 
@@ -276,7 +276,7 @@ fn each_flipped_bit_of_the_sections_leaves_a_possible_count(rt: HostRuntime) -> 
 /// The positions of a pattern without the first `from` of them, at most four, or 9 where none was written.
 fn located(text: &TextView<'_>, pattern: &[u64], from: usize) -> [usize; 5] {
     let mut out = [9usize; 4];
-    let count = told(text.locate(pattern, from, out.as_mut_slice()));
+    let count = coded(text.locate(pattern, from, out.as_mut_slice()));
     [count, out[0], out[1], out[2], out[3]]
 }
 
@@ -303,14 +303,14 @@ fn parts_are_extracted(rt: HostRuntime) -> Result<(), Fail> {
         return Ok(());
     };
     let mut all = [9u64; 6];
-    assert!(rt; told(text.extract(0, all.as_mut_slice())) == 6);
+    assert!(rt; coded(text.extract(0, all.as_mut_slice())) == 6);
     assert!(rt; all == [1, 0, 2, 0, 2, 0]);
     let mut three = [9u64; 3];
-    assert!(rt; told(text.extract(2, three.as_mut_slice())) == 3);
+    assert!(rt; coded(text.extract(2, three.as_mut_slice())) == 3);
     assert!(rt; three == [2, 0, 2]);
-    assert!(rt; told(text.extract(4, three.as_mut_slice())) == 100);
+    assert!(rt; coded(text.extract(4, three.as_mut_slice())) == 100);
     let mut none = [0u64; 0];
-    assert!(rt; told(text.extract(6, none.as_mut_slice())) == 0);
-    assert!(rt; told(text.extract(7, none.as_mut_slice())) == 100);
+    assert!(rt; coded(text.extract(6, none.as_mut_slice())) == 0);
+    assert!(rt; coded(text.extract(7, none.as_mut_slice())) == 100);
     Ok(())
 }

@@ -62,7 +62,7 @@ pub(crate) fn collected(
 }
 
 /// Adds the first `count` of these documents and offsets.
-fn push_places(
+fn push_positions(
     found: &mut Vec<(usize, usize)>,
     documents: &[usize],
     offsets: &[usize],
@@ -74,7 +74,7 @@ fn push_places(
     Ok(())
 }
 
-/// Adds what one call with room for five places, or fewer, finds, and answers how many that is.
+/// Adds what one call with room for five locations, or fewer, finds, and answers how many that is.
 fn push_page(
     collection: &TextCollection,
     pattern: &[u64],
@@ -84,7 +84,7 @@ fn push_page(
     let (mut documents, mut offsets) = ([0usize; 5], [0usize; 5]);
     let (first, second) = (&mut documents[..room.min(5)], &mut offsets[..room.min(5)]);
     let came = collection.locate(pattern, found.len(), first, second);
-    push_places(found, documents.as_slice(), offsets.as_slice(), came)?;
+    push_positions(found, documents.as_slice(), offsets.as_slice(), came)?;
     Ok(came)
 }
 
@@ -106,32 +106,32 @@ fn located(
 }
 
 /// Whether the pattern stands at this document and offset.
-fn is_place(documents: &[&[u64]], pattern: &[u64], place: (usize, usize)) -> bool {
-    match documents.get(place.0) {
-        Some(text) => place.1 <= text.len() && goes_on(text, place.1, pattern),
+fn is_position(documents: &[&[u64]], pattern: &[u64], location: (usize, usize)) -> bool {
+    match documents.get(location.0) {
+        Some(text) => location.1 <= text.len() && goes_on(text, location.1, pattern),
         None => false,
     }
 }
 
 /// Whether a document and offset are none of these.
-fn is_new(found: &[(usize, usize)], place: (usize, usize)) -> bool {
+fn is_new(found: &[(usize, usize)], location: (usize, usize)) -> bool {
     let mut is_new = true;
     for before in found {
-        is_new &= before.0 != place.0 || before.1 != place.1;
+        is_new &= before.0 != location.0 || before.1 != location.1;
     }
     is_new
 }
 
 /// Whether the pattern stands at each of these documents and offsets, and none comes twice.
-fn are_places(documents: &[&[u64]], pattern: &[u64], found: &[(usize, usize)]) -> bool {
+fn are_positions(documents: &[&[u64]], pattern: &[u64], found: &[(usize, usize)]) -> bool {
     let mut right = true;
     for i in 0..found.len() {
-        right &= is_place(documents, pattern, found[i]) && is_new(&found[..i], found[i]);
+        right &= is_position(documents, pattern, found[i]) && is_new(&found[..i], found[i]);
     }
     right
 }
 
-/// Whether a collection finds all places of a pattern, each once, by calls with room for `room` of them.
+/// Whether a collection finds all locations of a pattern, each once, by calls with room for `room` of them.
 fn finds(
     alloc: Global,
     collection: &TextCollection,
@@ -141,7 +141,7 @@ fn finds(
 ) -> Result<bool, Fail> {
     let count = walk(documents, pattern);
     let found = located(alloc, collection, pattern, count, room)?;
-    let all = are_places(documents, pattern, found.as_slice()) && found.len() == count;
+    let all = are_positions(documents, pattern, found.as_slice()) && found.len() == count;
     Ok(all && collection.count(pattern) == count)
 }
 

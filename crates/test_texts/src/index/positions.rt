@@ -28,12 +28,12 @@ pub fn goes_before(text: &[u64], first: usize, second: usize) -> bool {
 fn are_all(text: &[u64], pattern: &[u64], found: &[usize]) -> bool {
     let mut right = true;
     let mut last = None;
-    for place in found {
-        right &= *place <= text.len() && goes_on(text, *place, pattern);
+    for position in found {
+        right &= *position <= text.len() && goes_on(text, *position, pattern);
         if let Some(before) = last {
-            right &= goes_before(text, before, *place);
+            right &= goes_before(text, before, *position);
         }
-        last = Some(*place);
+        last = Some(*position);
     }
     let mut count = 0usize;
     for from in 0..=text.len() {
@@ -86,8 +86,8 @@ fn grown(index: &TextIndex, pattern: &[u64]) -> usize {
 fn come(index: &TextIndex, pattern: &[u64], all: &[usize]) -> bool {
     let mut right = true;
     let mut came = 0usize;
-    for place in index.matches(pattern) {
-        right &= came < all.len() && all[came] == place;
+    for position in index.matches(pattern) {
+        right &= came < all.len() && all[came] == position;
         came = came.wrapping_add(1);
     }
     right && came == all.len()
@@ -148,10 +148,10 @@ fn locates_as_by_hand(index: &TextIndex) -> bool {
     let mut out = [77usize; 12];
     let mut right = index.locate([].as_slice(), 0, out.as_mut_slice()) == 12;
     right &= out == [11, 10, 7, 0, 3, 5, 8, 1, 4, 6, 9, 2];
-    for (pattern, from, count, places) in FOUND {
+    for (pattern, from, count, positions) in FOUND {
         let mut room = [77usize; 3];
         right &= index.locate(pattern, from, room.as_mut_slice()) == count;
-        right &= room == places;
+        right &= room == positions;
     }
     right
 }

@@ -30,7 +30,7 @@ pub fn goes_on(text: &[u64], from: usize, pattern: &[u64]) -> bool {
     true
 }
 
-/// At how many places the pattern stands, by a walk over all, the end too.
+/// At how many positions the pattern stands, by a walk over all, the end too.
 fn walk(text: &[u64], pattern: &[u64]) -> usize {
     let mut count = 0usize;
     for from in 0..=text.len() {
@@ -241,9 +241,9 @@ fn is_refused(alloc: Global, order: &[u32]) -> bool {
 #[test]
 fn an_order_from_elsewhere_is_taken_if_it_is_right(rt: HostRuntime) -> Result<(), Fail> {
     assert!(rt; counted(rt.alloc(), [0, 2].as_slice())? == 2);
-    for (at, place) in [(0usize, 5u32), (1, 3), (2, 1), (3, 7), (6, u32::MAX)] {
+    for (at, position) in [(0usize, 5u32), (1, 3), (2, 1), (3, 7), (6, u32::MAX)] {
         let mut other = ORDER;
-        other[at] = place;
+        other[at] = position;
         assert!(rt; is_refused(rt.alloc(), other.as_slice()));
     }
     for at in 0..6usize {

@@ -23,8 +23,8 @@ fn write_inside(out: &mut [u64], count: usize, label: u64)
     ensures back { drop (length out.old - (count + 1)) out.new
         ≡ label ∷ drop (length out.old - count) out.old }
 {
-    let place = out.len() - 1 - count;
-    out[place] = label;
+    let position = out.len() - 1 - count;
+    out[position] = label;
 }
 
 /// Writes a label before the last `count` ones, where there is room.

@@ -13,4 +13,4 @@ written words i true y l is = set_bits_within words i 1 1 1 y (l, omega arith) (
 written words i false y l is = set_bits_within words i 1 0 1 y (l, omega arith) (omega arith) (omega arith) refl is
 
 pub returns : goal.returns
-returns c = written c.args.words.now c.args.place c.args.value _ c.requires c.set_bits_to.ensures
+returns c = written c.args.words.now c.args.position c.args.value _ c.requires c.set_bits_to.ensures

@@ -24,7 +24,7 @@ returns-in-Some-clause-zero g c =
     let at = (goal.at.returns-in-Some-clause-zero g c).After-word-word in
     let h = c.loop.invariant in
     near-found (g.T.TableSource.lists c.args.source.now).words (c.loop.start / 64) c.word-word.result (inside g at) (word g at)
-    c.args.from c.loop.start (omega arith) h.order h.ones c.in-Some.place c.in-Some.ensures
+    c.args.from c.loop.start (omega arith) h.order h.ones c.in-Some.position c.in-Some.ensures
 
 pub returns-then-at-words_len-clause-zero : goal.returns-then-at-words_len-clause-zero
 returns-then-at-words_len-clause-zero g c = λ p order near inside.

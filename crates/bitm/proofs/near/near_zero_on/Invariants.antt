@@ -4,7 +4,7 @@ use Rattle.bitm_tables.specs.Reads.{ReadsAtMost}
 use Rattle.bitm_tables.specs.Tables.{bits_in}
 use Rattle.bitm.proofs.near.near_zero_on.Given as goal
 
--- ones alone stand from the first place on up to the start of the word that comes, and a word was read in each round
+-- ones alone stand from the first position on up to the start of the word that comes, and a word was read in each round
 abbrev pub invariant-loop : goal.invariant-loop
 invariant-loop g l =
     let lists = g.T.TableSource.lists l.fn.source in

@@ -1,4 +1,4 @@
--- What is answered over the numbers and indexes is told of the shards.
+-- What is answered over the numbers and indexes is reported of the shards.
 use Rattle.std.proofs.Common.{ℕ, List, All, map, refl, sym, subst}
 use Rattle.bitm_tables.specs.declared.answer.Answer.{Answer}
 use Rattle.bitm_select.specs.Answers.{IsSelected}
@@ -6,7 +6,7 @@ use Rattle.sharded_index.specs.Prefixes.{Prefixes as Counts, claimed_in_all, Are
 use Rattle.sharded_index.specs.Shards.{IfFoundHasBit, IsOfRank}
 use Rattle.sharded_index.specs.Joined.{joined, kind_of}
 use Rattle.bitm_c.specs.Shards.{SelectsJoined}
-use Rattle.bitm_abi.proofs.ToldLemmas.{told}
+use Rattle.bitm_abi.proofs.ClaimedLemmas.{claimed}
 use Rattle.bitm_abi.specs.Shards.{bits_in_index, counts_in, shard_bits, HasShards, IsRightIndex}
 use Rattle.bitm_abi.specs.declared.index.Index.{Index}
 use Rattle.bitm_abi.specs.declared.shards.Shards.{Shards}
@@ -20,7 +20,7 @@ returns-in-Some c =
     let rank = c.args.rank in
     let answer = c.select.result in
     let index = c.in-Some.index in
-    told (λ (it : Shards) (r : Answer ℕ). SelectsJoined one it rank r) shards shards refl (HasShards shards) over.has c.report.result
+    claimed (λ (it : Shards) (r : Answer ℕ). SelectsJoined one it rank r) shards shards refl (HasShards shards) over.has c.report.result
     c.args.out.now c.report.new.out answer c.report.ensures (record {
       bit =
           subst (λ (n : Counts). IfFoundHasBit one (shard_bits shards) n answer) over.counts_are

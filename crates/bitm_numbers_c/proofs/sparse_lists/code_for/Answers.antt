@@ -3,7 +3,7 @@ use Rattle.std.proofs.Common.{sym, subst}
 use Rattle.sparse_bits.specs.Answers.{IsBitOf, IsBitWithin}
 use Rattle.sequence_block.specs.SparseBlock.{bits_of}
 use Rattle.bitm_view.specs.Queries.{selected_by}
-use Rattle.bitm_numbers_c.proofs.SparseCodeLemmas.{bit_code, count_code, place_code}
+use Rattle.bitm_numbers_c.proofs.SparseCodeLemmas.{bit_code, count_code, position_code}
 use Rattle.bitm_numbers_c.specs.Sparse.{IsBit, IsRankIn, IsSelectIn, Responds}
 use Rattle.bitm_numbers_c.specs.declared.sparse_lists.Query.{Query}
 use Rattle.bitm_numbers_c.proofs.sparse_lists.code_for.Goals as goal
@@ -30,5 +30,5 @@ pub returns-in-Select : goal.returns-in-Select
 returns-in-Select c =
     subst (λ (query : Query). Responds query c.args.number c.args.view.now (selected_by c.code_of-in-Select.result)) (sym c.in-Select.is)
     (subst (IsSelectIn c.in-Select.one c.args.number c.args.view.now)
-    (sym (c.code_of-in-Select.ensures (place_code _ c.requires _ c.select_of.ensures.inside)))
+    (sym (c.code_of-in-Select.ensures (position_code _ c.requires _ c.select_of.ensures.inside)))
     (record { inside = c.select_of.ensures.inside; right = c.select_of.ensures.counts }))

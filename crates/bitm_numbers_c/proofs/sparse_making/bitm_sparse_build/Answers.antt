@@ -1,6 +1,6 @@
 -- Where no error is answered, the block can hold the bits; and where one is, it can not.
 use Rattle.std.proofs.Common.{ℕ, Err, ap, arith, refl, subst}
-use Rattle.sparse_bits.specs.Positions.{ArePlaces}
+use Rattle.sparse_bits.specs.Positions.{AreBitPositions}
 use Rattle.bitm_numbers_c.proofs.SparseLemmas.{can_hold}
 use Rattle.bitm_numbers_c.proofs.sparse_making.bitm_sparse_build.Goals as goal
 
@@ -8,8 +8,8 @@ pub returns-in-Ok-clause-ok : goal.returns-in-Ok-clause-ok
 returns-in-Ok-clause-ok c =
     let e = c.in-Ok.ensures in
     let xs = c.args.positions.now in
-    let places = subst (λ (n : ℕ). ArePlaces n 0 xs) e.block.len e.block.ones.places in
-    ((λ _. can_hold _ xs c.args.bits_len c.args.block.now e.too_long.1 e.wrong_length.1 places), (λ _. refl))
+    let positions = subst (λ (n : ℕ). AreBitPositions n 0 xs) e.block.len e.block.ones.positions in
+    ((λ _. can_hold _ xs c.args.bits_len c.args.block.now e.too_long.1 e.wrong_length.1 positions), (λ _. refl))
 
 pub returns-in-Err-PastEnd-clause-wrong : goal.returns-in-Err-PastEnd-clause-wrong
 returns-in-Err-PastEnd-clause-wrong c = ((λ _. c.in-Err-PastEnd.ensures.past_end.0 (ap Err c.in-Err-PastEnd.field-0-is)), (λ _. refl))

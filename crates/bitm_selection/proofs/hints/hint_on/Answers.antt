@@ -8,11 +8,11 @@ use Rattle.bitm_selection.proofs.hints.hint_on.Goals as goal
 
 pub returns-in-Some-clause-hint : goal.returns-in-Some-clause-hint
 returns-in-Some-clause-hint g c =
-    picked_hint (as_bit g.row.BIT) (bits_in (g.T.TableSource.lists c.args.source.now)) c.args.at c.in-Some.place c.in-Some.ensures.answer
+    picked_hint (as_bit g.row.BIT) (bits_in (g.T.TableSource.lists c.args.source.now)) c.args.at c.in-Some.position c.in-Some.ensures.answer
 
 pub returns-in-Some-clause-only : goal.returns-in-Some-clause-only
 returns-in-Some-clause-only g c p is =
-    only_hint (as_bit g.row.BIT) (bits_in (g.T.TableSource.lists c.args.source.now)) c.args.at c.in-Some.place p c.in-Some.ensures.answer is
+    only_hint (as_bit g.row.BIT) (bits_in (g.T.TableSource.lists c.args.source.now)) c.args.at c.in-Some.position p c.in-Some.ensures.answer is
 
 pub returns-in-Some-clause-half : goal.returns-in-Some-clause-half
 returns-in-Some-clause-half g c =

@@ -9,6 +9,6 @@ pub returns-in-Some-clause-answer : goal.returns-in-Some-clause-answer
 returns-in-Some-clause-answer g c tables hints =
     let lists = g.T.TableSource.lists c.args.source.now in
     let near = c.near_on.ensures in
-    found_near lists.words c.args.hints.now (as_bit g.row.BIT) (c.args.rank / 128) c.hint_at.result (c.args.rank % 128) c.args.rank c.in-Some.place
+    found_near lists.words c.args.hints.now (as_bit g.row.BIT) (c.args.rank / 128) c.hint_at.result (c.args.rank % 128) c.args.rank c.in-Some.position
     c.near_on.result hints (omega (arith, c.if-at-hints.false)) (c.hint_at.ensures (as_bit g.row.BIT) (bits_in lists) hints.pairs) near.answer near.outside
     c.in-Some.is (omega arith)

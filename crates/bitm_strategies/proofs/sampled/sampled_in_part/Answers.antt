@@ -6,14 +6,14 @@ use Rattle.bitm_select.specs.Search.{sought_in}
 use Rattle.bitm_tables.specs.Tables.{HasSizes, HasTables}
 use Rattle.bitm_tables.proofs.lemmas.LengthLemmas.{sizes_of}
 use Rattle.bitm_select.proofs.lemmas.SelectedLemmas.{in_entry, is_select}
-use Rattle.bitm_strategies.proofs.lemmas.SampledPartLemmas.{begins_below, begins_inside, no_item, no_item_reads, place_small, selected_there, walk_reads}
+use Rattle.bitm_strategies.proofs.lemmas.SampledPartLemmas.{begins_below, begins_inside, no_item, no_item_reads, position_small, selected_there, walk_reads}
 use Rattle.bitm_strategies.proofs.sampled.sampled_in_part.Goals as goal
 
 pub overflow_add-at : goal.overflow_add-at
 overflow_add-at g c =
     let l = g.T.TableSource.lists c.args.source.now in
     let small =
-    place_small g.row.BIT l c.args.samples.now c.args.log2 c.args.rank c.args.begin c.requires.tables c.requires.sampled
+    position_small g.row.BIT l c.args.samples.now c.args.log2 c.args.rank c.args.begin c.requires.tables c.requires.sampled
     (omega (arith, length-bits_of l.words, c.requires.short)) (omega arith) in
     record { fits = omega (arith, small) }
 
@@ -47,8 +47,8 @@ returns-clause-reads g c =
     let e = c.in_packed.ensures in
     let p = c.requires.sampled in
     let total : ones_before (sought_in g.row.BIT l.words) (k * 2 ^ 32) + left ≡ c.args.rank = omega (arith, p.before_is, p.part.at_most) in
-    let told = is_select _ _ _ c.in_packed.result (e.answer (subst HasTables (sym w.same) c.requires.tables)) in
-    let selected = selected_there g.row.BIT k left c.args.rank l _ c.found.result w.same total (rw c.found.ensures told) in
+    let claimed = is_select _ _ _ c.in_packed.result (e.answer (subst HasTables (sym w.same) c.requires.tables)) in
+    let selected = selected_there g.row.BIT k left c.args.rank l _ c.found.result w.same total (rw c.found.ensures claimed) in
     λ early reads.
     walk_reads g.row.BIT l c.args.samples.now c.args.log2 c.args.rank c.args.begin c.requires.tables p (omega (arith, c.if-at-samples.false))
     _ c.first_entry-from.result refl c.first_entry-from.ensures c.walk-entry.result.0 w.last w.order early (T.reads c.in_packed.new.source)

@@ -1,4 +1,4 @@
--- Of more parts the tables and the starts tell what stands before them.
+-- Of more parts the tables and the starts show what stands before them.
 use Rattle.std.proofs.Common.{◌≡◌, ℕ, ◌*◌, ◌^◌, List, length, get_or, slice_index, sym, ap, ◌∙◌, subst, arith}
 use Rattle.bit_lists.proofs.lemmas.BitsLemmas.{length-bits_of}
 use Rattle.bit_lists.specs.Bits.{bits_of, digit_count}

@@ -4,7 +4,7 @@ use Rattle.bit_lists.proofs.lemmas.BitsLemmas.{length-bits_of}
 use Rattle.bitm_tables.proofs.quarters.bit_and_ones_by_quarters_on.Goals as goal
 use Rattle.bitm_tables.proofs.quarters.bit_and_ones_by_quarters_on.Goals.{After-bit_and_ones_before}
 
-inside : (g : _) (c : After-bit_and_ones_before g) → c.args.place < 64 * length (g.T.TableSource.lists c.args.source.now).words
+inside : (g : _) (c : After-bit_and_ones_before g) → c.args.position < 64 * length (g.T.TableSource.lists c.args.source.now).words
 inside g c = omega (arith, c.requires.inside, length-bits_of (g.T.TableSource.lists c.args.source.now).words)
 
 pub word_and_ones-word-requires-clause-inside : goal.word_and_ones-word-requires-clause-inside

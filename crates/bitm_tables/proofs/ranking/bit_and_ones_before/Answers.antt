@@ -21,12 +21,12 @@ tested words word p inside word_is =
     ap (λ (w : ℕ). not (nat_eq (w * 2 ^ (63 - p % 64) % 2 ^ 64 / 2 ^ 63) 0)) word_is ∙ item_shifted words p inside
 
 pub returns-clause-bit : goal.returns-clause-bit
-returns-clause-bit c = λ words inside word_is. tested words c.args.word c.args.place inside word_is
+returns-clause-bit c = λ words inside word_is. tested words c.args.word c.args.position inside word_is
 
 pub returns-clause-ones : goal.returns-clause-ones
 returns-clause-ones c = λ words short inside word_is ones_are.
     let b = bits_of words in
-    let p = c.args.place in
+    let p = c.args.position in
     let here : p < length b = omega (arith, inside, length-bits_of words) in
     let few : ones_before b p < 2 ^ 64 = omega (arith, ones_before-self b p, here, length-bits_of words, short) in
     let sum = ones_are ∙ ones_before_more b p here in

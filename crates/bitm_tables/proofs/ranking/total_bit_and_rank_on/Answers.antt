@@ -4,8 +4,8 @@ use Rattle.bit_lists.proofs.lemmas.BitsLemmas.{length-bits_of}
 use Rattle.bitm_tables.proofs.ranking.total_bit_and_rank_on.Goals as goal
 use Rattle.bitm_tables.proofs.ranking.total_bit_and_rank_on.Goals.{After-bit_and_ones_before}
 
-inside : (g : _) (c : After-bit_and_ones_before g) → c.args.place < 64 * length (g.T.TableSource.lists c.args.source.now).words
-inside g c = omega (arith, c.words_len.ensures, c.if-place-words_len.false)
+inside : (g : _) (c : After-bit_and_ones_before g) → c.args.position < 64 * length (g.T.TableSource.lists c.args.source.now).words
+inside g c = omega (arith, c.words_len.ensures, c.if-position-words_len.false)
 
 pub returns-clause-bit : goal.returns-clause-bit
 returns-clause-bit g c =

@@ -1,9 +1,9 @@
--- What is answered is told.
-use Rattle.bitm_abi.proofs.ToldLemmas.{told}
+-- What is answered is reported.
+use Rattle.bitm_abi.proofs.ClaimedLemmas.{claimed}
 use Rattle.bitm_trees_c.specs.Tree.{IsNextSiblingAnswer}
 use Rattle.bitm_trees_c.proofs.tree_queries.bitm_tree_next_sibling.Goals as goal
 
 pub returns-in-Some : goal.returns-in-Some
 returns-in-Some c =
-    told (IsNextSiblingAnswer c.args.node) _ _ c.in-Some.ensures.1 _ c.in-Some.ensures.0 c.report.result c.args.out.now c.report.new.out _ c.report.ensures
+    claimed (IsNextSiblingAnswer c.args.node) _ _ c.in-Some.ensures.1 _ c.in-Some.ensures.0 c.report.result c.args.out.now c.report.new.out _ c.report.ensures
     (record { inside = c.next_sibling.ensures.inside; right = c.next_sibling.ensures.answer })

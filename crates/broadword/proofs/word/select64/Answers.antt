@@ -31,11 +31,11 @@ at_byte c =
     byte_of_rank c.args.n c.args.rank c.ranks_left-ranks.result (omega arith) (bytes_at (rank_left c.args.n c.args.rank) _ c.ranks_left-ranks.ensures) c.requires
     (c.bytes_at_most.result - 1) (omega (arith, counted c))
 
-pub overflow_sub-place : goal.overflow_sub-place
-overflow_sub-place c = omega (arith, counted (goal.at.overflow_sub-place c).After-bytes_at_most)
+pub overflow_sub-position : goal.overflow_sub-position
+overflow_sub-position c = omega (arith, counted (goal.at.overflow_sub-position c).After-bytes_at_most)
 
-pub overflow_mul-place : goal.overflow_mul-place
-overflow_mul-place c = omega (arith, (at_byte (goal.at.overflow_mul-place c).After-bytes_at_most).inside)
+pub overflow_mul-position : goal.overflow_mul-position
+overflow_mul-position c = omega (arith, (at_byte (goal.at.overflow_mul-position c).After-bytes_at_most).inside)
 
 pub overflow_shr-left : goal.overflow_shr-left
 overflow_shr-left c = omega (arith, (at_byte (goal.at.overflow_shr-left c).After-bytes_at_most).inside)
@@ -46,7 +46,7 @@ overflow_shr-n c = omega (arith, (at_byte (goal.at.overflow_shr-n c).After-bytes
 pub select_in_byte-requires : goal.select_in_byte-requires
 select_in_byte-requires c = (at_byte (goal.at.select_in_byte-requires c).After-bytes_at_most).some
 
--- the place in the word
+-- the position in the word
 pub returns-clause-picked : goal.returns-clause-picked
 returns-clause-picked c =
     picked_in_word c.args.n c.args.rank c.ranks_left-ranks.result (omega arith) (bytes_at (rank_left c.args.n c.args.rank) _ c.ranks_left-ranks.ensures) c.requires

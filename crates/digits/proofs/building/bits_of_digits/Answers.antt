@@ -38,7 +38,7 @@ loop-at-preserved c =
           ap (λ (z : ℕ). bit_at (bit_or low (bit_and d 1 * 2 ^ at % 2 ^ 64)) z + 2 * bit_at (bit_or high (d / 2 * 2 ^ at % 2 ^ 64)) z) is
           ∙ (let whole : bit_and d 1 + 2 * (d / 2) ≡ d = omega (arith, first) in now ∙ whole)
           ∙ c.digit_of_number-digit.ensures
-          ∙ sym (ap (λ (z : ℕ). digit_from c.args.place (get_or c.args.numbers.now (c.args.from + z) 0)) is))
+          ∙ sym (ap (λ (z : ℕ). digit_from c.args.position (get_or c.args.numbers.now (c.args.from + z) 0)) is))
           (cases_lt y at);
       low = λ y l within. or_above low (bit_and d 1) at y within (omega arith) bit (i.low y (omega arith) within);
       high = λ y l within. or_above high (d / 2) at y within (omega arith) other (i.high y (omega arith) within);

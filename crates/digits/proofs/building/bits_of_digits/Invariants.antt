@@ -7,7 +7,7 @@ use Rattle.digits.proofs.building.bits_of_digits.Given as goal
 abbrev pub invariant-loop-at : goal.invariant-loop-at
 invariant-loop-at l =
     record {
-      digits : (y : ℕ) → y < l.at → bit_at l.low y + 2 * bit_at l.high y ≡ digit_from l.place (slice_index l.numbers (l.from + y));
+      digits : (y : ℕ) → y < l.at → bit_at l.low y + 2 * bit_at l.high y ≡ digit_from l.position (slice_index l.numbers (l.from + y));
       low : (y : ℕ) → l.at ≤ y → y < 64 → bit_at l.low y ≡ 0;
       high : (y : ℕ) → l.at ≤ y → y < 64 → bit_at l.high y ≡ 0;
     }

@@ -9,12 +9,12 @@ returns-clause-digits c =
     let n = length c.args.numbers.now in
     let len = c.write_digits.ensures.len in
     ap (λ (xs : List ℕ). take n xs) c.write_counts.ensures.digits
-    ∙ digits_written c.write_digits.new.lines c.args.numbers.now (digit_from c.args.place) (omega (arith, len, c.requires.sizes.lines_len))
+    ∙ digits_written c.write_digits.new.lines c.args.numbers.now (digit_from c.args.position) (omega (arith, len, c.requires.sizes.lines_len))
     (λ i inside. c.write_digits.ensures.digits i (omega (arith, inside, len)))
 
 pub returns-clause-rest : goal.returns-clause-rest
 returns-clause-rest c = λ i past.
     let len = c.write_digits.ensures.len in
     ap (λ (xs : List ℕ). get_or xs i 0) c.write_counts.ensures.digits
-    ∙ rest_written c.write_digits.new.lines c.args.numbers.now c.args.place i past
+    ∙ rest_written c.write_digits.new.lines c.args.numbers.now c.args.position i past
     (λ k inside. c.write_digits.ensures.digits k (omega (arith, inside, len)))

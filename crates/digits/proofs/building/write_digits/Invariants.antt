@@ -7,5 +7,5 @@ abbrev pub invariant-loop-part : goal.invariant-loop-part
 invariant-loop-part l =
     record {
       len : length l.lines ≡ length l.fn.lines;
-      digits : (i : ℕ) → 4 * (i / 224) + i % 224 / 64 < l.part → digit_of l.lines i ≡ digit_from l.place (slice_index l.numbers i);
+      digits : (i : ℕ) → 4 * (i / 224) + i % 224 / 64 < l.part → digit_of l.lines i ≡ digit_from l.position (slice_index l.numbers i);
     }

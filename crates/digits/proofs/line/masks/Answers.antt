@@ -1,4 +1,4 @@
--- Below 64 places the first mask is partial and the second empty; from there on the first is full.
+-- Below 64 positions the first mask is partial and the second empty; from there on the first is full.
 use Rattle.digits.proofs.lemmas.MaskLemmas.{first_mask, second_mask}
 use Rattle.std.proofs.Common.{arith}
 use Rattle.digits.proofs.line.masks.Goals as goal

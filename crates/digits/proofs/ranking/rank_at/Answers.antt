@@ -10,8 +10,8 @@ returns-clause-answer g c = λ tables.
     let lists = g.S.DigitSource.lists c.args.source.now in
     let i = c.args.index in
     let d = c.args.digit in
-    let place : 224 * (i / 224) + i % 224 ≡ i = omega arith in
+    let position : 224 * (i / 224) + i % 224 ≡ i = omega arith in
     c.rank_in_line.ensures.answer (subst HasDigitTables (sym c.open.ensures.same) tables)
     ∙ ap (λ (l : DigitLists). digits_before d (digits_of l.lines) (224 * (i / 224) + i % 224)) c.open.ensures.same
-    ∙ ap (digits_before d (digits_of lists.lines)) place
+    ∙ ap (digits_before d (digits_of lists.lines)) position
     ∙ sym (before-digits_in lists d i c.requires.index)

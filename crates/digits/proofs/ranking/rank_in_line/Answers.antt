@@ -11,4 +11,4 @@ returns-clause-answer g c = λ tables.
     let k = c.args.line in
     c.rank_from.ensures (subst HasDigitTables (sym same) tables)
     (c.number-before.ensures.item ∙ sym (ap (λ (l : DigitLists). get_or l.table (4 * (k / 256) + d) 0) same))
-    ∙ ap (λ (l : DigitLists). digits_before d (digits_of l.lines) (224 * k + c.args.place)) same
+    ∙ ap (λ (l : DigitLists). digits_before d (digits_of l.lines) (224 * k + c.args.position)) same

@@ -104,7 +104,7 @@ returns-then-found-digits_len-clause-digit g c =
     let a = (goal.at.returns-then-found-digits_len-clause-digit g c).After-rank_from in
     let lists = g.S.DigitSource.lists c.args.source.now in
     let k = c.last_line-line.result in
-    let p = c.in-Some.place in
+    let p = c.in-Some.position in
     let in_line : p < 224 = c.in-Some.ensures.0 in
     let inside : 224 * k + p < lists.len =
     omega (arith, c.if-found-digits_len.true, c.digits_len.ensures, ap (λ (l : DigitLists). l.len) (opened g a)) in
@@ -123,7 +123,7 @@ returns-then-found-digits_len-clause-answer g c = λ t.
     let lists = g.S.DigitSource.lists c.args.source.now in
     let k = c.last_line-line.result in
     let d = c.args.digit in
-    let p = c.in-Some.place in
+    let p = c.in-Some.position in
     let found = returns-then-found-digits_len-clause-digit g c in
     let count =
     subst (λ (l : DigitLists).
@@ -142,7 +142,7 @@ returns-else-found-digits_len-clause-answer g c = λ t.
     let lists = g.S.DigitSource.lists c.args.source.now in
     let k = c.last_line-line.result in
     let d = c.args.digit in
-    let p = c.in-Some.place in
+    let p = c.in-Some.position in
     let xs = digits_of lists.lines in
     let count =
     subst (λ (l : DigitLists).

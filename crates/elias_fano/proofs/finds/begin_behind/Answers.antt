@@ -10,13 +10,13 @@ pub returns-in-Found-clause-begin : goal.returns-in-Found-clause-begin
 returns-in-Found-clause-begin c = λ xs l lists above h some selected.
     begin-next _ _ _ _ refl some (subst (IsSelected (bits_in lists) false (above - 1)) c.in-Found.is selected)
 
-pub returns-in-Found-clause-told : goal.returns-in-Found-clause-told
-returns-in-Found-clause-told c = λ lists n above some fits bit none.
+pub returns-in-Found-clause-claimed : goal.returns-in-Found-clause-claimed
+returns-in-Found-clause-claimed c = λ lists n above some fits bit none.
     let zero = subst (HasBit (bits_in lists) false) c.in-Found.is bit in
-    let here : less (c.in-Found.place + 1) above ≡ less c.in-Found.place (above - 1) = omega (arith, some, fits) in
+    let here : less (c.in-Found.position + 1) above ≡ less c.in-Found.position (above - 1) = omega (arith, some, fits) in
     record {
       none = λ no. absurd (omega (arith, some, no));
-      some = λ _. inl (record { place = c.in-Found.place; inside = zero.0; zero = zero.1; count = here });
+      some = λ _. inl (record { position = c.in-Found.position; inside = zero.0; zero = zero.1; count = here });
     }
 
 pub returns-in-Absent-clause-begin : goal.returns-in-Absent-clause-begin

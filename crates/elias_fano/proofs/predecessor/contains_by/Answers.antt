@@ -6,10 +6,10 @@ use Rattle.elias_fano.proofs.lemmas.EndsLemmas.{both-ends, high}
 use Rattle.elias_fano.proofs.lemmas.FragmentLemmas.{bucket-shared, fragments-more}
 use Rattle.elias_fano.proofs.lemmas.MemberLemmas.{below-held}
 use Rattle.elias_fano.proofs.lemmas.SizeLemmas.{digits-grow}
-use Rattle.elias_fano.proofs.lemmas.ToldLemmas.{told_all, told_member}
+use Rattle.elias_fano.proofs.lemmas.ClaimedLemmas.{claimed_all, claimed_member}
 use Rattle.elias_fano.specs.Buckets.{BeginsAt}
 use Rattle.elias_fano.specs.Ends.{HoldsHigh}
-use Rattle.elias_fano.specs.Told.{TellsBelow, TellsTo}
+use Rattle.elias_fano.specs.Claims.{ClaimsBelow, ClaimsTo}
 use Rattle.elias_fano.proofs.predecessor.contains_by.Goals as goal
 
 pub returns-in-Absent-clause-answer : goal.returns-in-Absent-clause-answer
@@ -19,25 +19,25 @@ returns-in-Absent-clause-answer g c = λ xs h f.
       λ held. absurd (below-held xs c.args.low.now.width _ c.args.v all (ap (λ w. c.args.v / 2 ^ w) c.width.ensures) held),
     )
 
-pub returns-in-Absent-clause-told : goal.returns-in-Absent-clause-told
-returns-in-Absent-clause-told g c = λ tells.
+pub returns-in-Absent-clause-claimed : goal.returns-in-Absent-clause-claimed
+returns-in-Absent-clause-claimed g c = λ claims.
     let lists = g.T.TableSource.lists c.args.source.now in
-    let P : ℕ → Type 0 = λ k. TellsBelow lists c.args.n (c.args.v / 2 ^ k) c.args.n × TellsTo lists c.args.n (c.args.v / 2 ^ k) c.args.n in
-    let told = subst P c.width.ensures (c.in-Absent.ensures.told tells) in
-    (c.args.n, told_all c.args.n c.args.low.now lists c.args.v told.0 told.1, λ _. refl)
+    let P : ℕ → Type 0 = λ k. ClaimsBelow lists c.args.n (c.args.v / 2 ^ k) c.args.n × ClaimsTo lists c.args.n (c.args.v / 2 ^ k) c.args.n in
+    let claimed = subst P c.width.ensures (c.in-Absent.ensures.claimed claims) in
+    (c.args.n, claimed_all c.args.n c.args.low.now lists c.args.v claimed.0 claimed.1, λ _. refl)
 
 -- ---- the source's lists are the same when the end is sought
 
-pub returns-in-Some-clause-told : goal.returns-in-Some-clause-told
-returns-in-Some-clause-told g c = λ tells.
+pub returns-in-Some-clause-claimed : goal.returns-in-Some-clause-claimed
+returns-in-Some-clause-claimed g c = λ claims.
     let lists = g.T.TableSource.lists c.args.source.now in
     let first = less c.in-Found.begin (c.args.v / 2 ^ c.width.result) in
-    let B : ℕ → Type 0 = λ k. TellsBelow lists c.args.n (c.args.v / 2 ^ k) first in
-    let L : Lists → Type 0 = λ l. TellsTo l c.args.n (c.args.v / 2 ^ c.width.result) c.in-Some.end in
-    let E : ℕ → Type 0 = λ k. TellsTo lists c.args.n (c.args.v / 2 ^ k) c.in-Some.end in
-    told_member c.args.n c.args.low.now lists c.args.v first c.in-Some.end (subst B c.width.ensures (c.in-Found.ensures.told tells))
-    (λ _. subst E c.width.ensures (subst L c.in-Found.ensures.reads.same (c.in-Some.ensures.told tells)))
-    c.in-Some.ensures.within c.is_in_bucket.result c.is_in_bucket.ensures.told
+    let B : ℕ → Type 0 = λ k. ClaimsBelow lists c.args.n (c.args.v / 2 ^ k) first in
+    let L : Lists → Type 0 = λ l. ClaimsTo l c.args.n (c.args.v / 2 ^ c.width.result) c.in-Some.end in
+    let E : ℕ → Type 0 = λ k. ClaimsTo lists c.args.n (c.args.v / 2 ^ k) c.in-Some.end in
+    claimed_member c.args.n c.args.low.now lists c.args.v first c.in-Some.end (subst B c.width.ensures (c.in-Found.ensures.claimed claims))
+    (λ _. subst E c.width.ensures (subst L c.in-Found.ensures.reads.same (c.in-Some.ensures.claimed claims)))
+    c.in-Some.ensures.within c.is_in_bucket.result c.is_in_bucket.ensures.claimed
 
 pub returns-in-Some-clause-answer : goal.returns-in-Some-clause-answer
 returns-in-Some-clause-answer g c = λ xs h f.

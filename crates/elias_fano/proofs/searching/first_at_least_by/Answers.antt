@@ -5,27 +5,27 @@ use Rattle.bitm_tables.specs.Reads.{ReadsAtMost}
 use Rattle.bitm_tables.specs.Tables.{bits_in, Lists}
 use Rattle.elias_fano.proofs.lemmas.EndsLemmas.{counted-ends, high, whole-ends}
 use Rattle.elias_fano.proofs.lemmas.SelectionReadLemmas.{few-ends, few-one}
-use Rattle.elias_fano.proofs.lemmas.ToldLemmas.{told_less}
+use Rattle.elias_fano.proofs.lemmas.ClaimedLemmas.{claimed_less}
 use Rattle.elias_fano.specs.Buckets.{BeginsAt}
 use Rattle.elias_fano.specs.Ends.{HoldsHigh}
-use Rattle.elias_fano.specs.Told.{TellsBelow, TellsTo}
+use Rattle.elias_fano.specs.Claims.{ClaimsBelow, ClaimsTo}
 use Rattle.elias_fano.proofs.searching.first_at_least_by.Goals as goal
 
 -- ---- numbers have no low bits
 
-pub returns-then-width-eq0-clause-told : goal.returns-then-width-eq0-clause-told
-returns-then-width-eq0-clause-told g c = λ tells.
+pub returns-then-width-eq0-clause-claimed : goal.returns-then-width-eq0-clause-claimed
+returns-then-width-eq0-clause-claimed g c = λ claims.
     let lists = g.T.TableSource.lists c.args.source.now in
     let first = less c.in-Found.begin (c.args.v / 2 ^ c.width-width.result) in
-    let B : ℕ → Type 0 = λ k. TellsBelow lists c.args.n (c.args.v / 2 ^ k) first in
-    told_less c.args.n c.args.low.now lists c.args.v first c.args.n (subst B c.width-width.ensures (c.in-Found.ensures.told tells))
+    let B : ℕ → Type 0 = λ k. ClaimsBelow lists c.args.n (c.args.v / 2 ^ k) first in
+    claimed_less c.args.n c.args.low.now lists c.args.v first c.args.n (subst B c.width-width.ensures (c.in-Found.ensures.claimed claims))
     (λ some. absurd (omega (arith, some, c.width-width.ensures, c.if-width-eq0.true)))
-    (omega arith) c.place_in_bucket.result c.place_in_bucket.ensures.told
+    (omega arith) c.index_in_bucket.result c.index_in_bucket.ensures.claimed
 
 pub returns-then-width-eq0-clause-answer : goal.returns-then-width-eq0-clause-answer
 returns-then-width-eq0-clause-answer g c = λ xs h f.
     let at = c.in-Found.ensures.begin xs _ (high xs c.args.n c.args.low.now _ h) f in
-    c.place_in_bucket.ensures.answer xs _ h.are
+    c.index_in_bucket.ensures.answer xs _ h.are
     (whole-ends xs c.args.n c.args.low.now _ h c.args.v c.in-Found.begin _ c.width-width.ensures at c.if-width-eq0.true)
 
 pub returns-then-width-eq0-clause-few : goal.returns-then-width-eq0-clause-few
@@ -36,21 +36,21 @@ returns-then-width-eq0-clause-few g c = λ spares few.
 pub returns-then-width-eq0-clause-shared : goal.returns-then-width-eq0-clause-shared
 returns-then-width-eq0-clause-shared g c = λ xs h f.
     let at = c.in-Found.ensures.begin xs _ (high xs c.args.n c.args.low.now _ h) f in
-    c.place_in_bucket.ensures.shared xs _ h.are
+    c.index_in_bucket.ensures.shared xs _ h.are
     (whole-ends xs c.args.n c.args.low.now _ h c.args.v c.in-Found.begin _ c.width-width.ensures at c.if-width-eq0.true)
 
 -- ---- the source's lists are the same when the end is sought
 
-pub returns-in-Some-clause-told : goal.returns-in-Some-clause-told
-returns-in-Some-clause-told g c = λ tells.
+pub returns-in-Some-clause-claimed : goal.returns-in-Some-clause-claimed
+returns-in-Some-clause-claimed g c = λ claims.
     let lists = g.T.TableSource.lists c.args.source.now in
     let first = less c.in-Found.begin (c.args.v / 2 ^ c.width-width.result) in
-    let B : ℕ → Type 0 = λ k. TellsBelow lists c.args.n (c.args.v / 2 ^ k) first in
-    let L : Lists → Type 0 = λ l. TellsTo l c.args.n (c.args.v / 2 ^ c.width-width.result) c.in-Some.end in
-    let E : ℕ → Type 0 = λ k. TellsTo lists c.args.n (c.args.v / 2 ^ k) c.in-Some.end in
-    told_less c.args.n c.args.low.now lists c.args.v first c.in-Some.end (subst B c.width-width.ensures (c.in-Found.ensures.told tells))
-    (λ _. subst E c.width-width.ensures (subst L c.in-Found.ensures.reads.same (c.in-Some.ensures.told tells)))
-    c.in-Some.ensures.within c.place_in_bucket-in-Some.result c.place_in_bucket-in-Some.ensures.told
+    let B : ℕ → Type 0 = λ k. ClaimsBelow lists c.args.n (c.args.v / 2 ^ k) first in
+    let L : Lists → Type 0 = λ l. ClaimsTo l c.args.n (c.args.v / 2 ^ c.width-width.result) c.in-Some.end in
+    let E : ℕ → Type 0 = λ k. ClaimsTo lists c.args.n (c.args.v / 2 ^ k) c.in-Some.end in
+    claimed_less c.args.n c.args.low.now lists c.args.v first c.in-Some.end (subst B c.width-width.ensures (c.in-Found.ensures.claimed claims))
+    (λ _. subst E c.width-width.ensures (subst L c.in-Found.ensures.reads.same (c.in-Some.ensures.claimed claims)))
+    c.in-Some.ensures.within c.index_in_bucket-in-Some.result c.index_in_bucket-in-Some.ensures.claimed
 
 pub returns-in-Some-clause-answer : goal.returns-in-Some-clause-answer
 returns-in-Some-clause-answer g c = λ xs h f.
@@ -60,7 +60,7 @@ returns-in-Some-clause-answer g c = λ xs h f.
     λ l. HoldsHigh xs c.args.n c.args.low.now.width l × g.F.FindsEnds.finds c.args.finder.now l
     × BeginsAt (bits_in l) (c.args.v / 2 ^ c.width-width.result) c.in-Found.begin in
     let now = subst P (sym c.in-Found.ensures.reads.same) (here, f, at) in
-    c.place_in_bucket-in-Some.ensures.answer xs _ h.are
+    c.index_in_bucket-in-Some.ensures.answer xs _ h.are
     (counted-ends xs c.args.n c.args.low.now _ h c.args.v c.in-Found.begin _ c.width-width.ensures at c.in-Some.end
     (c.in-Some.ensures.count xs _ now.0 now.1 now.2))
 
@@ -82,6 +82,6 @@ returns-in-Some-clause-shared g c = λ xs h f.
     λ l. HoldsHigh xs c.args.n c.args.low.now.width l × g.F.FindsEnds.finds c.args.finder.now l
     × BeginsAt (bits_in l) (c.args.v / 2 ^ c.width-width.result) c.in-Found.begin in
     let now = subst P (sym c.in-Found.ensures.reads.same) (here, f, at) in
-    c.place_in_bucket-in-Some.ensures.shared xs _ h.are
+    c.index_in_bucket-in-Some.ensures.shared xs _ h.are
     (counted-ends xs c.args.n c.args.low.now _ h c.args.v c.in-Found.begin _ c.width-width.ensures at c.in-Some.end
     (c.in-Some.ensures.count xs _ now.0 now.1 now.2))

@@ -1,4 +1,4 @@
--- The place that is selected is that of the item's one, and each item has one.
+-- The position that is selected is that of the item's one, and each item has one.
 use Rattle.std.proofs.Common.{◌<◌, length, arith}
 use Rattle.elias_fano.proofs.lemmas.UpperLemmas.{ones_are}
 use Rattle.elias_fano.proofs.searching.item_by.Goals as goal

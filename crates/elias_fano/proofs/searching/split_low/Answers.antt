@@ -1,4 +1,4 @@
--- A fragment of the range is inside; each step leaves half of the places, whose number has a digit less.
+-- A fragment of the range is inside; each step leaves half of the positions, whose number has a digit less.
 use Rattle.std.proofs.Common.{◌≡◌, ◌+◌, ◌-◌, ◌*◌, ◌/◌, ◌≤◌, length, sym, ap, ◌∙◌, arith}
 use Rattle.elias_fano.proofs.lemmas.FragmentLemmas.{fragment-same}
 use Rattle.elias_fano.proofs.lemmas.SizeLemmas.{digit_count-half, digits-grow}

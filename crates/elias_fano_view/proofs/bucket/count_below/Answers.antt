@@ -14,6 +14,6 @@ below xs l above (Some c) some h = record {
 }
 
 pub returns-clause-count : goal.returns-clause-count
-returns-clause-count c = λ xs l upper h tables short n told.
+returns-clause-count c = λ xs l upper h tables short n claimed.
     let some : 0 < c.args.above = omega (arith, c.if-above-eq0.false) in
-    below xs l c.args.above _ some (c.count_to.ensures.count xs l upper h tables short n (told some))
+    below xs l c.args.above _ some (c.count_to.ensures.count xs l upper h tables short n (claimed some))

@@ -7,10 +7,10 @@ use Rattle.elias_fano.specs.Low.{joined_item, Lows}
 use Rattle.elias_fano.specs.Parts.{HasFragment}
 use Rattle.elias_fano_view.proofs.CheckLemmas.{held_is, held_of_pick, ones-all}
 use Rattle.elias_fano_view.proofs.FollowLemmas.{fragment-among}
-use Rattle.elias_fano_view.proofs.RiseLemmas.{are-numbers, last-late, last-picked, one-to, sequence-rise, told, words-some}
+use Rattle.elias_fano_view.proofs.RiseLemmas.{are-numbers, last-late, last-picked, one-to, sequence-rise, claimed, words-some}
 use Rattle.elias_fano_view.specs.Checks.{held_item, NeighboursRise}
 use Rattle.elias_fano_view.proofs.checking.last_of.Goals as goal
-use Rattle.elias_fano_view.proofs.checking.last_of.Goals.{Else-n-eq0, After-rfind_bit_one_unchecked-place}
+use Rattle.elias_fano_view.proofs.checking.last_of.Goals.{Else-n-eq0, After-rfind_bit_one_unchecked-position}
 
 pub returns-then-not-rise_among : goal.returns-then-not-rise_among
 returns-then-not-rise_among c = λ xs h.
@@ -43,22 +43,22 @@ overflow_sub-words c =
     let more = words-some 0 c.args.n c.args.width c.args.low.now c.args.words.now (omega arith) c.requires.some (found a).0 (found a).1 (some a) in
     omega (arith, more)
 
-pub rfind_bit_one_unchecked-place-requires-clause-inside : goal.rfind_bit_one_unchecked-place-requires-clause-inside
-rfind_bit_one_unchecked-place-requires-clause-inside c =
-    let a = (goal.at.rfind_bit_one_unchecked-place-requires-clause-inside c).Else-n-eq0 in
+pub rfind_bit_one_unchecked-position-requires-clause-inside : goal.rfind_bit_one_unchecked-position-requires-clause-inside
+rfind_bit_one_unchecked-position-requires-clause-inside c =
+    let a = (goal.at.rfind_bit_one_unchecked-position-requires-clause-inside c).Else-n-eq0 in
     let more = words-some 0 c.args.n c.args.width c.args.low.now c.args.words.now (omega arith) c.requires.some (found a).0 (found a).1 (some a) in
     omega (arith, more)
 
-pub rfind_bit_one_unchecked-place-requires-clause-exists : goal.rfind_bit_one_unchecked-place-requires-clause-exists
-rfind_bit_one_unchecked-place-requires-clause-exists c =
-    let a = (goal.at.rfind_bit_one_unchecked-place-requires-clause-exists c).Else-n-eq0 in
+pub rfind_bit_one_unchecked-position-requires-clause-exists : goal.rfind_bit_one_unchecked-position-requires-clause-exists
+rfind_bit_one_unchecked-position-requires-clause-exists c =
+    let a = (goal.at.rfind_bit_one_unchecked-position-requires-clause-exists c).Else-n-eq0 in
     one-to 0 c.args.n c.args.width c.args.low.now c.args.words.now (omega arith) c.requires.some (found a).0 (found a).1 (some a)
 
-pick : (c : After-rfind_bit_one_unchecked-place) → Picks (bits_of c.args.words.now) true (c.args.n - 1) c.rfind_bit_one_unchecked-place.result
+pick : (c : After-rfind_bit_one_unchecked-position) → Picks (bits_of c.args.words.now) true (c.args.n - 1) c.rfind_bit_one_unchecked-position.result
 pick c =
     let f = c.rise_among.ensures.0 c.if-not-rise_among.false in
     let one : 0 < c.args.n = omega (arith, c.if-n-eq0.false) in
-    last-picked 0 c.args.n c.args.width c.args.low.now c.args.words.now (omega arith) c.requires.some f.0 f.1 one _ c.rfind_bit_one_unchecked-place.ensures
+    last-picked 0 c.args.n c.args.width c.args.low.now c.args.words.now (omega arith) c.requires.some f.0 f.1 one _ c.rfind_bit_one_unchecked-position.ensures
 
 pub number_of-requires-clause-fragment : goal.number_of-requires-clause-fragment
 number_of-requires-clause-fragment c =
@@ -68,7 +68,7 @@ number_of-requires-clause-fragment c =
 
 pub number_of-requires-clause-order : goal.number_of-requires-clause-order
 number_of-requires-clause-order c =
-    let a = (goal.at.number_of-requires-clause-order c).After-rfind_bit_one_unchecked-place in
+    let a = (goal.at.number_of-requires-clause-order c).After-rfind_bit_one_unchecked-position in
     let f = c.rise_among.ensures.0 c.if-not-rise_among.false in
     last-late 0 c.args.n c.args.width c.args.low.now c.args.words.now (omega arith) c.requires.some f.0 f.1 _ (pick a)
 
@@ -80,11 +80,11 @@ returns c =
     let words = c.args.words.now in
     let n = c.args.n in
     let one : 0 < n = omega (arith, c.if-n-eq0.false) in
-    let place = c.rfind_bit_one_unchecked-place.result in
-    let is : joined_item (place - (n - 1)) c.new.result (n - 1) ≡ held_item width low words (n - 1) =
-    ap (λ (d : Lows). joined_item (place - (n - 1)) d (n - 1)) c.new.ensures
-    ∙ sym (held_of_pick width low words (n - 1) place (pick (goal.at.returns c).After-rfind_bit_one_unchecked-place)) in
-    told c.number_of.result _ _ _ _ c.number_of.ensures.number
+    let position = c.rfind_bit_one_unchecked-position.result in
+    let is : joined_item (position - (n - 1)) c.new.result (n - 1) ≡ held_item width low words (n - 1) =
+    ap (λ (d : Lows). joined_item (position - (n - 1)) d (n - 1)) c.new.ensures
+    ∙ sym (held_of_pick width low words (n - 1) position (pick (goal.at.returns c).After-rfind_bit_one_unchecked-position)) in
+    claimed c.number_of.result _ _ _ _ c.number_of.ensures.number
     (λ large xs h.
     large (omega (arith, is, held_is xs n width low words h (n - 1) (omega (arith, one)), h.sequence.small (n - 1) 0 (omega (arith, one, h.count)))))
     (λ fits.

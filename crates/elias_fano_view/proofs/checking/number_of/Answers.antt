@@ -15,7 +15,7 @@ most_above w narrow = ones_shr 64 w (omega (arith, narrow))
 pub returns-then-above-width-clause-number : goal.returns-then-above-width-clause-number
 returns-then-above-width-clause-number c = λ fits.
     let w = c.args.low.now.width in
-    let a = c.args.place - c.args.at in
+    let a = c.args.position - c.args.at in
     let words = c.args.low.now.words in
     let low = number_at-lt (bits_of words) (c.args.at * w) w (omega (arith, length-bits_of words, c.requires.fragment.inside)) in
     let small = joined-small a w _ c.requires.fragment.width low fits in
@@ -25,7 +25,7 @@ returns-then-above-width-clause-number c = λ fits.
 pub returns-clause-number : goal.returns-clause-number
 returns-clause-number c =
     let w = c.args.low.now.width in
-    let a = c.args.place - c.args.at in
+    let a = c.args.position - c.args.at in
     let words = c.args.low.now.words in
     let low = number_at-lt (bits_of words) (c.args.at * w) w (omega (arith, length-bits_of words, c.requires.fragment.inside)) in
     let most = ap (λ k. (2 ^ 64 - 1) / 2 ^ k) c.width.ensures ∙ most_above w c.requires.fragment.width in

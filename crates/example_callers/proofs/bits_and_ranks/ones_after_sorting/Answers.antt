@@ -1,4 +1,4 @@
--- No more ones stand before a place than in all, and these and the zeros are the bits, which fit.
+-- No more ones stand before a position than in all, and these and the zeros are the bits, which fit.
 use Rattle.std.proofs.Common.{◌≡◌, true, length, ℕ, ◌+◌, ◌≤◌, List, Bool, arith}
 use Rattle.bitm.proofs.BitLaws.{counts_grow, ones_and_zeros}
 use Rattle.bitm.specs.Count.{ones_before, zeros_before}

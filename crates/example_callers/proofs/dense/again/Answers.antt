@@ -1,4 +1,4 @@
--- One place is picked for the number: the member, and what was found.
+-- One position is picked for the number: the member, and what was found.
 use Rattle.bitm.proofs.BitLaws.{at_most_one_picked}
 use Rattle.example_callers.proofs.dense.again.Goals as goal
 

@@ -1,4 +1,4 @@
--- The rank in the vector and the ones before it, which are m, pick a place between its ends.
+-- The rank in the vector and the ones before it, which are m, pick a position between its ends.
 use Rattle.std.proofs.Common.{◌≡◌, ℕ, ◌+◌, ◌-◌, ◌<◌, ◌≤◌, true, List, Bool, length, subst, arith}
 use Rattle.bitm.proofs.BitLaws.{count_in_stretch, counts_grow, ones_and_zeros, picked_between, picked_in_stretch}
 use Rattle.bitm.specs.Count.{ones_before, ones_of, Picks}

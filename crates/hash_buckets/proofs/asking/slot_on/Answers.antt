@@ -1,7 +1,7 @@
 -- Each level sends the look-up on, or says the slot.
 use Rattle.std.proofs.Common.{◌≡◌, rules, true, false, get_or, sym, ◌∙◌, arith}
 use Rattle.std.proofs.lemmas.List.Elements.{All-get_or}
-use Rattle.hash_buckets.specs.Places.{IsBucketLevel}
+use Rattle.hash_buckets.specs.Positions.{IsBucketLevel}
 use Rattle.hash_buckets.proofs.lemmas.SlotLemmas.{none_at, found_by, goes_by, level_fits, none_left, slot_inside, slots_fit, starts}
 use Rattle.hash_buckets.proofs.asking.slot_on.Goals as goal
 

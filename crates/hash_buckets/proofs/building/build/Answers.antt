@@ -3,10 +3,10 @@ use Rattle.std.proofs.Common.{◌≡◌, ◌-◌, ◌++◌, ℕ, List, take, dro
 use Rattle.std.proofs.Math.Seq.{take-append_seam}
 use Rattle.std.proofs.lemmas.List.{length-take, take-append-le}
 use Rattle.bit_lists.specs.Bits.{bits_of}
-use Rattle.hash_buckets.specs.declared.places.Level.{Level}
+use Rattle.hash_buckets.specs.declared.positions.Level.{Level}
 use Rattle.hash_buckets.specs.declared.levels.Made.{Made}
 use Rattle.hash_buckets.specs.Building.{AreEqualAt, AreLeft, IsBuilt}
-use Rattle.hash_buckets.proofs.lemmas.BuiltLemmas.{built, few_ones, left_so, left_told}
+use Rattle.hash_buckets.proofs.lemmas.BuiltLemmas.{built, few_ones, left_so, left_claimed}
 use Rattle.hash_buckets.proofs.building.build.Goals as goal
 
 pub write_free-requires-clause-few : goal.write_free-requires-clause-few
@@ -43,7 +43,7 @@ returns-then-made-ne0-clause-left c =
     take-append-le made.result.levels made.new.levels (drop c.min-most.result c.args.levels.now) (omega (arith, made.ensures.made.few, made.auto.levels)) in
     let P : Made → Type 0 = λ other. AreLeft other (take other.levels (made.new.levels ++ drop c.min-most.result c.args.levels.now)) made.new.seeds hashes in
     let Q : List Level → Type 0 = λ levels. AreLeft made.result levels made.new.seeds hashes in
-    left_told c.refusal.result made.result P (AreEqualAt hashes) c.refusal.ensures
+    left_claimed c.refusal.result made.result P (AreEqualAt hashes) c.refusal.ensures
     (subst Q (sym levels_are)
     (left_so made.result (take made.result.levels made.new.levels) made.new.seeds hashes c.copy_from_slice.new.self c.min-limit.result
     made.ensures.levels c.copy_from_slice.ensures.after made.ensures.left))

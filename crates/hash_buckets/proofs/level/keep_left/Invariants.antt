@@ -1,6 +1,6 @@
 use Rattle.std.proofs.Common.{◌==◌, slice_index}
 use Rattle.std.proofs.lemmas.List.Filters.{FiltersInPlace}
-use Rattle.hash_buckets.specs.Places.{bucket_of}
+use Rattle.hash_buckets.specs.Positions.{bucket_of}
 use Rattle.hash_buckets.proofs.level.keep_left.Given as goal
 
 -- the hashes so far whose seed is 0 are in front

@@ -1,5 +1,5 @@
 use Rattle.std.proofs.Common.{◌≡◌, ℕ, ◌<◌, ◌≤◌, slice_index}
-use Rattle.hash_buckets.specs.Places.{next_of}
+use Rattle.hash_buckets.specs.Positions.{next_of}
 use Rattle.hash_buckets.proofs.level.mix_each.Given as goal
 
 -- the hashes so far are mixed, the others as they were

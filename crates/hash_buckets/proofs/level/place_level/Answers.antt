@@ -2,7 +2,7 @@
 use Rattle.std.proofs.Common.{ℕ, List, slice_index, filter, eqb, sym, ap, ◌∙◌, arith}
 use Rattle.std.proofs.lemmas.List.{map-id}
 use Rattle.perfect_hash.proofs.lemmas.SortLemmas.{ends_inside, ends_rise, stretch_is}
-use Rattle.hash_buckets.specs.Places.{bucket_of}
+use Rattle.hash_buckets.specs.Positions.{bucket_of}
 use Rattle.hash_buckets.proofs.level.place_level.Goals as goal
 
 pub place_each-requires-clause-grouped : goal.place_each-requires-clause-grouped

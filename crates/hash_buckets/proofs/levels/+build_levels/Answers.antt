@@ -2,7 +2,7 @@
 use Rattle.std.proofs.Common.{rules, ◌≡◌, ◌+◌, ◌++◌, List, take, drop, length, sym, subst, arith}
 use Rattle.std.proofs.lemmas.List.{length-append, length-drop, length-take}
 use Rattle.bit_lists.specs.Bits.{bits_of}
-use Rattle.hash_buckets.specs.declared.places.Level.{Level}
+use Rattle.hash_buckets.specs.declared.positions.Level.{Level}
 use Rattle.hash_buckets.specs.Seeds.{AddsBits}
 use Rattle.hash_buckets.specs.Building.{count_left, slots_at, AreMade}
 use Rattle.hash_buckets.proofs.lemmas.LevelsLemmas.{left-more, left-none, levels-are, made-more, marks-more, marks-none}

@@ -1,6 +1,6 @@
 use Rattle.std.proofs.Common.{◌≡◌, ℕ, ◌-◌, ◌*◌, ◌^◌, ◌<◌, slice_index}
 use Rattle.bitm_tables.specs.Tables.{bits_in}
-use Rattle.matrix_levels.specs.Levels.{level_place}
+use Rattle.matrix_levels.specs.Levels.{level_position}
 use Rattle.matrix_levels.specs.Matrix.{level_items}
 use Rattle.levels_view.proofs.checking.has_starts.Given as goal
 
@@ -12,6 +12,6 @@ invariant-loop-begin g l =
     record {
       right : (h : ℕ) → h < l.begin
           → slice_index v.starts h
-          ≡ level_place (level_items (bits_in (T.lists l.fn.source)) v.width v.len) v.width (h * 2 ^ (v.width - v.known)) v.known 0;
+          ≡ level_position (level_items (bits_in (T.lists l.fn.source)) v.width v.len) v.width (h * 2 ^ (v.width - v.known)) v.known 0;
       same : T.lists l.source ≡ T.lists l.fn.source;
     }

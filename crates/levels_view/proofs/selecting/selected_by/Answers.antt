@@ -2,12 +2,12 @@
 use Rattle.std.proofs.Common.{ℕ, ◌<◌, Bool, true, false, List, IsSomeAnd, sym, subst, arith}
 use Rattle.bitm_tables.specs.declared.answer.Answer.{Answer}
 use Rattle.bitm_tables.specs.declared.answer.Answer.TheVariants.{Found, Absent, Wrong}
-use Rattle.bitm_select.specs.Answers.{place_in, IsSelected}
+use Rattle.bitm_select.specs.Answers.{position_in, IsSelected}
 use Rattle.bit_lists.specs.Count.{count_of, Picks}
 use Rattle.bitm_tables.specs.Tables.{bits_in}
 use Rattle.levels_view.proofs.selecting.selected_by.Goals as goal
 
-picked_in : (b : List Bool) (v : Bool) (r : ℕ) (a : Answer ℕ) → IsSelected b v r a → r < count_of b v → IsSomeAnd (place_in a) (Picks b v r)
+picked_in : (b : List Bool) (v : Bool) (r : ℕ) (a : Answer ℕ) → IsSelected b v r a → r < count_of b v → IsSomeAnd (position_in a) (Picks b v r)
 picked_in b v r (Found p) h less = h
 picked_in b v r Absent h less = absurd (omega (arith, h, less))
 picked_in b v r Wrong h less = h

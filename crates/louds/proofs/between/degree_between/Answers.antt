@@ -2,12 +2,12 @@
 -- the number of nodes.
 use Rattle.std.proofs.Common.{◌<◌, length, arith}
 use Rattle.std.proofs.lemmas.List.Sums.{sum_by_more_le}
-use Rattle.louds.proofs.lemmas.TreeLemmas.{zero_place_more}
+use Rattle.louds.proofs.lemmas.TreeLemmas.{zero_position_more}
 use Rattle.louds.proofs.between.degree_between.Goals as goal
 
 pub returns-then-degree-len-clause-answer : goal.returns-then-degree-len-clause-answer
 returns-then-degree-len-clause-answer c = λ d len tree from to.
-    omega (arith, from, to, c.ranges.end.fits, zero_place_more d c.args.node (omega (arith, len, c.requires)))
+    omega (arith, from, to, c.ranges.end.fits, zero_position_more d c.args.node (omega (arith, len, c.requires)))
 
 pub returns-else-degree-len-clause-answer : goal.returns-else-degree-len-clause-answer
 returns-else-degree-len-clause-answer c = λ d len tree from to.
@@ -20,6 +20,6 @@ returns-else-degree-len-clause-answer c = λ d len tree from to.
       from,
       to,
       c.ranges.end.fits,
-      zero_place_more d c.args.node inside,
+      zero_position_more d c.args.node inside,
       sum_by_more_le (λ x. x) d c.args.node 0 inside,
     )

@@ -1,4 +1,4 @@
--- One number more stands at its place.
+-- One number more stands at its position.
 use Rattle.std.proofs.Common.{◌≡◌, ◌^◌, ◌<◌, length, get_or, refl, arith}
 use Rattle.std.proofs.lemmas.List.Elements.{AllWithin-from_all}
 use Rattle.louds.proofs.lemmas.LabelLemmas.{packed_all, packed_more}

@@ -56,7 +56,7 @@ loop-i-preserved g c =
     subst (λ (x : ℕ). HasChild finds_in n at x child old ls) c.letter_at-label.ensures
     (moved (HasChild finds_in n at c.letter_at-label.result child) old (T.lists c.loop-i.source) ls _ inv.reads.same
     (same_read L.listed seen (L.seen c.loop-i.labels) n inv.labels.words inv.labels.width) c.in-Found.ensures.answer) in
-    let inside : i < length word = omega (arith, c.loop-i-test.true, c.letters_len-count.ensures) in
+    let inside : i < length word = omega (arith, c.loop-i-test.true, c.len-count.ensures) in
     record {
       inside = c.in-Found.ensures.inside.1;
       down = λ held finds rise. down_more d ls word i at child inside (has held finds rise) (inv.down held finds rise);
@@ -91,7 +91,7 @@ returns-in-Absent-clause-reads g c =
     let T = g.T.TableSource in
     let i = c.loop-i.i in
     let n = 2 * length (g.W.Letters.letters c.args.word) in
-    let inside : 2 * i + 2 ≤ n = omega (arith, c.loop-i-test.true, c.letters_len-count.ensures) in
+    let inside : 2 * i + 2 ≤ n = omega (arith, c.loop-i-test.true, c.len-count.ensures) in
     selects_then T.lists T.reads g.F.Finds.most c.args.source.now c.loop-i.source _ (2 * i) 2 n (2 * i) 2 n c.loop-i.invariant.reads
     c.in-Absent.ensures.reads inside inside
 
@@ -100,14 +100,14 @@ returns-in-Absent-clause-labels g c =
     let i = c.loop-i.i in
     let m = digit_count c.args.len + 1 in
     labels_most (g.L.Labels.seen c.args.labels.now) _ (i + 1) (length (g.W.Letters.letters c.args.word)) m
-    (labels_more (g.L.Labels.seen c.args.labels.now) (g.L.Labels.seen c.loop-i.labels) _ i m c.loop-i.invariant.labels c.in-Absent.ensures.labels) (omega (arith, c.loop-i-test.true, c.letters_len-count.ensures))
+    (labels_more (g.L.Labels.seen c.args.labels.now) (g.L.Labels.seen c.loop-i.labels) _ i m c.loop-i.invariant.labels c.in-Absent.ensures.labels) (omega (arith, c.loop-i-test.true, c.len-count.ensures))
 
 pub returns-in-Wrong-clause-reads : goal.returns-in-Wrong-clause-reads
 returns-in-Wrong-clause-reads g c =
     let T = g.T.TableSource in
     let i = c.loop-i.i in
     let n = 2 * length (g.W.Letters.letters c.args.word) in
-    let inside : 2 * i + 2 ≤ n = omega (arith, c.loop-i-test.true, c.letters_len-count.ensures) in
+    let inside : 2 * i + 2 ≤ n = omega (arith, c.loop-i-test.true, c.len-count.ensures) in
     selects_then T.lists T.reads g.F.Finds.most c.args.source.now c.loop-i.source _ (2 * i) 2 n (2 * i) 2 n c.loop-i.invariant.reads
     c.in-Wrong.ensures.reads inside inside
 
@@ -116,7 +116,7 @@ returns-in-Wrong-clause-labels g c =
     let i = c.loop-i.i in
     let m = digit_count c.args.len + 1 in
     labels_most (g.L.Labels.seen c.args.labels.now) _ (i + 1) (length (g.W.Letters.letters c.args.word)) m
-    (labels_more (g.L.Labels.seen c.args.labels.now) (g.L.Labels.seen c.loop-i.labels) _ i m c.loop-i.invariant.labels c.in-Wrong.ensures.labels) (omega (arith, c.loop-i-test.true, c.letters_len-count.ensures))
+    (labels_more (g.L.Labels.seen c.args.labels.now) (g.L.Labels.seen c.loop-i.labels) _ i m c.loop-i.invariant.labels c.in-Wrong.ensures.labels) (omega (arith, c.loop-i-test.true, c.len-count.ensures))
 
 pub returns-clause-answer : goal.returns-clause-answer
 returns-clause-answer g c = λ held finds rise.
@@ -128,7 +128,7 @@ returns-clause-answer g c = λ held finds rise.
     let seen = L.seen c.args.labels.now in
     let ls = L.listed seen.words seen.width n in
     let word = g.W.Letters.letters c.args.word in
-    let all : c.loop-i.i ≡ c.letters_len-count.result = omega (arith, c.loop-i-test.false, c.loop-i.auto.i-end) in (
+    let all : c.loop-i.i ≡ c.len-count.result = omega (arith, c.loop-i-test.false, c.loop-i.auto.i-end) in (
       subst (λ (k : ℕ). Leads d ls (take k word) 0 c.loop-i.at) all (c.loop-i.invariant.down held finds rise),
-      λ k more to v leads. absurd (omega (arith, more, to, c.letters_len-count.ensures)),
+      λ k more to v leads. absurd (omega (arith, more, to, c.len-count.ensures)),
     )

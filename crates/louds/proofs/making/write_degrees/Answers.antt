@@ -1,7 +1,7 @@
 -- One node more.
 use Rattle.std.proofs.Common.{◌<◌, length, get_or, refl, arith}
 use Rattle.bit_lists.specs.Bits.{bits_of}
-use Rattle.louds.proofs.lemmas.TreeLemmas.{zero_place_more}
+use Rattle.louds.proofs.lemmas.TreeLemmas.{zero_position_more}
 use Rattle.louds.proofs.lemmas.WriteLemmas.{begun_more, fill_run}
 use Rattle.louds.proofs.making.write_degrees.Goals as goal
 
@@ -12,7 +12,7 @@ loop-i-preserved c =
     let inside : i < length d = omega (arith, c.loop-i-test.true) in
     let wrote = c.fill_range-in-loop-i.ensures in
     record {
-      place = omega (arith, c.loop-i.invariant.place, zero_place_more d i inside);
-      begun = begun_more d i c.loop-i.place (bits_of c.loop-i.words) _ c.loop-i.invariant.begun inside c.loop-i.invariant.place
+      position = omega (arith, c.loop-i.invariant.position, zero_position_more d i inside);
+      begun = begun_more d i c.loop-i.position (bits_of c.loop-i.words) _ c.loop-i.invariant.begun inside c.loop-i.invariant.position
           (fill_run _ _ (get_or d i 0) _ _ refl wrote.inside wrote.beside);
     }

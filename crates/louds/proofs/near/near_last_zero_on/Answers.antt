@@ -24,7 +24,7 @@ pub returns-in-Some-clause-zero : goal.returns-in-Some-clause-zero
 returns-in-Some-clause-zero g c =
     let h = c.loop.invariant in
     last-found (g.T.TableSource.lists c.args.source.now).words c.loop.last c.word-word.result (omega (arith, c.requires.inside, h.order))
-    (word g (goal.at.returns-in-Some-clause-zero g c).After-word-word) c.args.to h.order h.ones c.in-Some.place c.in-Some.ensures
+    (word g (goal.at.returns-in-Some-clause-zero g c).After-word-word) c.args.to h.order h.ones c.in-Some.position c.in-Some.ensures
 
 pub returns-then-at-eq0-clause-zero : goal.returns-then-at-eq0-clause-zero
 returns-then-at-eq0-clause-zero g c = λ p order near.

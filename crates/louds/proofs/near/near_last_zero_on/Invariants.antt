@@ -4,7 +4,7 @@ use Rattle.bitm_tables.specs.Reads.{ReadsAtMost}
 use Rattle.bitm_tables.specs.Tables.{bits_in}
 use Rattle.louds.proofs.near.near_last_zero_on.Given as goal
 
--- ones alone stand behind the last place that is left, and a word was read in each round
+-- ones alone stand behind the last position that is left, and a word was read in each round
 abbrev pub invariant-loop : goal.invariant-loop
 invariant-loop g l =
     let lists = g.T.TableSource.lists l.fn.source in

@@ -8,9 +8,9 @@ use Rattle.louds.proofs.queries.child_rank_by.Goals as goal
 pub returns-then-k-len-clause-answer : goal.returns-then-k-len-clause-answer
 returns-then-k-len-clause-answer g c = λ h f.
     let rank =
-    rank_is (g.F.Finds.finds c.args.finder.now) c.args.len _ _ c.one_by.ensures.reads.same h f c.args.node c.in-Some.place c.in-Found.parent
-    c.in-Some-zero_by.start (omega (arith, c.if-node-eq0.false)) (c.in-Some.ensures.place h f) (c.in-Found.ensures.answer _ h.held.count (c.in-Some.ensures.place h f)) c.in-Some-zero_by.ensures.place in
-    let same : rank.0 ≡ (c.in-Some.place + (2 ^ 64 - (c.in-Some-zero_by.start + 1))) % 2 ^ 64 = omega (arith, rank.2, c.in-Some.ensures.small) in (
+    rank_is (g.F.Finds.finds c.args.finder.now) c.args.len _ _ c.one_by.ensures.reads.same h f c.args.node c.in-Some.position c.in-Found.parent
+    c.in-Some-zero_by.start (omega (arith, c.if-node-eq0.false)) (c.in-Some.ensures.position h f) (c.in-Found.ensures.answer _ h.held.count (c.in-Some.ensures.position h f)) c.in-Some-zero_by.ensures.position in
+    let same : rank.0 ≡ (c.in-Some.position + (2 ^ 64 - (c.in-Some-zero_by.start + 1))) % 2 ^ 64 = omega (arith, rank.2, c.in-Some.ensures.small) in (
       c.in-Found.parent,
       subst (λ (k : ℕ). IsChild (degrees_in c.args.len (g.T.TableSource.lists c.args.source.now)) c.in-Found.parent k c.args.node) same rank.1,
     )
@@ -18,6 +18,6 @@ returns-then-k-len-clause-answer g c = λ h f.
 pub returns-else-k-len-clause-answer : goal.returns-else-k-len-clause-answer
 returns-else-k-len-clause-answer g c = λ h f.
     let rank =
-    rank_is (g.F.Finds.finds c.args.finder.now) c.args.len _ _ c.one_by.ensures.reads.same h f c.args.node c.in-Some.place c.in-Found.parent
-    c.in-Some-zero_by.start (omega (arith, c.if-node-eq0.false)) (c.in-Some.ensures.place h f) (c.in-Found.ensures.answer _ h.held.count (c.in-Some.ensures.place h f)) c.in-Some-zero_by.ensures.place in
+    rank_is (g.F.Finds.finds c.args.finder.now) c.args.len _ _ c.one_by.ensures.reads.same h f c.args.node c.in-Some.position c.in-Found.parent
+    c.in-Some-zero_by.start (omega (arith, c.if-node-eq0.false)) (c.in-Some.ensures.position h f) (c.in-Found.ensures.answer _ h.held.count (c.in-Some.ensures.position h f)) c.in-Some-zero_by.ensures.position in
     omega (arith, rank.2, rank.1.number, c.if-k-len.false, c.if-node-len.false, c.in-Some.ensures.small)

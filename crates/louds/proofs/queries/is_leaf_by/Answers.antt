@@ -10,5 +10,5 @@ pub returns-in-Some-bit_on-clause-answer : goal.returns-in-Some-bit_on-clause-an
 returns-in-Some-bit_on-clause-answer g c = λ h f.
     ap not c.in-Some-bit_on.ensures.answer.1
     ∙ ap (λ lists. not (item (bits_in lists) (c.in-Some.start + 1))) c.zero_by.ensures.reads.same
-    ∙ ap (λ z. not (item (bits_in (g.T.TableSource.lists c.args.source.now)) (z + 1))) (same_Some _ _ (c.in-Some.ensures.place h f))
+    ∙ ap (λ z. not (item (bits_in (g.T.TableSource.lists c.args.source.now)) (z + 1))) (same_Some _ _ (c.in-Some.ensures.position h f))
     ∙ bit_after_zero _ _ _ h.held c.args.node c.if-node-len.false

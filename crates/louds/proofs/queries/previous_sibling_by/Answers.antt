@@ -7,27 +7,27 @@ use Rattle.louds.proofs.queries.previous_sibling_by.Goals as goal
 
 pub returns-in-Some-true-clause-answer : goal.returns-in-Some-true-clause-answer
 returns-in-Some-true-clause-answer g c = λ h f.
-    let place = c.in-Some.place in
-    let one = c.in-Some.ensures.place h f in
+    let position = c.in-Some.position in
+    let one = c.in-Some.ensures.position h f in
     let some : 0 < c.args.node = omega (arith, c.if-node-eq0.false) in
     let behind = (one.1 some).4 in
-    let at : place - 1 ≡ (place + (2 ^ 64 - 1)) % 2 ^ 64 = omega (arith, behind, c.in-Some.ensures.small) in
-    previous_of_one _ _ _ h.held c.args.node place (place - 1) some one (omega (arith, behind))
-    (ap (λ lists. item (bits_in lists) (place - 1)) (sym c.one_by.ensures.reads.same)
+    let at : position - 1 ≡ (position + (2 ^ 64 - 1)) % 2 ^ 64 = omega (arith, behind, c.in-Some.ensures.small) in
+    previous_of_one _ _ _ h.held c.args.node position (position - 1) some one (omega (arith, behind))
+    (ap (λ lists. item (bits_in lists) (position - 1)) (sym c.one_by.ensures.reads.same)
     ∙ ap (item (bits_in (g.T.TableSource.lists c.one_by.new.source))) at
     ∙ sym c.in-Some-true.ensures.answer.1
     ∙ c.in-Some-true.field-0-test)
 
 pub returns-in-Some-false-clause-answer : goal.returns-in-Some-false-clause-answer
 returns-in-Some-false-clause-answer g c = λ h f.
-    let place = c.in-Some.place in
-    let one = c.in-Some.ensures.place h f in
+    let position = c.in-Some.position in
+    let one = c.in-Some.ensures.position h f in
     let some : 0 < c.args.node = omega (arith, c.if-node-eq0.false) in
     let behind = (one.1 some).4 in
-    let at : place - 1 ≡ (place + (2 ^ 64 - 1)) % 2 ^ 64 = omega (arith, behind, c.in-Some.ensures.small) in
+    let at : position - 1 ≡ (position + (2 ^ 64 - 1)) % 2 ^ 64 = omega (arith, behind, c.in-Some.ensures.small) in
     inr
-    (first_of_one _ _ _ h.held c.args.node place (place - 1) some one (omega (arith, behind))
-    (ap (λ lists. item (bits_in lists) (place - 1)) (sym c.one_by.ensures.reads.same)
+    (first_of_one _ _ _ h.held c.args.node position (position - 1) some one (omega (arith, behind))
+    (ap (λ lists. item (bits_in lists) (position - 1)) (sym c.one_by.ensures.reads.same)
     ∙ ap (item (bits_in (g.T.TableSource.lists c.one_by.new.source))) at
     ∙ sym c.in-Some-false.ensures.answer.1
     ∙ c.in-Some-false.field-0-test))

@@ -21,7 +21,7 @@ returns-then-not-get_bit-clause-rise g c =
     let words = c.args.bits.now in (
       (λ _ next.
           absurd
-          (no_next (degrees words c.args.len) c.args.len (bits_of words) c.requires.held c.args.place c.args.node c.requires.inside c.requires.is_one
+          (no_next (degrees words c.args.len) c.args.len (bits_of words) c.requires.held c.args.position c.args.node c.requires.inside c.requires.is_one
           c.requires.before (sym c.if-not-get_bit.ensures) next)),
       (λ _. refl),
     )
@@ -29,21 +29,21 @@ returns-then-not-get_bit-clause-rise g c =
 pub label_of-own-requires-clause-inside : goal.label_of-own-requires-clause-inside
 label_of-own-requires-clause-inside g c =
     let words = c.args.bits.now in
-    node_inside (degrees words c.args.len) c.args.len (bits_of words) c.requires.held c.args.place c.args.node c.requires.inside c.requires.is_one
+    node_inside (degrees words c.args.len) c.args.len (bits_of words) c.requires.held c.args.position c.args.node c.requires.inside c.requires.is_one
     c.requires.before
 
 pub overflow_add-node : goal.overflow_add-node
 overflow_add-node g c =
     let words = c.args.bits.now in
     let inside =
-    node_inside (degrees words c.args.len) c.args.len (bits_of words) c.requires.held c.args.place c.args.node c.requires.inside c.requires.is_one
+    node_inside (degrees words c.args.len) c.args.len (bits_of words) c.requires.held c.args.position c.args.node c.requires.inside c.requires.is_one
     c.requires.before in
     record { fits = omega (arith, inside, c.requires.held.short) }
 
 pub label_of-next-requires-clause-inside : goal.label_of-next-requires-clause-inside
 label_of-next-requires-clause-inside g c =
     let words = c.args.bits.now in
-    next_inside (degrees words c.args.len) c.args.len (bits_of words) c.requires.held c.args.place c.args.node c.requires.inside c.requires.is_one
+    next_inside (degrees words c.args.len) c.args.len (bits_of words) c.requires.held c.args.position c.args.node c.requires.inside c.requires.is_one
     c.requires.before (sym c.if-not-get_bit.ensures)
 
 pub returns-clause-rise : goal.returns-clause-rise
@@ -60,7 +60,7 @@ returns-clause-rise g c =
     ∙ ap (λ xs. get_or xs (node + 1) 0)
     (same_read L.listed seen (L.seen c.label_of-own.new.self) n (ap (λ (l : LabelReads). l.words) counted) (ap (λ (l : LabelReads). l.width) counted)) in
     let next =
-    is_next (degrees words n) n (bits_of words) c.requires.held c.args.place node c.requires.inside c.requires.is_one
+    is_next (degrees words n) n (bits_of words) c.requires.held c.args.position node c.requires.inside c.requires.is_one
     c.requires.before (sym c.if-not-get_bit.ensures) in (
       (λ no. let e : false ≡ true = no in cc),
       (λ less. absurd (omega (arith, less next, c.label_of-own.ensures.label, after, c.if-own-next.false))),

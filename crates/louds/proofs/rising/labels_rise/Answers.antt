@@ -25,8 +25,8 @@ more s t r node after is first next = record {
 most : (s t : LabelReads) (k n : ℕ) → ReadsLabels s t (2 * k) → k ≤ n → ReadsLabels s t (2 * n)
 most s t k n first within = record { at_most = omega (arith, first.at_most, within); words = first.words; width = first.width }
 
-pub loop-place-init : goal.loop-place-init
-loop-place-init g c =
+pub loop-position-init : goal.loop-position-init
+loop-position-init g c =
     let L = g.L.Labels in
     let seen = L.seen c.args.labels.now in
     record {
@@ -38,58 +38,58 @@ loop-place-init g c =
 pub get_bit-requires : goal.get_bit-requires
 get_bit-requires g c =
     let words = c.args.bits.now in
-    omega (arith, room (degrees words c.args.len) c.args.len (bits_of words) c.requires.held, bits_are_counted words, c.loop-place-test.true)
+    omega (arith, room (degrees words c.args.len) c.args.len (bits_of words) c.requires.held, bits_are_counted words, c.loop-position-test.true)
 
 pub returns-then-not-is_less_than_next-clause-reads : goal.returns-then-not-is_less_than_next-clause-reads
 returns-then-not-is_less_than_next-clause-reads g c =
     let L = g.L.Labels in
     let words = c.args.bits.now in
     let inside =
-    node_inside (degrees words c.args.len) c.args.len (bits_of words) c.requires.held c.loop-place.place c.loop-place.node
-    (omega (arith, c.loop-place-test.true)) (sym c.if-get_bit.ensures) c.loop-place.invariant.ones in
-    most (L.seen c.args.labels.now) _ (c.loop-place.node + 1) c.args.len
-    (more (L.seen c.args.labels.now) (L.seen c.loop-place.labels) _ c.loop-place.node _ refl c.loop-place.invariant.reads c.is_less_than_next.ensures.reads)
+    node_inside (degrees words c.args.len) c.args.len (bits_of words) c.requires.held c.loop-position.position c.loop-position.node
+    (omega (arith, c.loop-position-test.true)) (sym c.if-get_bit.ensures) c.loop-position.invariant.ones in
+    most (L.seen c.args.labels.now) _ (c.loop-position.node + 1) c.args.len
+    (more (L.seen c.args.labels.now) (L.seen c.loop-position.labels) _ c.loop-position.node _ refl c.loop-position.invariant.reads c.is_less_than_next.ensures.reads)
     (omega (arith, inside))
 
 pub overflow_add-node : goal.overflow_add-node
 overflow_add-node g c =
     let words = c.args.bits.now in
     let inside =
-    node_inside (degrees words c.args.len) c.args.len (bits_of words) c.requires.held c.loop-place.place c.loop-place.node
-    (omega (arith, c.loop-place-test.true)) (sym c.if-get_bit.ensures) c.loop-place.invariant.ones in
+    node_inside (degrees words c.args.len) c.args.len (bits_of words) c.requires.held c.loop-position.position c.loop-position.node
+    (omega (arith, c.loop-position-test.true)) (sym c.if-get_bit.ensures) c.loop-position.invariant.ones in
     record { fits = omega (arith, inside, c.requires.held.short) }
 
-pub loop-place-preserved : goal.loop-place-preserved
-loop-place-preserved g c =
+pub loop-position-preserved : goal.loop-position-preserved
+loop-position-preserved g c =
     let L = g.L.Labels in
     let words = c.args.bits.now in
     let n = c.args.len in
     let d = degrees words n in
     let seen = L.seen c.args.labels.now in
     let ls = L.listed seen.words seen.width n in
-    let p = c.loop-place.place in
-    let node = c.loop-place.node in
-    let inv = c.loop-place.invariant in
-    let inside : p < length (bits_of words) = omega (arith, room d n (bits_of words) c.requires.held, c.loop-place-test.true) in
+    let p = c.loop-position.position in
+    let node = c.loop-position.node in
+    let inv = c.loop-position.invariant in
+    let inside : p < length (bits_of words) = omega (arith, room d n (bits_of words) c.requires.held, c.loop-position-test.true) in
     elim c.if-get_bit.branch [
       | then-get_bit+else-not-is_less_than_next w ↦
           let Less : List ℕ → Type 0 = λ xs. IsNextSibling d node (node + 1) → get_or xs node 0 < get_or xs (node + 1) 0 in
           let here : Less ls =
-          subst Less (same_read L.listed seen (L.seen c.loop-place.labels) n inv.reads.words inv.reads.width)
+          subst Less (same_read L.listed seen (L.seen c.loop-position.labels) n inv.reads.words inv.reads.width)
           (w.if-not-is_less_than_next.ensures.rise.0 (search rules)) in
           record {
             ones = omega (arith, w.node-is, inv.ones, one_more (bits_of words) p inside (sym w.if-get_bit.ensures));
             rise = subst (RiseTo d ls) (sym w.node-is) (rise_more d ls node inv.rise here);
             reads =
                 subst (λ x. ReadsLabels seen (L.seen x) (2 * c.if-get_bit.node)) (sym w.labels-is)
-                (more seen (L.seen c.loop-place.labels) _ node c.if-get_bit.node w.node-is inv.reads w.is_less_than_next.ensures.reads);
+                (more seen (L.seen c.loop-position.labels) _ node c.if-get_bit.node w.node-is inv.reads w.is_less_than_next.ensures.reads);
           }
       | else-get_bit w ↦ record {
         ones = omega (arith, w.node-is, inv.ones, none_more (bits_of words) p inside (sym w.if-get_bit.ensures));
         rise = subst (RiseTo d ls) (sym w.node-is) inv.rise;
         reads =
             subst (λ x. ReadsLabels seen (L.seen x) (2 * c.if-get_bit.node)) (sym w.labels-is)
-            (subst (λ (k : ℕ). ReadsLabels seen (L.seen c.loop-place.labels) (2 * k)) (sym w.node-is) inv.reads);
+            (subst (λ (k : ℕ). ReadsLabels seen (L.seen c.loop-position.labels) (2 * k)) (sym w.node-is) inv.reads);
       }
     ]
 
@@ -101,16 +101,16 @@ returns-clause-rise g c =
     let d = degrees words n in
     let seen = L.seen c.args.labels.now in
     let ls = L.listed seen.words seen.width n in
-    let end : c.loop-place.place ≡ 2 * n = omega (arith, c.loop-place-test.false, c.loop-place.auto.place-end) in
-    let all : c.loop-place.node ≡ length d =
-    omega (arith, c.loop-place.invariant.ones, ap (ones_before (bits_of words)) end, ones_all d n (bits_of words) c.requires.held, c.requires.held.count) in
-    ((λ _. rise_all d ls c.loop-place.node c.requires.held.tree all c.loop-place.invariant.rise), (λ _. refl))
+    let end : c.loop-position.position ≡ 2 * n = omega (arith, c.loop-position-test.false, c.loop-position.auto.position-end) in
+    let all : c.loop-position.node ≡ length d =
+    omega (arith, c.loop-position.invariant.ones, ap (ones_before (bits_of words)) end, ones_all d n (bits_of words) c.requires.held, c.requires.held.count) in
+    ((λ _. rise_all d ls c.loop-position.node c.requires.held.tree all c.loop-position.invariant.rise), (λ _. refl))
 
 pub returns-clause-reads : goal.returns-clause-reads
 returns-clause-reads g c =
     let words = c.args.bits.now in
     let n = c.args.len in
-    let end : c.loop-place.place ≡ 2 * n = omega (arith, c.loop-place-test.false, c.loop-place.auto.place-end) in
-    let all : c.loop-place.node ≤ n =
-    omega (arith, c.loop-place.invariant.ones, ap (ones_before (bits_of words)) end, ones_all (degrees words n) n (bits_of words) c.requires.held) in
-    most (g.L.Labels.seen c.args.labels.now) _ c.loop-place.node n c.loop-place.invariant.reads all
+    let end : c.loop-position.position ≡ 2 * n = omega (arith, c.loop-position-test.false, c.loop-position.auto.position-end) in
+    let all : c.loop-position.node ≤ n =
+    omega (arith, c.loop-position.invariant.ones, ap (ones_before (bits_of words)) end, ones_all (degrees words n) n (bits_of words) c.requires.held) in
+    most (g.L.Labels.seen c.args.labels.now) _ c.loop-position.node n c.loop-position.invariant.reads all

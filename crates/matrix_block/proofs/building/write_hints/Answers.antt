@@ -6,7 +6,7 @@ use Rattle.bitm_tables.specs.Tables.{Lists}
 use Rattle.matrix_levels.specs.Matrix.{matrix_words}
 use Rattle.matrix_block.proofs.BlockLemmas.{some-words}
 use Rattle.matrix_block.proofs.LevelLemmas.{words-len}
-use Rattle.matrix_block.specs.Block.{hints_of_numbers, lists_in, ones_in, ones_told, zeros_in, AreHintsWritten}
+use Rattle.matrix_block.specs.Block.{hints_of_numbers, lists_in, ones_in, ones_by_counts, zeros_in, AreHintsWritten}
 use Rattle.matrix_block.proofs.building.write_hints.Goals as goal
 use Rattle.matrix_block.proofs.building.write_hints.Goals.{After-source_of}
 
@@ -32,9 +32,9 @@ returns-then-hints c = λ _.
     let listed : c.source_of.result.lists.words ≡ (lists_in c.args.front.now c.args.at n w).words = ap (λ (l : Lists). l.words) c.source_of.ensures in
     let own : all ≡ take (hints_of_numbers n w) (all ++ c.split_at_mut-all.result.1.now) =
     sym (ap (λ k. take k (all ++ c.split_at_mut-all.result.1.now)) (sym len) ∙ take-append_seam all c.split_at_mut-all.result.1.now) in
-    let told = ones_told n (ones_in c.args.front.now c.args.at n w) (zeros_in c.args.front.now c.args.at n w) in
-    subst (λ (hs : List ℕ). AreHintsWritten told (lists_in c.args.front.now c.args.at n w).words hs) own
-    (subst (λ (ws : List ℕ). AreHintsWritten told ws all) listed (record {
+    let claimed = ones_by_counts n (ones_in c.args.front.now c.args.at n w) (zeros_in c.args.front.now c.args.at n w) in
+    subst (λ (hs : List ℕ). AreHintsWritten claimed (lists_in c.args.front.now c.args.at n w).words hs) own
+    (subst (λ (ws : List ℕ). AreHintsWritten claimed ws all) listed (record {
       room = len ∙ ap hints_room (sym count);
       lead = subst (λ (o : ℕ). Lead o all c.source_of.result.lists.words) c.ones_in-ones.ensures c.write_hints_within.ensures.lead;
     }))

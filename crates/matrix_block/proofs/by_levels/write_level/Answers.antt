@@ -15,7 +15,7 @@ returns c =
     let n = length xs in
     let w = c.args.width in
     let d = c.args.depth in
-    let place = w - 1 - d in
+    let position = w - 1 - d in
     let before = c.split_at_mut-words.result.0.now in
     let first = c.if-depth-eq0.words in
     let count = c.split_at_mut-words.ensures.front_len ∙ c.of.ensures.words in
@@ -29,5 +29,5 @@ returns c =
     (c.split_at_mut-words.ensures.front ∙ ap (λ k. take k c.split_at_mut-head.result.1.now) c.of.ensures.words
     ∙ ap (take (matrix_words n w)) (c.split_at_mut-head.ensures.back ∙ ap (λ i. drop i c.args.block.now) c.first_at.ensures))
     kept
-    (c.write_level_of.ensures.bits ∙ ap (λ ys. take (d * n) (bits_of first) ++ column place ys) (map-id xs))
-    (sym (map-id c.write_level_of.new.numbers) ∙ c.write_level_of.ensures.numbers ∙ ap (partition place) (map-id xs))
+    (c.write_level_of.ensures.bits ∙ ap (λ ys. take (d * n) (bits_of first) ++ column position ys) (map-id xs))
+    (sym (map-id c.write_level_of.new.numbers) ∙ c.write_level_of.ensures.numbers ∙ ap (partition position) (map-id xs))

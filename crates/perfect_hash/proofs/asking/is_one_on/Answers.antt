@@ -8,4 +8,4 @@ pub returns-clause-bit : goal.returns-clause-bit
 returns-clause-bit g c =
     let words = (g.T.TableSource.lists c.args.source.now).words in
     c.get_bit.ensures
-    ∙ bit_alone words c.word.result c.args.place (omega (arith, c.requires, bits_are_counted words)) c.word.ensures.item
+    ∙ bit_alone words c.word.result c.args.position (omega (arith, c.requires, bits_are_counted words)) c.word.ensures.item

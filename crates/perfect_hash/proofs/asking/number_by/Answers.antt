@@ -13,22 +13,22 @@ pub returns-in-Some-clause-inside : goal.returns-in-Some-clause-inside
 returns-in-Some-clause-inside g c ready =
     let query = c.args.query.now in
     let lists = g.T.TableSource.lists c.args.source.now in
-    let place = c.in-Found.place in
-    let is : c.in-Some.number ≡ ones_before (g.Q.Query.bits query lists) place =
-    subst (λ (l : Lists). g.Q.Query.ready query l → c.in-Some.number ≡ ones_before (g.Q.Query.bits query l) place)
+    let position = c.in-Found.position in
+    let is : c.in-Some.number ≡ ones_before (g.Q.Query.bits query lists) position =
+    subst (λ (l : Lists). g.Q.Query.ready query l → c.in-Some.number ≡ ones_before (g.Q.Query.bits query l) position)
     c.one_by.ensures.reads.same c.in-Some.ensures.count ready in
-    omega (arith, is, one_counted (g.Q.Query.bits query lists) place c.in-Found.ensures.one.1)
+    omega (arith, is, one_counted (g.Q.Query.bits query lists) position c.in-Found.ensures.one.1)
 
 pub returns-in_default-clause-number : goal.returns-in_default-clause-number
 returns-in_default-clause-number g c ready sizes few =
     let query = c.args.query.now in
     let lists = g.T.TableSource.lists c.args.source.now in
     let b = g.Q.Query.bits query lists in
-    let place = c.in-Found.place in
-    let is : c.in-Some.number ≡ ones_before b place =
-    subst (λ (l : Lists). g.Q.Query.ready query l → c.in-Some.number ≡ ones_before (g.Q.Query.bits query l) place)
+    let position = c.in-Found.position in
+    let is : c.in-Some.number ≡ ones_before b position =
+    subst (λ (l : Lists). g.Q.Query.ready query l → c.in-Some.number ≡ ones_before (g.Q.Query.bits query l) position)
     c.one_by.ensures.reads.same c.in-Some.ensures.count ready in
-    let less = one_counted b place c.in-Found.ensures.one.1 in
+    let less = one_counted b position c.in-Found.ensures.one.1 in
     absurd (false_true (sym c.if-is_number.false
     ∙ c.is_number.ensures.passes (λ tests. omega (arith, is, less, few tests))
-    (omega (arith, is, ones_before-add-zeros_before b place (omega (arith, c.in-Found.ensures.one.0))))))
+    (omega (arith, is, ones_before-add-zeros_before b position (omega (arith, c.in-Found.ensures.one.0))))))

@@ -21,8 +21,8 @@ returns-then-not-fits-clause-wrong g c fit =
     let words = ap (λ lists. length (g.Q.Query.bits c.args.query.now lists) / 64) c.loop-level.invariant.same in
     false_true (sym c.if-not-fits.true ∙ c.fits.ensures.1 (within.0, omega (arith, within.1, c.words_len.ensures, words)))
 
-pub returns-then-not-fits-clause-place : goal.returns-then-not-fits-clause-place
-returns-then-not-fits-clause-place g c sizes = absurd (returns-then-not-fits-clause-wrong g c (sizes_fill c.args.sizes.now _ sizes))
+pub returns-then-not-fits-clause-position : goal.returns-then-not-fits-clause-position
+returns-then-not-fits-clause-position g c sizes = absurd (returns-then-not-fits-clause-wrong g c (sizes_fill c.args.sizes.now _ sizes))
 
 pub returns-then-not-fits-clause-looked : goal.returns-then-not-fits-clause-looked
 returns-then-not-fits-clause-looked g c sizes = absurd (returns-then-not-fits-clause-wrong g c (sizes_fill c.args.sizes.now _ sizes))

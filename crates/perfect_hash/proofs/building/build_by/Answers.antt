@@ -3,7 +3,7 @@ use Rattle.std.proofs.Common.{[], map, ap, ◌∙◌}
 use Rattle.std.specs.Box.{boxed_slice_items}
 use Rattle.bit_lists.specs.Bits.{bits_of}
 use Rattle.perfect_hash.specs.Levels.{fall_in, AreChosen, AreSized, LeadTo}
-use Rattle.perfect_hash.specs.Places.{words_for}
+use Rattle.perfect_hash.specs.Positions.{words_for}
 use Rattle.perfect_hash.proofs.lemmas.PartsLemmas.{of_parts, perfect_parts}
 use Rattle.perfect_hash.proofs.building.build_by.Goals as goal
 

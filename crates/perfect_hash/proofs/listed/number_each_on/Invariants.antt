@@ -1,7 +1,7 @@
 use Rattle.std.proofs.Common.{◌≡◌, ℕ, ◌+◌, ◌-◌, ◌*◌, ◌<◌, ◌≤◌, length, slice_index}
 use Rattle.bitm_tables.specs.Reads.{OnlyReads}
 use Rattle.bitm_tables.specs.Tables.{bits_in}
-use Rattle.perfect_hash.specs.Levels.{fall_in, place_from}
+use Rattle.perfect_hash.specs.Levels.{fall_in, position_from}
 use Rattle.perfect_hash.specs.Listed.{IsCodeAt}
 use Rattle.perfect_hash.proofs.listed.number_each_on.Given as goal
 
@@ -14,7 +14,7 @@ invariant-loop-from g l =
       inside : l.from ≤ length l.hashes;
       long : length l.numbers ≡ length l.hashes;
       each : (k : ℕ) → k < l.from
-          → IsCodeAt (place_from (fall_in (g.P.Placing.fall l.placing) l.sizes (slice_index l.hashes k)) (bits_in lists) 0 0 l.sizes) l.count l.absent lists
+          → IsCodeAt (position_from (fall_in (g.P.Placing.fall l.placing) l.sizes (slice_index l.hashes k)) (bits_in lists) 0 0 l.sizes) l.count l.absent lists
           (slice_index l.numbers k);
       reads : OnlyReads T.lists T.reads l.fn.source l.source l.from l.from (l.from * (length l.sizes + 8));
     }

@@ -2,7 +2,7 @@
 use Rattle.std.proofs.Common.{◌≡◌, ◌≢◌, ◌-◌, ◌^◌, ℕ, length, slice_index, take, subst, arith}
 use Rattle.std.proofs.lemmas.List.{length-take-le}
 use Rattle.perfect_hash.specs.Placed.{FitIn}
-use Rattle.perfect_hash.proofs.lemmas.ListedLemmas.{inside_words, number_told}
+use Rattle.perfect_hash.proofs.lemmas.ListedLemmas.{inside_words, number_claimed}
 use Rattle.perfect_hash.proofs.listed.total_numbers_on.Goals as goal
 use Rattle.perfect_hash.proofs.listed.total_numbers_on.Goals.{then-levels-sizes, else-levels-sizes}
 
@@ -31,7 +31,7 @@ returns-clause-numbers g c = λ k less.
       | then-levels-sizes w ↦ absurd (part w.if-levels-sizes.true)
       | else-levels-sizes w ↦ w.absent-is
     ] in
-    number_told (g.P.Placing.fall c.args.placing.now) sizes c.args.count lists (slice_index c.args.hashes.now k) (slice_index c.number_each_on.new.numbers k)
+    number_claimed (g.P.Placing.fall c.args.placing.now) sizes c.args.count lists (slice_index c.args.hashes.now k) (slice_index c.number_each_on.new.numbers k)
     c.requires.count levels absent
     (subst (λ (n : ℕ). FitIn n sizes → levels ≡ length sizes) words_are c.levels_within-levels.ensures.all)
     (subst (λ (n : ℕ). FitIn n (take levels sizes)) words_are c.levels_within-levels.ensures.within)

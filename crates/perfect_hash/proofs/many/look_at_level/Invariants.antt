@@ -9,8 +9,8 @@ abbrev pub invariant-loop-i : goal.invariant-loop-i
 invariant-loop-i g l =
     let T = g.T.TableSource in
     record {
-      long : length l.places ≡ length l.hashes;
+      long : length l.positions ≡ length l.hashes;
       midway : Midway (fall_in (g.P.Placing.fall l.placing) l.sizes) (g.Q.Query.bits l.query (T.lists l.fn.source)) l.sizes l.level l.begin
-          (l.begin + slice_index l.sizes l.level) l.hashes l.places l.waiting l.kept l.i l.count;
+          (l.begin + slice_index l.sizes l.level) l.hashes l.positions l.waiting l.kept l.i l.count;
       reads : OnlyReads T.lists T.reads l.fn.source l.source 0 0 l.i;
     }

@@ -1,4 +1,4 @@
--- The number is at the place that was found.
+-- The number is at the position that was found.
 use Rattle.std.proofs.Common.{◌≡◌, ℕ, ◌≤◌, List, true, get_or, sym, ap, subst, arith}
 use Rattle.bit_lists.specs.Count.{count_of, Picks}
 use Rattle.bitm_tables.specs.Tables.{bits_in, HasTables, Lists}

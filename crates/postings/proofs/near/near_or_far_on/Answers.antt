@@ -1,4 +1,4 @@
--- What the words near the spot tell is of the same parts.
+-- What the words near the spot show is of the same parts.
 use Rattle.std.proofs.Common.{ℕ, ap, subst, ◌∙◌, arith}
 use Rattle.bit_lists.specs.Bits.{digit_count}
 use Rattle.bitm_tables.specs.Tables.{Lists}

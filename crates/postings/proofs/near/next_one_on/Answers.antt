@@ -1,4 +1,4 @@
--- A word tells where its bits are ones.
+-- A word shows where its bits are ones.
 use Rattle.std.proofs.Common.{◌≡◌, ◌+◌, ◌*◌, ◌-◌, ◌/◌, ◌<◌, ◌≤◌, ℕ, get_or, [], ◌∷◌, ap, sym, ◌∙◌, false, arith, ⊎_elim, length}
 use Rattle.std.proofs.lemmas.Bool.{cases_lt}
 use Rattle.bit_lists.specs.Bits.{bits_of, item}
@@ -8,14 +8,14 @@ use Rattle.postings.proofs.WordLemmas.{one_word}
 use Rattle.postings.proofs.near.next_one_on.Goals as goal
 use Rattle.postings.proofs.near.next_one_on.Goals.{After-find_bit_one}
 
-inside : (g : _) (c : After-find_bit_one g) → c.args.place / 64 + c.loop-k.k < length (g.T.TableSource.lists c.args.source.now).words
+inside : (g : _) (c : After-find_bit_one g) → c.args.position / 64 + c.loop-k.k < length (g.T.TableSource.lists c.args.source.now).words
 inside g c = omega (arith, c.words_len.ensures, c.if-first-k.false, ap (λ (l : Lists). length l.words) c.loop-k.invariant.reads.same)
 
-bit : (g : _) (c : After-find_bit_one g) (j : ℕ) → j < 64 → item (bits_of (c.word-word.result ∷ [])) j ≡ item (bits_in (g.T.TableSource.lists c.args.source.now)) (64 * (c.args.place / 64 + c.loop-k.k) + j)
+bit : (g : _) (c : After-find_bit_one g) (j : ℕ) → j < 64 → item (bits_of (c.word-word.result ∷ [])) j ≡ item (bits_in (g.T.TableSource.lists c.args.source.now)) (64 * (c.args.position / 64 + c.loop-k.k) + j)
 bit g c j l =
     let words = (g.T.TableSource.lists c.args.source.now).words in
-    one_word words c.word-word.result (c.args.place / 64 + c.loop-k.k) j (inside g c)
-    (c.word-word.ensures.item ∙ ap (λ (l : Lists). get_or l.words (c.args.place / 64 + c.loop-k.k) 0) c.loop-k.invariant.reads.same) l
+    one_word words c.word-word.result (c.args.position / 64 + c.loop-k.k) j (inside g c)
+    (c.word-word.ensures.item ∙ ap (λ (l : Lists). get_or l.words (c.args.position / 64 + c.loop-k.k) 0) c.loop-k.invariant.reads.same) l
 
 pub overflow_add-result-in-Some : goal.overflow_add-result-in-Some
 overflow_add-result-in-Some g c = omega (arith, inside g (goal.at.overflow_add-result-in-Some g c).After-find_bit_one, c.requires, c.in-Some.ensures.inside, bits_are_counted (c.word-word.result ∷ []))
@@ -25,7 +25,7 @@ returns-in-Some-clause-first g c =
     let w = (goal.at.returns-in-Some-clause-first g c).After-find_bit_one in
     let b = bits_in (g.T.TableSource.lists c.args.source.now) in
     let e = c.in-Some.ensures in
-    let K = c.args.place / 64 + c.loop-k.k in
+    let K = c.args.position / 64 + c.loop-k.k in
     let small : c.in-Some.digit < 64 = omega (arith, e.inside, bits_are_counted (c.word-word.result ∷ [])) in
     let is : 64 * K + c.in-Some.digit ≡ K * 64 + c.in-Some.digit = omega arith in
     record {
@@ -44,7 +44,7 @@ pub loop-k-preserved : goal.loop-k-preserved
 loop-k-preserved g c =
     let w = (goal.at.loop-k-preserved g c).After-find_bit_one in
     let b = bits_in (g.T.TableSource.lists c.args.source.now) in
-    let K = c.args.place / 64 + c.loop-k.k in
+    let K = c.args.position / 64 + c.loop-k.k in
     let none : (j : ℕ) → c.loop-k.from ≤ j → item (bits_of (c.word-word.result ∷ [])) j ≡ false = c.in_default.ensures in
     let read = c.loop-k.invariant.reads in
     record {

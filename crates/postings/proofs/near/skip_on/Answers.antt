@@ -1,4 +1,4 @@
--- The ones before a word are those before the place without those of the word.
+-- The ones before a word are those before the position without those of the word.
 use Rattle.std.proofs.Common.{◌≡◌, ◌+◌, ◌*◌, ◌-◌, ◌/◌, ◌%◌, ◌<◌, ◌≤◌, ℕ, [], ◌∷◌, ap, subst, ◌∙◌, false, true, arith, length}
 use Rattle.bit_lists.specs.Bits.{bits_of}
 use Rattle.bit_lists.specs.Count.{ones_before, zeros_before, Picks}

@@ -25,11 +25,11 @@ next_one_on-requires g c = subst (λ (l : Lists). IsShort l.words) (sym c.loop-s
 
 -- the one that was found is the number's
 picked : (g : _) (c : In-Some g) (xs : List ℕ) → Holds xs (parts_with c.args.n c.args.low.now (g.T.TableSource.lists c.args.source.now))
-    → IsBehind xs (g.T.TableSource.lists c.args.source.now).words c.args.v c.args.at c.args.place
+    → IsBehind xs (g.T.TableSource.lists c.args.source.now).words c.args.v c.args.at c.args.position
     → Picks (bits_in (g.T.TableSource.lists c.args.source.now)) true (c.args.at + c.loop-step.step) c.in-Some.one
 picked g c xs h begin =
-    let first = subst (λ (l : Lists). IsFirstFrom (bits_in l) true c.loop-step.place c.in-Some.one) c.loop-step.invariant.reads.same c.in-Some.ensures.first in
-    first_picked (bits_in (g.T.TableSource.lists c.args.source.now)) c.loop-step.place c.in-Some.one _ first (c.loop-step.invariant.behind xs h begin).before
+    let first = subst (λ (l : Lists). IsFirstFrom (bits_in l) true c.loop-step.position c.in-Some.one) c.loop-step.invariant.reads.same c.in-Some.ensures.first in
+    first_picked (bits_in (g.T.TableSource.lists c.args.source.now)) c.loop-step.position c.in-Some.one _ first (c.loop-step.invariant.behind xs h begin).before
 
 pub item_at_one-number-requires : goal.item_at_one-number-requires
 item_at_one-number-requires g c =
@@ -62,9 +62,9 @@ returns-then-number-v-clause-near g c = λ xs h begin.
       record { inside = inside; at_least = omega (arith, is, c.if-number-v.true); before = (c.loop-step.invariant.behind xs h begin).less },
     )
 
-pub overflow_add-place : goal.overflow_add-place
-overflow_add-place g c =
-    let first = subst (λ (l : Lists). IsFirstFrom (bits_in l) true c.loop-step.place c.in-Some.one) c.loop-step.invariant.reads.same c.in-Some.ensures.first in
+pub overflow_add-position : goal.overflow_add-position
+overflow_add-position g c =
+    let first = subst (λ (l : Lists). IsFirstFrom (bits_in l) true c.loop-step.position c.in-Some.one) c.loop-step.invariant.reads.same c.in-Some.ensures.first in
     omega (arith, first.inside, bits_are_counted (g.T.TableSource.lists c.args.source.now).words, c.requires.short)
 
 pub loop-step-preserved : goal.loop-step-preserved

@@ -11,6 +11,6 @@ invariant-loop-step g l = record {
   reads : OnlyReads g.T.TableSource.lists g.T.TableSource.reads l.fn.source l.source 0 0 (2 * l.step);
   fragments : ReadsFragments l.fn.low l.low l.step;
   behind : (xs : List ℕ) → Holds xs (parts_with l.n l.fn.low (g.T.TableSource.lists l.fn.source))
-      → IsBehind xs (g.T.TableSource.lists l.fn.source).words l.v l.at l.fn.place
-      → IsBehind xs (g.T.TableSource.lists l.fn.source).words l.v (l.at + l.step) l.place;
+      → IsBehind xs (g.T.TableSource.lists l.fn.source).words l.v l.at l.fn.position
+      → IsBehind xs (g.T.TableSource.lists l.fn.source).words l.v (l.at + l.step) l.position;
 }

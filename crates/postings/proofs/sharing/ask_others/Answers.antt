@@ -1,4 +1,4 @@
--- A list that has no such number, or passed it, tells that not all have it.
+-- A list that has no such number, or passed it, shows that not all have it.
 use Rattle.std.proofs.Common.{◌≡◌, ◌<◌, All, map, length, refl, ◌∙◌, arith, get_or, set}
 use Rattle.std.proofs.lemmas.List.{length-map}
 use Rattle.std.proofs.Math.Seq.{map-set_same}

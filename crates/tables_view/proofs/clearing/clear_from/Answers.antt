@@ -1,4 +1,4 @@
--- The words behind are zeros, and the bits of the first one from that place on are written as 0.
+-- The words behind are zeros, and the bits of the first one from that position on are written as 0.
 use Rattle.std.proofs.Common.{IsTrue, Bool, List, ap, ◌∙◌, arith}
 use Rattle.std.proofs.lemmas.List.{get_or_past}
 use Rattle.bit_lists.proofs.lemmas.BitsLemmas.{length-bits_of}

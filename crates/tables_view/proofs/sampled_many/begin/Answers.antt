@@ -55,7 +55,7 @@ returns-clause-search g c =
             from = omega arith;
             to = omega (arith, inside g d);
             fits = c.part_of_rank-part.ensures.fits;
-            rest = c.part_of_rank-part.ensures.told;
+            rest = c.part_of_rank-part.ensures.claimed;
           };
       near =
           λ t.

@@ -22,8 +22,8 @@ module _ (words : List ℕ) (n : ℕ) (tight : length words ≡ tree_words n) wh
   inside : q < length words
   inside = omega (arith, tight)
 
-  place : 64 * q + r ≡ 2 * n
-  place = omega (arith, tight)
+  position : 64 * q + r ≡ 2 * n
+  position = omega (arith, tight)
 
   counted : length (bits_of words) ≡ 64 * tree_words n
   counted = bits_are_counted words ∙ ap (λ k. 64 * k) tight
@@ -32,7 +32,7 @@ module _ (words : List ℕ) (n : ℕ) (tight : length words ≡ tree_words n) wh
   tree h = tree_of_held (degrees_of (bits_of words) n) n (bits_of words) counted h
 
   front_leads : IsHeld (degrees_of (bits_of words) n) n (bits_of words) → OnesLead (bits_of words) (64 * q)
-  front_leads h = leads_fewer (bits_of words) (64 * q) (2 * n) (omega (arith, place)) (tree h).leads
+  front_leads h = leads_fewer (bits_of words) (64 * q) (2 * n) (omega (arith, position)) (tree h).leads
 
   module _ (ones : ℕ) (leads : OnesLead (bits_of words) (64 * q)) (are : ones ≡ ones_before (bits_of words) (64 * q)) where
     enough : 64 * q ≤ 2 * ones
@@ -45,21 +45,21 @@ module _ (words : List ℕ) (n : ℕ) (tight : length words ≡ tree_words n) wh
     same = omega (arith, are, enough)
 
     keeps : IsHeld (degrees_of (bits_of words) n) n (bits_of words) → KeepsLead (get_or words q 0) r (2 * ones - 64 * q)
-    keeps h = keeps_where_leads words q r (2 * ones - 64 * q) inside (omega arith) same (subst (OnesLead (bits_of words)) (sym place) (tree h).leads)
+    keeps h = keeps_where_leads words q r (2 * ones - 64 * q) inside (omega arith) same (subst (OnesLead (bits_of words)) (sym position) (tree h).leads)
 
     whole : (more : ℕ) → more ≡ count_ones (get_or words q 0 % 2 ^ r) → ones + more ≡ ones_before (bits_of words) (2 * n)
-    whole more e = omega (arith, are, e, ones_before-bits_of_in_word words q inside r (omega arith), ap (ones_before (bits_of words)) place)
+    whole more e = omega (arith, are, e, ones_before-bits_of_in_word words q inside r (omega arith), ap (ones_before (bits_of words)) position)
 
     few_in_all : (more : ℕ) → more ≡ count_ones (get_or words q 0 % 2 ^ r) → ones + more ≤ 2 * n
-    few_in_all more e = omega (arith, whole more e, ones_few words (2 * n) (omega (arith, inside, place)))
+    few_in_all more e = omega (arith, whole more e, ones_few words (2 * n) (omega (arith, inside, position)))
 
     held : n < 2 ^ 60 → 0 < n → get_or words 0 0 / 2 % 2 ≡ 0 → KeepsLead (get_or words q 0) r (2 * ones - 64 * q) → ones_before (bits_of words) (2 * n) ≡ n
         → bit_at (get_or words q 0) r ≡ 0 → IsHeld (degrees_of (bits_of words) n) n (bits_of words)
     held short some second kept count last = held_of_tree (bits_of words) n short counted (record {
       some = some;
       second = (digit_zero words 0 1 (omega (arith, inside)) (omega arith)).1 second;
-      leads = subst (OnesLead (bits_of words)) place (leads_on words q r (2 * ones - 64 * q) inside (omega arith) same leads kept);
-      last = ap (item (bits_of words)) (sym place) ∙ (digit_zero words q r inside (omega arith)).1 last;
+      leads = subst (OnesLead (bits_of words)) position (leads_on words q r (2 * ones - 64 * q) inside (omega arith) same leads kept);
+      last = ap (item (bits_of words)) (sym position) ∙ (digit_zero words q r inside (omega arith)).1 last;
       count = count;
     })
 
@@ -101,7 +101,7 @@ returns-then-ones-more c =
       λ last.
           held words n t c.in-Some.ones c.in-Some.ensures.0 c.in-Some.ensures.1 c.requires.few (omega (arith, c.if-nodes-eq0.false)) (omega (arith, c.if-words-ne0.false))
           c.in-Some-ones_of_part.ensures.0 (sym all ∙ c.if-ones-more.true) (search rules),
-      λ h. let none = (digit_zero words (q words n t) (r words n t) (inside words n t) (omega arith)).0 (ap (item (bits_of words)) (place words n t) ∙ (tree words n t h).last) in
+      λ h. let none = (digit_zero words (q words n t) (r words n t) (inside words n t) (omega arith)).0 (ap (item (bits_of words)) (position words n t) ∙ (tree words n t h).last) in
           search rules,
     )
 

@@ -1,9 +1,9 @@
 use Rattle.std.proofs.Common.{◌≡◌, ℕ, ◌*◌, ◌<◌, ◌≤◌, slice_index}
 use Rattle.louds.specs.Counted.{OnlySelects}
-use Rattle.tree_block.specs.Told.{in_lists, IsCodeOf}
+use Rattle.tree_block.specs.Codes.{in_lists, IsCodeOf}
 use Rattle.tree_block.proofs.lists.answer_each_on.Given as goal
 
--- the answers so far, the positions that are told of the others, and what was read
+-- the answers so far, the positions that are reported of the others, and what was read
 abbrev pub invariant-loop-at : goal.invariant-loop-at
 invariant-loop-at g l =
     let T = g.T.TableSource in

@@ -4,11 +4,11 @@ use Rattle.bit_lists.proofs.lemmas.ComingLemmas.{ended_bits_coming, bits_coming_
 use Rattle.bit_lists.specs.Coming.{bits_left}
 use Rattle.bit_words.proofs.each_bit.BitIteratorDoubleEndedIterator.next_back.Goals as goal
 
-pub returns-in_err-place-clause-steps : goal.returns-in_err-place-clause-steps
-returns-in_err-place-clause-steps c =
+pub returns-in_err-position-clause-steps : goal.returns-in_err-position-clause-steps
+returns-in_err-position-clause-steps c =
     let it = c.self.inside in
     let to = c.next_back.new.self in
-    let ended = c.in_err-place.ensures.steps in
+    let ended = c.in_err-position.ensures.steps in
     let none = ended_bits_coming it.words.now it.range.start it.range.end to.start to.end (omega (arith, ended.1.0))
     (omega (arith, ended.0, ended.1.0, ended.1.1)) in
     (rw c.from_residual.ensures (sym (ap bits_left c.self.view_is) ∙ none.0, none.1), search rules)
@@ -17,9 +17,9 @@ pub returns-clause-steps : goal.returns-clause-steps
 returns-clause-steps c =
     let it = c.self.inside in
     let to = c.next_back.new.self in
-    let step = c.in_ok-place.ensures.steps in (
+    let step = c.in_ok-position.ensures.steps in (
       sym (ap bits_left c.self.view_is)
-          ∙ bits_coming_step_back it.words.now it.range.start it.range.end to.end to.start c.in_ok-place.place c.get_bit.result c.self.invariant.0
+          ∙ bits_coming_step_back it.words.now it.range.start it.range.end to.end to.start c.in_ok-position.position c.get_bit.result c.self.invariant.0
           step.1.0 step.0 step.1.1 step.1.2 c.get_bit.ensures,
       search rules,
     )

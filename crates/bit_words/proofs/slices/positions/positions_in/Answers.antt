@@ -1,4 +1,4 @@
--- Each search goes on behind the place that was found, and finds the next one.
+-- Each search goes on behind the position that was found, and finds the next one.
 use Rattle.std.proofs.Common.{◌≢◌, ◌+◌, ◌∙◌, arith}
 use Rattle.std.proofs.lemmas.List.{get_or-set_other, length-take}
 use Rattle.bit_lists.proofs.lemmas.BitsLemmas.{length-bits_of}

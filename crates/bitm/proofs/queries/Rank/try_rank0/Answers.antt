@@ -1,4 +1,4 @@
--- The ones before a place and the zeros before it are all that stands before it.
+-- The ones before a position and the zeros before it are all that stands before it.
 use Rattle.std.proofs.Common.{arith}
 use Rattle.bit_lists.proofs.lemmas.CountLemmas.{ones_before-add-zeros_before}
 use Rattle.bitm.proofs.queries.Rank.try_rank0.Goals as goal

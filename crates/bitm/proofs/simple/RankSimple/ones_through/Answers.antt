@@ -23,8 +23,8 @@ rank_from-requires-clause-inside g c =
 pub rank_from-requires-clause-before : goal.rank_from-requires-clause-before
 rank_from-requires-clause-before g c =
     let b = bits_of (g.BV.AsSlice.items c.self.inside.content) in
-    let place = ap (λ v. length (bits_of (g.BV.AsSlice.items v))) c.self.view_is in
+    let position = ap (λ v. length (bits_of (g.BV.AsSlice.items v))) c.self.view_is in
     let table : c.as_slice.result.now ≡ simple_table_of b = c.as_slice.ensures.value ∙ c.self.invariant.2 in
     ap (λ t. get_or t (c.args.last / 512) 0) table
-    ∙ get_or-simple_table_of b (c.args.last / 512) 0 (run_begun (length b) c.args.last (omega (arith, place, c.requires)))
+    ∙ get_or-simple_table_of b (c.args.last / 512) 0 (run_begun (length b) c.args.last (omega (arith, position, c.requires)))
     ∙ ap (λ ws. ones_before (bits_of ws) (512 * (c.args.last / 512))) (sym c.as_slice-2.ensures)

@@ -17,11 +17,11 @@ loop-at-preserved c =
     let number = slice_index c.args.numbers.now at in
     let index = slice_index c.args.indices.now at in
     let answer = c.rank_between-answer.result in
-    let told : IsRankAt c.parts-levels.result.0 c.parts-levels.result.1.lists number index answer =
-    c.rank_between-answer.ensures c.parts-levels.result.1.lists (c.total_places_of_many_on.ensures.each at (omega (arith, c.loop-at-test.true, c.loop-at.auto.at-end))) in
+    let claimed : IsRankAt c.parts-levels.result.0 c.parts-levels.result.1.lists number index answer =
+    c.rank_between-answer.ensures c.parts-levels.result.1.lists (c.total_positions_of_many_on.ensures.each at (omega (arith, c.loop-at-test.true, c.loop-at.auto.at-end))) in
     let here : IsRankAt view.levels view.lists number index answer =
     subst (λ (m : Lists). IsRankAt view.levels m number index answer) c.parts-levels.ensures.lists
-    (subst (λ (l : LevelTables). IsRankAt l c.parts-levels.result.1.lists number index answer) c.parts-levels.ensures.levels told) in
+    (subst (λ (l : LevelTables). IsRankAt l c.parts-levels.result.1.lists number index answer) c.parts-levels.ensures.levels claimed) in
     let coded : selected_by c.code_of.result ≡ answer = c.code_of.ensures (rank_code _ (is_short view c.parts-levels.ensures.lengths) _ _ here.inside) in
     record {
       len = length-set c.loop-at.out at c.code_of.result ∙ i.len;

@@ -1,9 +1,9 @@
--- What is answered is told.
-use Rattle.bitm_abi.proofs.ToldLemmas.{told}
+-- What is answered is reported.
+use Rattle.bitm_abi.proofs.ClaimedLemmas.{claimed}
 use Rattle.bitm_numbers_c.specs.Matrix.{IsRankOfNumber}
 use Rattle.bitm_numbers_c.proofs.matrix.matrix_queries.bitm_matrix_rank.Goals as goal
 
 pub returns-in-Some : goal.returns-in-Some
 returns-in-Some c =
-    told (IsRankOfNumber c.args.number c.args.index) _ _ c.in-Some.ensures.1 _ c.in-Some.ensures.0 c.report.result c.args.out.now c.report.new.out _ c.report.ensures
+    claimed (IsRankOfNumber c.args.number c.args.index) _ _ c.in-Some.ensures.1 _ c.in-Some.ensures.0 c.report.result c.args.out.now c.report.new.out _ c.report.ensures
     (record { inside = c.rank.ensures.inside; right = c.rank.ensures.answer })

@@ -1,9 +1,9 @@
--- What is answered is told.
-use Rattle.bitm_abi.proofs.ToldLemmas.{told}
+-- What is answered is reported.
+use Rattle.bitm_abi.proofs.ClaimedLemmas.{claimed}
 use Rattle.bitm_numbers_c.specs.Matrix.{IsPreviousInRange}
 use Rattle.bitm_numbers_c.proofs.matrix.matrix_ranges.bitm_matrix_previous_value.Goals as goal
 
 pub returns-in-Some : goal.returns-in-Some
 returns-in-Some c =
-    told (IsPreviousInRange c.args.start c.args.end c.args.bound) _ _ c.in-Some.ensures.1 _ c.in-Some.ensures.0 c.report.result c.args.out.now c.report.new.out _
+    claimed (IsPreviousInRange c.args.start c.args.end c.args.bound) _ _ c.in-Some.ensures.1 _ c.in-Some.ensures.0 c.report.result c.args.out.now c.report.new.out _
     c.report.ensures (record { inside = c.previous_value.ensures.inside; right = c.previous_value.ensures.answer })

@@ -1,4 +1,4 @@
--- Where each index has its bits, what is told is their number.
+-- Where each index has its bits, what is reported is their number.
 use Rattle.bitm_tables.proofs.lemmas.LengthLemmas.{sizes_of}
 use Rattle.bitm_select.proofs.many.lists.rank_many_on.Goals as goal
 
@@ -7,4 +7,4 @@ total_rank_many_on-requires-clause-sized g c = sizes_of _ c.requires.indexed.tab
 
 pub returns-clause-answers : goal.returns-clause-answers
 returns-clause-answers g c k h =
-    ((c.total_rank_many_on.ensures.told k h).count c.requires.indexed.tables (c.requires.inside k 0 h)).1
+    ((c.total_rank_many_on.ensures.claimed k h).count c.requires.indexed.tables (c.requires.inside k 0 h)).1

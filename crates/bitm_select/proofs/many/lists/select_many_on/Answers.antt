@@ -1,4 +1,4 @@
--- Where each rank has its item, what is told is its place.
+-- Where each rank has its item, what is reported is its position.
 use Rattle.std.proofs.Common.{slice_index, arith}
 use Rattle.bitm_tables.proofs.lemmas.LengthLemmas.{sizes_of}
 use Rattle.bitm_select.proofs.lemmas.ManyLemmas.{some_part}
@@ -14,4 +14,4 @@ total_select_many_on-requires-clause-part g c =
 
 pub returns-clause-answers : goal.returns-clause-answers
 returns-clause-answers g c k h =
-    (c.total_select_many_on.ensures.told k h).some c.requires.indexed.tables (c.requires.some k 0 h)
+    (c.total_select_many_on.ensures.claimed k h).some c.requires.indexed.tables (c.requires.some k 0 h)

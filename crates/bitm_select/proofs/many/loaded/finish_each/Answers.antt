@@ -1,12 +1,12 @@
--- Each answer is written in its place.
+-- Each answer is written at its position.
 use Rattle.std.proofs.Common.{◌+◌, ◌*◌, ◌^◌, ◌<◌, ◌≤◌, length, slice_index, slice_index_or, ap, sym, ◌∙◌, subst, arith}
 use Rattle.std.proofs.lemmas.List.{length-set}
 use Rattle.bit_lists.specs.Count.{as_bit, ones_before}
-use Rattle.bitm_select.specs.Answers.{IsSelectedFrom, SelectTold}
+use Rattle.bitm_select.specs.Answers.{IsSelectedFrom, IsSelectCode}
 use Rattle.bitm_select.specs.Search.{sought_in, IsWord}
 use Rattle.bitm_tables.specs.Tables.{Lists}
 use Rattle.bitm_tables.specs.Answers.{IfAbsent}
-use Rattle.bitm_select.proofs.lemmas.ManyLemmas.{told_record, written}
+use Rattle.bitm_select.proofs.lemmas.ManyLemmas.{claimed_record, written}
 use Rattle.bitm_select.proofs.many.loaded.finish_each.Goals as goal
 
 pub finish-selected-requires-clause-first : goal.finish-selected-requires-clause-first
@@ -27,10 +27,10 @@ loop-k-preserved g c =
     let e = c.finish-selected.ensures in
     let lists = g.T.TableSource.lists c.args.source.now in
     let ranks = c.args.ranks.now in
-    let places = c.loop-k.places in
+    let positions = c.loop-k.positions in
     let k = c.loop-k.k in
     let at = slice_index_or c.args.records.now k (record { rest = 0; first = 0; word = 0 }) in
-    let inside : k < length places = omega (arith, i.enough, c.loop-k-test.true) in
+    let inside : k < length positions = omega (arith, i.enough, c.loop-k-test.true) in
     let answer =
     subst
     (λ (l : Lists).
@@ -40,14 +40,14 @@ loop-k-preserved g c =
     let last =
     subst (λ (l : Lists). IfAbsent c.finish-selected.result (length l.words ≤ at.first + 8)) i.same e.last in
     let fits : slice_index ranks k < 2 ^ 64 = omega (arith, c.type_inv.ranks k) in
-    let new : SelectTold (as_bit g.row.BIT) lists (slice_index ranks k) c.told.result =
-    rw c.told.ensures
-    (told_record g.row.BIT lists (slice_index ranks k) at c.requires.sized
+    let new : IsSelectCode (as_bit g.row.BIT) lists (slice_index ranks k) c.list_code.result =
+    rw c.list_code.ensures
+    (claimed_record g.row.BIT lists (slice_index ranks k) at c.requires.sized
     (c.requires.loaded.each k (record { rest = 0; first = 0; word = 0 }) c.loop-k-test.true) c.finish-selected.result c.unless_wrapped.result
     fits c.unless_wrapped.ensures.kept c.unless_wrapped.ensures.wrapped last answer) in
     record {
-      enough = omega (arith, i.enough, length-set places k c.told.result);
-      answered = written (λ j n. SelectTold (as_bit g.row.BIT) lists (slice_index ranks j) n) places k c.told.result inside new i.answered;
+      enough = omega (arith, i.enough, length-set positions k c.list_code.result);
+      answered = written (λ j n. IsSelectCode (as_bit g.row.BIT) lists (slice_index ranks j) n) positions k c.list_code.result inside new i.answered;
       upper = omega (arith, i.upper, e.reads.upper);
       upper_kept = omega (arith, i.upper_kept, e.reads.upper_kept);
       lower = omega (arith, i.lower, e.reads.lower);

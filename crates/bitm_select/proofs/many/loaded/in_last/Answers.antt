@@ -1,4 +1,4 @@
--- The first word tells the place, or is passed; the others tell it, or none does.
+-- The first word shows the position, or is passed; the others show it, or none does.
 use Rattle.std.proofs.Common.{◌≡◌, ℕ, List, ◌+◌, ◌-◌, ◌*◌, ◌<◌, length, count_ones, ap, refl, sym, subst, arith}
 use Rattle.bit_lists.proofs.lemmas.BitsLemmas.{length-bits_of}
 use Rattle.bit_lists.specs.Bits.{bits_of}
@@ -44,7 +44,7 @@ passed g c =
 pub returns-in-Some-clause-answer : goal.returns-in-Some-clause-answer
 returns-in-Some-clause-answer g c =
     let words = (g.T.TableSource.lists c.args.source.now).words in
-    subst (λ (n : ℕ). Picks (bits_of words) (as_bit g.row.BIT) n c.in-Some.place)
+    subst (λ (n : ℕ). Picks (bits_of words) (as_bit g.row.BIT) n c.in-Some.position)
     (sym (passed g (goal.at.returns-in-Some-clause-answer g c).Else-rest-count)) c.in-Some.ensures.answer
 
 pub returns-in-None-clause-answer : goal.returns-in-None-clause-answer

@@ -1,4 +1,4 @@
--- Each count tells in which half of the words that are left the item is, and the last word tells the place, or that all
+-- Each count shows in which half of the words that are left the item is, and the last word shows the position, or that all
 -- eight are passed.
 use Rattle.std.proofs.Common.{◌≡◌, ◌+◌, ◌*◌, subst, ◌∙◌, arith, count_ones}
 use Rattle.bit_lists.specs.Count.{as_bit, ones_before}

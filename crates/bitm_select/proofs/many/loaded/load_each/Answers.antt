@@ -1,4 +1,4 @@
--- Each record that is loaded is written in its place.
+-- Each record that is loaded is written at its position.
 use Rattle.std.proofs.Common.{◌<◌, length, slice_index, slice_index_or, ap, sym, ◌∙◌, subst, arith}
 use Rattle.std.proofs.lemmas.List.{length-set}
 use Rattle.bitm_select.specs.Many.{IsInRecord, IsSearch}

@@ -1,4 +1,4 @@
--- Each search that is begun is written in its place.
+-- Each search that is begun is written at its position.
 use Rattle.std.proofs.Common.{ℕ, ◌<◌, length, slice_index, ap, ◌∙◌, subst, arith}
 use Rattle.std.proofs.lemmas.List.{length-set}
 use Rattle.bit_lists.specs.Bits.{digit_count}

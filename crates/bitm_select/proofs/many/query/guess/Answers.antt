@@ -1,4 +1,4 @@
--- What two entries tell is that the one of the rank is between them.
+-- What two entries claim is that the one of the rank is between them.
 use Rattle.std.proofs.Common.{◌≡◌, ◌+◌, ◌<◌, ◌≤◌, length, sym, subst, arith}
 use Rattle.bitm_tables.specs.Entry.{before_in_part, lower_entry}
 use Rattle.bitm_select.specs.Search.{sought_in}

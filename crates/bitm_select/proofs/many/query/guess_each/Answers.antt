@@ -1,4 +1,4 @@
--- Each query that is near its entry is written in its place.
+-- Each query that is near its entry is written at its position.
 use Rattle.std.proofs.Common.{◌<◌, length, slice_index, slice_index_or, sym, ◌∙◌, subst, arith}
 use Rattle.std.proofs.lemmas.List.{length-set}
 use Rattle.bitm_select.specs.Many.{IsInside, IsSearch}

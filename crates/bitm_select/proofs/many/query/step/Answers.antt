@@ -1,4 +1,4 @@
--- The count before the entry in the middle tells on which side of it the entry is.
+-- The count before the entry in the middle shows on which side of it the entry is.
 use Rattle.std.proofs.Common.{◌≡◌, ℕ, ◌+◌, ◌*◌, ◌%◌, ◌^◌, ◌<◌, ◌≤◌, length, sym, subst, ◌∙◌, arith, inl, inr}
 use Rattle.std.proofs.lemmas.Bool.{cases_lt}
 use Rattle.bit_lists.specs.Count.{as_bit}

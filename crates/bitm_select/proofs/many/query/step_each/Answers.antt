@@ -1,4 +1,4 @@
--- Each search that is halved is written in its place, and the others stay.
+-- Each search that is halved is written at its position, and the others stay.
 use Rattle.std.proofs.Common.{ℕ, ◌+◌, ◌<◌, length, slice_index, slice_index_or, ap, sym, ◌∙◌, subst, arith}
 use Rattle.std.proofs.lemmas.List.{length-set}
 use Rattle.std.proofs.lemmas.Nat.{pow-add}

@@ -1,4 +1,4 @@
--- Each rank that is begun is written in its place.
+-- Each rank that is begun is written at its position.
 use Rattle.std.proofs.Common.{ℕ, ◌<◌, length, slice_index, ◌∙◌, subst, arith}
 use Rattle.std.proofs.lemmas.List.{length-set}
 use Rattle.bitm_select.specs.Many.{IsBegun}

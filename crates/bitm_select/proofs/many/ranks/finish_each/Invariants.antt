@@ -1,6 +1,6 @@
 use Rattle.std.proofs.Common.{◌≡◌, ℕ, ◌+◌, ◌*◌, ◌<◌, ◌≤◌, length, slice_index, slice_index_or}
 use Rattle.bit_lists.specs.Count.{as_bit}
-use Rattle.bitm_select.specs.Answers.{RankTold}
+use Rattle.bitm_select.specs.Answers.{IsRankCode}
 use Rattle.bitm_select.proofs.many.ranks.finish_each.Given as goal
 
 -- the answers so far, and the reads of each
@@ -10,7 +10,7 @@ invariant-loop-k g l =
     let lists = T.lists l.fn.source in
     record {
       enough : length l.indices ≤ length l.ranks;
-      answered : (j d : ℕ) → j < l.k → RankTold (as_bit g.row.BIT) lists (slice_index l.indices j) (slice_index_or l.ranks j d);
+      answered : (j d : ℕ) → j < l.k → IsRankCode (as_bit g.row.BIT) lists (slice_index l.indices j) (slice_index_or l.ranks j d);
       upper : (T.reads l.source).upper ≤ (T.reads l.fn.source).upper + l.k;
       upper_kept : (T.reads l.fn.source).upper ≤ (T.reads l.source).upper;
       lower : (T.reads l.source).lower ≤ (T.reads l.fn.source).lower;

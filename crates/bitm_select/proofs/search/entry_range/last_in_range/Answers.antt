@@ -1,15 +1,15 @@
--- Each test halves what is left, and tells on which side the last entry of the part is if the tables are right.
+-- Each test halves what is left, and shows on which side the last entry of the part is if the tables are right.
 use Rattle.std.proofs.Common.{◌≡◌, ℕ, ◌+◌, ◌*◌, ◌-◌, ◌/◌, ◌^◌, ◌<◌, ◌≤◌, length, ap, sym, ◌∙◌, subst, arith, ◌⊎◌, inl, inr}
 use Rattle.bit_lists.specs.Count.{as_bit}
 use Rattle.bitm_tables.specs.Entry.{before_in_part, lower_entry, entries_from}
 use Rattle.bitm_select.specs.Search.{IsEntryAmong, sought_in}
 use Rattle.bitm_tables.specs.Tables.{HasTables, Lists}
-use Rattle.bitm_select.specs.Told.{told_entry}
+use Rattle.bitm_select.specs.Claims.{claimed_entry}
 use Rattle.bitm_tables.specs.declared.source.counts.ReadCounts.{ReadCounts}
 use Rattle.bitm_select.proofs.lemmas.SearchLemmas.{halves, halves_left}
 use Rattle.bitm_tables.proofs.lemmas.LengthLemmas.{few_entries, first_of_part}
 use Rattle.bitm_select.proofs.lemmas.SoughtLemmas.{low_is, entries_rise}
-use Rattle.bitm_select.proofs.lemmas.ToldLemmas.{told_is}
+use Rattle.bitm_select.proofs.lemmas.ClaimedLemmas.{claimed_is}
 use Rattle.bitm_select.proofs.search.entry_range.last_in_range.Goals as goal
 use Rattle.bitm_select.proofs.search.entry_range.last_in_range.Goals.{Joined-ones_to_entry-rank, then-ones_to_entry-rank, else-ones_to_entry-rank}
 
@@ -73,17 +73,17 @@ among g c t =
     (λ j k h l. entries_rise m part j k h (omega arith))
 
 packed : (g : _) (c : Joined-ones_to_entry-rank g) → 0 < c.if-ones_to_entry-rank.low → c.if-ones_to_entry-rank.packed
-    ≡ told_entry (as_bit g.row.BIT) (g.T.TableSource.lists c.args.source.now) (c.args.part * 2 ^ 21 + c.if-ones_to_entry-rank.low)
+    ≡ claimed_entry (as_bit g.row.BIT) (g.T.TableSource.lists c.args.source.now) (c.args.part * 2 ^ 21 + c.if-ones_to_entry-rank.low)
 packed g c =
-    let told = told_entry (as_bit g.row.BIT) in
+    let claimed = claimed_entry (as_bit g.row.BIT) in
     let lists = g.T.TableSource.lists c.args.source.now in
-    let at : ℕ → ℕ = λ j. told lists (c.args.part * 2 ^ 21 + j) in
+    let at : ℕ → ℕ = λ j. claimed lists (c.args.part * 2 ^ 21 + j) in
     let mid = c.loop-left.low + c.loop-left.left / 2 in
     let there : c.args.part * 2 ^ 21 + c.loop-left.low + c.loop-left.left / 2 ≡ c.args.part * 2 ^ 21 + mid = omega arith in
     let next : c.sought_entry-next.result ≡ at mid =
-    c.sought_entry-next.ensures.told
-    ∙ ap (λ (l : Lists). told l (c.args.part * 2 ^ 21 + c.loop-left.low + c.loop-left.left / 2)) c.loop-left.invariant.same
-    ∙ ap (told lists) there in
+    c.sought_entry-next.ensures.claimed
+    ∙ ap (λ (l : Lists). claimed l (c.args.part * 2 ^ 21 + c.loop-left.low + c.loop-left.left / 2)) c.loop-left.invariant.same
+    ∙ ap (claimed lists) there in
     elim c.if-ones_to_entry-rank.branch [
       | then-ones_to_entry-rank w ↦ λ h. w.packed-is ∙ next ∙ ap at (sym w.low-is)
       | else-ones_to_entry-rank w ↦ λ h. w.packed-is ∙ c.loop-left.invariant.packed (omega (arith, h, w.low-is)) ∙ ap at (sym w.low-is)
@@ -124,4 +124,4 @@ returns-else-low-eq0-clause-entry g c = λ t.
     let i = c.loop-left.invariant in
     let at = c.args.part * 2 ^ 21 + c.loop-left.low in
     let inside : at < length lists.lower = omega (arith, i.to, i.some, c.requires.range.within) in
-    i.packed (omega (arith, c.if-low-eq0.false)) ∙ told_is g.row.BIT lists at t inside
+    i.packed (omega (arith, c.if-low-eq0.false)) ∙ claimed_is g.row.BIT lists at t inside

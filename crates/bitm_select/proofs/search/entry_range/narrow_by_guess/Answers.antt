@@ -1,4 +1,4 @@
--- Two halvings leave 2^19 entries at most; below a guess one read more tells so, and in its window or above it two.
+-- Two halvings leave 2^19 entries at most; below a guess one read more shows so, and in its window or above it two.
 use Rattle.std.proofs.Common.{◌≡◌, ◌⊎◌, ℕ, ◌+◌, ◌*◌, ◌-◌, ◌/◌, ◌^◌, ◌<◌, ◌≤◌, ap, arith, inl, inr}
 use Rattle.bitm_tables.specs.declared.source.counts.ReadCounts.{ReadCounts}
 use Rattle.bit_lists.proofs.lemmas.DigitLemmas.{digit_count_most}

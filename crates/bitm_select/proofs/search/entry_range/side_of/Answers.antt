@@ -1,9 +1,9 @@
--- The entry tells on which side of it the last one is.
+-- The entry claims on which side of it the last one is.
 use Rattle.std.proofs.Common.{◌≡◌, ℕ, ◌+◌, ◌*◌, ◌^◌, ◌<◌, ◌≤◌, length, ap, ◌∙◌, subst, arith}
 use Rattle.bitm_tables.specs.Entry.{before_in_part, lower_entry, entries_from}
 use Rattle.bitm_select.specs.Search.{sought_in}
 use Rattle.bitm_tables.specs.Tables.{HasTables}
-use Rattle.bitm_select.specs.Told.{told_entry}
+use Rattle.bitm_select.specs.Claims.{claimed_entry}
 use Rattle.bit_lists.specs.Count.{as_bit}
 use Rattle.bitm_select.proofs.lemmas.SearchLemmas.{goes_over, goes_under}
 use Rattle.bitm_tables.proofs.lemmas.LengthLemmas.{few_entries, first_of_part}
@@ -47,11 +47,11 @@ module _ (g : _) (c : After-ones_to_entry-count g) (t : HasTables (g.T.TableSour
       c.ones_to_entry-count.ensures
       ∙ low_is m c.sought_entry-next.result (c.args.part * 2 ^ 21 + (c.args.range.low + c.args.cut)) next_is
 
-next_told : (g : _) (c : After-ones_to_entry-count g) → c.sought_entry-next.result
-    ≡ told_entry (as_bit g.row.BIT) (g.T.TableSource.lists c.args.source.now) (c.args.part * 2 ^ 21 + (c.args.range.low + c.args.cut))
-next_told g c =
+next_claimed : (g : _) (c : After-ones_to_entry-count g) → c.sought_entry-next.result
+    ≡ claimed_entry (as_bit g.row.BIT) (g.T.TableSource.lists c.args.source.now) (c.args.part * 2 ^ 21 + (c.args.range.low + c.args.cut))
+next_claimed g c =
     let there : c.args.part * 2 ^ 21 + c.args.range.low + c.args.cut ≡ c.args.part * 2 ^ 21 + (c.args.range.low + c.args.cut) = omega arith in
-    c.sought_entry-next.ensures.told ∙ ap (told_entry (as_bit g.row.BIT) (g.T.TableSource.lists c.args.source.now)) there
+    c.sought_entry-next.ensures.claimed ∙ ap (claimed_entry (as_bit g.row.BIT) (g.T.TableSource.lists c.args.source.now)) there
 
 pub returns-then-count-rank-clause-range : goal.returns-then-count-rank-clause-range
 returns-then-count-rank-clause-range g c =
@@ -65,7 +65,7 @@ returns-then-count-rank-clause-range g c =
           goes_over (λ j. before_in_part m (c.args.part * 2 ^ 21 + j)) (entries_from (length lists.lower) c.args.part) c.args.rank
           c.args.range.low c.args.range.left c.args.cut (c.requires.range.among t) c.requires.some c.requires.in_range
           (subst (λ (n : ℕ). n ≤ c.args.rank) (count g d t) c.if-count-rank.true);
-      packed = λ _. next_told g d;
+      packed = λ _. next_claimed g d;
     }
 
 pub returns-else-count-rank-clause-range : goal.returns-else-count-rank-clause-range

@@ -1,4 +1,4 @@
--- The word that has the rank tells its place, and each other word is passed.
+-- The word that has the rank shows its position, and each other word is passed.
 use Rattle.std.proofs.Common.{◌≡◌, ℕ, ◌+◌, ◌-◌, ◌*◌, ap, ◌∙◌, subst, arith, count_ones}
 use Rattle.bit_lists.specs.Count.{ones_before, as_bit}
 use Rattle.bitm_select.specs.Search.{IsWord, sought_in}

@@ -1,4 +1,4 @@
--- The word that has the rank tells its place; where it has too few ones it is the last of the eight.
+-- The word that has the rank shows its position; where it has too few ones it is the last of the eight.
 use Rattle.std.proofs.Common.{◌≡◌, ℕ, ◌+◌, ◌-◌, ◌*◌, ap, subst, arith, slice_index, inl, inr}
 use Rattle.std.proofs.lemmas.Bool.{cases_lt}
 use Rattle.bit_lists.specs.Count.{ones_before, as_bit}

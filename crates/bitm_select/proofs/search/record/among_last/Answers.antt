@@ -1,4 +1,4 @@
--- The word that has the place tells it by the ones that it has from there on, and each other word is passed.
+-- The word that has the position shows it by the ones that it has from there on, and each other word is passed.
 use Rattle.std.proofs.Common.{◌≡◌, ℕ, ◌+◌, ◌-◌, ◌*◌, ap, ◌∙◌, refl, subst, arith, count_ones}
 use Rattle.bit_lists.specs.Count.{ones_before, as_bit}
 use Rattle.bitm_select.specs.Search.{IsWord, sought_in}

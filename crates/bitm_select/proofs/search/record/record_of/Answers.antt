@@ -14,12 +14,12 @@ shifted e (suc (suc zero)) h l = omega arith
 shifted e (suc (suc (suc zero))) h l = omega arith
 shifted e (suc (suc (suc (suc k)))) h l = absurd (omega arith)
 
-abbrev place : After-is_at_most-3 → ℕ
-place c = c.is_at_most.result + c.is_at_most-2.result + c.is_at_most-3.result
+abbrev position : After-is_at_most-3 → ℕ
+position c = c.is_at_most.result + c.is_at_most-2.result + c.is_at_most-3.result
 
 chosen : (c : After-is_at_most-3) → field_1 c.args.entry ≤ field_2 c.args.entry → field_2 c.args.entry ≤ field_3 c.args.entry
-    → (place c < 4) × (record_field c.args.entry (place c) ≤ c.args.rank)
-    × (place c < 3 → c.args.rank < record_field c.args.entry (place c + 1))
+    → (position c < 4) × (record_field c.args.entry (position c) ≤ c.args.rank)
+    × (position c < 3 → c.args.rank < record_field c.args.entry (position c + 1))
 chosen c second third =
     let two = and_mask (c.args.entry / 2 ^ 43) 11 in
     let three = and_mask (c.args.entry / 2 ^ 32) 11 in

@@ -1,4 +1,4 @@
--- Where the tables are right the place is the one that is sought.
+-- Where the tables are right the position is the one that is sought.
 use Rattle.bitm_tables.proofs.lemmas.LengthLemmas.{sizes_of}
 use Rattle.bitm_select.proofs.lemmas.SelectedLemmas.{is_select}
 use Rattle.bitm_select.proofs.search.selecting.binary_select_on.Goals as goal

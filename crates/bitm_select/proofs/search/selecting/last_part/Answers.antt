@@ -1,4 +1,4 @@
--- Each test halves what is left, and tells on which side the last part is if the tables are right.
+-- Each test halves what is left, and shows on which side the last part is if the tables are right.
 use Rattle.std.proofs.Common.{◌≡◌, ℕ, ◌+◌, ◌*◌, ◌-◌, ◌/◌, ◌^◌, ◌<◌, ◌≤◌, length, refl, ap, sym, ◌∙◌, subst, arith, ◌⊎◌, inl, inr}
 use Rattle.bit_lists.proofs.lemmas.CountLemmas.{ones_before_none}
 use Rattle.bit_lists.proofs.lemmas.DigitLemmas.{digit_count-mono}

@@ -6,11 +6,11 @@ use Rattle.bit_lists.specs.Count.{as_bit, ones_before}
 use Rattle.bitm_select.specs.Answers.{IsSelected}
 use Rattle.bitm_tables.specs.Entry.{entries_from}
 use Rattle.bitm_select.specs.Search.{entry_in, sought_in, IsLastPart}
-use Rattle.bitm_select.specs.Told.{told_entry, EntryTellsNone}
+use Rattle.bitm_select.specs.Claims.{claimed_entry, EntryClaimsNone}
 use Rattle.bitm_tables.specs.Answers.{IfAbsent}
 use Rattle.bitm_tables.specs.Tables.{HasTables, Lists}
 use Rattle.bitm_select.proofs.lemmas.MarkLemmas.{none_in_nothing}
-use Rattle.bitm_select.proofs.lemmas.ToldLemmas.{all_none, nothing_tells}
+use Rattle.bitm_select.proofs.lemmas.ClaimedLemmas.{all_none, nothing_tells}
 use Rattle.bitm_select.proofs.search.selecting.search_on.Goals as goal
 use Rattle.bitm_select.proofs.search.selecting.search_on.Goals.{else-this-ne0-via-then-this-ne0+else-in_part-rank, else-this-ne0-via-else-this-ne0}
 
@@ -68,8 +68,8 @@ returns-clause-none g c = λ tests.
     ] in
     let inside : entry < entries_from (length lists.lower) part =
     subst (λ (l : Lists). entry < entries_from (length l.lower) part) of_rank.same of_entry.last.inside in
-    let is : packed ≡ told_entry v lists (entry_in part entry) =
-    subst (λ (l : Lists). packed ≡ told_entry v l (entry_in part entry)) of_rank.same of_entry.last.told in
-    all_none lists v c.requires part entry packed left c.args.rank of_rank.inside inside is of_rank.told of_rank.fits
+    let is : packed ≡ claimed_entry v lists (entry_in part entry) =
+    subst (λ (l : Lists). packed ≡ claimed_entry v l (entry_in part entry)) of_rank.same of_entry.last.claimed in
+    all_none lists v c.requires part entry packed left c.args.rank of_rank.inside inside is of_rank.claimed of_rank.fits
     c.ranges.rank.fits tested c.in_packed.result
-    (subst (λ (l : Lists). IfAbsent c.in_packed.result (EntryTellsNone v l (entry_in part entry) packed left)) all (c.in_packed.ensures.none tests))
+    (subst (λ (l : Lists). IfAbsent c.in_packed.result (EntryClaimsNone v l (entry_in part entry) packed left)) all (c.in_packed.ensures.none tests))

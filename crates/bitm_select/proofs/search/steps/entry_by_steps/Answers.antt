@@ -1,4 +1,4 @@
--- The entry at the guess tells on which side of it the sought one is.
+-- The entry at the guess shows on which side of it the sought one is.
 use Rattle.std.proofs.Common.{ℕ, ◌+◌, ◌*◌, ◌^◌, ◌≤◌, sym, ◌∙◌, subst}
 use Rattle.bitm_tables.specs.Entry.{before_in_part}
 use Rattle.bitm_select.specs.Search.{sought_in}

@@ -3,10 +3,10 @@ use Rattle.std.proofs.Common.{◌≡◌, ℕ, ◌+◌, ◌*◌, ◌-◌, ◌^◌
 use Rattle.bitm_tables.specs.Entry.{before_in_part, lower_entry}
 use Rattle.bitm_select.specs.Search.{sought_in}
 use Rattle.bitm_tables.specs.Tables.{HasTables, Lists}
-use Rattle.bitm_select.specs.Told.{told_entry}
+use Rattle.bitm_select.specs.Claims.{claimed_entry}
 use Rattle.bit_lists.specs.Count.{as_bit}
 use Rattle.bitm_select.proofs.lemmas.SoughtLemmas.{low_is}
-use Rattle.bitm_select.proofs.lemmas.ToldLemmas.{last_found}
+use Rattle.bitm_select.proofs.lemmas.ClaimedLemmas.{last_found}
 use Rattle.bitm_select.proofs.search.steps.steps_back.Goals as goal
 
 pub returns-then-ones_to_entry-rank-clause-last : goal.returns-then-ones_to_entry-rank-clause-last
@@ -30,4 +30,4 @@ returns-then-ones_to_entry-rank-clause-last g c =
       at_most = subst (λ (n : ℕ). n ≤ c.args.rank) count c.if-ones_to_entry-rank.true;
       next = λ _. subst (λ (k : ℕ). c.args.rank < before_in_part m (c.args.part * 2 ^ 21 + k)) back (i.above t);
     })
-    (e.told ∙ ap (λ (l : Lists). told_entry (as_bit g.row.BIT) l at) i.same)
+    (e.claimed ∙ ap (λ (l : Lists). claimed_entry (as_bit g.row.BIT) l at) i.same)

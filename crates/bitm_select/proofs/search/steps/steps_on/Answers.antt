@@ -5,9 +5,9 @@ use Rattle.bitm_tables.specs.Entry.{before_in_part, lower_entry}
 use Rattle.bitm_tables.specs.declared.source.counts.ReadCounts.{ReadCounts}
 use Rattle.bitm_select.specs.Search.{sought_in}
 use Rattle.bitm_tables.specs.Tables.{HasTables, Lists}
-use Rattle.bitm_select.specs.Told.{told_entry}
+use Rattle.bitm_select.specs.Claims.{claimed_entry}
 use Rattle.bitm_select.proofs.lemmas.SoughtLemmas.{low_is}
-use Rattle.bitm_select.proofs.lemmas.ToldLemmas.{last_found}
+use Rattle.bitm_select.proofs.lemmas.ClaimedLemmas.{last_found}
 use Rattle.bitm_select.proofs.search.steps.steps_on.Goals as goal
 
 pub loop-k-preserved : goal.loop-k-preserved
@@ -28,7 +28,7 @@ loop-k-preserved g c =
           ∙ ap (λ (l : Lists). lower_entry (sought_in g.row.BIT l.words) at) i.same in
           let count = c.ones_to_entry.ensures ∙ low_is m c.sought_entry-entry.result at entry ∙ ap (before_in_part m) there in
           subst (λ (n : ℕ). n ≤ c.args.rank) count c.if-rank-ones_to_entry.false;
-      packed = e.told ∙ ap (λ (l : Lists). told_entry (as_bit g.row.BIT) l at) i.same ∙ ap (told_entry (as_bit g.row.BIT) lists) there;
+      packed = e.claimed ∙ ap (λ (l : Lists). claimed_entry (as_bit g.row.BIT) l at) i.same ∙ ap (claimed_entry (as_bit g.row.BIT) lists) there;
       lower = omega (arith, ap (λ (r : ReadCounts). r.lower) e.counted, i.lower);
       upper = ap (λ (r : ReadCounts). r.upper) e.counted ∙ i.upper;
       words = ap (λ (r : ReadCounts). r.words) e.counted ∙ i.words;

@@ -14,7 +14,7 @@ returns-clause-begin g c = λ xs l h f.
     c.begin_behind.ensures.begin xs l (g.T.TableSource.lists c.args.source.now) _ h.upper (omega (arith, c.if-above-eq0.false))
     (c.zero_on.ensures.answer h.tables)
 
-pub returns-clause-told : goal.returns-clause-told
-returns-clause-told g c = λ tells.
-    c.begin_behind.ensures.told (g.T.TableSource.lists c.args.source.now) c.args.n _ (omega (arith, c.if-above-eq0.false))
-    c.ranges.above.fits c.zero_on.ensures.bit (c.zero_on.ensures.none tells)
+pub returns-clause-claimed : goal.returns-clause-claimed
+returns-clause-claimed g c = λ claims.
+    c.begin_behind.ensures.claimed (g.T.TableSource.lists c.args.source.now) c.args.n _ (omega (arith, c.if-above-eq0.false))
+    c.ranges.above.fits c.zero_on.ensures.bit (c.zero_on.ensures.none claims)

@@ -14,7 +14,7 @@ returns-clause-begin g c = λ xs l h f.
     c.begin_behind.ensures.begin xs l (g.T.TableSource.lists c.args.source.now) _ h.upper (omega (arith, c.if-above-eq0.false))
     (c.hinted_select_on.ensures.answer h.tables f)
 
-pub returns-clause-told : goal.returns-clause-told
-returns-clause-told g c = λ _.
-    c.begin_behind.ensures.told (g.T.TableSource.lists c.args.source.now) c.args._n _ (omega (arith, c.if-above-eq0.false))
+pub returns-clause-claimed : goal.returns-clause-claimed
+returns-clause-claimed g c = λ _.
+    c.begin_behind.ensures.claimed (g.T.TableSource.lists c.args.source.now) c.args._n _ (omega (arith, c.if-above-eq0.false))
     c.ranges.above.fits c.hinted_select_on.ensures.bit c.hinted_select_on.ensures.none

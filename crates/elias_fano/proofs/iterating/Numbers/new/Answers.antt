@@ -1,4 +1,4 @@
--- What is left are the numbers from the place on.
+-- What is left are the numbers from the position on.
 use Rattle.std.proofs.Common.{◌∙◌, ap, arith}
 use Rattle.elias_fano.proofs.lemmas.AheadLemmas.{IsAhead-nothing}
 use Rattle.elias_fano.proofs.lemmas.CursorLemmas.{IsCursor-whole, items_left-all}
@@ -6,8 +6,8 @@ use Rattle.elias_fano.proofs.lemmas.ItemLemmas.{items_of-is, upper-short}
 use Rattle.elias_fano.specs.Numbers.{items_left}
 use Rattle.elias_fano.proofs.iterating.Numbers.new.Goals as goal
 
-pub from_place-requires : goal.from_place-requires
-from_place-requires c = (omega arith, upper-short _ _ _ _ _ c.requires.parts.1)
+pub from_position-requires : goal.from_position-requires
+from_position-requires c = (omega arith, upper-short _ _ _ _ _ c.requires.parts.1)
 
 pub overflow_mul-result : goal.overflow_mul-result
 overflow_mul-result c = omega (arith, upper-short _ _ _ _ _ c.requires.parts.1)
@@ -16,7 +16,7 @@ pub invariant_of-result : goal.invariant_of-result
 invariant_of-result c =
     let a = c.args in
     let h = c.requires.parts.1 in (
-      IsCursor-whole c.requires.parts.0 _ _ _ _ _ _ _ _ h c.requires.order (omega arith) c.requires.first c.from_place.ensures,
+      IsCursor-whole c.requires.parts.0 _ _ _ _ _ _ _ _ h c.requires.order (omega arith) c.requires.first c.from_position.ensures,
       record {
         fit = c.numbers_at_once.ensures.fit;
         some = c.numbers_at_once.ensures.some;

@@ -15,23 +15,23 @@ returns-then-self-clause-steps c =
 pub overflow_sub-self-inside : goal.overflow_sub-self-inside
 overflow_sub-self-inside c = limit-some _ _ _ _ _ _ _ _ _ c.self.invariant.0 c.if-self.false
 
-pub rfind_bit_one_unchecked-place-requires-clause-exists : goal.rfind_bit_one_unchecked-place-requires-clause-exists
-rfind_bit_one_unchecked-place-requires-clause-exists c =
+pub rfind_bit_one_unchecked-position-requires-clause-exists : goal.rfind_bit_one_unchecked-position-requires-clause-exists
+rfind_bit_one_unchecked-position-requires-clause-exists c =
     some-last _ _ _ _ _ _ _ _ _ c.self.invariant.0 c.if-self.false
 
-pub rfind_bit_one_unchecked-place-requires-clause-short : goal.rfind_bit_one_unchecked-place-requires-clause-short
-rfind_bit_one_unchecked-place-requires-clause-short c =
+pub rfind_bit_one_unchecked-position-requires-clause-short : goal.rfind_bit_one_unchecked-position-requires-clause-short
+rfind_bit_one_unchecked-position-requires-clause-short c =
     upper-short _ _ _ _ _ c.self.invariant.0.parts
 
 pub item_at_one-number-requires : goal.item_at_one-number-requires
 item_at_one-number-requires c =
     fragment-of _ _ _ _ _ _ _ (unread-has _ _ _ _ _ _ _ _ c.new.ensures
-    (last-has _ _ _ _ _ _ _ _ _ c.self.invariant.0 c.if-self.false _ c.rfind_bit_one_unchecked-place.ensures))
+    (last-has _ _ _ _ _ _ _ _ _ c.self.invariant.0 c.if-self.false _ c.rfind_bit_one_unchecked-position.ensures))
 
 pub invariant_of-self : goal.invariant_of-self
 invariant_of-self c =
     let it = c.self.inside in (
-      IsCursor-last _ _ _ _ _ _ _ _ _ c.self.invariant.0 c.if-self.false _ c.rfind_bit_one_unchecked-place.ensures,
+      IsCursor-last _ _ _ _ _ _ _ _ _ c.self.invariant.0 c.if-self.false _ c.rfind_bit_one_unchecked-position.ensures,
       ReadsAhead-fewer it.low.now it.width it.at_once it.start it.end it.ahead.until it.ahead.digits (it.end - 1) _
           c.self.invariant.1 (omega arith) c.min-self-inside.ensures,
     )
@@ -41,7 +41,7 @@ returns-clause-steps c =
     let it = c.self.inside in
     let xs = items_of it.len it.width it.low.now it.upper.now in
     let h = c.self.invariant.0 in
-    let has = last-has _ _ _ _ _ _ _ _ _ h c.if-self.false _ c.rfind_bit_one_unchecked-place.ensures in
+    let has = last-has _ _ _ _ _ _ _ _ _ h c.if-self.false _ c.rfind_bit_one_unchecked-position.ensures in
     let number = c.item_at_one-number.ensures.item _ _ _ (unread-has _ _ _ _ _ _ _ _ c.new.ensures has) in
     sym c.self.view_is
     ∙ items_left-last xs it.start it.end c.if-self.false (omega (arith, h.within, h.parts.count))

@@ -46,7 +46,7 @@ returns-clause-steps c =
     let lowest =
     ap (bit_and c.in-Some.ahead.digits) c.n_lowest_bits.ensures
     ∙ lowest-ahead it.low.now it.width it.start it.end c.in-Some.ahead.until c.in-Some.ahead.digits ahead.1 ahead.0 in
-    let number = joined-ahead xs it.len it.width it.low.now it.upper.now it.start c.in-Some-next.place _ has lowest in
+    let number = joined-ahead xs it.len it.width it.low.now it.upper.now it.start c.in-Some-next.position _ has lowest in
     sym c.self.view_is
     ∙ items_left-first xs it.start it.end some (omega (arith, h.within, h.parts.count))
     ∙ ap (λ x. x ∷ items_left xs (it.start + 1) it.end) (sym number)

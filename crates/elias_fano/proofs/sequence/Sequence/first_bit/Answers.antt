@@ -1,4 +1,4 @@
--- The place that is selected is that of the number; where none is left, the end comes after all ones.
+-- The position that is selected is that of the number; where none is left, the end comes after all ones.
 use Rattle.std.proofs.Common.{◌≡◌, ℕ, List, length, sym, ap, subst, ◌∙◌, arith}
 use Rattle.std.specs.Box.{boxed_slice_items}
 use Rattle.elias_fano.proofs.lemmas.CursorLemmas.{HasBefore-one, HasBefore-end}
@@ -19,7 +19,7 @@ parts g c =
 pub select-requires : goal.select-requires
 select-requires g c =
     let h = parts g (goal.at.select-requires g c).After-self in
-    omega (arith, h.count, c.if-place-self.true, ones_are _ _ _ h.upper_is)
+    omega (arith, h.count, c.if-index-self.true, ones_are _ _ _ h.upper_is)
 
 pub overflow_mul-result : goal.overflow_mul-result
 overflow_mul-result g c =
@@ -27,14 +27,14 @@ overflow_mul-result g c =
     let few = upper_few c.args.self.now.items in
     omega (arith, few, h.sequence.short, c.upper_words.ensures.words)
 
-pub returns-then-place-self : goal.returns-then-place-self
-returns-then-place-self g c =
-    let h = parts g (goal.at.returns-then-place-self g c).After-self in
-    λ upper is. HasBefore-one c.args.self.now.items _ _ _ _ upper c.args.place c.select.result h is
-    (omega (arith, h.count, c.if-place-self.true)) c.select.ensures
+pub returns-then-index-self : goal.returns-then-index-self
+returns-then-index-self g c =
+    let h = parts g (goal.at.returns-then-index-self g c).After-self in
+    λ upper is. HasBefore-one c.args.self.now.items _ _ _ _ upper c.args.index c.select.result h is
+    (omega (arith, h.count, c.if-index-self.true)) c.select.ensures
 
-pub returns-else-place-self : goal.returns-else-place-self
-returns-else-place-self g c =
-    let h = parts g (goal.at.returns-else-place-self g c).After-self in
-    let all : c.args.place ≡ length c.args.self.now.items = omega (arith, h.count, c.requires, c.if-place-self.false) in
+pub returns-else-index-self : goal.returns-else-index-self
+returns-else-index-self g c =
+    let h = parts g (goal.at.returns-else-index-self g c).After-self in
+    let all : c.args.index ≡ length c.args.self.now.items = omega (arith, h.count, c.requires, c.if-index-self.false) in
     λ upper is. HasBefore-end c.args.self.now.items _ upper _ is (omega (arith, c.upper_words.ensures.words)) ∙ sym all

@@ -21,13 +21,13 @@ loop-k-preserved c =
     let read = c.item_at_one.ensures.fragments in
     record {
       ones = omega (arith, i.ones, ones-cleared left some fits);
-      rests = λ upper place rest.
-          let now = i.rests upper place rest in
+      rests = λ upper index rest.
+          let now = i.rests upper index rest in
           let more = next_counts (bits_of upper) true now.0 p (first-left upper now.0 c.args.at left now.1 some fits) in
           (p + 1, rest-next upper now.0 c.args.at left now.1 some fits, omega (arith, more, now.2, c.loop-k.auto.k));
-      items = λ xs n upper place parts room rest begin before.
+      items = λ xs n upper index parts room rest begin before.
           let b = bits_of upper in
-          let now = i.rests upper place rest in
+          let now = i.rests upper index rest in
           let rank : ones_before b now.0 ≡ c.args.from + k = omega (arith, now.2, begin, c.loop-k.auto.k) in
           let first = first-left upper now.0 c.args.at left now.1 some fits in
           let picked = first_picked b true now.0 p (c.args.from + k) first rank in
@@ -37,7 +37,7 @@ loop-k-preserved c =
           let L : List ℕ → Type 0 = λ ws. HasOneAt xs n c.loop-k.low.width ws upper (c.args.from + k) p in
           let number = c.item_at_one.ensures.item xs n upper (subst L (sym i.fragments.words) (subst W (sym i.fragments.width) here)) in
           placed_more (λ j x. x ≡ get_or xs (c.args.from + j) 0) c.loop-k.out k c.item_at_one.result
-          (i.items xs n upper place parts room rest begin before)
+          (i.items xs n upper index parts room rest begin before)
           (omega (arith, c.requires.room, c.loop-k-test.true, c.loop-k.auto.k-end, c.loop-k.auto.out)) number;
       kept = λ j past.
           let other : j ≢ k = λ e. omega (arith, e, past) in
@@ -50,5 +50,5 @@ loop-k-preserved c =
     }
 
 pub returns-clause-items : goal.returns-clause-items
-returns-clause-items c = λ xs n upper place parts room rest begin before j less.
-    c.loop-k.invariant.items xs n upper place parts room rest begin before j (omega (arith, less, c.loop-k-test.false))
+returns-clause-items c = λ xs n upper index parts room rest begin before j less.
+    c.loop-k.invariant.items xs n upper index parts room rest begin before j (omega (arith, less, c.loop-k-test.false))

@@ -11,11 +11,11 @@ use Rattle.elias_fano_view.proofs.sequence.items.write_ones_of.Given as goal
 abbrev pub invariant-loop-k : goal.invariant-loop-k
 invariant-loop-k l = record {
   ones : l.end ≤ l.k + count_ones l.left;
-  rests : (upper : List ℕ) (place : ℕ) → IsRestFrom upper place l.at l.rest
+  rests : (upper : List ℕ) (index : ℕ) → IsRestFrom upper index l.at l.rest
       → (next : ℕ) × IsRestFrom upper next l.at l.left
-      × (ones_before (bits_of upper) next ≡ ones_before (bits_of upper) place + (l.k - l.begin));
-  items : (xs : List ℕ) (n : ℕ) (upper : List ℕ) (place : ℕ) → ArePartsOf xs n l.initial.low.width l.initial.low.words upper
-      → l.from + l.end ≤ n → IsRestFrom upper place l.at l.rest → ones_before (bits_of upper) place ≡ l.from + l.begin
+      × (ones_before (bits_of upper) next ≡ ones_before (bits_of upper) index + (l.k - l.begin));
+  items : (xs : List ℕ) (n : ℕ) (upper : List ℕ) (index : ℕ) → ArePartsOf xs n l.initial.low.width l.initial.low.words upper
+      → l.from + l.end ≤ n → IsRestFrom upper index l.at l.rest → ones_before (bits_of upper) index ≡ l.from + l.begin
       → AreItemsFrom xs l.from l.begin l.initial.out → AreItemsFrom xs l.from l.k l.out;
   kept : (j : ℕ) → l.k ≤ j → slice_index l.out j ≡ slice_index l.initial.out j;
   fragments : ReadsFragments l.initial.low l.low (l.k - l.begin);

@@ -1,4 +1,4 @@
--- The walk gives the item of the places at the rank.
+-- The walk gives the item of the positions at the rank.
 use Rattle.std.proofs.lemmas.Iterator.Consumers.{nth_from_yields_List, YieldsList-from_first}
 use Rattle.bitm.specs.Bits.{bits_of}
 use Rattle.bitm.specs.Count.{as_bit}

@@ -2,8 +2,8 @@
 use Rattle.std.proofs.Common.{◌≡◌, ℕ, ◌+◌, ◌-◌, ◌*◌, ◌<◌, true, false, [], ◌∷◌, slice_range, sym, ap, ◌∙◌, subst, arith}
 use Rattle.std.proofs.lemmas.Result.{IfOk-weaker}
 use Rattle.bitm_tables.specs.Tables.{Lists}
-use Rattle.matrix_levels.specs.Levels.{ArePlacesAfter, level}
-use Rattle.matrix_levels.specs.Matrix.{IsMatrix, digit_place, level_in, numbers_in}
+use Rattle.matrix_levels.specs.Levels.{ArePositionsAfter, level}
+use Rattle.matrix_levels.specs.Matrix.{IsMatrix, digit_position, level_in, numbers_in}
 use Rattle.matrix_levels.specs.Shared.{AddsShared, shared_prefixes}
 use Rattle.matrix_levels.proofs.lemmas.PrefixLemmas.{with_digit}
 use Rattle.matrix_levels.proofs.lemmas.ReadsLemmas.{ranks-more}
@@ -40,7 +40,7 @@ add_shared_on-requires g t c κs within =
     let halves = c.in-Some.ensures.halves c.requires.matrix in
     let others = c.in-Some-total_halves_on.ensures.halves (subst M (sym same1) c.requires.matrix) in
     let same2 : L c.total_halves_on-2.new.source ≡ L c.args.source.now = c.total_halves_on-2.ensures.reads.same ∙ same1 in
-    let A : Lists → Type 0 = λ m. ArePlacesAfter (digit_place l d) false (level_in l m d) c.args.second.start c.args.second.end c.in-Some-total_halves_on.second_zeros.start c.in-Some-total_halves_on.second_zeros.end in
+    let A : Lists → Type 0 = λ m. ArePositionsAfter (digit_position l d) false (level_in l m d) c.args.second.start c.args.second.end c.in-Some-total_halves_on.second_zeros.start c.in-Some-total_halves_on.second_zeros.end in
     let numbers = ap (numbers_in l) same2 in
     let digits : 2 * h ≡ with_digit h false = omega arith in (
       omega arith,
@@ -79,7 +79,7 @@ add_shared_on-requires-2 g t c κs within =
     let others = c.in-Some-total_halves_on.ensures.halves (subst M (sym same1) c.requires.matrix) in
     let same2 : L c.total_halves_on-2.new.source ≡ L c.args.source.now = c.total_halves_on-2.ensures.reads.same ∙ same1 in
     let same3 : L c.add_shared_on.new.source ≡ L c.args.source.now = c.add_shared_on.ensures.reads.same ∙ same2 in
-    let A : Lists → Type 0 = λ m. ArePlacesAfter (digit_place l d) true (level_in l m d) c.args.second.start c.args.second.end c.in-Some-total_halves_on.second_ones.start c.in-Some-total_halves_on.second_ones.end in
+    let A : Lists → Type 0 = λ m. ArePositionsAfter (digit_position l d) true (level_in l m d) c.args.second.start c.args.second.end c.in-Some-total_halves_on.second_ones.start c.in-Some-total_halves_on.second_ones.end in
     let numbers = ap (numbers_in l) same3 in
     let digits : 2 * h + 1 ≡ with_digit h true = omega arith in (
       omega arith,
@@ -117,8 +117,8 @@ returns-clause-found g t c =
     let others = c.in-Some-total_halves_on.ensures.halves (subst M (sym same1) c.requires.matrix) in
     let same2 : L c.total_halves_on-2.new.source ≡ L c.args.source.now = c.total_halves_on-2.ensures.reads.same ∙ same1 in
     let same3 : L c.add_shared_on.new.source ≡ L c.args.source.now = c.add_shared_on.ensures.reads.same ∙ same2 in
-    let A0 : Lists → Type 0 = λ m. ArePlacesAfter (digit_place l d) false (level_in l m d) c.args.second.start c.args.second.end c.in-Some-total_halves_on.second_zeros.start c.in-Some-total_halves_on.second_zeros.end in
-    let A1 : Lists → Type 0 = λ m. ArePlacesAfter (digit_place l d) true (level_in l m d) c.args.second.start c.args.second.end c.in-Some-total_halves_on.second_ones.start c.in-Some-total_halves_on.second_ones.end in
+    let A0 : Lists → Type 0 = λ m. ArePositionsAfter (digit_position l d) false (level_in l m d) c.args.second.start c.args.second.end c.in-Some-total_halves_on.second_zeros.start c.in-Some-total_halves_on.second_zeros.end in
+    let A1 : Lists → Type 0 = λ m. ArePositionsAfter (digit_position l d) true (level_in l m d) c.args.second.start c.args.second.end c.in-Some-total_halves_on.second_ones.start c.in-Some-total_halves_on.second_ones.end in
     let Z : Lists → Type 0 = λ m. AddsShared (slice_range (level_in l m (d + 1)) c.in-Some.first_zeros.start c.in-Some.first_zeros.end)
     (slice_range (level_in l m (d + 1)) c.in-Some-total_halves_on.second_zeros.start c.in-Some-total_halves_on.second_zeros.end) c.args.found.now.items c.add_shared_on.new.found.items in
     let O : Lists → Type 0 = λ m. AddsShared (slice_range (level_in l m (d + 1)) c.in-Some.first_ones.start c.in-Some.first_ones.end)
@@ -145,8 +145,8 @@ returns-in_err-add_shared_on-clause-reads g t c =
     let halves = c.in-Some.ensures.halves c.requires.matrix in
     let others = c.in-Some-total_halves_on.ensures.halves (subst M (sym same1) c.requires.matrix) in
     let same2 : L c.total_halves_on-2.new.source ≡ L c.args.source.now = c.total_halves_on-2.ensures.reads.same ∙ same1 in
-    let A0 : Lists → Type 0 = λ m. ArePlacesAfter (digit_place l d) false (level_in l m d) c.args.second.start c.args.second.end c.in-Some-total_halves_on.second_zeros.start c.in-Some-total_halves_on.second_zeros.end in
-    let A1 : Lists → Type 0 = λ m. ArePlacesAfter (digit_place l d) true (level_in l m d) c.args.second.start c.args.second.end c.in-Some-total_halves_on.second_ones.start c.in-Some-total_halves_on.second_ones.end in
+    let A0 : Lists → Type 0 = λ m. ArePositionsAfter (digit_position l d) false (level_in l m d) c.args.second.start c.args.second.end c.in-Some-total_halves_on.second_zeros.start c.in-Some-total_halves_on.second_zeros.end in
+    let A1 : Lists → Type 0 = λ m. ArePositionsAfter (digit_position l d) true (level_in l m d) c.args.second.start c.args.second.end c.in-Some-total_halves_on.second_ones.start c.in-Some-total_halves_on.second_ones.end in
     let walked = walk-prefixes xs l.width d h c.args.first.start c.args.first.end c.args.second.start c.args.second.end c.requires.first c.requires.second less
     c.in-Some.first_zeros.start c.in-Some.first_zeros.end c.in-Some-total_halves_on.second_zeros.start c.in-Some-total_halves_on.second_zeros.end
     c.in-Some.first_ones.start c.in-Some.first_ones.end c.in-Some-total_halves_on.second_ones.start c.in-Some-total_halves_on.second_ones.end
@@ -177,8 +177,8 @@ returns-clause-reads g t c =
     let others = c.in-Some-total_halves_on.ensures.halves (subst M (sym same1) c.requires.matrix) in
     let same2 : L c.total_halves_on-2.new.source ≡ L c.args.source.now = c.total_halves_on-2.ensures.reads.same ∙ same1 in
     let same3 : L c.add_shared_on.new.source ≡ L c.args.source.now = c.add_shared_on.ensures.reads.same ∙ same2 in
-    let A0 : Lists → Type 0 = λ m. ArePlacesAfter (digit_place l d) false (level_in l m d) c.args.second.start c.args.second.end c.in-Some-total_halves_on.second_zeros.start c.in-Some-total_halves_on.second_zeros.end in
-    let A1 : Lists → Type 0 = λ m. ArePlacesAfter (digit_place l d) true (level_in l m d) c.args.second.start c.args.second.end c.in-Some-total_halves_on.second_ones.start c.in-Some-total_halves_on.second_ones.end in
+    let A0 : Lists → Type 0 = λ m. ArePositionsAfter (digit_position l d) false (level_in l m d) c.args.second.start c.args.second.end c.in-Some-total_halves_on.second_zeros.start c.in-Some-total_halves_on.second_zeros.end in
+    let A1 : Lists → Type 0 = λ m. ArePositionsAfter (digit_position l d) true (level_in l m d) c.args.second.start c.args.second.end c.in-Some-total_halves_on.second_ones.start c.in-Some-total_halves_on.second_ones.end in
     let walked = walk-prefixes xs l.width d h c.args.first.start c.args.first.end c.args.second.start c.args.second.end c.requires.first c.requires.second less
     c.in-Some.first_zeros.start c.in-Some.first_zeros.end c.in-Some-total_halves_on.second_zeros.start c.in-Some-total_halves_on.second_zeros.end
     c.in-Some.first_ones.start c.in-Some.first_ones.end c.in-Some-total_halves_on.second_ones.start c.in-Some-total_halves_on.second_ones.end

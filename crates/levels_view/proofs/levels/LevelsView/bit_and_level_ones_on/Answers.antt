@@ -10,7 +10,7 @@ use Rattle.levels_view.proofs.levels.LevelsView.bit_and_level_ones_on.Goals as g
 pub returns-clause-bit : goal.returns-clause-bit
 returns-clause-bit g c =
     let b = bits_in (g.T.TableSource.lists c.args.source.now) in
-    c.bit_and_ones_to_on-bit.ensures.bit ∙ ap (λ n. item b (c.args.depth * n + c.args.place)) c.len.ensures.len
+    c.bit_and_ones_to_on-bit.ensures.bit ∙ ap (λ n. item b (c.args.depth * n + c.args.position)) c.len.ensures.len
 
 pub returns-clause-answer : goal.returns-clause-answer
 returns-clause-answer g c = λ h.
@@ -18,7 +18,7 @@ returns-clause-answer g c = λ h.
     let lists = g.T.TableSource.lists c.args.source.now in
     let b = bits_in lists in
     let d = c.args.depth in
-    let p = c.args.place in
+    let p = c.args.position in
     let rank : c.bit_and_ones_to_on-bit.result.1 ≡ ones_before b (d * l.len + p) =
     c.bit_and_ones_to_on-bit.ensures.answer h.indexed.tables h.numbers.quarters_are ∙ ap (λ n. ones_before b (d * n + p)) c.len.ensures.len in
     omega (

@@ -19,9 +19,9 @@ returns-in-Some-clause-answer g c = λ k h f picked.
     let from : start ≤ c.in-Some.bit = is.start c.in-Some.bit bit in
     let there = is.picked c.in-Some.bit bit in
     let same : d * c.len-len.result ≡ start = ap (λ n. d * n) c.len-len.ensures.len in
-    let told = c.difference.ensures.answer (c.in-Some.bit - start) (omega (arith, from, same))
+    let claimed = c.difference.ensures.answer (c.in-Some.bit - start) (omega (arith, from, same))
     (omega (arith, there.inside, level-len xs l b h.numbers d, c.len-len.ensures.len)) in
-    subst (λ (o : Option ℕ). IsSomeAnd o (PicksItem (level_in l lists d) c.args.number k)) (sym told) there
+    subst (λ (o : Option ℕ). IsSomeAnd o (PicksItem (level_in l lists d) c.args.number k)) (sym claimed) there
 
 pub returns-in-None-clause-answer : goal.returns-in-None-clause-answer
 returns-in-None-clause-answer g c = λ k h f picked.

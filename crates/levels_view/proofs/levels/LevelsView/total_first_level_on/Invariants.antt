@@ -8,8 +8,8 @@ abbrev pub invariant-loop-k : goal.invariant-loop-k
 invariant-loop-k g l =
     let T = g.T.TableSource in
     record {
-      places_len : length l.places ≡ length l.indices;
+      positions_len : length l.positions ≡ length l.indices;
       numbers_len : length l.numbers ≡ length l.indices;
-      done : (j : ℕ) → j < l.k → IsOnTheWay l.self (T.lists l.fn.source) 1 (get_or l.indices j 0) (get_or l.places j 0) (get_or l.numbers j 0);
+      done : (j : ℕ) → j < l.k → IsOnTheWay l.self (T.lists l.fn.source) 1 (get_or l.indices j 0) (get_or l.positions j 0) (get_or l.numbers j 0);
       reads : OnlyRanks l.self T.lists T.reads l.fn.source l.source l.k;
     }

@@ -10,8 +10,8 @@ invariant-loop-depth g l =
     let n = length l.indices in
     record {
       few : l.depth ≤ l.self.width;
-      places_len : length l.places ≡ n;
+      positions_len : length l.positions ≡ n;
       numbers_len : length l.numbers ≡ n;
-      each : (j : ℕ) → j < n → IsOnTheWay l.self (T.lists l.fn.source) l.depth (get_or l.indices j 0) (get_or l.places j 0) (get_or l.numbers j 0);
+      each : (j : ℕ) → j < n → IsOnTheWay l.self (T.lists l.fn.source) l.depth (get_or l.indices j 0) (get_or l.positions j 0) (get_or l.numbers j 0);
       reads : OnlyRanks l.self T.lists T.reads l.fn.source l.source (l.depth * n);
     }

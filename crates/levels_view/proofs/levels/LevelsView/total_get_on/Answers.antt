@@ -14,7 +14,7 @@ returns-in-Some-clause-answer g c = λ h.
     let i = c.args.i in
     let within : i < length xs = omega (arith, c.if-i-len.false, c.len.ensures.len, m.count) in
     let begin = level-first xs l.width m.fit m.most i within in
-    let way = c.in-Some.ensures.answer i h (omega (arith, within, m.count)) begin.place begin.digits in
+    let way = c.in-Some.ensures.answer i h (omega (arith, within, m.count)) begin.position begin.digits in
     (within, way.0 ∙ prefix-all (slice_index xs i) l.width c.width.result c.width.ensures.width)
 
 pub returns-in-None-clause-answer : goal.returns-in-None-clause-answer
@@ -25,4 +25,4 @@ returns-in-None-clause-answer g c = λ h.
     let i = c.args.i in
     let within : i < length xs = omega (arith, c.if-i-len.false, c.len.ensures.len, m.count) in
     let begin = level-first xs l.width m.fit m.most i within in
-    c.in-None.ensures.answer i h (omega (arith, within, m.count)) begin.place begin.digits
+    c.in-None.ensures.answer i h (omega (arith, within, m.count)) begin.position begin.digits

@@ -14,7 +14,7 @@ loop-k-preserved g c =
     let out = c.loop-k.out in
     let inside : k < length c.args.indices.now = omega (arith, c.loop-k-test.true) in
     let within : k < length out = omega (arith, inside, i.len, c.requires.out) in
-    let here = (c.total_get_many_on.ensures.each k inside).found (omega (arith, c.if-places-k.false, c.len.ensures.len)) in
+    let here = (c.total_get_many_on.ensures.each k inside).found (omega (arith, c.if-positions-k.false, c.len.ensures.len)) in
     record {
       len = length-set out k x ∙ i.len;
       numbers =

@@ -1,9 +1,9 @@
--- The item goes alone through the known levels, and with the first place of its number from there on.
+-- The item goes alone through the known levels, and with the first position of its number from there on.
 use Rattle.std.proofs.Common.{◌≡◌, ◌+◌, ◌-◌, ◌/◌, ◌^◌, ◌<◌, ◌≤◌, length, ap, subst, sym, ◌∙◌, arith}
 use Rattle.std.proofs.lemmas.Option.{none-some, same_Some}
 use Rattle.std.specs.Prelude.{slice_index}
 use Rattle.bitm_tables.specs.Tables.{Lists}
-use Rattle.matrix_levels.specs.Levels.{level_place}
+use Rattle.matrix_levels.specs.Levels.{level_position}
 use Rattle.matrix_levels.specs.Matrix.{IsMatrix, numbers_in}
 use Rattle.matrix_levels.specs.Numbers.{occurrences_before}
 use Rattle.matrix_levels.proofs.lemmas.ManyLemmas.{IsAtLevel, level-first}
@@ -14,7 +14,7 @@ use Rattle.levels_view.proofs.levels.LevelsView.total_item_on.Goals.{After-diffe
 -- the item after the known levels
 stands : (g : _) (c : After-total_ways_on g) → IsMatrix c.args.self.now (g.T.TableSource.lists c.args.source.now)
     → IsAtLevel (numbers_in c.args.self.now (g.T.TableSource.lists c.args.source.now)) c.args.self.now.width c.args.self.now.known c.args.i
-    c.in_ok-number.place c.in_ok-number.number
+    c.in_ok-number.position c.in_ok-number.number
 stands g c h =
     let l = c.args.self.now in
     let m = h.numbers in
@@ -22,16 +22,16 @@ stands g c h =
     let xs = numbers_in l (g.T.TableSource.lists c.args.source.now) in
     let x = slice_index xs i in
     let begin = level-first xs l.width m.fit m.most i (omega (arith, c.requires.inside, m.count)) in
-    let way = c.in_ok-number.ensures.answer i h c.requires.inside begin.place begin.digits in
+    let way = c.in_ok-number.ensures.answer i h c.requires.inside begin.position begin.digits in
     record {
-      place = way.1 ∙ ap (λ k. level_place xs l.width x k i) c.known.ensures.known;
+      position = way.1 ∙ ap (λ k. level_position xs l.width x k i) c.known.ensures.known;
       digits = way.0 ∙ ap (λ k. x / 2 ^ (l.width - k)) c.known.ensures.known;
     }
 
--- as many of its number before it as between the two places
+-- as many of its number before it as between the two positions
 between : (g : _) (c : After-difference g) → IsMatrix c.args.self.now (g.T.TableSource.lists c.args.source.now)
     → IsAtLevel (numbers_in c.args.self.now (g.T.TableSource.lists c.args.source.now)) c.args.self.now.width c.args.self.now.known c.args.i
-    c.in_ok-number.place c.in_ok-number.number
+    c.in_ok-number.position c.in_ok-number.number
     → (let xs = numbers_in c.args.self.now (g.T.TableSource.lists c.args.source.now) in let x = slice_index xs c.args.i in
     (c.in_ok-found.found ≡ x) × (c.in_ok-found.first + occurrences_before xs x c.args.i ≡ c.in_ok-found.at) × (occurrences_before xs x c.args.i ≤ c.args.i))
 between g c h at =
@@ -43,10 +43,10 @@ between g c h at =
     let within : i < length xs = omega (arith, c.requires.inside, m.count) in
     let order : i ≤ length xs = omega (arith, within) in
     let P : Lists → Type 0 = λ s. let ys = numbers_in l s in IsMatrix l s
-    → c.in_ok-number.place ≡ level_place ys l.width (slice_index ys i) l.known i → c.in_ok-number.number ≡ slice_index ys i / 2 ^ (l.width - l.known)
-    → (c.in_ok-found.found ≡ slice_index ys i) × (c.in_ok-found.first ≡ level_place ys l.width (slice_index ys i) l.width 0)
-    × (c.in_ok-found.at ≡ level_place ys l.width (slice_index ys i) l.width i) in
-    let ways = subst P c.in_ok-number.ensures.reads.same (λ s. c.in_ok-found.ensures.answer i s c.requires.inside) h at.place at.digits in (
+    → c.in_ok-number.position ≡ level_position ys l.width (slice_index ys i) l.known i → c.in_ok-number.number ≡ slice_index ys i / 2 ^ (l.width - l.known)
+    → (c.in_ok-found.found ≡ slice_index ys i) × (c.in_ok-found.first ≡ level_position ys l.width (slice_index ys i) l.width 0)
+    × (c.in_ok-found.at ≡ level_position ys l.width (slice_index ys i) l.width i) in
+    let ways = subst P c.in_ok-number.ensures.reads.same (λ s. c.in_ok-found.ensures.answer i s c.requires.inside) h at.position at.digits in (
       ways.0,
       rank-between xs l.width x i c.in_ok-found.first c.in_ok-found.at m.fit (m.fit i 0 within) order ways.1 ways.2,
       few-before xs x i order,
@@ -67,7 +67,7 @@ returns-in_err-number-clause-answer g c = λ h.
     let l = c.args.self.now in
     let m = h.numbers in
     let begin = level-first (numbers_in l (g.T.TableSource.lists c.args.source.now)) l.width m.fit m.most c.args.i (omega (arith, c.requires.inside, m.count)) in
-    absurd (c.in_err-number.ensures.answer c.args.i h c.requires.inside begin.place begin.digits)
+    absurd (c.in_err-number.ensures.answer c.args.i h c.requires.inside begin.position begin.digits)
 
 pub returns-in_err-found-clause-answer : goal.returns-in_err-found-clause-answer
 returns-in_err-found-clause-answer g c = λ h.
@@ -75,8 +75,8 @@ returns-in_err-found-clause-answer g c = λ h.
     let i = c.args.i in
     let at = stands g (goal.at.returns-in_err-found-clause-answer g c).After-total_ways_on h in
     let P : Lists → Type 0 = λ s. let ys = numbers_in l s in IsMatrix l s
-    → c.in_ok-number.place ≡ level_place ys l.width (slice_index ys i) l.known i → c.in_ok-number.number ≡ slice_index ys i / 2 ^ (l.width - l.known) → ⊥ in
-    absurd (subst P c.in_ok-number.ensures.reads.same (λ s. c.in_err-found.ensures.answer i s c.requires.inside) h at.place at.digits)
+    → c.in_ok-number.position ≡ level_position ys l.width (slice_index ys i) l.known i → c.in_ok-number.number ≡ slice_index ys i / 2 ^ (l.width - l.known) → ⊥ in
+    absurd (subst P c.in_ok-number.ensures.reads.same (λ s. c.in_err-found.ensures.answer i s c.requires.inside) h at.position at.digits)
 
 pub returns-in_err-rank-clause-answer : goal.returns-in_err-rank-clause-answer
 returns-in_err-rank-clause-answer g c = λ h.

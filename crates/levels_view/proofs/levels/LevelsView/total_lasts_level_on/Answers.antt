@@ -3,7 +3,7 @@ use Rattle.std.proofs.Common.{◌≡◌, ℕ, ◌+◌, ◌*◌, ◌<◌, ◌≤�
 use Rattle.std.proofs.lemmas.List.{length-set}
 use Rattle.bitm_tables.specs.Tables.{bits_in, HasSizes, Lists}
 use Rattle.matrix_levels.specs.Matrix.{OnlyRanks}
-use Rattle.levels_view.specs.Walk.{IsPlaceOnTheWay}
+use Rattle.levels_view.specs.Walk.{IsPositionOnTheWay}
 use Rattle.matrix_levels.proofs.lemmas.ManyLemmas.{done-more, open-less}
 use Rattle.matrix_levels.proofs.lemmas.ReadsLemmas.{ranks-more, ranks-none}
 use Rattle.levels_view.proofs.levels.LevelsView.total_lasts_level_on.Goals as goal
@@ -16,11 +16,11 @@ loop-k-init g c = record {
   reads = ranks-none c.args.self.now g.T.TableSource.lists g.T.TableSource.reads c.args.source.now;
 }
 
-pub total_place_moved_on-requires-clause-sized : goal.total_place_moved_on-requires-clause-sized
-total_place_moved_on-requires-clause-sized g c = subst (λ (s : Lists). HasSizes s) (sym c.loop-k.invariant.reads.same) c.requires.sized
+pub total_position_moved_on-requires-clause-sized : goal.total_position_moved_on-requires-clause-sized
+total_position_moved_on-requires-clause-sized g c = subst (λ (s : Lists). HasSizes s) (sym c.loop-k.invariant.reads.same) c.requires.sized
 
-pub total_place_moved_on-requires-clause-room : goal.total_place_moved_on-requires-clause-room
-total_place_moved_on-requires-clause-room g c =
+pub total_position_moved_on-requires-clause-room : goal.total_position_moved_on-requires-clause-room
+total_position_moved_on-requires-clause-room g c =
     subst (λ (s : Lists). c.args.self.now.width * c.args.self.now.len ≤ length (bits_in s)) (sym c.loop-k.invariant.reads.same) c.requires.room
 
 pub loop-k-preserved : goal.loop-k-preserved
@@ -36,16 +36,16 @@ loop-k-preserved g c =
     let less : k < length c.args.numbers.now = omega (arith, c.loop-k-test.true, i.lasts_len) in
     let within : k < length lasts = omega (arith, less, i.lasts_len) in
     let P : ℕ → ℕ → ℕ → ℕ → Type 0 = λ e j p q. get_or c.args.ends.now j 0 ≤ l.len
-    → IsPlaceOnTheWay l lists e (get_or c.args.numbers.now j 0) (get_or c.args.ends.now j 0) p in
-    let moved : P (c.args.depth + 1) k c.total_place_moved_on.result 0 = λ near.
-    subst (λ (s : Lists). IsPlaceOnTheWay l s (c.args.depth + 1) x end c.total_place_moved_on.result) i.reads.same
-    (c.total_place_moved_on.ensures.moved end
-    (subst (λ (s : Lists). IsPlaceOnTheWay l s c.args.depth x end (get_or lasts k 0)) (sym i.reads.same) (i.rest k (omega arith) less near))) in
+    → IsPositionOnTheWay l lists e (get_or c.args.numbers.now j 0) (get_or c.args.ends.now j 0) p in
+    let moved : P (c.args.depth + 1) k c.total_position_moved_on.result 0 = λ near.
+    subst (λ (s : Lists). IsPositionOnTheWay l s (c.args.depth + 1) x end c.total_position_moved_on.result) i.reads.same
+    (c.total_position_moved_on.ensures.moved end
+    (subst (λ (s : Lists). IsPositionOnTheWay l s c.args.depth x end (get_or lasts k 0)) (sym i.reads.same) (i.rest k (omega arith) less near))) in
     record {
       lasts_len = length-set lasts k _ ∙ i.lasts_len;
       done = done-more (P (c.args.depth + 1)) lasts lasts k _ 0 within within i.done moved;
       rest = open-less (P c.args.depth) lasts lasts k _ 0 within within (length c.args.numbers.now) i.rest;
-      reads = ranks-more l T.lists T.reads c.args.source.now c.loop-k.source _ k 1 (k + 1) i.reads c.total_place_moved_on.ensures.reads (omega arith);
+      reads = ranks-more l T.lists T.reads c.args.source.now c.loop-k.source _ k 1 (k + 1) i.reads c.total_position_moved_on.ensures.reads (omega arith);
     }
 
 pub returns-clause-each : goal.returns-clause-each

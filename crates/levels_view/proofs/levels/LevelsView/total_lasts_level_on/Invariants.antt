@@ -1,6 +1,6 @@
 use Rattle.std.proofs.Common.{◌≡◌, ℕ, ◌+◌, ◌<◌, ◌≤◌, length, get_or}
 use Rattle.matrix_levels.specs.Matrix.{OnlyRanks}
-use Rattle.levels_view.specs.Walk.{IsPlaceOnTheWay}
+use Rattle.levels_view.specs.Walk.{IsPositionOnTheWay}
 use Rattle.levels_view.proofs.levels.LevelsView.total_lasts_level_on.Given as goal
 
 -- those so far stand on the next level
@@ -10,8 +10,8 @@ invariant-loop-k g l =
     record {
       lasts_len : length l.lasts ≡ length l.numbers;
       done : (j : ℕ) → j < l.k → get_or l.ends j 0 ≤ l.self.len
-          → IsPlaceOnTheWay l.self (T.lists l.fn.source) (l.depth + 1) (get_or l.numbers j 0) (get_or l.ends j 0) (get_or l.lasts j 0);
+          → IsPositionOnTheWay l.self (T.lists l.fn.source) (l.depth + 1) (get_or l.numbers j 0) (get_or l.ends j 0) (get_or l.lasts j 0);
       rest : (j : ℕ) → l.k ≤ j → j < length l.numbers → get_or l.ends j 0 ≤ l.self.len
-          → IsPlaceOnTheWay l.self (T.lists l.fn.source) l.depth (get_or l.numbers j 0) (get_or l.ends j 0) (get_or l.lasts j 0);
+          → IsPositionOnTheWay l.self (T.lists l.fn.source) l.depth (get_or l.numbers j 0) (get_or l.ends j 0) (get_or l.lasts j 0);
       reads : OnlyRanks l.self T.lists T.reads l.fn.source l.source l.k;
     }

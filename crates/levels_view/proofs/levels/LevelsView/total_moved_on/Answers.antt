@@ -13,12 +13,12 @@ returns-in-Some-clause-moved g c = λ i w.
     let next : (h : IsMatrix l lists) → (i < l.len) → IsAtLevel (numbers_in l lists) l.width (d + 1) i c.in-Some.next _ = λ h some.
     let m = h.numbers in
     let step = c.in-Some.ensures.answer h in
-    level-next-item (numbers_in l lists) l.width m.fit m.most i (omega (arith, some, m.count)) d c.args.place c.args.number c.in-Some.next
-    c.in-Some.digit (level_in l lists d) c.requires.depth (record { place = w.place h some; digits = w.digits h some }) refl step.0 step.1 in
+    level-next-item (numbers_in l lists) l.width m.fit m.most i (omega (arith, some, m.count)) d c.args.position c.args.number c.in-Some.next
+    c.in-Some.digit (level_in l lists d) c.requires.depth (record { position = w.position h some; digits = w.digits h some }) refl step.0 step.1 in
     record {
-      outside = λ past. absurd (omega (arith, w.outside past, c.if-place-len.false, c.len.ensures.len));
-      small = λ _. digits_more c.args.number d c.in-Some.digit (c.requires.small (omega (arith, c.if-place-len.false, c.len.ensures.len)));
+      outside = λ past. absurd (omega (arith, w.outside past, c.if-position-len.false, c.len.ensures.len));
+      small = λ _. digits_more c.args.number d c.in-Some.digit (c.requires.small (omega (arith, c.if-position-len.false, c.len.ensures.len)));
       inside = λ _ _. c.in-Some.ensures.inside;
-      place = λ h some. (next h some).place;
+      position = λ h some. (next h some).position;
       digits = λ h some. (next h some).digits;
     }

@@ -7,12 +7,12 @@ use Rattle.levels_view.specs.Walk.{IsRankAt}
 use Rattle.levels_view.proofs.levels.LevelsView.total_rank_with_on.Goals as goal
 use Rattle.levels_view.proofs.levels.LevelsView.total_rank_with_on.Goals.{After-rank_between}
 
-told : (g : _) (c : After-rank_between g)
+claimed : (g : _) (c : After-rank_between g)
     → IsRankAt c.args.self.now (g.T.TableSource.lists c.args.source.now) (slice_index c.args.numbers.now c.loop-k.k) (slice_index c.args.ends.now c.loop-k.k)
     c.rank_between.result
-told g c =
+claimed g c =
     c.rank_between.ensures (g.T.TableSource.lists c.args.source.now)
-    (c.total_places_of_many_on.ensures.each c.loop-k.k (omega (arith, c.loop-k-test.true)))
+    (c.total_positions_of_many_on.ensures.each c.loop-k.k (omega (arith, c.loop-k-test.true)))
 
 pub loop-k-preserved : goal.loop-k-preserved
 loop-k-preserved g c =
@@ -25,7 +25,7 @@ loop-k-preserved g c =
     let v = slice_index c.args.numbers.now k in
     let e = slice_index c.args.ends.now k in
     let within : k < length out = omega (arith, c.loop-k-test.true, i.len, c.requires.out) in
-    let here = subst (IsRankAt l lists v e) c.in-Found.is (told g (goal.at.loop-k-preserved g c).After-rank_between) in
+    let here = subst (IsRankAt l lists v e) c.in-Found.is (claimed g (goal.at.loop-k-preserved g c).After-rank_between) in
     record {
       len = length-set out k x ∙ i.len;
       ranks =
@@ -37,10 +37,10 @@ pub returns-in-Absent-clause-last : goal.returns-in-Absent-clause-last
 returns-in-Absent-clause-last g c = λ _.
     let k = c.loop-k.k in
     inl (subst (IsRankAt c.args.self.now (g.T.TableSource.lists c.args.source.now) (slice_index c.args.numbers.now k) (slice_index c.args.ends.now k)) c.in-Absent.is
-    (told g (goal.at.returns-in-Absent-clause-last g c).After-rank_between))
+    (claimed g (goal.at.returns-in-Absent-clause-last g c).After-rank_between))
 
 pub returns-in-Wrong-clause-last : goal.returns-in-Wrong-clause-last
 returns-in-Wrong-clause-last g c = λ _.
     let k = c.loop-k.k in
     inr (subst (IsRankAt c.args.self.now (g.T.TableSource.lists c.args.source.now) (slice_index c.args.numbers.now k) (slice_index c.args.ends.now k)) c.in-Wrong.is
-    (told g (goal.at.returns-in-Wrong-clause-last g c).After-rank_between))
+    (claimed g (goal.at.returns-in-Wrong-clause-last g c).After-rank_between))

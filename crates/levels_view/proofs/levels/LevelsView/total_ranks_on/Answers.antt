@@ -37,10 +37,10 @@ before : (g : _) (c : After-difference-2 g) → IsMatrix c.args.self.now (g.T.Ta
 before g c h =
     let l = c.args.self.now in
     let xs = numbers_in l (g.T.TableSource.lists c.args.source.now) in
-    let places = c.in-Some.ensures.places h in
+    let positions = c.in-Some.ensures.positions h in
     let within = start g c h in
     c.difference.ensures.answer (occurrences_before xs c.args.number c.args.start)
-    (rank-between xs l.width c.args.number c.args.start c.in-Some.base c.in-Some.first h.numbers.fit (fit g c) within places.0 places.1)
+    (rank-between xs l.width c.args.number c.args.start c.in-Some.base c.in-Some.first h.numbers.fit (fit g c) within positions.0 positions.1)
     (few-before xs c.args.number c.args.start within)
 
 through : (g : _) (c : After-difference-2 g) → IsMatrix c.args.self.now (g.T.TableSource.lists c.args.source.now)
@@ -48,10 +48,10 @@ through : (g : _) (c : After-difference-2 g) → IsMatrix c.args.self.now (g.T.T
 through g c h =
     let l = c.args.self.now in
     let xs = numbers_in l (g.T.TableSource.lists c.args.source.now) in
-    let places = c.in-Some.ensures.places h in
+    let positions = c.in-Some.ensures.positions h in
     let within = end g c h in
     c.difference-2.ensures.answer (occurrences_before xs c.args.number c.args.end)
-    (rank-between xs l.width c.args.number c.args.end c.in-Some.base c.in-Some.last h.numbers.fit (fit g c) within places.0 places.2)
+    (rank-between xs l.width c.args.number c.args.end c.in-Some.base c.in-Some.last h.numbers.fit (fit g c) within positions.0 positions.2)
     (few-before xs c.args.number c.args.end within)
 
 pub returns-in-Some-Some-clause-answer : goal.returns-in-Some-Some-clause-answer

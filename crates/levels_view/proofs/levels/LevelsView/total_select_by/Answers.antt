@@ -18,17 +18,17 @@ returns-then-not-fits-clause-answer g c = λ h f.
 pub returns-in-Some-clause-answer : goal.returns-in-Some-clause-answer
 returns-in-Some-clause-answer g c = λ h f.
     let l = c.args.self.now in
-    let same = c.total_last_place_on.ensures.reads.same in
+    let same = c.total_last_position_on.ensures.reads.same in
     let here = subst (λ (m : Lists). IsMatrix l m) (sym same) h in
     let finds = subst (λ (m : Lists). g.F.Finds.finds c.args.finder.now m) (sym same) f in
-    let picked = subst (λ (m : Lists). PicksItem (level_in l m l.width) c.args.number c.args.k c.in-Found.place) (sym same) (c.in-Found.ensures.answer h) in
+    let picked = subst (λ (m : Lists). PicksItem (level_in l m l.width) c.args.number c.args.k c.in-Found.position) (sym same) (c.in-Found.ensures.answer h) in
     subst (λ (m : Lists). PicksItem (numbers_in l m) c.args.number c.args.k c.in-Some.first) same (c.in-Some.ensures.answer c.args.k here finds picked)
 
 pub returns-in-None-clause-answer : goal.returns-in-None-clause-answer
 returns-in-None-clause-answer g c = λ h f.
     let l = c.args.self.now in
-    let same = c.total_last_place_on.ensures.reads.same in
+    let same = c.total_last_position_on.ensures.reads.same in
     let here = subst (λ (m : Lists). IsMatrix l m) (sym same) h in
     let finds = subst (λ (m : Lists). g.F.Finds.finds c.args.finder.now m) (sym same) f in
-    let picked = subst (λ (m : Lists). PicksItem (level_in l m l.width) c.args.number c.args.k c.in-Found.place) (sym same) (c.in-Found.ensures.answer h) in
+    let picked = subst (λ (m : Lists). PicksItem (level_in l m l.width) c.args.number c.args.k c.in-Found.position) (sym same) (c.in-Found.ensures.answer h) in
     c.in-None.ensures.answer c.args.k here finds picked

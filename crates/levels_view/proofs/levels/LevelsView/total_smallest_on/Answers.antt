@@ -1,12 +1,12 @@
 -- From level to level the bit is 1 where as many have a 0 as are still to be passed.
 use Rattle.std.proofs.Common.{◌≡◌, ◌+◌, ◌-◌, ◌*◌, ◌<◌, ◌≤◌, slice_range, nat_le, refl, ap, sym, subst, arith}
 use Rattle.bitm_tables.specs.Tables.{bits_in, Lists}
-use Rattle.matrix_levels.specs.Levels.{partition_place}
-use Rattle.matrix_levels.specs.Matrix.{digit_place, level_in, numbers_in, IsMatrix}
+use Rattle.matrix_levels.specs.Levels.{partition_position}
+use Rattle.matrix_levels.specs.Matrix.{digit_position, level_in, numbers_in, IsMatrix}
 use Rattle.matrix_levels.proofs.lemmas.PrefixLemmas.{IsPrefixRange-first}
 use Rattle.matrix_levels.proofs.lemmas.RangeLemmas.{IsQuantilePrefix-next, equal-last, less-first, part-zeros, smallest}
 use Rattle.matrix_levels.proofs.lemmas.ReadsLemmas.{ranks-more, ranks-none}
-use Rattle.matrix_levels.proofs.lemmas.WalkLemmas.{place-same}
+use Rattle.matrix_levels.proofs.lemmas.WalkLemmas.{position-same}
 use Rattle.levels_view.proofs.RangeLemmas.{digit-added, left-within, of-digit, parts-within, passed-is}
 use Rattle.levels_view.proofs.StepLemmas.{digits_more}
 use Rattle.levels_view.proofs.levels.LevelsView.total_smallest_on.Goals as goal
@@ -54,7 +54,7 @@ loop-depth-preserved g c =
     c.in_ok-before.ensures.answer (subst (λ (m : Lists). IsMatrix l m) (sym i.reads.same) h) in
     let after = λ (h : IsMatrix l (T.lists c.args.source.now)).
     c.in_ok-next.ensures.answer (numbers_in l s) (bits_in s) c.loop-depth.last (subst (λ (m : Lists). IsMatrix l m) (sym i.reads.same) h).numbers order i.inside (counted h).0
-    (of-digit (λ u. partition_place (digit_place l d) u (level_in l s d) c.loop-depth.last - partition_place (digit_place l d) u (level_in l s d) c.loop-depth.first)
+    (of-digit (λ u. partition_position (digit_position l d) u (level_in l s d) c.loop-depth.last - partition_position (digit_position l d) u (level_in l s d) c.loop-depth.first)
     v ones zeros c.with_digit-size.result c.with_digit-size.ensures (counted h).1 (counted h).2) in
     record {
       inside = to.1;
@@ -66,8 +66,8 @@ loop-depth-preserved g c =
           _ c.in_ok-next.next c.in_ok-next.after (left - c.with_digit-passed.result) v before (i.prefix h)
           (part-zeros xs l.width d _ _ _ _ _ (level_in l s d) same refl refl (counted h).2)
           (digit-added c.loop-depth.number v)
-          (place-same _ _ _ (level_in l s d) c.loop-depth.first _ same (after h).0)
-          (place-same _ _ _ (level_in l s d) c.loop-depth.last _ same (after h).1)
+          (position-same _ _ _ (level_in l s d) c.loop-depth.first _ same (after h).0)
+          (position-same _ _ _ (level_in l s d) c.loop-depth.last _ same (after h).1)
           (passed-is zeros left c.with_digit-passed.result c.with_digit-passed.ensures);
       reads = ranks-more l T.lists T.reads c.args.source.now c.loop-depth.source _ (2 * d) 2 (2 * (d + 1)) i.reads c.in_ok-before.ensures.reads (omega arith);
     }

@@ -11,7 +11,7 @@ returns-then-next-len-clause-answer g c = λ h.
     let lists = g.T.TableSource.lists c.args.source.now in
     let step = c.bit_and_level_ones_on-digit in
     let to = c.moved-next.ensures (numbers_in l lists) (bits_in lists) h.numbers (step.ensures.answer h) in
-    ((step-is (numbers_in l lists) l (bits_in lists) h.numbers c.args.depth c.args.place c.requires.depth c.requires.inside step.result.0 c.moved-next.result step.ensures.bit to).0, to)
+    ((step-is (numbers_in l lists) l (bits_in lists) h.numbers c.args.depth c.args.position c.requires.depth c.requires.inside step.result.0 c.moved-next.result step.ensures.bit to).0, to)
 
 pub returns-else-next-len-clause-answer : goal.returns-else-next-len-clause-answer
 returns-else-next-len-clause-answer g c = λ h.
@@ -21,7 +21,7 @@ returns-else-next-len-clause-answer g c = λ h.
     let to = c.moved-next.ensures (numbers_in l lists) (bits_in lists) h.numbers (step.ensures.answer h) in
     omega (
       arith,
-      (step-is (numbers_in l lists) l (bits_in lists) h.numbers c.args.depth c.args.place c.requires.depth c.requires.inside step.result.0 c.moved-next.result step.ensures.bit to).1,
+      (step-is (numbers_in l lists) l (bits_in lists) h.numbers c.args.depth c.args.position c.requires.depth c.requires.inside step.result.0 c.moved-next.result step.ensures.bit to).1,
       c.if-next-len.false,
       c.len.ensures.len,
     )

@@ -2,7 +2,7 @@
 use Rattle.std.proofs.Common.{◌≡◌, ◌+◌, ◌-◌, ◌/◌, ◌^◌, ap, subst, sym, ◌∙◌, arith}
 use Rattle.std.specs.Prelude.{slice_index}
 use Rattle.bitm_tables.specs.Tables.{Lists}
-use Rattle.matrix_levels.specs.Levels.{level_place}
+use Rattle.matrix_levels.specs.Levels.{level_position}
 use Rattle.matrix_levels.specs.Matrix.{IsMatrix, level_in, numbers_in}
 use Rattle.matrix_levels.proofs.lemmas.ManyLemmas.{level-next-item}
 use Rattle.matrix_levels.proofs.lemmas.ReadsLemmas.{ranks-fewer, ranks-more, ranks-none}
@@ -17,7 +17,7 @@ loop-depth-init g c =
     record {
       inside = c.requires.inside;
       small = c.requires.small;
-      number = λ i h some stands bits. record { place = stands; digits = bits };
+      number = λ i h some stands bits. record { position = stands; digits = bits };
       reads = ranks-fewer l T.lists T.reads s s 0 (c.args.from - c.args.from) (ranks-none l T.lists T.reads s) (omega arith);
     }
 
@@ -48,5 +48,5 @@ returns-clause-answer g c = λ i h some stands bits.
     let all : c.loop-depth.depth ≡ c.args.to = omega (arith, c.loop-depth-test.false, c.loop-depth.auto, c.requires.order) in
     let at = c.loop-depth.invariant.number i h some stands bits in (
       at.digits ∙ ap (λ k. slice_index xs i / 2 ^ (l.width - k)) all,
-      at.place ∙ ap (λ k. level_place xs l.width (slice_index xs i) k i) all,
+      at.position ∙ ap (λ k. level_position xs l.width (slice_index xs i) k i) all,
     )

@@ -1,13 +1,13 @@
--- The item and the first place of its number move from level to level, and its bits come one by one.
+-- The item and the first position of its number move from level to level, and its bits come one by one.
 use Rattle.std.proofs.Common.{◌≡◌, ◌+◌, ◌-◌, ◌*◌, ◌/◌, ◌^◌, ◌<◌, ap, subst, sym, ◌∙◌, arith}
 use Rattle.std.proofs.lemmas.Option.{same_Some}
 use Rattle.std.specs.Prelude.{slice_index}
 use Rattle.bitm_tables.specs.Tables.{bits_in, Lists}
-use Rattle.matrix_levels.specs.Levels.{level_place}
+use Rattle.matrix_levels.specs.Levels.{level_position}
 use Rattle.matrix_levels.specs.Matrix.{IsMatrix, level_in, numbers_in}
 use Rattle.matrix_levels.proofs.lemmas.ManyLemmas.{level-last, level-next-item}
 use Rattle.matrix_levels.proofs.lemmas.ReadsLemmas.{ranks-fewer, ranks-more, ranks-none}
-use Rattle.matrix_levels.proofs.lemmas.WalkLemmas.{step-place}
+use Rattle.matrix_levels.proofs.lemmas.WalkLemmas.{step-position}
 use Rattle.levels_view.proofs.PairLemmas.{own-digit}
 use Rattle.levels_view.proofs.StepLemmas.{digits_more}
 use Rattle.levels_view.proofs.levels.LevelsView.total_ways_on.Goals as goal
@@ -25,13 +25,13 @@ loop-depth-init g c =
       base_inside = c.in_ok-base.ensures.inside;
       small = subst (λ k. c.args.number < 2 ^ k) (sym known) c.requires.small;
       number = λ i h some stands bits. record {
-        place = stands ∙ ap (λ k. level_place xs l.width (slice_index xs i) k i) (sym known);
+        position = stands ∙ ap (λ k. level_position xs l.width (slice_index xs i) k i) (sym known);
         digits = bits ∙ ap (λ k. slice_index xs i / 2 ^ (l.width - k)) (sym known);
       };
       base_is = λ i h some stands bits.
           let m = h.numbers in
           same_Some _ _ (c.in_ok-base.ensures.start xs (bits_in lists) (slice_index xs i) m (m.fit i 0 (omega (arith, some, m.count))) (sym bits))
-          ∙ ap (λ k. level_place xs l.width (slice_index xs i) k 0) (sym known);
+          ∙ ap (λ k. level_position xs l.width (slice_index xs i) k 0) (sym known);
       reads = ranks-fewer l T.lists T.reads s s 0 (2 * (c.known-depth.result - l.known)) (ranks-none l T.lists T.reads s) (omega arith);
     }
 
@@ -61,7 +61,7 @@ loop-depth-preserved g c =
           let step = c.in_ok-digit.ensures.answer here in
           let own = own-digit xs l.width i d c.loop-depth.at c.loop-depth.found c.in_ok-digit.digit (level_in l (T.lists c.loop-depth.source) d)
           (omega (arith, some, m.count)) (ap (λ (s : Lists). level_in l s d) v.reads.same) (v.number i h some stands bits) step.0 in
-          step-place xs l.width (slice_index xs i) d 0 c.loop-depth.base c.in_ok-first.first c.in_ok-digit.digit
+          step-position xs l.width (slice_index xs i) d 0 c.loop-depth.base c.in_ok-first.first c.in_ok-digit.digit
           (level_in l (T.lists c.total_step_on.new.source) d) (ap (λ (s : Lists). level_in l s d) to_two) own (v.base_is i h some stands bits)
           (same_Some _ _ (c.in_ok-first.ensures.answer there));
       reads =
@@ -81,6 +81,6 @@ returns-clause-answer g c = λ i h some stands bits.
     omega (arith, c.loop-depth-test.false, c.loop-depth.auto, c.width-depth-end.ensures.width, c.known-depth.ensures.most) in
     let at = v.number i h some stands bits in (
       level-last xs l.width m.fit m.most i (omega (arith, some, m.count)) c.loop-depth.depth c.loop-depth.at c.loop-depth.found all at,
-      v.base_is i h some stands bits ∙ ap (λ d. level_place xs l.width (slice_index xs i) d 0) all,
-      at.place ∙ ap (λ d. level_place xs l.width (slice_index xs i) d i) all,
+      v.base_is i h some stands bits ∙ ap (λ d. level_position xs l.width (slice_index xs i) d 0) all,
+      at.position ∙ ap (λ d. level_position xs l.width (slice_index xs i) d i) all,
     )

@@ -4,7 +4,7 @@ use Rattle.std.proofs.lemmas.List.{length_push}
 use Rattle.std.proofs.Math.Nat.{pow-le-pow_right}
 use Rattle.std.specs.Box.{boxed_slice_items}
 use Rattle.bitm_tables.specs.Tables.{Lists, bits_in}
-use Rattle.matrix_levels.specs.Levels.{level_place}
+use Rattle.matrix_levels.specs.Levels.{level_position}
 use Rattle.matrix_levels.specs.Matrix.{IsMatrix, IsMatrixOf, LevelTables, numbers_in}
 use Rattle.matrix_levels.proofs.lemmas.MakeLemmas.{each-push}
 use Rattle.matrix_levels.proofs.lemmas.MatrixLemmas.{matrix-with-starts}
@@ -16,7 +16,7 @@ pub unreachable-requires : goal.unreachable-requires
 unreachable-requires g c =
     let l = c.args.self.now in
     found-some l c.lend-levels.result (g.T.TableSource.lists c.loop-begin.source) _ _ _ c.lend-levels.ensures
-    (subst (λ (m : Lists). IsMatrix l m) (sym c.loop-begin.invariant.same) c.requires.matrix) c.in-None.is c.total_place_on.ensures.place
+    (subst (λ (m : Lists). IsMatrix l m) (sym c.loop-begin.invariant.same) c.requires.matrix) c.in-None.is c.total_position_on.ensures.position
 
 pub loop-begin-preserved : goal.loop-begin-preserved
 loop-begin-preserved g c =
@@ -31,13 +31,13 @@ loop-begin-preserved g c =
     let lists = T.lists c.loop-begin.source in
     record {
       count = ap (λ (m : List ℕ). length m) c.in_ok-push-in-Some.ensures.items ∙ length_push c.loop-begin.starts.items _ ∙ ap (λ (n : ℕ). n + 1) i.count;
-      starts = each-push (λ k s. s ≡ level_place xs l.width (k * 2 ^ (l.width - d)) d 0) c.loop-begin.starts.items _ _ c.loop-begin.begin
+      starts = each-push (λ k s. s ≡ level_position xs l.width (k * 2 ^ (l.width - d)) d 0) c.loop-begin.starts.items _ _ c.loop-begin.begin
           c.in_ok-push-in-Some.ensures.items i.count i.starts
-          (start-of-begin xs (numbers_in l (T.lists c.loop-begin.source)) l.width d c.loop-begin.begin _ _ c.in-Some.place
+          (start-of-begin xs (numbers_in l (T.lists c.loop-begin.source)) l.width d c.loop-begin.begin _ _ c.in-Some.position
           (ap (λ (m : Lists). numbers_in l m) i.same) c.requires.most h.most less (ap (λ (w : ℕ). (w - d) % 64) c.width.ensures) refl
           (found-start l c.lend-levels.result lists _ d _ _ c.lend-levels.ensures (subst (λ (m : Lists). IsMatrix l m) (sym i.same) c.requires.matrix) c.in-Some.is
-          c.total_place_on.ensures.place));
-      same = c.total_place_on.ensures.reads.same ∙ i.same;
+          c.total_position_on.ensures.position));
+      same = c.total_position_on.ensures.reads.same ∙ i.same;
     }
 
 pub returns-clause-matrix : goal.returns-clause-matrix

@@ -5,10 +5,10 @@ use Rattle.std.proofs.lemmas.Bool.{eqb-false}
 use Rattle.std.specs.Vec.{vec_len}
 use Rattle.bit_lists.specs.Bits.{bits_of}
 use Rattle.perfect_hash.specs.Levels.{fall_in, AreChosen, AreSized}
-use Rattle.perfect_hash.specs.Places.{words_for}
+use Rattle.perfect_hash.specs.Positions.{words_for}
 use Rattle.perfect_hash.proofs.lemmas.BuildLemmas.{count_next, no_more}
 use Rattle.perfect_hash.proofs.lemmas.CollideLemmas.{collide, collide_with}
-use Rattle.perfect_hash.proofs.lemmas.PlaceLemmas.{next_short, positive}
+use Rattle.perfect_hash.proofs.lemmas.PositionLemmas.{next_short, positive}
 use Rattle.perfect_hash.proofs.lemmas.PlacingLemmas.{AreChosen-next, AreSized-next, Leave-next}
 use Rattle.perfect_hash.proofs.levels.building.make_levels.Goals as goal
 

@@ -1,6 +1,6 @@
 use Rattle.std.proofs.Common.{◌≡◌, ◌*◌, ◌≤◌, length}
 use Rattle.perfect_hash.specs.Levels.{fall_in, AreChosen, AreSized, Leave}
-use Rattle.perfect_hash.specs.Places.{words_for}
+use Rattle.perfect_hash.specs.Positions.{words_for}
 use Rattle.bit_lists.specs.Bits.{bits_of}
 use Rattle.perfect_hash.proofs.levels.building.make_levels.Given as goal
 

@@ -1,7 +1,7 @@
 -- Each level that is made leaves the hashes in front; where none is left, they are numbered.
 use Rattle.std.proofs.Common.{◌≡◌, ◌+◌, ◌<◌, ◌≤◌, ℕ, length, min, subst, arith}
 use Rattle.std.proofs.lemmas.List.{length-take-le}
-use Rattle.perfect_hash.specs.Places.{words_for}
+use Rattle.perfect_hash.specs.Positions.{words_for}
 use Rattle.perfect_hash.proofs.lemmas.InPlaceLemmas.{built_levels, built_more, built_ones, IsBuilt}
 use Rattle.perfect_hash.proofs.levels.in_place.build_in_place.Goals as goal
 

@@ -19,18 +19,18 @@ loop-hash-preserved g c =
     let hit = bits_of c.loop-hash.hit in
     let again = bits_of c.loop-hash.again in
     let i = c.loop-hash.hash-index in
-    let place = c.place-place.result in
+    let position = c.position-position.result in
     elim c.if-get_bit.branch [
       | then-get_bit w ↦ IsMarked-same fall _ c.args.level words _ _ _ _
-          (IsMarked-again fall hashes c.args.level words i (get_or hashes i 0) 0 place
-          c.loop-hash-test.true refl c.place-place.ensures.at
-          hit again c.loop-hash.invariant c.place-place.ensures.inside
+          (IsMarked-again fall hashes c.args.level words i (get_or hashes i 0) 0 position
+          c.loop-hash-test.true refl c.position-position.ensures.at
+          hit again c.loop-hash.invariant c.position-position.ensures.inside
           (omega (arith, bits_are_counted c.loop-hash.again)) (sym c.get_bit.ensures ∙ w.if-get_bit.true))
           (ap bits_of w.hit-is) (ap bits_of w.again-is ∙ w.set_bit.ensures)
       | else-get_bit w ↦ IsMarked-same fall _ c.args.level words _ _ _ _
-          (IsMarked-first fall hashes c.args.level words i (get_or hashes i 0) 0 place
-          c.loop-hash-test.true refl c.place-place.ensures.at
-          hit again c.loop-hash.invariant c.place-place.ensures.inside
+          (IsMarked-first fall hashes c.args.level words i (get_or hashes i 0) 0 position
+          c.loop-hash-test.true refl c.position-position.ensures.at
+          hit again c.loop-hash.invariant c.position-position.ensures.inside
           (omega (arith, bits_are_counted c.loop-hash.hit)) (sym c.get_bit.ensures ∙ w.if-get_bit.false))
           (ap bits_of w.hit-is ∙ w.set_bit-else-get_bit.ensures) (ap bits_of w.again-is)
     ]

@@ -1,4 +1,4 @@
--- A key that stands at a place is before the end.
+-- A key that stands at a position is before the end.
 use Rattle.std.proofs.Common.{arith}
 use Rattle.std.proofs.lemmas.Option.{slice_get_within}
 use Rattle.perfect_hash.proofs.table.PerfectHash.hash_each.Goals as goal

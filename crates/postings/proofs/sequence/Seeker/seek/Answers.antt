@@ -76,11 +76,11 @@ returns-clause-next c =
     let after = drop c.total_next_on.new.spot.at xs in
     let A : Answer ℕ → Type 0 = λ a. IsAnswered (drop s.spot.at xs) v a after in
     let O : Option ℕ → Type 0 = λ o. IsNextAtLeast (drop s.spot.at xs) v o after in
-    let told = (c.total_next_on.ensures.next xs h.parts).next h.here in
+    let claimed = (c.total_next_on.ensures.next xs h.parts).next h.here in
     let next : O c.match-total_next_on.result =
     elim c.match-total_next_on.branch [
-      | in-Found w ↦ subst O (sym w.result-is) (subst A w.in-Found.is told)
-      | in-Absent w ↦ subst O (sym w.result-is) (subst A w.in-Absent.is told)
+      | in-Found w ↦ subst O (sym w.result-is) (subst A w.in-Found.is claimed)
+      | in-Absent w ↦ subst O (sym w.result-is) (subst A w.in-Absent.is claimed)
     ] in
     same_parts
     (λ w ws l. IsNextAtLeast c.args.self.now.left v c.match-total_next_on.result

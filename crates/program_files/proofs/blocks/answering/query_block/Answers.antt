@@ -1,7 +1,7 @@
 use Rattle.std.proofs.Common.{◌≡◌, Some, rules}
 use Rattle.program_files.specs.Bytes.{words_of_bytes}
 use Rattle.program_files.specs.Kind.{number_kind_in}
-use Rattle.program_files.proofs.lemmas.OpenedLemmas.{told_of_kind}
+use Rattle.program_files.proofs.lemmas.OpenedLemmas.{replies_of_kind}
 use Rattle.program_files.proofs.blocks.answering.query_block.Goals as goal
 
 pub returns-in-Some-kind_in-clause-answers : goal.returns-in-Some-kind_in-clause-answers
@@ -11,5 +11,5 @@ returns-in-Some-kind_in-clause-answers g c =
     let says : number_kind_in c.in-Some.words.items ≡ Some c.in-Some-kind_in.kind = search rules in
     let sound = rw c.as_slice-in-Some-kind_in.ensures.value at c.answer_kind.ensures.sound in
     let wrote = rw c.as_slice-in-Some-kind_in.ensures.value at c.answer_kind.ensures.answers in
-    told_of_kind c.args.form c.answer_kind.result c.args.block.now c.args.text.now c.in-Some.words.items c.in-Some-kind_in.kind (contents c.args.out.now)
+    replies_of_kind c.args.form c.answer_kind.result c.args.block.now c.args.text.now c.in-Some.words.items c.in-Some-kind_in.kind (contents c.args.out.now)
     (contents c.answer_kind.new.out) words says sound wrote

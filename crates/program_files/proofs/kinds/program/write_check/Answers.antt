@@ -11,7 +11,7 @@ use Rattle.program_files.proofs.kinds.program.write_check.Goals as goal
 pub returns : goal.returns
 returns g c =
     let bytes = c.args.block.now in
-    let told : IsTrue c.match-format.good ↔ (IsSoundFile bytes ⊎ IsOldFile bytes) =
+    let reported : IsTrue c.match-format.good ↔ (IsSoundFile bytes ⊎ IsOldFile bytes) =
     elim c.match-format.branch [
       | in-Ok-Old+in_ok-good-in-Ok-Old w ↦
           let old : format_in bytes ≡ Ok Old = search rules in
@@ -23,4 +23,4 @@ returns g c =
           let right : IsTrue c.match-format.good ↔ IsSoundFile bytes = search rules in
           right_of_others bytes c.match-format.good other right
     ] in
-    record { told = told; written = search rules }
+    record { reported = reported; written = search rules }

@@ -9,6 +9,6 @@ pub returns : goal.returns
 returns c =
     let ends = c.args.ends.now in
     let key = always_returns_same _ _ _ (λ a r f k. search (rules, of_calls)) in
-    let point = c.partition_point.ensures.partitioned (λ end. nat_lt end c.args.place) key
-    (IsPartitionedBy-ltb (λ end. end) ends c.args.place c.requires) in
-    ap (λ n. n + 1) (count-point (λ end. nat_lt end c.args.place) ends c.partition_point.result c.partition_point.ensures.bound point)
+    let point = c.partition_point.ensures.partitioned (λ end. nat_lt end c.args.position) key
+    (IsPartitionedBy-ltb (λ end. end) ends c.args.position c.requires) in
+    ap (λ n. n + 1) (count-point (λ end. nat_lt end c.args.position) ends c.partition_point.result c.partition_point.ensures.bound point)

@@ -1,6 +1,6 @@
 -- The block of the positions is that of the bits.
 use Rattle.std.proofs.Common.{ℕ, sym, subst}
-use Rattle.sparse_bits.specs.Positions.{ArePlaces}
+use Rattle.sparse_bits.specs.Positions.{AreBitPositions}
 use Rattle.sequence_block.specs.SparseBlock.{sparse_in, HoldsOnes}
 use Rattle.sequence_block.proofs.sparse.building.write_checked.Goals as goal
 
@@ -10,7 +10,7 @@ returns-clause-block c =
     let is = c.in-Ok.ensures.block in
     let ones : HoldsOnes xs (sparse_in c.build_as.new.block) = record {
       holds = is.holds;
-      places = subst (λ (n : ℕ). ArePlaces n 0 xs) (sym is.besides) c.in_ok-check_ones.ensures.places;
+      positions = subst (λ (n : ℕ). AreBitPositions n 0 xs) (sym is.besides) c.in_ok-check_ones.ensures.positions;
     } in
     record {
       sound = record { sequence = is.sound; bits = (xs, ones) };

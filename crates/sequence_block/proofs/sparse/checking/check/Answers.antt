@@ -1,7 +1,7 @@
 -- The positions rise below the number of bits, whichever numbers the parts hold.
 use Rattle.std.proofs.Common.{ℕ, refl, sym, ap, ◌∙◌, subst}
 use Rattle.elias_fano.specs.SequenceParts.{Holds, SequenceParts}
-use Rattle.sparse_bits.specs.Positions.{ArePlaces}
+use Rattle.sparse_bits.specs.Positions.{AreBitPositions}
 use Rattle.sequence_block.specs.SparseBlock.{SparseParts}
 use Rattle.sequence_block.proofs.sparse.checking.check.Goals as goal
 
@@ -13,14 +13,14 @@ returns-in-Some c =
     let len = c.len.ensures ∙ ap (λ (v : SparseParts). v.len) is in (
       λ rise.
           let xs = sound.parts.0 in
-          let places = (c.rise_below.ensures xs (subst (λ (p : SequenceParts). Holds xs p) (sym parts) sound.parts.1)).0 rise in
+          let positions = (c.rise_below.ensures xs (subst (λ (p : SequenceParts). Holds xs p) (sym parts) sound.parts.1)).0 rise in
           record {
             sequence = sound;
-            bits = (xs, record { holds = sound.parts.1; places = subst (λ (n : ℕ). ArePlaces n 0 xs) len places });
+            bits = (xs, record { holds = sound.parts.1; positions = subst (λ (n : ℕ). AreBitPositions n 0 xs) len positions });
           },
       λ whole.
           let xs = whole.bits.0 in
           let ones = whole.bits.1 in
           (c.rise_below.ensures xs (subst (λ (p : SequenceParts). Holds xs p) (sym parts) ones.holds)).1
-          (subst (λ (n : ℕ). ArePlaces n 0 xs) (sym len) ones.places),
+          (subst (λ (n : ℕ). AreBitPositions n 0 xs) (sym len) ones.positions),
     )

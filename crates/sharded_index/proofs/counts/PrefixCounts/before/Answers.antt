@@ -1,7 +1,7 @@
 -- What is claimed is so where the numbers are those of the shards.
 use Rattle.std.proofs.Common.{◌≡◌, rules, ◌∙◌, arith}
 use Rattle.sharded_index.specs.Prefixes.{claimed}
-use Rattle.sharded_index.proofs.PlaceLemmas.{claimed_is}
+use Rattle.sharded_index.proofs.LocationLemmas.{claimed_is}
 use Rattle.sharded_index.proofs.counts.PrefixCounts.before.Goals as goal
 
 pub returns-clause-right : goal.returns-clause-right

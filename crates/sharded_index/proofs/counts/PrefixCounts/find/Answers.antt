@@ -3,7 +3,7 @@ use Rattle.std.proofs.Common.{◌≡◌, ◌-◌, ◌<◌, ◌≤◌, ℕ, lengt
 use Rattle.std.proofs.lemmas.Bool.{cases_lt}
 use Rattle.bitm_tables.specs.declared.answer.Answer.TheVariants.{Wrong}
 use Rattle.sharded_index.specs.Prefixes.{claimed, shard_count}
-use Rattle.sharded_index.proofs.PlaceLemmas.{placed, placed_by}
+use Rattle.sharded_index.proofs.LocationLemmas.{placed, placed_by}
 use Rattle.sharded_index.proofs.counts.PrefixCounts.find.Goals as goal
 
 pub returns-then-before-number-clause-right : goal.returns-then-before-number-clause-right

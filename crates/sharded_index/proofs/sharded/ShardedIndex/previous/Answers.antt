@@ -3,7 +3,7 @@ use Rattle.std.proofs.Common.{◌≡◌, ◌+◌, ◌-◌, length, map, min, sym
 use Rattle.sharded_index.specs.Joined.{joined}
 use Rattle.sharded_index.specs.declared.counts.Kind.TheVariants.{Positions}
 use Rattle.tables_view.proofs.NearestLemmas.{previous_none, previous_of}
-use Rattle.sharded_index.proofs.PlaceLemmas.{claimed_all}
+use Rattle.sharded_index.proofs.LocationLemmas.{claimed_all}
 use Rattle.sharded_index.proofs.sharded.ShardedIndex.previous.Goals as goal
 use Rattle.sharded_index.proofs.sharded.ShardedIndex.previous.Goals.{then-from-total, else-from-total}
 

@@ -5,7 +5,7 @@ use Rattle.sharded_index.specs.Joined.{joined, kind_of}
 use Rattle.sharded_index.specs.Prefixes.{claimed_in_all}
 use Rattle.sharded_index.specs.declared.counts.Kind.{Kind}
 use Rattle.sharded_index.specs.declared.counts.Kind.TheVariants.{Positions}
-use Rattle.sharded_index.proofs.PlaceLemmas.{claimed_all, number_of-kind}
+use Rattle.sharded_index.proofs.LocationLemmas.{claimed_all, number_of-kind}
 use Rattle.sharded_index.proofs.ShardedLemmas.{ranked}
 use Rattle.sharded_index.proofs.sharded.ShardedIndex.rank.Goals as goal
 

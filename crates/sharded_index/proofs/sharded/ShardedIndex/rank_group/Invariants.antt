@@ -6,5 +6,5 @@ use Rattle.sharded_index.proofs.sharded.ShardedIndex.rank_group.Given as goal
 abbrev pub invariant-loop-at : goal.invariant-loop-at
 invariant-loop-at g l = record {
   long : length l.out ≡ length l.positions;
-  told : (j : ℕ) → j < length l.positions → IfNoCode (RankedIn g.S.Shard.bits g.S.Shard.right l.self l.one (slice_index l.positions j)) (slice_index l.out j);
+  claimed : (j : ℕ) → j < length l.positions → IfNoCode (RankedIn g.S.Shard.bits g.S.Shard.right l.self l.one (slice_index l.positions j)) (slice_index l.out j);
 }

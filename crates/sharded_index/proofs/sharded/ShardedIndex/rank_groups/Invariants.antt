@@ -7,5 +7,5 @@ abbrev pub invariant-loop-shard : goal.invariant-loop-shard
 invariant-loop-shard g l = record {
   long : length l.out ≡ length l.positions;
   room : length l.inside ≤ length l.ranks;
-  told : (j : ℕ) → j < length l.positions → IfNoCode (RankedIn g.S.Shard.bits g.S.Shard.right l.self l.one (slice_index l.positions j)) (slice_index l.out j);
+  claimed : (j : ℕ) → j < length l.positions → IfNoCode (RankedIn g.S.Shard.bits g.S.Shard.right l.self l.one (slice_index l.positions j)) (slice_index l.out j);
 }

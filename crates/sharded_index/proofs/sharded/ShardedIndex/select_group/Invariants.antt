@@ -6,5 +6,5 @@ use Rattle.sharded_index.proofs.sharded.ShardedIndex.select_group.Given as goal
 abbrev pub invariant-loop-at : goal.invariant-loop-at
 invariant-loop-at g l = record {
   long : length l.out ≡ length l.ranks;
-  told : (j : ℕ) → j < length l.ranks → IfNoCode (SelectedIn g.S.Shard.bits g.S.Shard.right l.self l.one (slice_index l.ranks j)) (slice_index l.out j);
+  claimed : (j : ℕ) → j < length l.ranks → IfNoCode (SelectedIn g.S.Shard.bits g.S.Shard.right l.self l.one (slice_index l.ranks j)) (slice_index l.out j);
 }

@@ -6,6 +6,6 @@ use Rattle.sharded_index.proofs.sharded.ShardedIndex.select_groups.Given as goal
 abbrev pub invariant-loop-shard : goal.invariant-loop-shard
 invariant-loop-shard g l = record {
   long : length l.out ≡ length l.ranks;
-  room : length l.inside ≤ length l.places;
-  told : (j : ℕ) → j < length l.ranks → IfNoCode (SelectedIn g.S.Shard.bits g.S.Shard.right l.self l.one (slice_index l.ranks j)) (slice_index l.out j);
+  room : length l.inside ≤ length l.positions;
+  claimed : (j : ℕ) → j < length l.ranks → IfNoCode (SelectedIn g.S.Shard.bits g.S.Shard.right l.self l.one (slice_index l.ranks j)) (slice_index l.out j);
 }

@@ -15,7 +15,7 @@ loop-left-preserved-then-saturating_sub-rank g c =
       to = omega (arith, c.loop-left.invariant.to, c.loop-left-test.true);
       few = λ xs h j l.
           let item = c.in-Found.ensures.answer xs (subst (λ p. g.P.Items.holds xs p) (sym c.loop-left.invariant.positions) h.holds) in
-          omega (arith, grow_to xs j m h.places.rising (omega (arith, l)) item.0, item.1, c.saturating_sub.ensures, c.if-saturating_sub-rank.true);
+          omega (arith, grow_to xs j m h.positions.rising (omega (arith, l)) item.0, item.1, c.saturating_sub.ensures, c.if-saturating_sub-rank.true);
       more = λ xs h j from l. c.loop-left.invariant.more xs h j (omega (arith, from, c.loop-left-test.true)) l;
       searches = same_searches _ _ read ∙ c.loop-left.invariant.searches;
       gets = omega (
@@ -37,7 +37,7 @@ loop-left-preserved g c =
       few = c.loop-left.invariant.few;
       more = λ xs h j from l.
           let item = c.in-Found.ensures.answer xs (subst (λ p. g.P.Items.holds xs p) (sym c.loop-left.invariant.positions) h.holds) in
-          omega (arith, grow_to xs m j h.places.rising from l, item.1, c.saturating_sub.ensures, c.if-saturating_sub-rank.false);
+          omega (arith, grow_to xs m j h.positions.rising from l, item.1, c.saturating_sub.ensures, c.if-saturating_sub-rank.false);
       searches = same_searches _ _ read ∙ c.loop-left.invariant.searches;
       gets = omega (
         arith,

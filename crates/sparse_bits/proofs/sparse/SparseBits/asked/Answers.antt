@@ -2,7 +2,7 @@
 use Rattle.std.proofs.Common.{ℕ, List, length, refl, sym, ap, ◌∙◌, subst}
 use Rattle.sparse_bits.proofs.lemmas.ValueLemmas.{bits_are, length_is}
 use Rattle.sparse_bits.specs.Looks.{no_looks}
-use Rattle.sparse_bits.specs.Positions.{bits_at, ArePlaces}
+use Rattle.sparse_bits.specs.Positions.{bits_at, AreBitPositions}
 use Rattle.sparse_bits.proofs.sparse.SparseBits.asked.Goals as goal
 
 pub returns-clause-asked : goal.returns-clause-asked
@@ -18,8 +18,8 @@ returns-clause-bits g c =
     ∙ (ap (bits_at c.self.inside.len 0) (ap (λ l. l.positions.items) c.new.ensures)
     ∙ sym (bits_are c.self.inside.len c.self.inside.ones.items _ _ c.self.view_is refl c.self.invariant))
 
-pub returns-clause-places : goal.returns-clause-places
-returns-clause-places g c =
-    subst (λ (xs : List ℕ). ArePlaces (length c.args.self.now.bits) 0 xs) (sym (ap (λ l. l.positions.items) c.new.ensures))
-    (subst (λ (n : ℕ). ArePlaces n 0 c.self.inside.ones.items)
+pub returns-clause-positions : goal.returns-clause-positions
+returns-clause-positions g c =
+    subst (λ (xs : List ℕ). AreBitPositions (length c.args.self.now.bits) 0 xs) (sym (ap (λ l. l.positions.items) c.new.ensures))
+    (subst (λ (n : ℕ). AreBitPositions n 0 c.self.inside.ones.items)
     (sym (length_is c.self.inside.len c.self.inside.ones.items _ _ c.self.view_is refl c.self.invariant)) c.self.invariant)

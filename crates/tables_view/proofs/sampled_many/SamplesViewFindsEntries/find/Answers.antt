@@ -1,4 +1,4 @@
--- Each query whose entry is found is written in its place.
+-- Each query whose entry is found is written at its position.
 use Rattle.std.proofs.Common.{ℕ, ◌<◌, length, slice_index, ap, ◌∙◌, subst, arith}
 use Rattle.std.proofs.lemmas.List.{length-set}
 use Rattle.bit_lists.specs.Bits.{digit_count}

@@ -7,14 +7,14 @@ use Rattle.bitm_tables.specs.Tables.{AreTablesOf, Lists, bits_in}
 use Rattle.tables_view.specs.Samples.{AreSamples}
 use Rattle.tables_view.proofs.SamplingLemmas.{room_for}
 use Rattle.tables_view.proofs.view.TablesView.build_samples.Goals as goal
-use Rattle.tables_view.proofs.view.TablesView.build_samples.Goals.{After-told_ones}
+use Rattle.tables_view.proofs.view.TablesView.build_samples.Goals.{After-claimed_ones}
 
-long : (g : _) (c : After-told_ones g) → length (bits_in c.args.self.now) ≡ length c.self.inside.words.now * 64
+long : (g : _) (c : After-claimed_ones g) → length (bits_in c.args.self.now) ≡ length c.self.inside.words.now * 64
 long g c = omega (arith, length-bits_of c.args.self.now.words, ap (λ (l : Lists). length l.words) c.self.view_is)
 
 pub returns-in_default-clause-room : goal.returns-in_default-clause-room
 returns-in_default-clause-room g c = λ _.
-    absurd (omega (arith, c.in_default.ensures.inside, long g (goal.at.returns-in_default-clause-room g c).After-told_ones))
+    absurd (omega (arith, c.in_default.ensures.inside, long g (goal.at.returns-in_default-clause-room g c).After-claimed_ones))
 
 pub fill_all-requires-clause-room : goal.fill_all-requires-clause-room
 fill_all-requires-clause-room g c =
@@ -26,7 +26,7 @@ fill_all-requires-clause-room g c =
 pub returns-clause-made : goal.returns-clause-made
 returns-clause-made g c = λ t.
     let b = bits_in c.args.self.now in
-    let l = long g (goal.at.returns-clause-made g c).After-told_ones in
+    let l = long g (goal.at.returns-clause-made g c).After-claimed_ones in
     let r = c.in-Some.ensures.answer t in
     let tables : AreTablesOf b c.self.inside.upper.now c.self.inside.lower.now =
     subst (λ (x : Lists). AreTablesOf b x.upper x.lower) (sym c.self.view_is) t in

@@ -8,9 +8,9 @@ use Rattle.bitm_tables.specs.Tables.{AreTablesOf, Lists, bits_in}
 use Rattle.bitm_strategies.proofs.lemmas.SampleLemmas.{length-starts}
 use Rattle.tables_view.specs.Samples.{AreSamples}
 use Rattle.tables_view.proofs.view.TablesView.check_samples.Goals as goal
-use Rattle.tables_view.proofs.view.TablesView.check_samples.Goals.{After-told_ones}
+use Rattle.tables_view.proofs.view.TablesView.check_samples.Goals.{After-claimed_ones}
 
-long : (g : _) (c : After-told_ones g) → length (bits_in c.args.self.now) ≡ length c.self.inside.words.now * 64
+long : (g : _) (c : After-claimed_ones g) → length (bits_in c.args.self.now) ≡ length c.self.inside.words.now * 64
 long g c = omega (arith, length-bits_of c.args.self.now.words, ap (λ (l : Lists). length l.words) c.self.view_is)
 
 pub returns-then-samples-self : goal.returns-then-samples-self
@@ -32,12 +32,12 @@ returns-then-samples-self g c = λ t. (
 
 pub returns-in_default : goal.returns-in_default
 returns-in_default g c = λ _.
-    absurd (omega (arith, c.in_default.ensures.inside, long g (goal.at.returns-in_default g c).After-told_ones))
+    absurd (omega (arith, c.in_default.ensures.inside, long g (goal.at.returns-in_default g c).After-claimed_ones))
 
 pub returns : goal.returns
 returns g c = λ t.
     let b = bits_in c.args.self.now in
-    let l = long g (goal.at.returns g c).After-told_ones in
+    let l = long g (goal.at.returns g c).After-claimed_ones in
     let r = c.in-Some.ensures.answer t in
     let tables : AreTablesOf b c.self.inside.upper.now c.self.inside.lower.now =
     subst (λ (x : Lists). AreTablesOf b x.upper x.lower) (sym c.self.view_is) t in

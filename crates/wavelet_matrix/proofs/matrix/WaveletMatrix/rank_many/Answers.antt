@@ -8,7 +8,7 @@ pub returns : goal.returns
 returns g c = λ k less.
     let m = c.parts-levels.ensures.matrix in
     let numbers = c.args.numbers.now in
-    let places = c.args.places.now in
+    let positions = c.args.positions.now in
     let found = c.total_rank_list_on-found.result in
     let all : length numbers ≤ found =
     ⊎_elim
@@ -21,4 +21,4 @@ returns g c = λ k less.
     (λ reached. reached)
     (cases_lt found (length numbers)) in
     let here = (c.total_rank_list_on-found.ensures.ranks k (omega (arith, less, all, c.requires.numbers))).right m in
-    here.1 ∙ ap (λ (xs : List ℕ). occurrences_before xs (slice_index numbers k) (slice_index places k)) c.parts-levels.ensures.items
+    here.1 ∙ ap (λ (xs : List ℕ). occurrences_before xs (slice_index numbers k) (slice_index positions k)) c.parts-levels.ensures.items

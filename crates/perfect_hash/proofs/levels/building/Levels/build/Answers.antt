@@ -1,5 +1,5 @@
 -- Hashes alone say where they fall.
-use Rattle.perfect_hash.specs.Places.{words_for}
+use Rattle.perfect_hash.specs.Positions.{words_for}
 use Rattle.perfect_hash.proofs.lemmas.CollideLemmas.{collides_by_hash}
 use Rattle.perfect_hash.proofs.levels.building.Levels.build.Goals as goal
 

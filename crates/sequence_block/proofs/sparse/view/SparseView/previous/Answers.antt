@@ -16,7 +16,7 @@ returns-in-Found-eq0-clause-counts c = λ xs h.
       | else-from-len w ↦ omega (arith, c.len.ensures, w.if-from-len.false, w.len-end.ensures, w.end-is)
     ] in
     let none : c.in-Found-eq0.field-0 ≡ 0 = omega (arith, c.in-Found-eq0.field-0-is, c.in-Found-eq0.field-0-test) in
-    previous_none (bits_of xs v) c.args.one c.args.from end (omega (arith, ends, bits_count v.len xs h.places))
+    previous_none (bits_of xs v) c.args.one c.args.from end (omega (arith, ends, bits_count v.len xs h.positions))
     (sym none ∙ (c.in-Found-eq0.ensures.counts xs h).1)
 
 pub returns-in-Found-clause-counts : goal.returns-in-Found-clause-counts
@@ -29,6 +29,6 @@ returns-in-Found-clause-counts c = λ xs h.
       | else-from-len w ↦ omega (arith, c.len.ensures, w.if-from-len.false, w.len-end.ensures, w.end-is)
     ] in
     let back : c.in-Found.ranks - 1 + 1 ≡ c.in-Found.ranks = omega (arith, c.in-Found.ranks-is) in
-    previous_of (bits_of xs v) c.args.one c.args.from end (omega (arith, ends, bits_count v.len xs h.places)) (c.in-Found.ranks - 1)
+    previous_of (bits_of xs v) c.args.one c.args.from end (omega (arith, ends, bits_count v.len xs h.positions)) (c.in-Found.ranks - 1)
     c.select_of.result c.only_before.result (back ∙ (c.in-Found.ensures.counts xs h).1) (c.select_of.ensures.counts xs h)
     c.only_before.ensures

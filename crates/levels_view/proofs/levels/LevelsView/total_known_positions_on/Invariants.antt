@@ -1,0 +1,17 @@
+use Rattle.std.proofs.Common.{◌≡◌, ℕ, ◌*◌, ◌<◌, ◌≤◌, length, get_or}
+use Rattle.matrix_levels.specs.Matrix.{OnlyRanks}
+use Rattle.levels_view.specs.Walk.{IsPositionOnTheWay}
+use Rattle.levels_view.proofs.levels.LevelsView.total_known_positions_on.Given as goal
+
+-- those before the ends stand on the level
+abbrev pub invariant-loop-depth : goal.invariant-loop-depth
+invariant-loop-depth g l =
+    let T = g.T.TableSource in
+    let n = length l.numbers in
+    record {
+      few : l.depth ≤ l.self.known;
+      lasts_len : length l.lasts ≡ n;
+      each : (j : ℕ) → j < n → get_or l.ends j 0 ≤ l.self.len
+          → IsPositionOnTheWay l.self (T.lists l.fn.source) l.depth (get_or l.numbers j 0) (get_or l.ends j 0) (get_or l.lasts j 0);
+      reads : OnlyRanks l.self T.lists T.reads l.fn.source l.source (l.depth * n);
+    }

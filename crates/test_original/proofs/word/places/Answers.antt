@@ -1,7 +1,0 @@
--- Each rank below the number of ones picks a place.
-use Rattle.std.proofs.Common.{arith}
-use Rattle.bitm.proofs.Callers.{rank_in_word}
-use Rattle.test_original.proofs.word.places.Goals as goal
-
-pub select64-requires : goal.select64-requires
-select64-requires c = rank_in_word c.args.n c.loop-rank.rank (omega arith) (omega arith)
