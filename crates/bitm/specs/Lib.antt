@@ -20,7 +20,7 @@ pub use Rattle.bitm_tables.specs.Quarters
 pub use Rattle.bitm_tables.specs.Reads
 pub use Rattle.bitm_select.specs.Search
 pub use Rattle.bitm_tables.specs.Tables
-pub use Rattle.bitm_select.specs.Claimed
+pub use Rattle.bitm_select.specs.Claims
 pub use Rattle.bitm_tables.specs.declared.answer.Answer
 pub use Rattle.bitm_tables.specs.declared.source.counts.ReadCounts
 pub use Rattle.bitm_strategies.specs.Density

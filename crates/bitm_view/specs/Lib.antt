@@ -10,7 +10,7 @@ pub use Rattle.bitm_select.specs.Many
 pub use Rattle.bitm_tables.specs.Reads
 pub use Rattle.bitm_select.specs.Search
 pub use Rattle.bitm_tables.specs.Tables
-pub use Rattle.bitm_select.specs.Claimed
+pub use Rattle.bitm_select.specs.Claims
 pub use Rattle.tables_view.specs.Counting
 pub use Rattle.tables_view.specs.Nearest
 pub use Rattle.tables_view.specs.Ranks
