@@ -4,7 +4,7 @@ use Rattle.std.proofs.lemmas.Bool.{cases_lt}
 use Rattle.bitm_tables.specs.Tables.{Lists}
 use Rattle.matrix_levels.specs.Matrix.{numbers_in, IsMatrix, LevelTables}
 use Rattle.matrix_levels.proofs.lemmas.ManyLemmas.{level-first, level-last}
-use Rattle.levels_view.specs.Walk.{IsOnTheWay, IsRanked}
+use Rattle.levels_view.specs.Walk.{IsOnTheWay, IsNumberAndRank}
 
 -- an item begins at its index, with no digits
 pub begins : (l : LevelTables) (lists : Lists) (i : ℕ) → IsOnTheWay l lists 0 i i 0
@@ -19,7 +19,7 @@ begins l lists i =
     }
 
 -- after the last level the digits are the number
-pub claimed : (l : LevelTables) (lists : Lists) (i p n d : ℕ) → d ≡ l.width → IsOnTheWay l lists d i p n → IsRanked l lists i p n
+pub claimed : (l : LevelTables) (lists : Lists) (i p n d : ℕ) → d ≡ l.width → IsOnTheWay l lists d i p n → IsNumberAndRank l lists i p n
 claimed l lists i p n d e w = record {
   found = λ in_p.
       let some : i < l.len = ⊎_elim (λ s. s) (λ past. absurd (omega (arith, w.outside past, in_p))) (cases_lt i l.len) in

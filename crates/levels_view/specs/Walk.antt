@@ -21,8 +21,8 @@ pub record IsNumberAt (l : LevelTables) (lists : Lists) (i : ℕ) (answer : Answ
   pub inside : IsNumberWithin l.len l.width i answer
   pub right : IsMatrix l lists → IsNumberOf (numbers_in l lists) i answer
 
--- what a position p and a number n after the last level say of number i: a position past the end that there is no answer
-pub record IsRanked (l : LevelTables) (lists : Lists) (i p n : ℕ) : Type 0 where
+-- what a position p and a number n after the last level say about number i: a position past the end, that there is no answer
+pub record IsNumberAndRank (l : LevelTables) (lists : Lists) (i p n : ℕ) : Type 0 where
   pub found : p < l.len → IsNumberAt l lists i (Found n)
   pub unanswered : l.len ≤ p → IsNumberAt l lists i Absent ⊎ IsNumberAt l lists i Wrong
 

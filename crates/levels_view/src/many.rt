@@ -4,7 +4,7 @@
 ghost use Rattle.std.specs.Prelude.{◌≡◌, ◌+◌, ◌*◌, ◌^◌, ◌<◌, ◌≤◌, ℕ, length, slice_index};
 ghost use Rattle.bitm_tables.specs.Tables.{HasSizes, bits_in};
 ghost use Rattle.matrix_levels.specs.Matrix.{OnlyRanks};
-ghost use Rattle.levels_view.specs.Walk.{IsOnTheWay, IsRanked};
+ghost use Rattle.levels_view.specs.Walk.{IsOnTheWay, IsNumberAndRank};
 
 use crate::levels::LevelsView;
 use bitm_tables::source::TableSource;
@@ -111,7 +111,7 @@ impl<'a> LevelsView<'a> {
         requires numbers { length numbers.old ≡ length indices.now }
         ensures positions { length positions.new ≡ length indices.now }
         ensures numbers { length numbers.new ≡ length indices.now }
-        ensures each { (k : ℕ) → k < length indices.now → IsRanked self.now (T.lists source.old)
+        ensures each { (k : ℕ) → k < length indices.now → IsNumberAndRank self.now (T.lists source.old)
             (slice_index indices.now k) (slice_index positions.new k) (slice_index numbers.new k) }
         ensures reads { OnlyRanks self.now T.lists T.reads source.old source.new
             (self.now.width * length indices.now) }
