@@ -2,7 +2,7 @@
 use Rattle.bitm_view.specs.Cut.{Cut, cut_at}
 use Rattle.tables_view.specs.Samples.{sampled}
 use Rattle.tables_view.specs.Sizes.{lists_of}
-use Rattle.bitm_abi.specs.Samples.{lent_samples}
+use Rattle.bitm_abi.specs.Samples.{borrowed_samples}
 use Rattle.bitm_abi.specs.declared.index.Index.{Index}
 
 -- the words and tables of an index, and the length of the bit vector
@@ -12,4 +12,4 @@ cut_of index = cut_at (lists_of index.words.now index.upper.now index.lower.now)
 -- and its samples of either kind
 abbrev pub sampled_cut_of : Index → Cut
 sampled_cut_of index =
-    record (cut_of index) { ones = sampled (lent_samples index.ones); zeros = sampled (lent_samples index.zeros) }
+    record (cut_of index) { ones = sampled (borrowed_samples index.ones); zeros = sampled (borrowed_samples index.zeros) }

@@ -5,8 +5,8 @@ use Rattle.bitm_abi.specs.declared.samples.Samples.{Samples}
 use Rattle.bitm_abi.specs.declared.index.Index.{Index}
 
 -- the samples as the library takes them
-abbrev pub lent_samples : Samples → SamplesView
-lent_samples s = record { samples = s.samples; starts = s.starts; log2 = min s.log2 31 }
+abbrev pub borrowed_samples : Samples → SamplesView
+borrowed_samples s = record { samples = s.samples; starts = s.starts; log2 = min s.log2 31 }
 
 -- there are none
 pub record HasNoSamples (s : Samples) : Type 0 where

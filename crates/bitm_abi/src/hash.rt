@@ -71,7 +71,7 @@ impl<'a> Model for PerfectHashView<'a> {
 impl<'a> Hash<'a> {
     /// The words and tables as the library queries them; `None` exactly where a length is not right.
     #[inline(always)]
-    pub fn lent(&self) -> Option<TablesView<'a>>
+    pub fn borrowed(&self) -> Option<TablesView<'a>>
         ensures { SomeIff result (HasSizes (hash_lists self.now) × (length self.now.sizes.now ≤ 256))
             (hash_lists self.now) }
     {
@@ -86,7 +86,7 @@ impl<'a> Hash<'a> {
     pub fn view(&self) -> Option<PerfectHashView<'a>>
         ensures { SomeIff result (CanBeHash (parts_of self.now)) (parts_of self.now) }
     {
-        let tables = self.lent()?;
+        let tables = self.borrowed()?;
         Some(PerfectHashView {
             tables,
             sizes: self.sizes,
@@ -106,7 +106,7 @@ impl<'a> SeededHash<'a> {
         if self.seeds.len() != 0 && self.seeds.len() != hash.index.words.len() {
             return None;
         }
-        let tables = hash.lent()?;
+        let tables = hash.borrowed()?;
         Some(PerfectHashView {
             tables,
             sizes: hash.sizes,

@@ -22,7 +22,7 @@ use hash_block::HashView;
 pub fn hash_view<'a>(hash: &Hash<'a>, seed: u64) -> Option<HashView<'a>>
     ensures { SomeIff result (HasLengths (hash_parts hash.now seed)) (hash_parts hash.now seed) }
 {
-    let tables = hash.lent()?;
+    let tables = hash.borrowed()?;
     HashView::over(tables, hash.sizes, hash.keys, seed)
 }
 

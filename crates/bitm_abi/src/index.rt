@@ -2,7 +2,7 @@
 ghost use Rattle.std.specs.Prelude.{◌≡◌, ◌≢◌, ◌^◌, ◌<◌, ◌≤◌, SomeIff, length};
 ghost use Rattle.bitm_view.specs.Cut.{IsSizedCut};
 ghost use Rattle.bitm_abi.specs.Index.{cut_of, sampled_cut_of};
-ghost use Rattle.bitm_abi.specs.Samples.{lent_samples};
+ghost use Rattle.bitm_abi.specs.Samples.{borrowed_samples};
 
 use crate::samples::Samples;
 use bitm_view::IndexView;
@@ -37,8 +37,8 @@ impl<'a> Index<'a> {
     {
         let tables = TablesView::over(self.words, self.upper, self.lower)?;
         let whole = IndexView::over(tables, self.bits_len as usize)?;
-        let of_ones = whole.with_samples::<1>(self.ones.lent());
-        Some(of_ones.with_samples::<0>(self.zeros.lent()))
+        let of_ones = whole.with_samples::<1>(self.ones.borrowed());
+        Some(of_ones.with_samples::<0>(self.zeros.borrowed()))
     }
 
     /// The view without samples of 1 to 2^18 words; `None` for any other number of words, and where a length is not
@@ -77,13 +77,13 @@ impl<'a> Index<'a> {
     /// The samples of the 1 bits; of the 0 bits where `BIT` is 0.
     #[inline(always)]
     pub fn samples<const BIT: u8>(&self) -> SamplesView<'a>
-        ensures zeros { BIT ≡ 0 → result ≡ lent_samples self.now.zeros }
-        ensures ones { BIT ≢ 0 → result ≡ lent_samples self.now.ones }
+        ensures zeros { BIT ≡ 0 → result ≡ borrowed_samples self.now.zeros }
+        ensures ones { BIT ≢ 0 → result ≡ borrowed_samples self.now.ones }
     {
         if BIT == 0 {
-            self.zeros.lent()
+            self.zeros.borrowed()
         } else {
-            self.ones.lent()
+            self.ones.borrowed()
         }
     }
 }

@@ -1,7 +1,7 @@
 //! Samples as C passes them, and as the library takes them.
 ghost use Rattle.std.specs.Prelude.{◌≡◌, min};
 ghost use Rattle.tables_view.specs.Samples.{enough_samples};
-ghost use Rattle.bitm_abi.specs.Samples.{lent_samples, HasNoSamples};
+ghost use Rattle.bitm_abi.specs.Samples.{borrowed_samples, HasNoSamples};
 
 use tables_view::{SamplesView, samples_len};
 
@@ -51,8 +51,8 @@ impl<'a> Samples<'a> {
 
     /// The samples as the library takes them.
     #[inline(always)]
-    pub fn lent(&self) -> SamplesView<'a>
-        ensures { result ≡ lent_samples self.now }
+    pub fn borrowed(&self) -> SamplesView<'a>
+        ensures { result ≡ borrowed_samples self.now }
     {
         SamplesView {
             samples: self.samples,

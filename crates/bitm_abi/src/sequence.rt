@@ -45,7 +45,7 @@ pub struct SequenceLens {
 impl<'a> Sequence<'a> {
     /// The parts as the library queries them; `None` exactly where a length is not right.
     #[inline(always)]
-    pub fn lent(&self) -> Option<SequenceView<'a>>
+    pub fn borrowed(&self) -> Option<SequenceView<'a>>
         ensures { SomeIff result (IsSequenceSized self.now) (sequence_parts self.now) }
     {
         let upper = TablesView::over(self.words, self.upper, self.lower)?;

@@ -20,9 +20,9 @@ use crate::access::BitAccess;
 ///
 /// | The caller has | The calls |
 /// |---|---|
-/// | a parameter `slice: &mut [u64]` | `let mut lent = std::convert::identity(slice);`, then `lent.set_bit(3)` |
+/// | a parameter `slice: &mut [u64]` | `let mut own = std::convert::identity(slice);`, then `own.set_bit(3)` |
 /// | a boxed slice, a vector, an array | `let slice = owner.as_mut_slice();`, then as in the next row |
-/// | such a local `slice` | `let lent = &mut (&mut *slice,);`, then `lent.0.set_bit(3)` |
+/// | such a local `slice` | `let own = &mut (&mut *slice,);`, then `own.0.set_bit(3)` |
 /// | any of these | the functions of `words` on the slice, as `words::set_bit(slice, 3)` |
 /// | a `B: BitAccessMut` | the methods, where the caller's contract says that `B.lender` and the length stay |
 ///

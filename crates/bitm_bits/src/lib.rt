@@ -19,14 +19,14 @@
 // - `access_mut`: the trait `BitAccessMut`: writes to such a value
 // - `appending`: bits and numbers, appended one after another
 // - `clone_words`: bit vectors that can be copied
-// - `lent`: the calls of borrowed slices
+// - `borrowed`: the calls of borrowed slices
 // - `making`: the trait `BitVec`: vectors of words, built from a length
 // - `size`: how many bytes values have on the heap
 mod access;
 mod access_mut;
 mod appending;
+mod borrowed;
 mod clone_words;
-mod lent;
 mod making;
 mod size;
 

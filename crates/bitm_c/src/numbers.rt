@@ -18,8 +18,8 @@ pub extern "C" fn bitm_sequence_last_at_most(
 ) -> u32
     ensures { LastAnswered sequence.now value result out.old out.new }
 {
-    match sequence.lent() {
-        Some(lent) => report(lent.last_at_most(value), out),
+    match sequence.borrowed() {
+        Some(borrowed) => report(borrowed.last_at_most(value), out),
         None => BAD_SIZE,
     }
 }
@@ -29,10 +29,10 @@ pub extern "C" fn bitm_sequence_last_at_most(
 pub extern "C" fn bitm_sequence_contains(sequence: &Sequence<'_>, value: u64, out: &mut u64) -> u32
     ensures { ContainsAnswered sequence.now value result out.old out.new }
 {
-    let Some(lent) = sequence.lent() else {
+    let Some(borrowed) = sequence.borrowed() else {
         return BAD_SIZE;
     };
-    match lent.contains(value) {
+    match borrowed.contains(value) {
         Some(is) => {
             *out = is as u64;
             OK
@@ -62,10 +62,10 @@ pub extern "C" fn bitm_sequence_items(
     ensures behind { result ≢ 2 → IsKeptFrom written.new out.old out.new }
     ensures kept { result ≡ 2 → (out.new ≡ out.old) × (written.new ≡ written.old) }
 {
-    let Some(lent) = sequence.lent() else {
+    let Some(borrowed) = sequence.borrowed() else {
         return BAD_SIZE;
     };
-    let count = lent.items_from(from, &mut *out);
+    let count = borrowed.items_from(from, &mut *out);
     *written = count;
     if count == out.len().min(sequence.len.saturating_sub(from)) {
         OK

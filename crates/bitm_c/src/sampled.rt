@@ -5,7 +5,7 @@ ghost use Rattle.bitm_tables.specs.Tables.{HasTables, bits_in};
 ghost use Rattle.tables_view.specs.Samples.{AreSamples, AreSamplesOf, HasSampleRoom, enough_samples};
 ghost use Rattle.bitm_view.specs.Cut.{IsSizedCut};
 ghost use Rattle.bitm_abi.specs.Index.{cut_of};
-ghost use Rattle.bitm_abi.specs.Samples.{index_samples, lent_samples};
+ghost use Rattle.bitm_abi.specs.Samples.{index_samples, borrowed_samples};
 
 use bitm_abi::{BAD_SIZE, Index, OK, WRONG, narrow_log2};
 
@@ -64,7 +64,7 @@ pub extern "C" fn bitm_index_build_samples(
 pub extern "C" fn bitm_index_check_samples(index: &Index<'_>, one: bool) -> u32
     ensures ok { IsSizedCut (cut_of index.now) → HasTables (cut_of index.now).lists
         → (result ≡ 0) ↔ AreSamplesOf (bits_in (cut_of index.now).lists) one
-        (lent_samples (index_samples one index.now)) }
+        (borrowed_samples (index_samples one index.now)) }
     ensures bad { (result ≡ 2) ↔ ¬ (IsSizedCut (cut_of index.now)) }
     ensures status { (result ≡ 0) ⊎ (result ≡ 2) ⊎ (result ≡ 3) }
 {
@@ -72,9 +72,9 @@ pub extern "C" fn bitm_index_check_samples(index: &Index<'_>, one: bool) -> u32
         return BAD_SIZE;
     };
     let are = if one {
-        view.tables().check_samples::<1>(&index.ones.lent())
+        view.tables().check_samples::<1>(&index.ones.borrowed())
     } else {
-        view.tables().check_samples::<0>(&index.zeros.lent())
+        view.tables().check_samples::<0>(&index.zeros.borrowed())
     };
     if are { OK } else { WRONG }
 }

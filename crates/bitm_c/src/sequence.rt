@@ -75,8 +75,8 @@ pub extern "C" fn bitm_sequence_check(sequence: &Sequence<'_>) -> u32
     ensures bad { (result ≡ 2) ↔ ¬ (IsSequenceSized sequence.now) }
     ensures status { (result ≡ 0) ⊎ (result ≡ 2) ⊎ (result ≡ 3) }
 {
-    match sequence.lent() {
-        Some(lent) => { if lent.check() { OK } else { WRONG } }
+    match sequence.borrowed() {
+        Some(borrowed) => { if borrowed.check() { OK } else { WRONG } }
         None => BAD_SIZE,
     }
 }
@@ -86,8 +86,8 @@ pub extern "C" fn bitm_sequence_check(sequence: &Sequence<'_>) -> u32
 pub extern "C" fn bitm_sequence_get(sequence: &Sequence<'_>, index: usize, out: &mut u64) -> u32
     ensures { ItemAnswered sequence.now index result out.old out.new }
 {
-    match sequence.lent() {
-        Some(lent) => report(lent.get(index), out),
+    match sequence.borrowed() {
+        Some(borrowed) => report(borrowed.get(index), out),
         None => BAD_SIZE,
     }
 }
@@ -101,8 +101,8 @@ pub extern "C" fn bitm_sequence_first_at_least(
 ) -> u32
     ensures { PositionAnswered sequence.now value result out.old out.new }
 {
-    match sequence.lent() {
-        Some(lent) => report(lent.first_at_least(value), out),
+    match sequence.borrowed() {
+        Some(borrowed) => report(borrowed.first_at_least(value), out),
         None => BAD_SIZE,
     }
 }
@@ -131,8 +131,8 @@ pub extern "C" fn bitm_sequence_get_list(
         → length xs ≤ slice_index indices.now written.new }
     ensures behind { result ≢ 2 → IsKeptFrom written.new out.old out.new }
 {
-    match sequence.lent() {
-        Some(lent) => report_list_answer(lent.get_list(indices, out), indices.len(), written),
+    match sequence.borrowed() {
+        Some(view) => report_list_answer(view.get_list(indices, out), indices.len(), written),
         None => BAD_SIZE,
     }
 }

@@ -22,10 +22,10 @@ pub extern "C" fn bitm_sequence_first_at_least_list(
         → IsIndexCode (sequence_parts sequence.now) (slice_index values.now j) (slice_index out.new j) }
     ensures counts { result ≡ 0 → AreAnswersCounted out.new counts.new }
 {
-    let Some(lent) = sequence.lent() else {
+    let Some(borrowed) = sequence.borrowed() else {
         return BAD_SIZE;
     };
-    let done = lent.first_at_least_list(values, &mut *out);
+    let done = borrowed.first_at_least_list(values, &mut *out);
     report_list(done, &*out, counts)
 }
 
@@ -46,10 +46,10 @@ pub extern "C" fn bitm_sequence_last_at_most_list(
         (sought_by (slice_index out.new j)) }
     ensures counts { result ≡ 0 → AreAnswersCounted out.new counts.new }
 {
-    let Some(lent) = sequence.lent() else {
+    let Some(borrowed) = sequence.borrowed() else {
         return BAD_SIZE;
     };
-    let done = last_at_most_list(&lent, values, &mut *out);
+    let done = last_at_most_list(&borrowed, values, &mut *out);
     report_list(done, &*out, counts)
 }
 
@@ -68,9 +68,9 @@ pub extern "C" fn bitm_sequence_contains_list(
         → IsContained (slice_index values.now j) (sequence_parts sequence.now) (slice_index out.new j) }
     ensures counts { result ≡ 0 → AreAnswersCounted out.new counts.new }
 {
-    let Some(lent) = sequence.lent() else {
+    let Some(borrowed) = sequence.borrowed() else {
         return BAD_SIZE;
     };
-    let done = contains_list(&lent, values, &mut *out);
+    let done = contains_list(&borrowed, values, &mut *out);
     report_list(done, &*out, counts)
 }

@@ -202,10 +202,10 @@ module _ (h : HashLists) (hashes key_prints old new : List ℕ) (width m : ℕ) 
   )
 
 -- and the status says whether each key has a number, and room for its fingerprint
-pub set_status : (h lent : HashLists) → lent ≡ h → (hashes key_prints old new : List ℕ) (width m : ℕ) (all : Bool) (status : ℕ)
+pub set_status : (h borrowed : HashLists) → borrowed ≡ h → (hashes key_prints old new : List ℕ) (width m : ℕ) (all : Bool) (status : ℕ)
     → (all ≡ true → status ≡ 0) → (status ≡ 0 → all ≡ true)
-    → AreSet lent hashes key_prints old new width m (all ≡ true) → AreSet h hashes key_prints old new width m (status ≡ 0)
-set_status h lent same hashes key_prints old new width m all status good back is =
+    → AreSet borrowed hashes key_prints old new width m (all ≡ true) → AreSet h hashes key_prints old new width m (status ≡ 0)
+set_status h borrowed same hashes key_prints old new width m all status good back is =
     let here : AreSet h hashes key_prints old new width m (all ≡ true) =
     subst (λ (l : HashLists). AreSet l hashes key_prints old new width m (all ≡ true)) same is in
     record {

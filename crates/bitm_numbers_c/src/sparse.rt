@@ -24,7 +24,7 @@ impl<'a> Sparse<'a> {
     pub(crate) fn view(&self) -> Option<SparseView<'a>>
         ensures { SomeIff result (IsSequenceSized self.now.positions) (sparse_parts self.now) }
     {
-        let positions = self.positions.lent()?;
+        let positions = self.positions.borrowed()?;
         Some(SparseView::over(positions, self.bits_len))
     }
 }

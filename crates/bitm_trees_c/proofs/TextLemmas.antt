@@ -20,12 +20,12 @@ module _ (text_of : TextParts → List ℕ) (width_of : TextParts → ℕ) (from
   by_status status n (inr (inl one)) h = subst (OfStatus (length out)) (sym one) (subst (OfStatus n) one h)
   by_status status n (inr (inr three)) h = subst (OfStatus (length out)) (sym three) (subst (OfStatus n) three h)
 
--- what the library says of the letters over what is lent, which is what the view has
-pub part_claimed : (text_of : TextParts → List ℕ) (width_of : TextParts → ℕ) (from : ℕ) (out : List ℕ) (lent view : TextParts) → lent ≡ view → (sized : Type 0) → sized → (status old new : ℕ) (answer : Answer ℕ)
-    → IsReported answer status old new → IsPartIn text_of width_of from out lent answer
+-- what the library says of the letters over what is borrowed, which is what the view has
+pub part_claimed : (text_of : TextParts → List ℕ) (width_of : TextParts → ℕ) (from : ℕ) (out : List ℕ) (borrowed view : TextParts) → borrowed ≡ view → (sized : Type 0) → sized → (status old new : ℕ) (answer : Answer ℕ)
+    → IsReported answer status old new → IsPartIn text_of width_of from out borrowed answer
     → Exported sized (IsPartIn text_of width_of from out view) status (length out) (length out)
-part_claimed text_of width_of from out lent view same sized fits status old new answer is holds =
-    let claimed = by_status text_of width_of from out lent status new is.good (subst (IsPartIn text_of width_of from out lent) (sym is.is) holds) in
+part_claimed text_of width_of from out borrowed view same sized fits status old new answer is holds =
+    let claimed = by_status text_of width_of from out borrowed status new is.good (subst (IsPartIn text_of width_of from out borrowed) (sym is.is) holds) in
     record {
       bad = λ no. absurd (no fits);
       fits = λ _. fits;

@@ -8,13 +8,13 @@
 //! ```
 //! let (mut upper, mut lower) = ([0], [0; 2]);         // upper_len(40) and lower_len(40) entries
 //! let ones = build(&words, &mut upper, &mut lower);   // Some(..) of 40 words
-//! let Some(lent) = TablesView::over(&words, &upper, &lower) else { return };
-//! lent.select::<1>(17);                               // Found(position), Absent or Wrong
+//! let Some(borrowed) = TablesView::over(&words, &upper, &lower) else { return };
+//! borrowed.select::<1>(17);                               // Found(position), Absent or Wrong
 //!
 //! let (mut numbers, mut starts) = ([0; 20], [0]);     // samples_len(40, 7) and upper_len(40) numbers
-//! let Some(used) = lent.build_samples::<1>(7, &mut numbers, &mut starts) else { return };
+//! let Some(used) = borrowed.build_samples::<1>(7, &mut numbers, &mut starts) else { return };
 //! let samples = SamplesView { samples: &numbers[..used], starts: &starts, log2: 7 };
-//! lent.sampled_select::<1>(&samples, 17);             // the same answers, by fewer reads
+//! borrowed.sampled_select::<1>(&samples, 17);             // the same answers, by fewer reads
 //! ```
 #![tactic(auto)]
 

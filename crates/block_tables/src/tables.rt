@@ -45,7 +45,7 @@ pub fn are_tables(words: &[u64], upper: &[u64], lower: &[u64]) -> bool
     ensures { IsTrue result ↔ HasTables (lists_of words.now upper.now lower.now) }
 {
     match TablesView::over(words, as_entries(upper), lower) {
-        Some(lent) => lent.check(),
+        Some(borrowed) => borrowed.check(),
         None => unreachable!(),
     }
 }

@@ -10,8 +10,8 @@
 //! let numbers = [2u64, 3, 5, 7, 11, 13, 24];
 //! let sizes = Sizes::of(7, 24);                       // Some(..): the lengths of the parts
 //! let width = build(&numbers, &mut low, &mut words, &mut upper, &mut lower);    // Ok(1)
-//! let Some(lent) = TablesView::over(&words, &upper, &lower) else { return };
-//! let Some(primes) = SequenceView::over(7, 1, &low, lent) else { return };
+//! let Some(borrowed) = TablesView::over(&words, &upper, &lower) else { return };
+//! let Some(primes) = SequenceView::over(7, 1, &low, borrowed) else { return };
 //! primes.check();             // true: these are the parts of a sequence
 //! primes.get(4);              // Found(11)
 //! primes.first_at_least(8);   // Found(4)

@@ -13,7 +13,7 @@
 //! | find the numbers of a range, and know what is read | `between` |
 //! | number the members of a set densely, and find a member by its number | `dense` |
 //! | keep values by the numbers of a perfect hash | `numbered` |
-//! | find them over levels that came from elsewhere and may be wrong | `numbered_lent` |
+//! | find them over levels that came from elsewhere and may be wrong | `numbered_borrowed` |
 //! | store several bit vectors in one, under one index | `stretches` |
 //! | test a condition and then call | `asking` |
 //! | test a bit and rank it, in code that is generic over the index or the source | `bits_and_ranks` |
@@ -23,9 +23,9 @@
 //! | go up and down a tree | `family` |
 //! | know what a call reads | `counted` |
 //! | rank and select over your own tables | `source` |
-//! | query tables that came with the words and may be wrong | `lent` |
+//! | query tables that came with the words and may be wrong | `borrowed` |
 //! | index your own array by ranks of such tables | `ranked` |
-//! | query the parts of a sequence that came from elsewhere and may be wrong | `lent_sequence` |
+//! | query the parts of a sequence that came from elsewhere and may be wrong | `borrowed_sequence` |
 //! | select from samples that may be stale | `sampled` |
 //! | select over a source or by an index in one body, and in a way of your own | `selection` |
 //! | select by your own strategy | `strategies` |
@@ -35,6 +35,8 @@
 pub mod asking;
 pub mod between;
 pub mod bits_and_ranks;
+pub mod borrowed;
+pub mod borrowed_sequence;
 pub mod counted;
 pub mod dense;
 pub mod density;
@@ -42,13 +44,11 @@ pub mod family;
 pub mod inverse;
 pub mod inverted;
 pub mod iterating;
-pub mod lent;
-pub mod lent_sequence;
 pub mod many;
 pub mod median;
 pub mod neighbours;
 pub mod numbered;
-pub mod numbered_lent;
+pub mod numbered_borrowed;
 pub mod owned;
 pub mod ranked;
 pub mod readme;

@@ -7,13 +7,13 @@ use bitm_view::{Answer, TablesView};
 
 /// The item of your array at the rank of `position`, by tables that may be wrong; the array has one item more than
 /// there are bits. `None` where there are fewer bits, or the tables are wrong.
-pub fn item_at_rank(lent: &TablesView<'_>, position: usize, items: &[u64]) -> Option<u64>
-    requires { length (bits_in lent.now) < length items.now }
-    ensures item { HasTables lent.now → position ≤ length (bits_in lent.now)
-        → result ≡ Some (slice_index items.now (ones_before (bits_in lent.now) position)) }
-    ensures none { length (bits_in lent.now) < position → result ≡ None }
+pub fn item_at_rank(borrowed: &TablesView<'_>, position: usize, items: &[u64]) -> Option<u64>
+    requires { length (bits_in borrowed.now) < length items.now }
+    ensures item { HasTables borrowed.now → position ≤ length (bits_in borrowed.now)
+        → result ≡ Some (slice_index items.now (ones_before (bits_in borrowed.now) position)) }
+    ensures none { length (bits_in borrowed.now) < position → result ≡ None }
 {
-    match lent.rank::<1>(position) {
+    match borrowed.rank::<1>(position) {
         // No count is above its index, whatever the tables hold.
         Answer::Found(count) => Some(items[count]),
         Answer::Absent | Answer::Wrong => None,

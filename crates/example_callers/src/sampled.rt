@@ -8,11 +8,11 @@ ghost use Rattle.bitm_view.specs.Samples.{HasSampleRoom};
 use bitm_view::{Answer, SamplesView, TablesView};
 
 /// The position of the 1 bit with `rank` 1 bits before it, from samples of whatever words: they never change it.
-pub fn select(lent: &TablesView<'_>, samples: &SamplesView<'_>, rank: usize) -> Option<usize>
-    requires { HasTables lent.now }
-    ensures { IsSelect (bits_in lent.now) true rank result }
+pub fn select(borrowed: &TablesView<'_>, samples: &SamplesView<'_>, rank: usize) -> Option<usize>
+    requires { HasTables borrowed.now }
+    ensures { IsSelect (bits_in borrowed.now) true rank result }
 {
-    match lent.sampled_select::<1>(samples, rank) {
+    match borrowed.sampled_select::<1>(samples, rank) {
         Answer::Found(position) => Some(position),
         Answer::Absent => None,
         // No right tables are called wrong.
@@ -23,17 +23,17 @@ pub fn select(lent: &TablesView<'_>, samples: &SamplesView<'_>, rank: usize) -> 
 /// Makes samples of ones, one for each 2^`log2`, and answers one selection by them: `Wrong` only where there is
 /// no room for them.
 pub fn sample_and_select(
-    lent: &TablesView<'_>,
+    borrowed: &TablesView<'_>,
     log2: u8,
     numbers: &mut [u32],
     starts: &mut [usize],
     rank: usize,
 ) -> Answer<usize>
-    requires { HasTables lent.now }
-    ensures { HasSampleRoom lent.now log2 numbers.old starts.old
-        → IsSelected (bits_in lent.now) true rank result }
+    requires { HasTables borrowed.now }
+    ensures { HasSampleRoom borrowed.now log2 numbers.old starts.old
+        → IsSelected (bits_in borrowed.now) true rank result }
 {
-    let Some(used) = lent.build_samples::<1>(log2, &mut *numbers, &mut *starts) else {
+    let Some(used) = borrowed.build_samples::<1>(log2, &mut *numbers, &mut *starts) else {
         return Answer::Wrong;
     };
     let samples = SamplesView {
@@ -41,5 +41,5 @@ pub fn sample_and_select(
         starts: &*starts,
         log2,
     };
-    lent.sampled_select::<1>(&samples, rank)
+    borrowed.sampled_select::<1>(&samples, rank)
 }

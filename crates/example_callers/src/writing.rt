@@ -70,7 +70,7 @@ pub fn in_a_slice(slice: &mut [u64])
 ///
 /// # Conditions
 /// There are two words.
-pub fn lent_once(vector: &mut Vec<u64>)
+pub fn borrowed_once(vector: &mut Vec<u64>)
     requires { 2 ≤ vec_len vector.old }
     ensures { bits_of vector.new.items
         ≡ with_number (with_number (bits_of vector.old.items) 0 1 1) 127 1 1 }

@@ -40,7 +40,7 @@ pub struct Spot {
 /// # Example
 /// ```
 /// // over the parts of 2, 5, 9
-/// total_start_on(&mut lent.probe(), &mut low, 3);      // Some(Spot { at: 0, one, number: 2 })
+/// total_start_on(&mut borrowed.probe(), &mut low, 3);      // Some(Spot { at: 0, one, number: 2 })
 /// ```
 pub fn total_start_on<T: TableSource>(
     source: &mut T,
@@ -89,8 +89,8 @@ pub fn total_start_on<T: TableSource>(
 /// # Example
 /// ```
 /// // over the parts of 2, 5, 9, from where `total_start_on` left the position
-/// total_next_on(&mut lent.probe(), &mut low, 3, &mut spot, 3);      // Found(5)
-/// total_next_on(&mut lent.probe(), &mut low, 3, &mut spot, 10);     // Absent
+/// total_next_on(&mut borrowed.probe(), &mut low, 3, &mut spot, 3);      // Found(5)
+/// total_next_on(&mut borrowed.probe(), &mut low, 3, &mut spot, 10);     // Absent
 /// ```
 #[inline]
 pub fn total_next_on<T: TableSource>(

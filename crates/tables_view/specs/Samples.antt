@@ -15,10 +15,10 @@ pub record SampleLists : Type 0 where
 
 -- the borrowed samples
 abbrev pub sampled : SamplesView → SampleLists
-sampled lent = record {
-  samples = lent.samples.now;
-  starts = lent.starts.now;
-  log2 = (if length lent.samples.now == 0 then 0 else lent.log2);
+sampled borrowed = record {
+  samples = borrowed.samples.now;
+  starts = borrowed.starts.now;
+  log2 = (if length borrowed.samples.now == 0 then 0 else borrowed.log2);
 }
 
 -- no samples
@@ -32,7 +32,7 @@ pub record AreSamples (b : List Bool) (v : Bool) (d : ℕ) (samples starts : Lis
 
 -- the borrowed lists are the samples of the bits v of b
 abbrev pub AreSamplesOf : List Bool → Bool → SamplesView → Type 0
-AreSamplesOf b v lent = AreSamples b v (clamped_log lent.log2) lent.samples.now lent.starts.now
+AreSamplesOf b v borrowed = AreSamples b v (clamped_log borrowed.log2) borrowed.samples.now borrowed.starts.now
 
 -- sample number j of the bits v of b, over all upper blocks
 abbrev pub sample_number : List Bool → Bool → ℕ → ℕ → ℕ

@@ -43,19 +43,19 @@ struct Guess {
 
 /// The guess for the bit with rank `rank` in an upper block.
 #[inline(always)]
-fn guess_of(lent: &SamplesView<'_>, part: usize, rank: usize) -> Guess
+fn guess_of(borrowed: &SamplesView<'_>, part: usize, rank: usize) -> Guess
     requires { part < 2 ^ 60 }
 {
-    let log2 = clamped_log(lent.log2);
-    let begin = samples_to(lent, part).wrapping_add(rank >> log2);
-    let Some(sample) = lent.samples.get(begin) else {
+    let log2 = clamped_log(borrowed.log2);
+    let begin = samples_to(borrowed, part).wrapping_add(rank >> log2);
+    let Some(sample) = borrowed.samples.get(begin) else {
         return Guess {
             at: 0,
             between: ENTRIES_TOO_FAR,
         };
     };
     let low = (*sample & 0x1F_FFFF) as usize;
-    let between = match lent.samples.get(begin.wrapping_add(1)) {
+    let between = match borrowed.samples.get(begin.wrapping_add(1)) {
         Some(next) => ((*next & 0x1F_FFFF) as usize).wrapping_sub(low),
         // The sample holds how many entries later the bit in the middle of its interval is.
         None => 2 * (*sample >> 21) as usize,
@@ -103,7 +103,7 @@ fn entry_in_window<const BIT: u8, T: TableSource>(
 #[inline(always)]
 fn guessed_entry<const BIT: u8, const SIDE_BY_SIDE: u8, T: TableSource>(
     source: &mut T,
-    lent: &SamplesView<'_>,
+    borrowed: &SamplesView<'_>,
     part: usize,
     rank: usize,
 ) -> Option<(usize, u64)>
@@ -113,7 +113,7 @@ fn guessed_entry<const BIT: u8, const SIDE_BY_SIDE: u8, T: TableSource>(
     ensures reads { ReadsAtMost (T.reads source.old) (T.reads source.new) 0 5 0 }
     ensures same { T.lists source.new ≡ T.lists source.old }
 {
-    let Guess { at, between } = guess_of(lent, part, rank);
+    let Guess { at, between } = guess_of(borrowed, part, rank);
     if between >= ENTRIES_TOO_FAR {
         return None;
     }
@@ -130,7 +130,7 @@ fn guessed_entry<const BIT: u8, const SIDE_BY_SIDE: u8, T: TableSource>(
 #[inline(always)]
 pub(crate) fn entry_by_guess<const BIT: u8, const SIDE_BY_SIDE: u8, T: TableSource>(
     source: &mut T,
-    lent: &SamplesView<'_>,
+    borrowed: &SamplesView<'_>,
     part: usize,
     rank: usize,
 ) -> (usize, u64)
@@ -139,13 +139,13 @@ pub(crate) fn entry_by_guess<const BIT: u8, const SIDE_BY_SIDE: u8, T: TableSour
     ensures last { IsLastFound BIT (T.lists source.old) part rank result }
     ensures reads { ReadsAtMost (T.reads source.old) (T.reads source.new) 0 51 0 }
     ensures reads_by_samples { HasTables (T.lists source.old)
-        → AreSamplesOf (bits_in (T.lists source.old)) (as_bit BIT) lent.now
+        → AreSamplesOf (bits_in (T.lists source.old)) (as_bit BIT) borrowed.now
         → ReadsAtMost (T.reads source.old) (T.reads source.new) 0 28 0 }
     ensures same { T.lists source.new ≡ T.lists source.old }
 {
-    match guessed_entry::<BIT, SIDE_BY_SIDE, T>(source, lent, part, rank) {
+    match guessed_entry::<BIT, SIDE_BY_SIDE, T>(source, borrowed, part, rank) {
         Some(found) => found,
-        None => entry_far_off::<BIT, T>(source, lent, part, rank),
+        None => entry_far_off::<BIT, T>(source, borrowed, part, rank),
     }
 }
 
@@ -153,7 +153,7 @@ pub(crate) fn entry_by_guess<const BIT: u8, const SIDE_BY_SIDE: u8, T: TableSour
 #[inline(never)]
 fn entry_far_off<const BIT: u8, T: TableSource>(
     source: &mut T,
-    lent: &SamplesView<'_>,
+    borrowed: &SamplesView<'_>,
     part: usize,
     rank: usize,
 ) -> (usize, u64)
@@ -162,11 +162,11 @@ fn entry_far_off<const BIT: u8, T: TableSource>(
     ensures last { IsLastFound BIT (T.lists source.old) part rank result }
     ensures reads { ReadsAtMost (T.reads source.old) (T.reads source.new) 0 46 0 }
     ensures reads_by_samples { HasTables (T.lists source.old)
-        → AreSamplesOf (bits_in (T.lists source.old)) (as_bit BIT) lent.now
+        → AreSamplesOf (bits_in (T.lists source.old)) (as_bit BIT) borrowed.now
         → ReadsAtMost (T.reads source.old) (T.reads source.new) 0 23 0 }
     ensures same { T.lists source.new ≡ T.lists source.old }
 {
-    entry_by_samples::<BIT, T>(source, lent, part, rank)
+    entry_by_samples::<BIT, T>(source, borrowed, part, rank)
 }
 
 impl<'a, const BIT: u8, T: TableSource> FindsEntry<BIT, T> for ByGuess<'a> {

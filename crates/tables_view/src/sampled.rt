@@ -30,13 +30,13 @@ use bitm_tables::source::TableSource;
 
 /// The number of samples before an upper block; of all samples where there is no such upper block.
 #[inline(always)]
-pub(crate) fn samples_to(lent: &SamplesView<'_>, part: usize) -> usize
-    ensures few { result ≤ length lent.now.samples.now }
-    ensures own { (b : List Bool) → (v : Bool) → AreSamplesOf b v lent.now → part ≤ parts b
-        → result ≡ sample_count_before b v (clamped_log lent.now.log2) part }
+pub(crate) fn samples_to(borrowed: &SamplesView<'_>, part: usize) -> usize
+    ensures few { result ≤ length borrowed.now.samples.now }
+    ensures own { (b : List Bool) → (v : Bool) → AreSamplesOf b v borrowed.now → part ≤ parts b
+        → result ≡ sample_count_before b v (clamped_log borrowed.now.log2) part }
 {
-    let all = lent.samples.len();
-    match lent.starts.get(part) {
+    let all = borrowed.samples.len();
+    match borrowed.starts.get(part) {
         Some(start) => all.min(*start),
         None => all,
     }
@@ -47,11 +47,11 @@ pub(crate) fn samples_to(lent: &SamplesView<'_>, part: usize) -> usize
 /// # Conditions
 /// There is such a sample.
 #[inline(always)]
-fn entry_behind(lent: &SamplesView<'_>, at: usize) -> usize
-    requires { at < length lent.now.samples.now }
-    ensures { result ≡ slice_index lent.now.samples.now at % 2 ^ 21 + 1 }
+fn entry_behind(borrowed: &SamplesView<'_>, at: usize) -> usize
+    requires { at < length borrowed.now.samples.now }
+    ensures { result ≡ slice_index borrowed.now.samples.now at % 2 ^ 21 + 1 }
 {
-    (lent.samples[at] & 0x1F_FFFF) as usize + 1
+    (borrowed.samples[at] & 0x1F_FFFF) as usize + 1
 }
 
 /// Entries of an upper block, from `low` on and before `end`.
@@ -64,17 +64,17 @@ pub(crate) struct Bounds {
 /// Bounds of the entry that has the bit with rank `rank` in an upper block, if the samples match the words; `None` only
 /// where they do not.
 #[inline(always)]
-fn bounds_of(lent: &SamplesView<'_>, part: usize, entries: usize, rank: usize) -> Option<Bounds>
+fn bounds_of(borrowed: &SamplesView<'_>, part: usize, entries: usize, rank: usize) -> Option<Bounds>
     requires part { part < 2 ^ 60 }
     requires some { 0 < entries }
     ensures within { IfSome result (λ r. (r.low < r.end) × (r.end ≤ entries)) }
-    ensures own { (b : List Bool) → (v : Bool) → AreSamplesOf b v lent.now → part < parts b
+    ensures own { (b : List Bool) → (v : Bool) → AreSamplesOf b v borrowed.now → part < parts b
         → entries ≡ div_ceil (length (part_of b part)) 2048
         → IsSomeAnd result (λ r. IsBounded (part_of b part) v rank entries r.low r.end) }
 {
-    let first = samples_to(lent, part);
-    let count = samples_to(lent, part + 1).saturating_sub(first);
-    let log2 = clamped_log(lent.log2);
+    let first = samples_to(borrowed, part);
+    let count = samples_to(borrowed, part + 1).saturating_sub(first);
+    let log2 = clamped_log(borrowed.log2);
     let interval = rank >> log2;
     if interval >= count {
         return Some(Bounds {
@@ -83,7 +83,7 @@ fn bounds_of(lent: &SamplesView<'_>, part: usize, entries: usize, rank: usize) -
         });
     }
     let at = first + interval;
-    let low = first_entry(lent.samples[at], rank, log2);
+    let low = first_entry(borrowed.samples[at], rank, log2);
     if interval + 1 >= count {
         return if low < entries {
             Some(Bounds { low, end: entries })
@@ -91,7 +91,7 @@ fn bounds_of(lent: &SamplesView<'_>, part: usize, entries: usize, rank: usize) -
             None
         };
     }
-    let end = entry_behind(lent, at + 1);
+    let end = entry_behind(borrowed, at + 1);
     if end > entries || low >= end {
         return None;
     }
@@ -201,7 +201,7 @@ pub(crate) fn entry_between<const BIT: u8, T: TableSource>(
 #[inline(always)]
 fn sampled_entry<const BIT: u8, T: TableSource>(
     source: &mut T,
-    lent: &SamplesView<'_>,
+    borrowed: &SamplesView<'_>,
     part: usize,
     rank: usize,
 ) -> Option<(usize, u64)>
@@ -209,13 +209,13 @@ fn sampled_entry<const BIT: u8, T: TableSource>(
     requires inside { part < length (T.lists source.old).upper }
     ensures last { IfSome result (IsLastFound BIT (T.lists source.old) part rank) }
     ensures found { HasTables (T.lists source.old)
-        → AreSamplesOf (bits_in (T.lists source.old)) (as_bit BIT) lent.now
+        → AreSamplesOf (bits_in (T.lists source.old)) (as_bit BIT) borrowed.now
         → IsSome result }
     ensures reads { ReadsAtMost (T.reads source.old) (T.reads source.new) 0 23 0 }
     ensures same { T.lists source.new ≡ T.lists source.old }
 {
     let entries = entries_of_part(source.lower_len(), part);
-    let Some(bounds) = bounds_of(lent, part, entries, rank) else {
+    let Some(bounds) = bounds_of(borrowed, part, entries, rank) else {
         return None;
     };
     entry_between::<BIT, T>(source, part, bounds, rank)
@@ -227,7 +227,7 @@ fn sampled_entry<const BIT: u8, T: TableSource>(
 #[inline(always)]
 pub(crate) fn entry_by_samples<const BIT: u8, T: TableSource>(
     source: &mut T,
-    lent: &SamplesView<'_>,
+    borrowed: &SamplesView<'_>,
     part: usize,
     rank: usize,
 ) -> (usize, u64)
@@ -236,11 +236,11 @@ pub(crate) fn entry_by_samples<const BIT: u8, T: TableSource>(
     ensures last { IsLastFound BIT (T.lists source.old) part rank result }
     ensures reads { ReadsAtMost (T.reads source.old) (T.reads source.new) 0 46 0 }
     ensures reads_by_samples { HasTables (T.lists source.old)
-        → AreSamplesOf (bits_in (T.lists source.old)) (as_bit BIT) lent.now
+        → AreSamplesOf (bits_in (T.lists source.old)) (as_bit BIT) borrowed.now
         → ReadsAtMost (T.reads source.old) (T.reads source.new) 0 23 0 }
     ensures same { T.lists source.new ≡ T.lists source.old }
 {
-    match sampled_entry::<BIT, T>(source, lent, part, rank) {
+    match sampled_entry::<BIT, T>(source, borrowed, part, rank) {
         Some(found) => found,
         None => last_entry::<BIT, T>(source, part, rank),
     }
@@ -258,7 +258,7 @@ pub(crate) fn entry_by_samples<const BIT: u8, T: TableSource>(
 /// halving from the sample to the next.
 pub fn sampled_select_on<const BIT: u8, T: TableSource>(
     source: &mut T,
-    lent: &SamplesView<'_>,
+    borrowed: &SamplesView<'_>,
     rank: usize,
 ) -> Answer<usize>
     requires { HasSizes (T.lists source.old) }
@@ -269,9 +269,9 @@ pub fn sampled_select_on<const BIT: u8, T: TableSource>(
     ensures reads { OnlyReads T.lists T.reads source.old source.new
         (digit_count (length (T.lists source.old).upper) + 1) 51 8 }
     ensures reads_by_samples { HasTables (T.lists source.old)
-        → AreSamplesOf (bits_in (T.lists source.old)) (as_bit BIT) lent.now
+        → AreSamplesOf (bits_in (T.lists source.old)) (as_bit BIT) borrowed.now
         → ReadsAtMost (T.reads source.old) (T.reads source.new)
         (digit_count (length (T.lists source.old).upper) + 1) 28 8 }
 {
-    search_on::<BIT, 1, T, ByGuess<'_>>(source, &ByGuess { samples: *lent }, rank)
+    search_on::<BIT, 1, T, ByGuess<'_>>(source, &ByGuess { samples: *borrowed }, rank)
 }

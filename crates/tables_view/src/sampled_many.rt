@@ -18,7 +18,7 @@ use bitm_tables::source::TableSource;
 #[inline(always)]
 fn begin<const BIT: u8, T: TableSource>(
     source: &mut T,
-    lent: &SamplesView<'_>,
+    borrowed: &SamplesView<'_>,
     rank: usize,
 ) -> Query
     requires sized { HasSizes (T.lists source.old) }
@@ -29,7 +29,7 @@ fn begin<const BIT: u8, T: TableSource>(
     ensures same { T.lists source.new ≡ T.lists source.old }
 {
     let (part, rest) = part_of_rank::<BIT, T>(source, rank);
-    let (in_part, _) = entry_by_guess::<BIT, 1, T>(source, lent, part, rest);
+    let (in_part, _) = entry_by_guess::<BIT, 1, T>(source, borrowed, part, rest);
     let entry = part * L2_ENTRIES_PER_L1_ENTRY + in_part;
     Query { rest, entry }
 }

@@ -39,14 +39,17 @@ fn is_right<S: SelectForRank101111, S0: Select0ForRank101111, BV: AsSlice<u64>>(
 /// Each call of a packed index and of its strategies.
 pub fn ended(alloc: Global) -> [Ended; 12] {
     [
-        ("packed-build-lent-binary", lent::<BinaryRankSearch>(alloc)),
+        (
+            "packed-build-borrowed-binary",
+            borrowed::<BinaryRankSearch>(alloc),
+        ),
         (
             "packed-build-owned-binary",
             owned::<BinaryRankSearch>(alloc),
         ),
-        ("packed-build-lent-sampled", lent::<Samples>(alloc)),
+        ("packed-build-borrowed-sampled", borrowed::<Samples>(alloc)),
         ("packed-build-owned-sampled", owned::<Samples>(alloc)),
-        ("packed-build-lent-listed", lent::<Listed>(alloc)),
+        ("packed-build-borrowed-listed", borrowed::<Listed>(alloc)),
         ("packed-build-owned-listed", owned::<Listed>(alloc)),
         ("sampled-new", sampled_new(alloc)),
         ("sampled-new0", sampled_new0(alloc)),
@@ -72,7 +75,7 @@ fn over<S: SelectForRank101111 + Select0ForRank101111, BV: AsSlice<u64> + Drop>(
 }
 
 /// Over borrowed words.
-fn lent<S: SelectForRank101111 + Select0ForRank101111>(alloc: Global) -> Outcome {
+fn borrowed<S: SelectForRank101111 + Select0ForRank101111>(alloc: Global) -> Outcome {
     over::<S, &[u64]>(alloc, WORDS.as_slice())
 }
 

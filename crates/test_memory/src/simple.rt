@@ -15,7 +15,7 @@ fn is_right<BV: AsSlice<u64>>(index: &RankSimple<BV>) -> bool {
 /// Each call of a simple rank.
 pub fn ended(alloc: Global) -> [Ended; 4] {
     [
-        ("simple-build-lent", over(alloc, WORDS.as_slice())),
+        ("simple-build-borrowed", over(alloc, WORDS.as_slice())),
         ("simple-build-owned", owned(alloc)),
         ("simple-try-clone", cloned(alloc)),
         ("simple-try-clone-uncopied", uncopied(alloc)),

@@ -38,8 +38,8 @@ fn set(words: &mut [u64], arguments: &str) -> Result<(), Fault>
     if !is_in_range(&*words, begin, len) || !fits(number, len) {
         return Err(Fault::Condition);
     }
-    let mut lent = words;
-    lent.set_bits(begin, number, len);
+    let mut borrowed = words;
+    borrowed.set_bits(begin, number, len);
     Ok(())
 }
 
@@ -51,8 +51,8 @@ fn xor(words: &mut [u64], arguments: &str) -> Result<(), Fault>
     if !is_in_range(&*words, begin, len) {
         return Err(Fault::Condition);
     }
-    let mut lent = words;
-    lent.xor_bits(begin, number, len);
+    let mut borrowed = words;
+    borrowed.xor_bits(begin, number, len);
     Ok(())
 }
 
@@ -70,8 +70,8 @@ fn swap(words: &mut [u64], arguments: &str) -> Result<(), Fault>
     if !is_fragment_in_range(&*words, i, len) || !is_fragment_in_range(&*words, j, len) {
         return Err(Fault::Condition);
     }
-    let mut lent = words;
-    lent.swap_fragments(i, j, len);
+    let mut borrowed = words;
+    borrowed.swap_fragments(i, j, len);
     Ok(())
 }
 
@@ -116,8 +116,8 @@ fn init_zeros(words: &mut [u64], arguments: &str) -> Result<(), Fault> {
     if !is_clear(&*words, begin, len) {
         return Err(Fault::Condition);
     }
-    let mut lent = words;
-    lent.init_bits(begin, number, len);
+    let mut borrowed = words;
+    borrowed.init_bits(begin, number, len);
     Ok(())
 }
 

@@ -106,7 +106,7 @@ pub extern "C" fn bitm_hash_get(hash: &Hash<'_>, key_hash: u64, out: &mut usize)
     ensures { HashAnswered (parts_of hash.now) key_hash result out.old out.new }
 {
     match hash.view() {
-        Some(lent) => report(lent.number(key_hash), out),
+        Some(borrowed) => report(borrowed.number(key_hash), out),
         None => BAD_SIZE,
     }
 }
@@ -128,9 +128,9 @@ pub extern "C" fn bitm_hash_get_list(
         (ranked_by (slice_index out.new j)) }
     ensures counts { result ≡ 0 → AreAnswersCounted out.new counts.new }
 {
-    let Some(lent) = hash.view() else {
+    let Some(borrowed) = hash.view() else {
         return BAD_SIZE;
     };
-    let done = lent.number_list(key_hashes, &mut *out);
+    let done = borrowed.number_list(key_hashes, &mut *out);
     report_list(done, &*out, counts)
 }

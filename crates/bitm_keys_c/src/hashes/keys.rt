@@ -66,8 +66,8 @@ pub extern "C" fn bitm_hash_find(
         return BAD_SIZE;
     }
     match hash.view() {
-        Some(lent) => {
-            let number = lent.number(key_hash);
+        Some(borrowed) => {
+            let number = borrowed.number(key_hash);
             report(checked_answer(prints, width, key_print, number), out)
         }
         None => BAD_SIZE,
@@ -154,9 +154,9 @@ pub extern "C" fn bitm_hash_find_list(
     if !can_be_prints(prints, width) || key_prints.len() != key_hashes.len() {
         return BAD_SIZE;
     }
-    let Some(lent) = hash.view() else {
+    let Some(borrowed) = hash.view() else {
         return BAD_SIZE;
     };
-    let done = find_each(&lent, prints, width, key_hashes, key_prints, &mut *out);
+    let done = find_each(&borrowed, prints, width, key_hashes, key_prints, &mut *out);
     report_list(done, &*out, counts)
 }

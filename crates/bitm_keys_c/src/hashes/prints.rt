@@ -97,9 +97,9 @@ pub extern "C" fn bitm_hash_set_prints(
     if !can_be_prints(&*prints, width) || key_prints.len() != key_hashes.len() {
         return BAD_SIZE;
     }
-    let Some(lent) = hash.view() else {
+    let Some(borrowed) = hash.view() else {
         return BAD_SIZE;
     };
-    let all = write_each(&lent, key_hashes, key_prints, prints, width);
+    let all = write_each(&borrowed, key_hashes, key_prints, prints, width);
     if all { OK } else { WRONG }
 }

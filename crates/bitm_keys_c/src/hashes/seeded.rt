@@ -111,7 +111,7 @@ pub extern "C" fn bitm_hash_get_seeded(hash: &SeededHash<'_>, key_hash: u64, out
     ensures { HashAnswered (seeded_parts hash.now) key_hash result out.old out.new }
 {
     match hash.view() {
-        Some(lent) => report(lent.number(key_hash), out),
+        Some(borrowed) => report(borrowed.number(key_hash), out),
         None => BAD_SIZE,
     }
 }
@@ -133,10 +133,10 @@ pub extern "C" fn bitm_hash_get_list_seeded(
         (ranked_by (slice_index out.new j)) }
     ensures counts { result ≡ 0 → AreAnswersCounted out.new counts.new }
 {
-    let Some(lent) = hash.view() else {
+    let Some(borrowed) = hash.view() else {
         return BAD_SIZE;
     };
-    let done = lent.number_list(key_hashes, &mut *out);
+    let done = borrowed.number_list(key_hashes, &mut *out);
     report_list(done, &*out, counts)
 }
 
@@ -159,10 +159,10 @@ pub extern "C" fn bitm_hash_set_prints_seeded(
     if !can_be_prints(&*prints, width) || key_prints.len() != key_hashes.len() {
         return BAD_SIZE;
     }
-    let Some(lent) = hash.view() else {
+    let Some(borrowed) = hash.view() else {
         return BAD_SIZE;
     };
-    let all = write_each(&lent, key_hashes, key_prints, prints, width);
+    let all = write_each(&borrowed, key_hashes, key_prints, prints, width);
     if all { OK } else { WRONG }
 }
 
@@ -183,8 +183,8 @@ pub extern "C" fn bitm_hash_find_seeded(
         return BAD_SIZE;
     }
     match hash.view() {
-        Some(lent) => {
-            let number = lent.number(key_hash);
+        Some(borrowed) => {
+            let number = borrowed.number(key_hash);
             report(checked_answer(prints, width, key_print, number), out)
         }
         None => BAD_SIZE,
@@ -214,9 +214,9 @@ pub extern "C" fn bitm_hash_find_list_seeded(
     if !can_be_prints(prints, width) || key_prints.len() != key_hashes.len() {
         return BAD_SIZE;
     }
-    let Some(lent) = hash.view() else {
+    let Some(borrowed) = hash.view() else {
         return BAD_SIZE;
     };
-    let done = find_each(&lent, prints, width, key_hashes, key_prints, &mut *out);
+    let done = find_each(&borrowed, prints, width, key_hashes, key_prints, &mut *out);
     report_list(done, &*out, counts)
 }

@@ -32,7 +32,7 @@ impl<'a> Cursor<'a> {
     pub(crate) fn upper(&self) -> Option<TablesView<'a>>
         ensures { SomeIff result (IsSequenceSized self.now.sequence) (sequence_parts self.now.sequence).upper }
     {
-        match self.sequence.lent() {
+        match self.sequence.borrowed() {
             Some(_) => TablesView::over(
                 self.sequence.words,
                 self.sequence.upper,
@@ -44,11 +44,11 @@ impl<'a> Cursor<'a> {
 
     /// The cursor's sequence, and the index of its number there, or the end; `None` only where a length is wrong.
     #[inline(always)]
-    pub(crate) fn lent_from(&self) -> Option<(SequenceView<'a>, usize)>
+    pub(crate) fn borrowed_from(&self) -> Option<(SequenceView<'a>, usize)>
         ensures { IsRight self.now → IsSomeAnd result (λ r. Holds (sequence_items self.now.sequence) r.0
             × (r.1 ≡ self.now.index)) }
     {
-        let sequence = self.sequence.lent()?;
+        let sequence = self.sequence.borrowed()?;
         let at = self.index.min(sequence.len());
         Some((sequence, at))
     }

@@ -45,8 +45,10 @@ fn union_of_two(one: &Cursor<'_>, other: &Cursor<'_>, from: u64, out: &mut [u64]
     ensures most { written_in result ≤ length out.old }
     ensures rest { IsKeptFrom (written_in result) out.old out.new }
 {
-    let (Some((first, one_at)), Some((second, other_at))) = (one.lent_from(), other.lent_from())
-    else {
+    let (Some((first, one_at)), Some((second, other_at))) = (
+        one.borrowed_from(),
+        other.borrowed_from(),
+    ) else {
         return Merged::Wrong(0);
     };
     total_union_of_two(&first, one_at, &second, other_at, from, out)
@@ -59,8 +61,10 @@ fn intersection_of_two(one: &Cursor<'_>, other: &Cursor<'_>, from: u64, out: &mu
     ensures most { written_in result ≤ length out.old }
     ensures rest { IsKeptFrom (written_in result) out.old out.new }
 {
-    let (Some((first, one_at)), Some((second, other_at))) = (one.lent_from(), other.lent_from())
-    else {
+    let (Some((first, one_at)), Some((second, other_at))) = (
+        one.borrowed_from(),
+        other.borrowed_from(),
+    ) else {
         return Merged::Wrong(0);
     };
     total_intersect_of_two(&first, one_at, &second, other_at, from, out)

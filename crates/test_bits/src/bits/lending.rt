@@ -15,9 +15,9 @@ fn write_parameter(slice: &mut [u64])
     ensures { bits_of slice.new
         ≡ with_number (with_number (bits_of slice.old) 3 1 1) 62 3 5 }
 {
-    let mut lent = identity(slice);
-    lent.set_bit(3);
-    lent.set_bits(62, 5, 3);
+    let mut borrowed = identity(slice);
+    borrowed.set_bit(3);
+    borrowed.set_bits(62, 5, 3);
 }
 
 /// A parameter: by the functions over slices.
@@ -37,9 +37,9 @@ fn write_boxed(boxed: &mut BoxedSlice<u64, Global>)
         ≡ with_number (with_number (bits_of (boxed_slice_items boxed.old)) 3 1 1) 62 3 5 }
 {
     let slice = boxed.as_mut_slice();
-    let lent = &mut (&mut *slice,);
-    lent.0.set_bit(3);
-    lent.0.set_bits(62, 5, 3);
+    let borrowed = &mut (&mut *slice,);
+    borrowed.0.set_bit(3);
+    borrowed.0.set_bits(62, 5, 3);
 }
 
 /// A vector: its slice goes to a function over slices.
@@ -58,9 +58,9 @@ fn write_array<const N: usize>(array: &mut [u64; N])
         ≡ with_number (with_number (bits_of array.old) 3 1 1) 62 3 5 }
 {
     let slice = array.as_mut_slice();
-    let lent = &mut (&mut *slice,);
-    lent.0.set_bit(3);
-    lent.0.set_bits(62, 5, 3);
+    let borrowed = &mut (&mut *slice,);
+    borrowed.0.set_bit(3);
+    borrowed.0.set_bits(62, 5, 3);
 }
 
 /// Any value whose words can be borrowed.
@@ -82,8 +82,8 @@ fn write_boxed_by_any(boxed: &mut BoxedSlice<u64, Global>)
         ≡ with_number (with_number (bits_of (boxed_slice_items boxed.old)) 3 1 1) 62 3 5 }
 {
     let slice = boxed.as_mut_slice();
-    let lent = &mut (&mut *slice,);
-    write_any(&mut lent.0);
+    let borrowed = &mut (&mut *slice,);
+    write_any(&mut borrowed.0);
 }
 
 #[test]

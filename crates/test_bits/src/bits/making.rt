@@ -101,9 +101,9 @@ fn copy_of<V: CloneWords>(alloc: Global, value: &V) -> Result<V, AllocError> {
 fn copies_have_the_same_words(rt: HostRuntime) {
     let words = BoxedSlice::from_slice(rt.alloc(), &[13u64, 6]).expect(&rt, "memory is left");
     let copy = copy_of(rt.alloc(), &words).expect(&rt, "memory is left");
-    let lent = copy_of(rt.alloc(), &words.as_slice()).expect(&rt, "no memory is taken");
+    let borrowed = copy_of(rt.alloc(), &words.as_slice()).expect(&rt, "no memory is taken");
     assert!(rt; copy.as_slice() == [13, 6].as_slice());
-    assert!(rt; lent == [13, 6].as_slice());
+    assert!(rt; borrowed == [13, 6].as_slice());
 }
 
 #[test]

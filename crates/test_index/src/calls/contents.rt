@@ -1,6 +1,6 @@
 //! Rank and selection over small bit vectors, borrowed and owned, by each strategy. The rows are worked out by hand, so
 //! that they test the definitions of rank and selection.
-use crate::calls::walk::{Sampled, lent, one_agrees, owned, rank_agrees, zero_agrees};
+use crate::calls::walk::{Sampled, borrowed, one_agrees, owned, rank_agrees, zero_agrees};
 use bitm::{BinaryRankSearch, Rank, Select, Select0, Select0ForRank101111, SelectForRank101111};
 use std::alloc::Global;
 
@@ -143,10 +143,10 @@ fn rows_agree<I: Rank + Select + Select0>(index: &I, case: &Case<'_>) -> bool {
 const CASES: [Case<'static>; 5] = [NO_WORDS, ONE_EMPTY_WORD, ONE_WORD, TWO_WORDS, SIXTY_WORDS];
 
 /// Whether an index over borrowed words of each case does.
-fn lent_agree<S: SelectForRank101111, S0: Select0ForRank101111>(alloc: Global) -> bool {
+fn borrowed_agree<S: SelectForRank101111, S0: Select0ForRank101111>(alloc: Global) -> bool {
     let mut agrees = true;
     for case in CASES.as_slice() {
-        agrees &= match lent::<S, S0>(alloc, case.words) {
+        agrees &= match borrowed::<S, S0>(alloc, case.words) {
             Ok((index, _)) => rows_agree(&index, case),
             Err(_) => false,
         };
@@ -168,7 +168,7 @@ fn owned_agree<S: SelectForRank101111, S0: Select0ForRank101111>(alloc: Global) 
 
 #[test]
 fn small_contents_are_ranked_and_selected(rt: HostRuntime) {
-    assert!(rt; lent_agree::<BinaryRankSearch, BinaryRankSearch>(rt.alloc()));
-    assert!(rt; lent_agree::<Sampled, Sampled>(rt.alloc()));
+    assert!(rt; borrowed_agree::<BinaryRankSearch, BinaryRankSearch>(rt.alloc()));
+    assert!(rt; borrowed_agree::<Sampled, Sampled>(rt.alloc()));
     assert!(rt; owned_agree::<BinaryRankSearch, BinaryRankSearch>(rt.alloc()));
 }

@@ -2,7 +2,7 @@
 //! in words with their lowest bit alone set, the 1 bit of rank r is at 64 r and the 0 bit of rank r at r + r / 63 + 1,
 //! and there are p / 64, rounded up, 1 bits before position p; in empty words before full words, the 1 bit of rank r is
 //! r after the end of the empty words, and the 0 bit of rank r is at r. Full words at the end mislead a guess.
-use crate::calls::walk::{TablesView, lent};
+use crate::calls::walk::{TablesView, borrowed};
 use bitm::{BinaryRankSearch, BitVec, Select0ForRank101111, SelectForRank101111};
 use example_callers::many::{try_rank_many, try_select_many, try_select0_many};
 use std::alloc::{AllocError, Global};
@@ -177,7 +177,7 @@ fn words_agree<S: SelectForRank101111, S0: Select0ForRank101111>(
     words: &[u64],
     content: Content,
 ) -> bool {
-    match lent::<S, S0>(alloc, words) {
+    match borrowed::<S, S0>(alloc, words) {
         Ok((index, _)) => calls_agree(&index, content),
         Err(_) => false,
     }

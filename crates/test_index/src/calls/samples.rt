@@ -1,6 +1,6 @@
 //! Selection by samples: the samples that are kept, and what the index selects by them, worked out by hand.
 //! `test_original` compares other samples with the samples of the original crate.
-use crate::calls::walk::{Sampled, TablesView, lent, one_agrees, zero_agrees};
+use crate::calls::walk::{Sampled, TablesView, borrowed, one_agrees, zero_agrees};
 use bitm::{
     AdaptiveCombinedSamplingDensity, BinaryRankSearch, BitAccess, BitVec, CombinedSampling,
     CombinedSamplingDensity, ConstCombinedSamplingDensity, Select, Select0ForRank101111,
@@ -49,7 +49,7 @@ fn is_full_kept<D: CombinedSamplingDensity>(
 
 /// Whether such an index does at this density.
 fn full_is_kept<D: CombinedSamplingDensity>(alloc: Global) -> bool {
-    match lent::<CombinedSampling<D>, CombinedSampling<D>>(alloc, [u64::MAX; 35].as_slice()) {
+    match borrowed::<CombinedSampling<D>, CombinedSampling<D>>(alloc, [u64::MAX; 35].as_slice()) {
         Ok((index, _)) => is_full_kept(&index),
         Err(_) => false,
     }
@@ -74,7 +74,7 @@ fn keeps_17<S: SelectForRank101111, D: CombinedSamplingDensity>(
 
 /// Whether they are at this density.
 fn empty_keep_17<S: SelectForRank101111, D: CombinedSamplingDensity>(alloc: Global) -> bool {
-    match lent::<S, CombinedSampling<D>>(alloc, [0; 33].as_slice()) {
+    match borrowed::<S, CombinedSampling<D>>(alloc, [0; 33].as_slice()) {
         Ok((index, _)) => keeps_17(&index),
         Err(_) => false,
     }
@@ -108,7 +108,7 @@ fn is_kept<D: CombinedSamplingDensity, S0: Select0ForRank101111>(
     samples: &[u32],
     rows: &[Row],
 ) -> bool {
-    match lent::<CombinedSampling<D>, S0>(alloc, words) {
+    match borrowed::<CombinedSampling<D>, S0>(alloc, words) {
         Ok((index, _)) => keeps(&index, samples, rows),
         Err(_) => false,
     }
@@ -175,7 +175,7 @@ fn are_of_far(zeros: &CombinedSampling<ByShare>) -> bool {
 
 /// Whether an index over these words has the starts and the samples that it has by hand.
 fn starts_agree(alloc: Global, words: &[u64]) -> bool {
-    match lent::<Sampled, Sampled>(alloc, words) {
+    match borrowed::<Sampled, Sampled>(alloc, words) {
         Ok((index, _)) => {
             let is_first = index.select_support().starts() == [0].as_slice();
             is_first && are_of_far(index.select0_support())
@@ -244,7 +244,7 @@ fn is_walked<D: CombinedSamplingDensity>(
 
 /// Whether the samples of both kinds are what a walk finds, at this density.
 fn both_are_walked<D: CombinedSamplingDensity>(alloc: Global, words: &[u64]) -> bool {
-    match lent::<CombinedSampling<D>, CombinedSampling<D>>(alloc, words) {
+    match borrowed::<CombinedSampling<D>, CombinedSampling<D>>(alloc, words) {
         Ok((index, _)) => {
             let ones = is_walked(index.select_support(), words, true);
             ones && is_walked(index.select0_support(), words, false)

@@ -1,5 +1,5 @@
 //! Which types keep bytes on the heap, which no clause can say of a constant, and how many, added up by hand.
-use crate::calls::walk::{Sampled, lent, owned};
+use crate::calls::walk::{Sampled, borrowed, owned};
 use bitm::{
     ArrayWithRank101111, ArrayWithRankSimple, BinaryRankSearch, GetSize, Select0ForRank101111,
     SelectForRank101111,
@@ -18,10 +18,10 @@ fn all_but_binary_search_may_use_the_heap(rt: HostRuntime) {
 }
 
 /// How many bytes an index over 35 full words takes.
-fn lent_bytes<S: SelectForRank101111 + GetSize, S0: Select0ForRank101111 + GetSize>(
+fn borrowed_bytes<S: SelectForRank101111 + GetSize, S0: Select0ForRank101111 + GetSize>(
     alloc: Global,
 ) -> Option<usize> {
-    match lent::<S, S0>(alloc, [u64::MAX; 35].as_slice()) {
+    match borrowed::<S, S0>(alloc, [u64::MAX; 35].as_slice()) {
         Ok((index, _)) => Some(index.size_bytes_dyn()),
         Err(_) => None,
     }
@@ -30,7 +30,7 @@ fn lent_bytes<S: SelectForRank101111 + GetSize, S0: Select0ForRank101111 + GetSi
 #[test]
 fn an_index_takes_the_bytes_of_its_parts(rt: HostRuntime) {
     // one upper and two lower entries, one sample and one start of ones, one start of zeros
-    assert!(rt; lent_bytes::<Sampled, Sampled>(rt.alloc()) == Some(8 + 16 + 4 + 8 + 8));
+    assert!(rt; borrowed_bytes::<Sampled, Sampled>(rt.alloc()) == Some(8 + 16 + 4 + 8 + 8));
 }
 
 /// How many bytes an index that owns 35 full words takes.

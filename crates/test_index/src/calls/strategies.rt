@@ -1,6 +1,6 @@
 //! The index with strategies and a density that a user wrote: the positions in sixty words that have 1 bits at 0, 2 and
 //! 3, worked out by hand; and which strategy is called, which no clause says.
-use crate::calls::walk::{Sampled, TablesView, lent};
+use crate::calls::walk::{Sampled, TablesView, borrowed};
 use bitm::{
     BinaryRankSearch, CombinedSampling, Select, Select0, Select0ForRank101111, SelectForRank101111,
 };
@@ -34,7 +34,7 @@ fn selects_all<I: Select + Select0>(index: &I) -> bool {
 
 /// Whether each one, and two first zeros of each word and its last, are selected, and none past them.
 fn selects_each<S: SelectForRank101111, S0: Select0ForRank101111>(alloc: Global) -> bool {
-    match lent::<S, S0>(alloc, [0b1101; 60].as_slice()) {
+    match borrowed::<S, S0>(alloc, [0b1101; 60].as_slice()) {
         Ok((index, total)) => total == 180 && selects_all(&index),
         Err(_) => false,
     }
@@ -75,7 +75,7 @@ fn counts_calls<S: SelectForRank101111, S0: Select0ForRank101111>(
 
 /// Whether such an index over two words does.
 fn calls_are_counted<S: SelectForRank101111, S0: Select0ForRank101111>(alloc: Global) -> bool {
-    match lent::<Guarded<S>, Guarded<S0>>(alloc, [0b1101, 0b110].as_slice()) {
+    match borrowed::<Guarded<S>, Guarded<S0>>(alloc, [0b1101, 0b110].as_slice()) {
         Ok((index, _)) => counts_calls(&index),
         Err(_) => false,
     }

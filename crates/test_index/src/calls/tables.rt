@@ -1,7 +1,7 @@
 //! The tables that an index keeps, its size, and ranks of a few contents, worked out by hand. An entry is the ones
 //! before its records 1, 2 and 3, from the bits 54, 43 and 32 on, and below them the ones before the entry in its
 //! part: for 64 ones in the first record of the second entry, after 2048 ones, 64 * (2^54 + 2^43 + 2^32) + 2048.
-use crate::calls::walk::{lent, owned};
+use crate::calls::walk::{borrowed, owned};
 use bitm::{
     BinaryRankSearch, BitAccess, BitAccessMut, BitVec, GetSize, Rank, RankSelect101111, Select,
     Select0, Select0ForRank101111, SelectForRank101111, complement_entry,
@@ -45,10 +45,10 @@ fn keeps<S: SelectForRank101111, S0: Select0ForRank101111, BV: AsSlice<u64>>(
 }
 
 /// Whether indexes over borrowed words have the tables that they should.
-fn lent_keep<S: SelectForRank101111, S0: Select0ForRank101111>(alloc: Global) -> bool {
+fn borrowed_keep<S: SelectForRank101111, S0: Select0ForRank101111>(alloc: Global) -> bool {
     let mut agrees = true;
     for kept in KEPT.as_slice() {
-        agrees &= match lent::<S, S0>(alloc, kept.0) {
+        agrees &= match borrowed::<S, S0>(alloc, kept.0) {
             Ok((index, ones)) => keeps(&index, ones, *kept),
             Err(_) => false,
         };
@@ -70,7 +70,7 @@ fn owned_keep<S: SelectForRank101111, S0: Select0ForRank101111>(alloc: Global) -
 
 #[test]
 fn an_index_keeps_the_tables_of_its_words(rt: HostRuntime) {
-    assert!(rt; lent_keep::<BinaryRankSearch, BinaryRankSearch>(rt.alloc()));
+    assert!(rt; borrowed_keep::<BinaryRankSearch, BinaryRankSearch>(rt.alloc()));
     assert!(rt; owned_keep::<BinaryRankSearch, BinaryRankSearch>(rt.alloc()));
 }
 
@@ -79,7 +79,7 @@ fn bytes_of<S: SelectForRank101111 + GetSize, S0: Select0ForRank101111 + GetSize
     alloc: Global,
     words: &[u64],
 ) -> Option<(usize, usize)> {
-    let borrowing = match lent::<S, S0>(alloc, words) {
+    let borrowing = match borrowed::<S, S0>(alloc, words) {
         Ok((index, _)) => index.size_bytes_dyn(),
         Err(_) => return None,
     };
@@ -122,12 +122,12 @@ fn counts_empty<I: Rank + Select + Select0>(empty: &I) -> bool {
 
 /// Whether indexes over full and over empty words count them.
 fn both_agree<S: SelectForRank101111, S0: Select0ForRank101111>(alloc: Global) -> bool {
-    let agrees = match lent::<S, S0>(alloc, [u64::MAX; 33].as_slice()) {
+    let agrees = match borrowed::<S, S0>(alloc, [u64::MAX; 33].as_slice()) {
         Ok((full, _)) => counts_full(&full),
         Err(_) => false,
     };
     agrees
-        && match lent::<S, S0>(alloc, [0; 33].as_slice()) {
+        && match borrowed::<S, S0>(alloc, [0; 33].as_slice()) {
             Ok((empty, _)) => counts_empty(&empty),
             Err(_) => false,
         }

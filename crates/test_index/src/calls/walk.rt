@@ -26,7 +26,7 @@ const TOO_MANY_WORDS: usize = 1_000_000;
 
 /// An index over borrowed words, and the number of 1 bits; the words where there is no memory or there are too many of
 /// them.
-pub fn lent<'a, S: SelectForRank101111, S0: Select0ForRank101111>(
+pub fn borrowed<'a, S: SelectForRank101111, S0: Select0ForRank101111>(
     alloc: Global,
     words: &'a [u64],
 ) -> Result<(TablesView<'a, S, S0>, usize), &'a [u64]> {
@@ -135,7 +135,7 @@ pub fn all_agree<S: SelectForRank101111, S0: Select0ForRank101111>(
     alloc: Global,
     words: &[u64],
 ) -> bool {
-    match lent::<S, S0>(alloc, words) {
+    match borrowed::<S, S0>(alloc, words) {
         Ok((index, total)) => walk_agrees(&index, words) == (true, total),
         Err(_) => false,
     }

@@ -73,12 +73,12 @@ pub fn shards(alloc: Global, lens: &[usize], kind: u64) -> Result<Vec<Made>, Fai
 pub fn views<'a>(alloc: Global, shards: &'a [Made]) -> Result<Vec<IndexView<'a>>, Fail> {
     let mut made = Vec::new(alloc);
     for shard in shards {
-        let lent = TablesView::over(
+        let borrowed = TablesView::over(
             shard.words.as_slice(),
             shard.upper.as_slice(),
             shard.lower.as_slice(),
         );
-        let Some(view) = lent.and_then(|lent| IndexView::over(lent, shard.len)) else {
+        let Some(view) = borrowed.and_then(|borrowed| IndexView::over(borrowed, shard.len)) else {
             return Err("a shard has other lengths".into());
         };
         made.push(view)?;

@@ -11,7 +11,7 @@ use Rattle.tables_view.proofs.sampled.bounds_of.Goals.{After-entry_behind-end, A
 
 pub returns-then-interval-count-clause-own : goal.returns-then-interval-count-clause-own
 returns-then-interval-count-clause-own c b v own inside size =
-    past b v (clamped_log c.args.lent.now.log2) c.args.part c.args.rank (omega arith) inside c.args.lent.now.samples.now own.samples_are
+    past b v (clamped_log c.args.borrowed.now.log2) c.args.part c.args.rank (omega arith) inside c.args.borrowed.now.samples.now own.samples_are
     c.samples_to-first.result c.samples_to.result c.saturating_sub-count.result (c.args.rank / 2 ^ c.clamped_log-log2.result)
     (c.samples_to-first.ensures.own b v own (omega (arith, inside))) (c.samples_to.ensures.own b v own (omega (arith, inside)))
     c.saturating_sub-count.ensures (ap (λ (d : ℕ). c.args.rank / 2 ^ d) c.clamped_log-log2.ensures.value) c.if-interval-count.true c.args.entries size c.requires.some
@@ -21,10 +21,10 @@ low_is : (low s rank d d' : ℕ) → low ≡ s % 2 ^ 21 + (if digit rank (d - 1)
     → low ≡ s % 2 ^ 21 + (if digit rank (d' - 1) then s / 2 ^ 21 else 0)
 low_is low s rank d d' is same = is ∙ ap (λ (k : ℕ). s % 2 ^ 21 + (if digit rank (k - 1) then s / 2 ^ 21 else 0)) same
 
-last : (c : After-first_entry-low) (b : List Bool) (v : Bool) → AreSamplesOf b v c.args.lent.now → c.args.part < parts b
+last : (c : After-first_entry-low) (b : List Bool) (v : Bool) → AreSamplesOf b v c.args.borrowed.now → c.args.part < parts b
     → HasBounds (part_of b c.args.part) v c.args.rank c.first_entry-low.result (div_ceil (length (part_of b c.args.part)) 2048)
 last c b v own inside =
-    bounded_last b v (clamped_log c.args.lent.now.log2) c.args.part c.args.rank (omega arith) inside c.args.lent.now.samples.now own.samples_are
+    bounded_last b v (clamped_log c.args.borrowed.now.log2) c.args.part c.args.rank (omega arith) inside c.args.borrowed.now.samples.now own.samples_are
     c.samples_to-first.result c.samples_to.result c.saturating_sub-count.result (c.args.rank / 2 ^ c.clamped_log-log2.result)
     (c.samples_to-first.ensures.own b v own (omega (arith, inside))) (c.samples_to.ensures.own b v own (omega (arith, inside)))
     c.saturating_sub-count.ensures (ap (λ (d : ℕ). c.args.rank / 2 ^ d) c.clamped_log-log2.ensures.value) (omega (arith, c.if-interval-count.false)) c.first_entry-low.result
@@ -41,10 +41,10 @@ returns-else-low-entries-clause-own c b v own inside size =
     let d = (goal.at.returns-else-low-entries-clause-own c).After-first_entry-low in
     omega (arith, (last d b v own inside).some, size, c.if-low-entries.false)
 
-next : (c : After-entry_behind-end) (b : List Bool) (v : Bool) → AreSamplesOf b v c.args.lent.now → c.args.part < parts b
+next : (c : After-entry_behind-end) (b : List Bool) (v : Bool) → AreSamplesOf b v c.args.borrowed.now → c.args.part < parts b
     → HasBounds (part_of b c.args.part) v c.args.rank c.first_entry-low.result c.entry_behind-end.result
 next c b v own inside =
-    bounded_next b v (clamped_log c.args.lent.now.log2) c.args.part c.args.rank (omega arith) inside c.args.lent.now.samples.now own.samples_are
+    bounded_next b v (clamped_log c.args.borrowed.now.log2) c.args.part c.args.rank (omega arith) inside c.args.borrowed.now.samples.now own.samples_are
     c.samples_to-first.result c.samples_to.result c.saturating_sub-count.result (c.args.rank / 2 ^ c.clamped_log-log2.result)
     (c.samples_to-first.ensures.own b v own (omega (arith, inside))) (c.samples_to.ensures.own b v own (omega (arith, inside)))
     c.saturating_sub-count.ensures (ap (λ (d : ℕ). c.args.rank / 2 ^ d) c.clamped_log-log2.ensures.value) (omega (arith, c.if-interval-count.false)) c.first_entry-low.result

@@ -8,7 +8,7 @@ pub returns-then-all-clause-written : goal.returns-then-all-clause-written
 returns-then-all-clause-written c = λ _ right.
     set_written (parts_of c.args.hash.now) c.args.key_hashes.now c.args.key_prints.now c.args.prints.now c.write_each-all.new.prints c.args.width
     (length c.args.key_hashes.now) (0 ≡ 0)
-    (set_status (parts_of c.args.hash.now) c.in-Some.lent c.in-Some.ensures.1 c.args.key_hashes.now c.args.key_prints.now c.args.prints.now
+    (set_status (parts_of c.args.hash.now) c.in-Some.borrowed c.in-Some.ensures.1 c.args.key_hashes.now c.args.key_prints.now c.args.prints.now
     c.write_each-all.new.prints c.args.width (length c.args.key_hashes.now) c.write_each-all.result 0 (λ _. refl) (λ _. c.if-all.true)
     c.write_each-all.ensures.set)
     right
@@ -17,7 +17,7 @@ pub returns-then-all-clause-kept : goal.returns-then-all-clause-kept
 returns-then-all-clause-kept c = λ _ right.
     set_kept (parts_of c.args.hash.now) c.args.key_hashes.now c.args.key_prints.now c.args.prints.now c.write_each-all.new.prints c.args.width
     (length c.args.key_hashes.now) (0 ≡ 0)
-    (set_status (parts_of c.args.hash.now) c.in-Some.lent c.in-Some.ensures.1 c.args.key_hashes.now c.args.key_prints.now c.args.prints.now
+    (set_status (parts_of c.args.hash.now) c.in-Some.borrowed c.in-Some.ensures.1 c.args.key_hashes.now c.args.key_prints.now c.args.prints.now
     c.write_each-all.new.prints c.args.width (length c.args.key_hashes.now) c.write_each-all.result 0 (λ _. refl) (λ _. c.if-all.true)
     c.write_each-all.ensures.set)
     right
@@ -26,7 +26,7 @@ pub returns-then-all-clause-room : goal.returns-then-all-clause-room
 returns-then-all-clause-room c = λ _ right.
     set_room (parts_of c.args.hash.now) c.args.key_hashes.now c.args.key_prints.now c.args.prints.now c.write_each-all.new.prints c.args.width
     (length c.args.key_hashes.now) (0 ≡ 0)
-    (set_status (parts_of c.args.hash.now) c.in-Some.lent c.in-Some.ensures.1 c.args.key_hashes.now c.args.key_prints.now c.args.prints.now
+    (set_status (parts_of c.args.hash.now) c.in-Some.borrowed c.in-Some.ensures.1 c.args.key_hashes.now c.args.key_prints.now c.args.prints.now
     c.write_each-all.new.prints c.args.width (length c.args.key_hashes.now) c.write_each-all.result 0 (λ _. refl) (λ _. c.if-all.true)
     c.write_each-all.ensures.set)
     right
@@ -35,7 +35,7 @@ pub returns-else-all-clause-written : goal.returns-else-all-clause-written
 returns-else-all-clause-written c = λ _ right.
     set_written (parts_of c.args.hash.now) c.args.key_hashes.now c.args.key_prints.now c.args.prints.now c.write_each-all.new.prints c.args.width
     (length c.args.key_hashes.now) (3 ≡ 0)
-    (set_status (parts_of c.args.hash.now) c.in-Some.lent c.in-Some.ensures.1 c.args.key_hashes.now c.args.key_prints.now c.args.prints.now
+    (set_status (parts_of c.args.hash.now) c.in-Some.borrowed c.in-Some.ensures.1 c.args.key_hashes.now c.args.key_prints.now c.args.prints.now
     c.write_each-all.new.prints c.args.width (length c.args.key_hashes.now) c.write_each-all.result 3
     (λ yes. absurd (not_both c.write_each-all.result c.if-all.false yes)) (λ e. absurd (omega (arith, e))) c.write_each-all.ensures.set)
     right
@@ -44,7 +44,7 @@ pub returns-else-all-clause-kept : goal.returns-else-all-clause-kept
 returns-else-all-clause-kept c = λ _ right.
     set_kept (parts_of c.args.hash.now) c.args.key_hashes.now c.args.key_prints.now c.args.prints.now c.write_each-all.new.prints c.args.width
     (length c.args.key_hashes.now) (3 ≡ 0)
-    (set_status (parts_of c.args.hash.now) c.in-Some.lent c.in-Some.ensures.1 c.args.key_hashes.now c.args.key_prints.now c.args.prints.now
+    (set_status (parts_of c.args.hash.now) c.in-Some.borrowed c.in-Some.ensures.1 c.args.key_hashes.now c.args.key_prints.now c.args.prints.now
     c.write_each-all.new.prints c.args.width (length c.args.key_hashes.now) c.write_each-all.result 3
     (λ yes. absurd (not_both c.write_each-all.result c.if-all.false yes)) (λ e. absurd (omega (arith, e))) c.write_each-all.ensures.set)
     right
@@ -53,7 +53,7 @@ pub returns-else-all-clause-room : goal.returns-else-all-clause-room
 returns-else-all-clause-room c = λ _ right.
     set_room (parts_of c.args.hash.now) c.args.key_hashes.now c.args.key_prints.now c.args.prints.now c.write_each-all.new.prints c.args.width
     (length c.args.key_hashes.now) (3 ≡ 0)
-    (set_status (parts_of c.args.hash.now) c.in-Some.lent c.in-Some.ensures.1 c.args.key_hashes.now c.args.key_prints.now c.args.prints.now
+    (set_status (parts_of c.args.hash.now) c.in-Some.borrowed c.in-Some.ensures.1 c.args.key_hashes.now c.args.key_prints.now c.args.prints.now
     c.write_each-all.new.prints c.args.width (length c.args.key_hashes.now) c.write_each-all.result 3
     (λ yes. absurd (not_both c.write_each-all.result c.if-all.false yes)) (λ e. absurd (omega (arith, e))) c.write_each-all.ensures.set)
     right

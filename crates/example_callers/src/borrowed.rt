@@ -13,10 +13,10 @@ pub fn repair(words: &[u64], upper: &mut [usize], lower: &mut [u64]) -> bool
     ensures sizes { IsTrue result → HasSizes (lists_of words.now upper.new lower.new) }
     ensures tables { IsTrue result → HasTables (lists_of words.now upper.new lower.new) }
 {
-    let Some(lent) = TablesView::over(words, &*upper, &*lower) else {
+    let Some(borrowed) = TablesView::over(words, &*upper, &*lower) else {
         return false;
     };
-    if lent.check() {
+    if borrowed.check() {
         return true;
     }
     build(words, upper, lower).is_some()
@@ -32,10 +32,10 @@ pub fn select(words: &[u64], upper: &mut [usize], lower: &mut [u64], rank: usize
     if !repair(words, &mut *upper, &mut *lower) {
         return None;
     }
-    let Some(lent) = TablesView::over(words, &*upper, &*lower) else {
+    let Some(borrowed) = TablesView::over(words, &*upper, &*lower) else {
         unreachable!()
     };
-    match lent.select::<1>(rank) {
+    match borrowed.select::<1>(rank) {
         Answer::Found(position) => Some(position),
         Answer::Absent => None,
         // No right tables are called wrong.

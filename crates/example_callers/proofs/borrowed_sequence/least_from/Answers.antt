@@ -2,7 +2,7 @@
 use Rattle.std.proofs.Common.{sym, ◌∙◌, arith}
 use Rattle.std.proofs.lemmas.List.{get_or_default}
 use Rattle.elias_fano.proofs.lemmas.SequenceLemmas.{reached-from}
-use Rattle.example_callers.proofs.lent_sequence.least_from.Goals as goal
+use Rattle.example_callers.proofs.borrowed_sequence.least_from.Goals as goal
 
 pub returns-clause-found : goal.returns-clause-found
 returns-clause-found c = λ xs h.

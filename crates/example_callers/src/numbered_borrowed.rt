@@ -10,19 +10,19 @@ use perfect_hash::total_number_on;
 
 /// The value at the number of a hash. Whatever words, tables and sizes hold, that number is one of a value.
 pub fn value_of_hash(
-    lent: &TablesView<'_>,
+    borrowed: &TablesView<'_>,
     sizes: &[usize],
     values: &[u64],
     hash: u64,
 ) -> Option<u64>
-    ensures { let b = bits_in lent.now in
-        HasTables lent.now → AreSizes sizes.now b → ones_of b ≤ length values.now
+    ensures { let b = bits_in borrowed.now in
+        HasTables borrowed.now → AreSizes sizes.now b → ones_of b ≤ length values.now
         → result ≡ option_map (slice_index values.now) (number_by sizes.now b hash) }
 {
     if sizes.len() > 256 {
         return None;
     }
-    match total_number_on(&mut lent.probe(), sizes, values.len(), hash) {
+    match total_number_on(&mut borrowed.probe(), sizes, values.len(), hash) {
         Answer::Found(number) => Some(values[number]),
         Answer::Absent | Answer::Wrong => None,
     }
