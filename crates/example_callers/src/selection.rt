@@ -80,8 +80,8 @@ pub struct Front<'a, F> {
     pub rest: F,
 }
 
-/// In the words that have their first 1 bits at these positions, and in which the other finder finds bits: what that
-/// one reads.
+/// Finds bits in words whose first 1 bits are at these positions, and in which the other finder finds the rest; reads
+/// what the other finder reads.
 impl<'a, F: Finds> Finds for Front<'a, F> {
     ghost finds = { λ front lists. F.finds front.rest lists
         × ((r : ℕ) → r < length front.positions.now

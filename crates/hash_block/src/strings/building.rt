@@ -83,8 +83,8 @@ fn write_block(hash: &HashView<'_>, bytes: &[u8], ends: &[usize], block: &mut [u
     true
 }
 
-/// Writes the block of strings whose hashes by the seed of a perfect hash (`hash`) this numbers: each string gets the
-/// number of its hash. The strings stand one after another in `bytes`, string `i` up to `ends[i]`. `open` opens the
+/// Writes the block of strings, each of which gets the number that the perfect hash gives to its hash (`hash`, by the
+/// perfect hash's seed). The strings stand one after another in `bytes`, string `i` up to `ends[i]`. `open` opens the
 /// block, `check` accepts it, and `find` finds each string and nothing else.
 ///
 /// # Errors

@@ -105,8 +105,8 @@ fn bound_agrees<S: SelectForRank101111, S0: Select0ForRank101111>(
     agrees
 }
 
-/// Whether what stands where in a sorted range, and how many numbers of it are from the half of each on and less than
-/// it, are as it says.
+/// Whether the quantiles of a range are its sorted numbers, and whether the numbers from half a quantile up to it are
+/// counted right.
 fn order_agrees<S: SelectForRank101111, S0: Select0ForRank101111>(
     matrix: &WaveletMatrix<S, S0>,
     sorted: &[u64],
