@@ -1,7 +1,7 @@
 -- `as_entries` shares the words as they are: to the logic a `u64` and a `usize` are one type.
 use Rattle.std.proofs.Common.{ℕ, List, [], ◌∷◌, length, refl, Bor}
 use seplogic.Ra.Ura.{Ura}
-use mir.Syntax.{Body, named, seq, assign, position, rv_opd, copy, return}
+use mir.Syntax.{Body, named, seq, assign, place, rv_opd, copy, return}
 use mir.Val.{Val}
 use base.Logic.{SProp, ent, emp, via, fst∗}
 use base.Fml.{Lft, Share, ftrue, flft}
@@ -37,7 +37,7 @@ stayed = (stay_dropped (shr_slice_of (0 ∷ []) tt (plain (λ _. u64))) yes, tt)
 
 -- the MIR after the `unsafe` block: its value goes to the result
 abbrev rest : Body
-rest = seq (assign (position 0 []) (rv_opd (copy (position 2 [])))) return
+rest = seq (assign (place 0 []) (rv_opd (copy (place 2 [])))) return
 
 module _ {M : Type 1} {𝓤 : Ura M} (𝓛 : Logic 𝓤) (at_mem : Memory → SProp 𝓤) (run : Routine → Fun 𝓤) where
   open 𝓛 use {H}
