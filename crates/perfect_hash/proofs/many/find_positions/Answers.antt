@@ -33,7 +33,7 @@ loop-level-init g c =
 
 pub returns-then-count-eq0 : goal.returns-then-count-eq0
 returns-then-count-eq0 g c = record {
-  number_code = last_is_claimed (fall_in (g.P.Placing.fall c.args.placing.now) c.args.sizes.now) (g.Q.Query.bits c.args.query.now (g.T.TableSource.lists c.args.source.now))
+  claimed = last_is_claimed (fall_in (g.P.Placing.fall c.args.placing.now) c.args.sizes.now) (g.Q.Query.bits c.args.query.now (g.T.TableSource.lists c.args.source.now))
       c.args.sizes.now c.loop-level.level c.loop-level.begin c.args.hashes.now c.loop-level.positions c.loop-level.waiting c.loop-level.count
       c.loop-level.invariant.each (inr c.if-count-eq0.true);
   reads = reads_fewer (length c.args.hashes.now) (length c.args.sizes.now) c.loop-level.level g.T.TableSource.lists g.T.TableSource.reads c.args.source.now c.loop-level.source
@@ -42,7 +42,7 @@ returns-then-count-eq0 g c = record {
 
 pub returns : goal.returns
 returns g c = record {
-  number_code = last_is_claimed (fall_in (g.P.Placing.fall c.args.placing.now) c.args.sizes.now) (g.Q.Query.bits c.args.query.now (g.T.TableSource.lists c.args.source.now))
+  claimed = last_is_claimed (fall_in (g.P.Placing.fall c.args.placing.now) c.args.sizes.now) (g.Q.Query.bits c.args.query.now (g.T.TableSource.lists c.args.source.now))
       c.args.sizes.now c.loop-level.level c.loop-level.begin c.args.hashes.now c.loop-level.positions c.loop-level.waiting c.loop-level.count
       c.loop-level.invariant.each (inl c.loop-level-test.false);
   reads = reads_fewer (length c.args.hashes.now) (length c.args.sizes.now) c.loop-level.level g.T.TableSource.lists g.T.TableSource.reads c.args.source.now c.loop-level.source
