@@ -21,7 +21,7 @@ pub record IsTotal (by : ℕ → ℕ → ℕ → ℕ → ℕ) (sizes : List ℕ)
 -- n codes the number of a hash
 pub record IsNumberClaimed (by : ℕ → ℕ → ℕ → ℕ → ℕ) (sizes : List ℕ) (count : ℕ) (lists : Lists) (hash n : ℕ) : Type 0 where
   pub answer : Answer ℕ
-  pub number_code : n ≡ list_code answer
+  pub claimed : n ≡ list_code answer
   pub is : IsTotal by sizes count lists hash answer
 
 -- number k codes that of hash k

@@ -72,7 +72,7 @@ module _ (by : ℕ → ℕ → ℕ → ℕ → ℕ) (sizes : List ℕ) (count : 
       → IsCodeAt o count (2 ^ 64 - 1) lists n → IsNumberClaimed by sizes count lists hash n
   whole None e fit is = record {
     answer = Absent;
-    number_code = is;
+    claimed = is;
     is = record {
       below = tt;
       number = λ t are few. ap (option_map (ones_before (bits_in lists))) e;
@@ -85,7 +85,7 @@ module _ (by : ℕ → ℕ → ℕ → ℕ → ℕ) (sizes : List ℕ) (count : 
       elim is.0 [
         | inl below ↦ record {
           answer = Found n;
-          number_code = refl;
+          claimed = refl;
           is = record {
             below = below;
             number = λ t are few. ap (option_map (ones_before b)) e ∙ ap Some (sym (is.1 t few).1);
@@ -95,7 +95,7 @@ module _ (by : ℕ → ℕ → ℕ → ℕ → ℕ) (sizes : List ℕ) (count : 
         }
         | inr wrong ↦ record {
           answer = Wrong;
-          number_code = wrong;
+          claimed = wrong;
           is = record {
             below = tt;
             number = λ t are few. absurd (omega (arith, (is.1 t few).0, wrong, most));
@@ -113,7 +113,7 @@ module _ (by : ℕ → ℕ → ℕ → ℕ → ℕ) (sizes : List ℕ) (count : 
       wrong : n ≡ 2 ^ 64 - 2 → (AreSizes sizes (bits_in lists) → ⊥) → IsNumberClaimed by sizes count lists hash n
       wrong e never = record {
         answer = Wrong;
-        number_code = e;
+        claimed = e;
         is = record {
           below = tt;
           number = λ t are few. absurd (never are);
@@ -128,7 +128,7 @@ module _ (by : ℕ → ℕ → ℕ → ℕ → ℕ) (sizes : List ℕ) (count : 
           elim is.0 [
             | inl below ↦ record {
               answer = Found n;
-              number_code = refl;
+              claimed = refl;
               is = record {
                 below = below;
                 number = λ t are few. absurd (never are);
