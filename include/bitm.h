@@ -1431,14 +1431,15 @@ BITM_MUST_USE static inline uint32_t bitm_stored_open_index(const uint64_t *file
  *
  *     const uint64_t bits_of[2] = {1000, 700}, ones_of[2] = {480, 351};
  *     uint64_t bits[3], ones[3];
- *     struct bitm_shard_place place;
+ *     struct bitm_shard_location location;
  *     if (bitm_prefix_sums(bits_of, 2, bits, 3) || bitm_prefix_sums(ones_of, 2, ones, 3)) return 1;
  *     struct bitm_prefixes counts = {.bits = bits, .bits_len = 3, .ones = ones, .ones_len = 3};
- *     if (bitm_shards_find(&counts, BITM_ONES, 500, &place) || place.shard != 1 || place.within != 20) return 1;
+ *     if (bitm_shards_find(&counts, BITM_ONES, 500, &location) ||
+ *         location.shard != 1 || location.within != 20) return 1;
  *
- * The position of that bit is bits[place.shard] + its position in the shard; the rank of a position is
- * ones[place.shard] + its rank in the shard. Both, and that place.within is a rank (a position) which the shard has,
- * are proved for any number of shards, empty ones too, and fewer than 2^64 bits, where the counts match the shards.
+ * The position of that bit is bits[location.shard] + its position in the shard; the rank of a position is
+ * ones[location.shard] + its rank in the shard. Both, and that the shard has this position or rank, are proved for
+ * any number of shards, empty ones too, and fewer than 2^64 bits, where the counts match the shards.
  *
  *   - errors: BITM_BAD_SIZE if a length in the struct is not right. A query returns BITM_WRONG only where counts or
  *     tables turn out to be wrong. An error writes nothing but room.
@@ -1460,7 +1461,7 @@ struct bitm_prefixes {
 };
 
 /* A shard, and a position in it or the rank of a bit there. */
-struct bitm_shard_place {
+struct bitm_shard_location {
     size_t shard;
     uint64_t within;
 };
@@ -1519,11 +1520,12 @@ BITM_MUST_USE uint32_t bitm_prefix_sums_check(const uint64_t *numbers, size_t nu
  *
  *     const uint64_t bits[3] = {0, 1000, 1700}, ones[3] = {0, 480, 831}; // of two shards, of 1000 and of 700 bits
  *     const struct bitm_prefixes counts = {bits, 3, ones, 3};
- *     struct bitm_shard_place place;
- *     if (bitm_shards_find(&counts, BITM_POSITIONS, 1600, &place) || place.shard != 1 || place.within != 600 ||
- *         bitm_shards_find(&counts, BITM_ONES, 831, &place) != BITM_NONE) return 1; */
+ *     struct bitm_shard_location location;
+ *     if (bitm_shards_find(&counts, BITM_POSITIONS, 1600, &location) ||
+ *         location.shard != 1 || location.within != 600 ||
+ *         bitm_shards_find(&counts, BITM_ONES, 831, &location) != BITM_NONE) return 1; */
 BITM_MUST_USE uint32_t bitm_shards_find(const struct bitm_prefixes *counts, uint32_t kind, uint64_t number,
-                                        struct bitm_shard_place *out);
+                                        struct bitm_shard_location *out);
 
 /* bitm_index_rank and bitm_index_select of the joined bits: one search among the counts, and one query of a shard.
  * BITM_NONE exactly if position is above the number of all bits that the counts claim, or rank is not below the number

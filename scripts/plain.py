@@ -86,8 +86,8 @@ OTHER_WAYS = {
         "match self.try_rank(index) {":
             "let _ = count_bit_ones(self.content().as_slice()); match self.try_rank(index) {",
         "match self.try_select(rank) {": "self.try_select(rank); match self.try_select(rank) {",
-        "match bit_and_rank_on(&mut self.probe(), place) {":
-            "self.rank(place); match bit_and_rank_on(&mut self.probe(), place) {",
+        "match bit_and_rank_on(&mut self.probe(), position) {":
+            "self.rank(position); match bit_and_rank_on(&mut self.probe(), position) {",
     },
     "bitm_view/src/view.rt": {
         "return self.select_on::<BIT, Probe<'_>, ByTables>(":
@@ -103,7 +103,7 @@ OTHER_WAYS = {
         "find_by(&finder, &mut source,": "self.longest(word); find_by(&finder, &mut source,",
     },
     "louds/src/node.rt": {
-        "ends_after_on(&mut self.probe(), self.len(), node.number, node.place)": "self.is_leaf(node.number)",
+        "ends_after_on(&mut self.probe(), self.len(), node.number, node.position)": "self.is_leaf(node.number)",
         "parent_of_by(index,": "self.parent(node.number); parent_of_by(index,",
     },
     "louds/src/tree.rt": {

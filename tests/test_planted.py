@@ -173,8 +173,8 @@ PLANTS = {
         "crates/bit_lists/src/lib.rt: longer than 120 columns"),
     "a size in a picture": ("documents", "docs/layout.svg", "8 words each", "9 words each", "docs/layout.svg: "),
     "a line of a program": (
-        "documents", "docs/guides/rank-and-select.md", "words::set_bit(content.as_mut_slice(), place)",
-        "words::set_bit(content.as_mut_slice(), place + 1)", "its program is not crates/example_callers"),
+        "documents", "docs/guides/rank-and-select.md", "words::set_bit(content.as_mut_slice(), position)",
+        "words::set_bit(content.as_mut_slice(), position + 1)", "its program is not crates/example_callers"),
     "an answer of the first run": (
         "documents", "docs/PROGRAM.md", "ok 65", "ok 66", "docs/PROGRAM.md: its first run does not show"),
     "the reads of a row": (
@@ -183,7 +183,7 @@ PLANTS = {
     "the size of a table": (
         "documents", "docs/DIFFERENCES.md", "tables of 2.5 KiB", "tables of 3.5 KiB", "does not say: tables of 2.5 KiB"),
     "a caller": (
-        "documents", "crates/bitm/CALLING.md", "rank_on(&mut probe, place)", "rank_on(&mut probe, place + 1)",
+        "documents", "crates/bitm/CALLING.md", "rank_on(&mut probe, position)", "rank_on(&mut probe, position + 1)",
         "crates/bitm/CALLING.md: its first caller is not of"),
     "the list of all crates": (
         "documents", "docs/ARCHITECTURE.md", "\n| `digits` | ", "\n| `digit` | ", "docs/ARCHITECTURE.md: its crates differ from crates.txt"),

@@ -27,7 +27,7 @@
 BITM_NAMESPACE_BEGIN
 
 // A shard, and a position in it or the rank of a bit there.
-using shard_place = bitm_shard_place;
+using shard_location = bitm_shard_location;
 
 // How many bits, and how many 1 bits, there are before each shard, and in all. What was moved from has no shards.
 class BITM_OWNER prefix_counts {
@@ -66,9 +66,9 @@ public:
     void ones_before() const && = delete;
 
     // The shard that holds a position, or the 1 bit, or 0 bit, with a rank; none where there is none.
-    std::optional<shard_place> find(std::uint64_t position) const { return placed(BITM_POSITIONS, position); }
-    std::optional<shard_place> find_one(std::uint64_t rank) const { return placed(BITM_ONES, rank); }
-    std::optional<shard_place> find_zero(std::uint64_t rank) const { return placed(BITM_ZEROS, rank); }
+    std::optional<shard_location> find(std::uint64_t position) const { return located(BITM_POSITIONS, position); }
+    std::optional<shard_location> find_one(std::uint64_t rank) const { return located(BITM_ONES, rank); }
+    std::optional<shard_location> find_zero(std::uint64_t rank) const { return located(BITM_ZEROS, rank); }
 
     // All of it as C takes it. Deleted for temporaries.
     bitm_prefixes raw() const &noexcept BITM_LIFETIMEBOUND
@@ -92,9 +92,9 @@ private:
             fail({errc::bad_size});
         return made;
     }
-    std::optional<shard_place> placed(std::uint32_t kind, std::uint64_t number) const
+    std::optional<shard_location> located(std::uint32_t kind, std::uint64_t number) const
     {
-        shard_place out{};
+        shard_location out{};
         const bitm_prefixes counts = raw();
         switch (bitm_shards_find(&counts, kind, number, &out)) {
         case BITM_OK:
@@ -161,15 +161,15 @@ public:
     }
 
     // The position, in the joined bits, of the 1 bit, or 0 bit, with a rank; none where there is none.
-    maybe_position select(std::uint64_t rank) const { return placed(bitm_shards_select, true, rank); }
-    maybe_position select0(std::uint64_t rank) const { return placed(bitm_shards_select, false, rank); }
+    maybe_position select(std::uint64_t rank) const { return located(bitm_shards_select, true, rank); }
+    maybe_position select0(std::uint64_t rank) const { return located(bitm_shards_select, false, rank); }
 
     // The position of the first 1 bit, or 0 bit, of the joined bits at or after a position; of the last one at or
     // before it, which may be past the end. None where there is none.
-    maybe_position next_one(std::uint64_t from) const { return placed(bitm_shards_next, true, from); }
-    maybe_position next_zero(std::uint64_t from) const { return placed(bitm_shards_next, false, from); }
-    maybe_position previous_one(std::uint64_t from) const { return placed(bitm_shards_previous, true, from); }
-    maybe_position previous_zero(std::uint64_t from) const { return placed(bitm_shards_previous, false, from); }
+    maybe_position next_one(std::uint64_t from) const { return located(bitm_shards_next, true, from); }
+    maybe_position next_zero(std::uint64_t from) const { return located(bitm_shards_next, false, from); }
+    maybe_position previous_one(std::uint64_t from) const { return located(bitm_shards_previous, true, from); }
+    maybe_position previous_zero(std::uint64_t from) const { return located(bitm_shards_previous, false, from); }
 
     // Lists, into memory of the caller's as long as the queries: out[i] answers queries[i], or is bitm::no_answer (also
     // for the rank of a position past the end). Queries are grouped by shard. Where tables are noticed to be wrong,
@@ -217,7 +217,7 @@ private:
             fail({errc::wrong});
         }
     }
-    template <class Call> maybe_position placed(Call call, bool one, std::uint64_t number) const
+    template <class Call> maybe_position located(Call call, bool one, std::uint64_t number) const
     {
         std::uint64_t out = 0;
         const bitm_shards shards = raw();

@@ -8,7 +8,7 @@
 //
 // A pattern is counted in a time that does not depend on how long the text is; occurrences may overlap, and an empty
 // pattern stands at each position, the end too. The text itself is not needed. Letters are bytes, or numbers, of which
-// the calls that end in _letters take patterns; in the index of bytes a letter is the place of a byte among those used.
+// the calls that end in _letters take patterns; in an index of bytes a letter is the number of a byte among those used.
 #ifndef BITM_TEXT_HPP
 #define BITM_TEXT_HPP
 

@@ -191,15 +191,15 @@ class Shards(_shard_lists.Lists):
         executor's `map`, or that of a Dask client: it calls a function of this module with one argument for each source,
         and both travel to its workers by pickle. FileExistsError where the folder has a manifest. Where a build fails or
         is killed there is none, and another build in the folder writes all shards again."""
-        place = os.path.abspath(os.fspath(folder))
-        os.makedirs(place, exist_ok=True)
-        if os.path.exists(os.path.join(place, MANIFEST)):
-            raise FileExistsError(f"{place} has shards already")
+        path = os.path.abspath(os.fspath(folder))
+        os.makedirs(path, exist_ok=True)
+        if os.path.exists(os.path.join(path, MANIFEST)):
+            raise FileExistsError(f"{path} has shards already")
         token = secrets.token_hex(8)
-        tasks = [(place, f"shard-{k:06d}.bitm", it, sample_log2, token) for k, it in enumerate(sources)]
+        tasks = [(path, f"shard-{k:06d}.bitm", it, sample_log2, token) for k, it in enumerate(sources)]
         made = [it.result() if hasattr(it, "result") else it for it in map(build_shard, tasks)]
-        _write(place, [Part(*it) for it in made])
-        return cls(place)
+        _write(path, [Part(*it) for it in made])
+        return cls(path)
 
     def append(self, source: object, *, sample_log2: Optional[int] = None) -> None:
         """Adds a shard after the last."""
@@ -265,7 +265,7 @@ class Shards(_shard_lists.Lists):
 
     def _find(self, kind: int, number: int) -> Tuple[int, int]:
         """Which shard holds a position, or the bit with a rank, and the number in it, where there is one: a proved call."""
-        found = self._set.place(kind, number)
+        found = self._set.find(kind, number)
         if found is None:
             raise IndexError(f"number {number}, which the shards do not have")
         return found

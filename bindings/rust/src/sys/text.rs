@@ -15,7 +15,7 @@ use core::fmt;
 ///
 /// `TextIndex` and `bitm text build` make such a block. A pattern is counted in a time that does not depend on how long
 /// the text is; occurrences may overlap, and an empty pattern stands at each position, the end too. Calls over letters are
-/// for texts of numbers; in the index of bytes a letter is the place of a byte among those that the text uses. Each call
+/// for texts of numbers; in an index of bytes a letter is the number of a byte among those that the text uses. Each call
 /// is one proved call.
 ///
 /// ```
