@@ -199,7 +199,7 @@ static inline size_t bitm_hints_len(size_t ones, size_t words_len)
 }
 
 /* How many words the hints take of words_len words of a matrix, whose number of 1 bits its block does not know ahead:
- * as many as bitm_hints_len says at most. 0 if words_len is 2^26 or more.
+ * the most that bitm_hints_len returns. 0 if words_len is 2^26 or more.
  *
  *     if (bitm_hints_room(40) != 11 || bitm_hints_room((size_t)1 << 26) != 0) return 1; */
 static inline size_t bitm_hints_room(size_t words_len)

@@ -34,8 +34,8 @@ enum class verify : bool { no, yes };
 
 namespace detail {
 
-// A path as the system takes it, of a std::string, a std::filesystem::path or a literal. A null pointer is an empty one,
-// of which there is no file.
+// A path as the system takes it, of a std::string, a std::filesystem::path or a literal. A null pointer is the empty
+// path, which names no file.
 class path_of {
 public:
     path_of(const char *path) noexcept : path_(path ? path : "") {}
@@ -171,8 +171,8 @@ inline result<bool> written(path_of path, const void *data, std::size_t bytes) n
     return true;
 }
 
-// The words of a stream from where it stands, as many as `needed` says of those that were read. Their header is not
-// checked before all is read, so memory grows with the bytes that arrive.
+// The words of a stream from where it stands: `needed` says by the words that were read how many there should be.
+// Their header is not checked before all is read, so memory grows with the bytes that arrive.
 template <class Char, class Traits, class Needed>
 result<block> streamed(std::basic_istream<Char, Traits> &from, Needed &&needed)
 {

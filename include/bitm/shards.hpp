@@ -13,8 +13,8 @@
 //     const bitm::sharded_index owner(std::move(shards));        // the indexes are its own
 //     std::cout << owner.count() << '\n';                        // 2
 //
-// Where the counts are those of the shards, and each shard's tables those of its words, the answers are those of
-// counting.
+// Where the counts match the shards, and each shard's tables match its words, the answers are those of counting in the
+// joined bits.
 #ifndef BITM_SHARDS_HPP
 #define BITM_SHARDS_HPP
 
@@ -79,7 +79,7 @@ public:
     void raw() const && = delete;
 
 private:
-    // The sums: of no shards that of nothing.
+    // The sums; of no shards a single 0.
     static words_in all(const std::vector<std::uint64_t> &sums) noexcept
     {
         static constexpr std::uint64_t nothing[1] = {0};
@@ -151,7 +151,7 @@ public:
     std::uint64_t rank(std::uint64_t position) const { return counted(true, position); }
     std::uint64_t rank0(std::uint64_t position) const { return counted(false, position); }
 
-    // What it is: `sharded_index(bits=300, ones=2, shards=2)`.
+    // As text: `sharded_index(bits=300, ones=2, shards=2)`.
     template <class Char, class Traits>
     friend std::basic_ostream<Char, Traits> &operator<<(std::basic_ostream<Char, Traits> &to, const sharded_index &of)
     {
@@ -174,7 +174,7 @@ public:
     // Lists, into memory of the caller's as long as the queries: out[i] answers queries[i], or is bitm::no_answer (also
     // for the rank of a position past the end). Queries are grouped by shard. Where tables are noticed to be wrong,
     // the call fails once all is answered, and those answers are bitm::wrong_answer. Takes memory for three
-    // numbers a query, of which there are 2^17 at a time, and one a shard.
+    // numbers a query, with at most 2^17 queries at a time, and one a shard.
     void rank(words_in positions, words_out out) const { list(bitm_shards_rank_list, true, positions, out); }
     void rank0(words_in positions, words_out out) const { list(bitm_shards_rank_list, false, positions, out); }
     void select(words_in ranks, words_out out) const { list(bitm_shards_select_list, true, ranks, out); }

@@ -68,7 +68,7 @@ def _intersection(self: Any, *others: Any) -> "_core.EliasFano":
     """
     window = _core.cursors_merged(True, (self, *others), 0, None)
     if not min((self, *others), key=len).check():
-        raise _core.WrongTables("the parts are not those of a sequence")
+        raise _core.WrongTables("the parts form no sequence")
     return _core.EliasFano(window)
 
 

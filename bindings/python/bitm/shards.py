@@ -18,7 +18,7 @@ from ._core import BitVector, Index, ShardSet, WrongTables, parts
 from ._shard_lists import POSITIONS
 
 MANIFEST, FORMAT, VERSION = "shards.json", "bitm shards", 1
-OTHER, WRONG = "it is not the one that the manifest names", "its tables are not those of its words"
+OTHER, WRONG = "it is not the one that the manifest names", "its tables do not match its words"
 PathLike = Union[str, "os.PathLike[str]"]
 Mapper = Callable[..., Iterable[Any]]
 Answer = TypeVar("Answer")

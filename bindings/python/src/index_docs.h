@@ -9,7 +9,7 @@
     "Samples of each 2**sample_log2 bits (7 to 31) make selections faster.\n\n"                                        \
     "The tables take some 3 % of the bits' memory (Zhou, Andersen and Kaminsky, SEA 2013). Building reads\n"           \
     "each word once. ValueError where there are fewer bits than length, TypeError for a buffer of other\n"             \
-    "items. A query of a closed index raises ValueError, and over tables that are not those of the bits\n"             \
+    "items. A query of a closed index raises ValueError, and over tables that do not match the bits\n"                 \
     "WrongTables."                                                                                                     \
     EXAMPLE("index = Index(BitVector.from_bits('0101101'))") THEN("index.rank(4), index.select(2)")                    \
     PRINTS("(2, 4)")

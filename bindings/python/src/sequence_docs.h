@@ -9,7 +9,7 @@
     "predecessors.\n\n"                                                                                                \
     "The numbers may be a buffer of whole numbers of any width, or an iterable. ValueError where one is\n"             \
     "less than the one before it: it says which. A query of a closed sequence raises ValueError, and over\n"           \
-    "parts that are not those of a sequence (of a damaged file) WrongTables."                                          \
+    "parts that form no sequence (of a damaged file) WrongTables."                                                     \
     EXAMPLE("primes = EliasFano([2, 3, 5, 7, 11, 13])") THEN("primes[4], primes[1:3], 7 in primes")                    \
     PRINTS("(11, [3, 5], True)")
 

@@ -42,7 +42,7 @@ by_view! { Dictionary;
     /// ```
     pub fn is_empty(&self) -> bool;
 
-    /// The words of the block, which are those of a file of this dictionary.
+    /// The words of the block, which is also the file of this dictionary.
     ///
     /// ```
     /// use bitm_proved::Dictionary;

@@ -35,7 +35,7 @@ impl fmt::Display for NoMemory {
 
 impl Error for NoMemory {}
 
-/// The tables are not those of the words, or the parts not those of a sequence, a hash, a tree or a trie.
+/// The tables do not match the words, or the parts form no sequence, hash, tree or trie.
 ///
 /// ```
 /// use bitm_proved::{IndexView, Queries, WrongTables};
@@ -49,7 +49,7 @@ pub struct WrongTables;
 
 impl fmt::Display for WrongTables {
     fn fmt(&self, f: &mut fmt::Formatter<'_>) -> fmt::Result {
-        f.write_str("the tables are not those of the words")
+        f.write_str("the tables do not match the words")
     }
 }
 
@@ -106,7 +106,7 @@ pub enum StoredError {
     /// assert_eq!(Index::build([7u64]).to_stored(65).err(), Some(StoredError::WrongLength)); // 65 bits of 64
     /// ```
     WrongLength,
-    /// The tables are not those of the words, or the parts not those of a sequence: they are not stored.
+    /// The tables do not match the words, or the parts form no sequence: they are not stored.
     ///
     /// ```
     /// use bitm_proved::{IndexView, StoredError};
@@ -195,7 +195,7 @@ pub enum ListError {
         /// How many the second has.
         second: usize,
     },
-    /// The tables are not those of the words; `WRONG_TABLES` stands for the answers that it shows in. A list of the
+    /// The tables do not match the words; `WRONG_TABLES` stands for the answers that it shows in. A list of the
     /// numbers at indices stops at the first of these.
     ///
     /// ```

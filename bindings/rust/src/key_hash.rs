@@ -35,7 +35,7 @@ by_view! { KeyHash;
     /// ```
     pub fn is_empty(&self) -> bool;
 
-    /// The words of the block, which are those of a file of this hash.
+    /// The words of the block, which is also the file of this hash.
     ///
     /// ```
     /// use bitm_proved::KeyHash;

@@ -122,7 +122,7 @@ by_view! { WaveletMatrix;
     /// ```
     pub fn width(&self) -> u32;
 
-    /// The words of the block, which are those of a file of this list.
+    /// The words of the block, which is also the file of this list.
     ///
     /// ```
     /// use bitm_proved::WaveletMatrix;

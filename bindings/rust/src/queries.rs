@@ -17,7 +17,7 @@ use core::ops::Range;
 /// ```
 pub const NO_ANSWER: usize = usize::MAX;
 
-/// In a list of answers: the tables are not those of the words.
+/// In a list of answers: the tables do not match the words.
 ///
 /// ```
 /// use bitm_proved::{IndexView, ListError, Queries, WRONG_TABLES};

@@ -48,7 +48,7 @@ by_view! { SeededHash;
     /// ```
     pub fn is_empty(&self) -> bool;
 
-    /// The words of the block, which are those of a file of this hash.
+    /// The words of the block, which is also the file of this hash.
     ///
     /// ```
     /// use bitm_proved::SeededHash;

@@ -126,7 +126,7 @@ by_view! { SparseBits;
     /// ```
     pub fn is_empty(&self) -> bool;
 
-    /// The words of the block, which are those of a file of these bits.
+    /// The words of the block, which is also the file of these bits.
     ///
     /// ```
     /// use bitm_proved::SparseBits;

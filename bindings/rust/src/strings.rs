@@ -50,7 +50,7 @@ by_view! { Strings;
     /// ```
     pub fn is_empty(&self) -> bool;
 
-    /// The words of the block, which are those of a file of these strings.
+    /// The words of the block, which is also the file of these strings.
     ///
     /// ```
     /// use bitm_proved::Strings;

@@ -100,7 +100,7 @@ by_view! { Tree;
     /// ```
     pub fn is_empty(&self) -> bool;
 
-    /// The words of the block, which are those of a file of this tree.
+    /// The words of the block, which is also the file of this tree.
     ///
     /// ```
     /// use bitm_proved::Tree;

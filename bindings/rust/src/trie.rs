@@ -150,7 +150,7 @@ by_view! { Trie;
     /// ```
     pub fn has_ends(&self) -> bool;
 
-    /// The words of the block, which are those of a file of this trie.
+    /// The words of the block, which is also the file of this trie.
     ///
     /// ```
     /// use bitm_proved::Trie;

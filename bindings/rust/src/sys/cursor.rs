@@ -28,7 +28,7 @@ pub struct Cursor<'a> {
     borrows: PhantomData<&'a [u64]>,
 }
 
-// SAFETY: the pointers are those of shared slices, and a call that moves a cursor has it alone.
+// SAFETY: the pointers come from shared slices, and a call that moves a cursor has it alone.
 unsafe impl Send for Cursor<'_> {}
 // SAFETY: as of `Send`.
 unsafe impl Sync for Cursor<'_> {}

@@ -208,7 +208,7 @@ impl<O> Index<O> {
         self.held.into_owner()
     }
 
-    /// Whether tables and samples are those of the words; and of a block whether it is as it was written, by the
+    /// Whether tables and samples match the words; and of a block whether it is as it was written, by the
     /// checksum of each section. A file of format version 2 has no checksum of its words: there `check` finds only what
     /// does not fit together.
     ///

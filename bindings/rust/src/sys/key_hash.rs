@@ -255,7 +255,7 @@ impl KeyHashView<'_> {
         let KeyParts { hash, prints, prints_len, width, .. } = self.block.parts();
         let (of, own) = (hashes[..len].as_ptr(), key_prints[..len].as_ptr());
         query_list(len, out, |to, room, counts| {
-            // SAFETY: a hash and fingerprints in the borrowed block, slices of which the mutable one overlaps no other,
+            // SAFETY: a hash and fingerprints in the borrowed block, slices, the mutable one apart from the others,
             // and room for the counts.
             unsafe {
                 bitm_hash_find_list_seeded(hash, *prints, *prints_len, *width, of, len, own, len, to, room, counts)

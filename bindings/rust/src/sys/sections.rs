@@ -110,7 +110,7 @@ pub fn extended_size(block: &[u64], role: u64, count: usize) -> Result<usize, St
 /// ```
 pub fn extend(block: &[u64], role: u64, count: usize, words: &[u64], to: &mut [u64]) -> Result<(), StoredError> {
     let (from, len, own, own_len) = (block.as_ptr(), block.len(), words.as_ptr(), words.len());
-    // SAFETY: three slices, of which the mutable one overlaps no other.
+    // SAFETY: three slices; the mutable one overlaps no other.
     match unsafe { bitm_block_extend(from, len, role, count as u64, own, own_len, to.as_mut_ptr(), to.len()) } {
         OK => Ok(()),
         status => Err(refused(status)),

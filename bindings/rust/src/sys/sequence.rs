@@ -33,7 +33,7 @@ pub struct SequenceView<'a> {
     block: Option<&'a [u64]>,
 }
 
-// SAFETY: the pointers are those of shared slices, and no call has state.
+// SAFETY: the pointers come from shared slices, and no call has state.
 unsafe impl Send for SequenceView<'_> {}
 // SAFETY: as of `Send`.
 unsafe impl Sync for SequenceView<'_> {}

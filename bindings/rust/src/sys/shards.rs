@@ -203,7 +203,7 @@ pub struct ShardedIndex<'a> {
     borrows: PhantomData<&'a [u64]>,
 }
 
-// SAFETY: the pointers are those of shared slices, and no call has state.
+// SAFETY: the pointers come from shared slices, and no call has state.
 unsafe impl Send for ShardedIndex<'_> {}
 // SAFETY: as of `Send`.
 unsafe impl Sync for ShardedIndex<'_> {}

@@ -75,7 +75,7 @@ pub struct IndexView<'a> {
     block: Option<&'a [u64]>,
 }
 
-// SAFETY: the pointers are those of shared slices, and no call has state.
+// SAFETY: the pointers come from shared slices, and no call has state.
 unsafe impl Send for IndexView<'_> {}
 // SAFETY: as of `Send`.
 unsafe impl Sync for IndexView<'_> {}
@@ -319,7 +319,7 @@ impl<'a> IndexView<'a> {
         Some(Samples { samples, starts, log2: raw.log2 })
     }
 
-    /// Whether the tables are those of the words, and the samples too, where there are some; and of a block whether it
+    /// Whether the tables match the words, and the samples too, where there are some; and of a block whether it
     /// is as it was written, by the checksum of each section. A file of format version 2 has no checksum of its words:
     /// there `check` finds only what does not fit together.
     ///
@@ -340,13 +340,13 @@ impl<'a> IndexView<'a> {
         right && self.check_samples(true) && self.check_samples(false)
     }
 
-    /// Whether the tables are those of the words.
+    /// Whether the tables match the words.
     pub(crate) fn has_tables(&self) -> bool {
         // SAFETY: a view, which borrows its slices.
         unsafe { bitm_index_check(&self.raw) == OK }
     }
 
-    /// Whether there are no samples, or those that `build_samples` writes where the tables are those of the words.
+    /// Whether there are no samples, or those that `build_samples` writes where the tables match the words.
     fn check_samples(&self, one: bool) -> bool {
         // SAFETY: a view, which borrows its slices.
         self.samples(one).is_none() || unsafe { bitm_index_check_samples(&self.raw, one) } == OK

@@ -76,7 +76,7 @@ macro_rules! hash_queries {
                 let pairs = $crate::sys::lists::pairs(hashes.len(), key_prints.len())?;
                 let ($it, to, room) = (self, prints.as_mut_ptr(), prints.len());
                 let (of, own) = (hashes.as_ptr(), key_prints.as_ptr());
-                // SAFETY: borrowed slices, of which the mutable one overlaps no other.
+                // SAFETY: borrowed slices; the mutable one overlaps no other.
                 let status = unsafe { $set($raw, of, pairs, own, pairs, to, room, width) };
                 Ok(status == $crate::sys::OK)
             }
@@ -134,7 +134,7 @@ macro_rules! hash_queries {
                 let ($it, at, len) = (self, prints.as_ptr(), prints.len());
                 let (of, own) = (hashes.as_ptr(), key_prints.as_ptr());
                 $crate::sys::lists::query_list(pairs, $crate::sys::memory::as_u64_mut(out), |to, room, counts| {
-                    // SAFETY: borrowed slices, of which the mutable one overlaps no other, and room for the counts.
+                    // SAFETY: borrowed slices; the mutable one overlaps no other, and room for the counts.
                     unsafe { $find_list($raw, at, len, width, of, pairs, own, pairs, to, room, counts) }
                 })
             }
