@@ -99,7 +99,7 @@ pub enum StoredError {
         /// What was opened.
         wanted: Kind,
     },
-    /// A part is not as long as that of the words.
+    /// A part is not as long as the words need.
     ///
     /// ```
     /// use bitm_proved::{Index, Queries, StoredError};
@@ -115,7 +115,7 @@ pub enum StoredError {
     /// # Ok::<(), bitm_proved::WrongTables>(())
     /// ```
     WrongTables,
-    /// A block has 16 sections already, or a length does not fit: that of the items of a section, or of the block with it.
+    /// A block has 16 sections already, or a length does not fit: of the items of a section, or of the block with it.
     ///
     /// ```
     /// use bitm_proved::{sections, StoredError, Tree};

@@ -128,9 +128,9 @@ by_view! { Sequence;
     /// ```
     pub fn is_empty(&self) -> bool;
 
-    /// Whether the parts are those of a sequence; and of a block whether it is as it was written, by the checksum of
-    /// each section. A file of format version 2 has no checksum of its numbers: there `check` finds only what does not
-    /// fit together, and other numbers may pass.
+    /// Whether the parts form a sequence; and of a block whether it is as it was written, by the checksum of each
+    /// section. A file of format version 2 has no checksum of its numbers: there `check` finds only what does not fit
+    /// together, and other numbers may pass.
     ///
     /// ```
     /// use bitm_proved::{EliasFano, Sequence};

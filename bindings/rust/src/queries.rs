@@ -31,7 +31,7 @@ pub const WRONG_TABLES: usize = usize::MAX - 1;
 /// The queries of every index beside rank and selection. Each is one proved call; iterators go over the words
 /// alone, and are tested, not proved.
 ///
-/// A `checked_` form returns an error where the tables turn out not to be those of the words; the others panic then.
+/// A `checked_` form returns an error where the tables turn out not to match the words; the others panic then.
 ///
 /// ```
 /// use bitm_proved::{Index, Queries};
@@ -340,8 +340,8 @@ pub trait Queries {
     /// samples of fewer bits are built anew.
     ///
     /// # Errors
-    /// `WrongLength` where there are fewer bits, `WrongTables` where all bits are stored and the tables are not those
-    /// of the words, and `NoMemory` where memory is refused.
+    /// `WrongLength` where there are fewer bits, `WrongTables` where all bits are stored and the tables do not match
+    /// the words, and `NoMemory` where memory is refused.
     ///
     /// ```
     /// use bitm_proved::{Index, Queries, Rank, StoredError};

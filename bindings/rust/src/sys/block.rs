@@ -164,7 +164,7 @@ macro_rules! views {
                 Self::from_words(words_of(bytes).ok_or(StoredError::Misaligned)?)
             }
 
-            #[doc = concat!("The words of the block, which are those of a file of ", $of, ".")]
+            #[doc = concat!("The words of the block, which is also the file of ", $of, ".")]
             ///
             /// ```
             #[doc = concat!("use bitm_proved::", stringify!($view), ";")]

@@ -100,10 +100,10 @@ impl<'a> Cursor<'a> {
         self.raw.index = self.raw.sequence.len;
     }
 
-    /// The numbers from `from` on that stand in each of the sequences, from the cursors on: rising, each once, as many
-    /// as there are and as there is room for. Where there is no more room, a call with one more than the last number
-    /// goes on. Each cursor moves at most once for each number of the first sequence, and once more, so the shortest is
-    /// best first. Panics where there is no cursor.
+    /// The numbers from `from` on that stand in each of the sequences, from the cursors on: ascending, each once, as
+    /// many as fit. Where there is no more room, a call with one more than the last number goes on. Each cursor moves
+    /// at most once for each number of the first sequence, and once more, so pass the shortest first. Panics where
+    /// there is no cursor.
     ///
     /// ```
     /// use bitm_proved::{Cursor, EliasFano};

@@ -111,7 +111,7 @@ impl PerfectHash {
         Ok(PerfectHash { raw, words, tables, sizes })
     }
 
-    /// The hash as C takes it, whose pointers are those of vectors of this value.
+    /// The hash as C takes it, with pointers into vectors of this value.
     pub(crate) fn raw(&self) -> &bitm_hash {
         &self.raw
     }

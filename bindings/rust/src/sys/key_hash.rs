@@ -86,7 +86,7 @@ fn parts_by(call: impl FnOnce(*mut KeyParts) -> bool) -> Option<KeyParts> {
     call(parts.as_mut_ptr()).then(|| unsafe { parts.assume_init() })
 }
 
-/// Whether a block is that of a hash of keys.
+/// Whether a block holds a hash of keys.
 pub(crate) fn is_of_keys(block: &[u64]) -> bool {
     // SAFETY: a slice, and room for the parts.
     parts_by(|parts| unsafe { open(block.as_ptr(), block.len(), parts) == OK }).is_some()

@@ -1,4 +1,4 @@
-//! Lists of queries, each of which one call of the archive answers.
+//! Lists of queries: one call of the archive answers a list.
 use crate::errors::ListError;
 use crate::ffi::words::bitm_list_counts;
 use crate::sys::{NONE, OK, WRONG};

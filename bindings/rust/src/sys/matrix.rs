@@ -168,9 +168,9 @@ impl<'a> WaveletMatrixView<'a> {
         self.in_range(bitm_matrix_previous_value, range, bound)
     }
 
-    /// Writes the distinct numbers of a range that are at least `least`, rising, and how often each is there: as many as
-    /// there is room for; and says how many these are. So go on at the last one and 1. `None` exactly where there is no
-    /// such range. Where the tables are wrong, items may have been written.
+    /// Writes the distinct numbers of a range that are at least `least`, ascending, and how often each is there, as
+    /// many as fit; returns how many it wrote. Go on at the last one plus 1. `None` exactly where there is no such
+    /// range. Where the tables are wrong, items may have been written.
     ///
     /// ```
     /// let made = bitm_proved::WaveletMatrix::build(&[3, 1, 4, 1, 5, 1])?;
@@ -196,8 +196,8 @@ impl<'a> WaveletMatrixView<'a> {
     }
 
     /// Writes the most frequent numbers of a range, the most frequent first and of equally frequent ones the least, and
-    /// how often each is there: as many as there is room for, or all; and says how many these are. `None` exactly where
-    /// there is no such range. Where the tables are wrong, items may have been written.
+    /// how often each is there, as many as fit; returns how many it wrote. `None` exactly where there is no such range.
+    /// Where the tables are wrong, items may have been written.
     ///
     /// ```
     /// let made = bitm_proved::WaveletMatrix::build(&[3, 1, 4, 1, 5, 1])?;
@@ -219,9 +219,9 @@ impl<'a> WaveletMatrixView<'a> {
         found.map_err(|_| ListError::WrongTables { wrong: room })
     }
 
-    /// Writes the numbers that are in both ranges and at least `least`, each once, rising: as many as there is room for;
-    /// and says how many these are. So go on at the last one and 1. `None` exactly where there is no such range. In no
-    /// more turns than the first range has numbers: so give the shorter one first. Where the tables are wrong, numbers
+    /// Writes the numbers that are in both ranges and at least `least`, each once, ascending, as many as fit; returns
+    /// how many it wrote. Go on at the last one plus 1. `None` exactly where there is no such range. Takes at most as
+    /// many turns as the first range has numbers, so give the shorter one first. Where the tables are wrong, numbers
     /// may have been written.
     ///
     /// ```
@@ -344,7 +344,7 @@ fn too_wide(numbers: &[u64], width: u32) -> BuildError {
     }
 }
 
-/// Writes the block of numbers, of which none has more bits than the width, with a scratch of twice as many.
+/// Writes the block of numbers of at most `width` bits, with a scratch of twice as many numbers.
 fn level_by_level(
     numbers: &[u64],
     (width, With { quarters, hints }): (u32, With),

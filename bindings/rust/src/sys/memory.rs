@@ -8,7 +8,7 @@ use core::slice;
 // The tables are of numbers of 64 bits for the archive, and of `usize` in the original's interface.
 const _: () = assert!(size_of::<usize>() == 8, "the archive is for 64-bit processors");
 
-/// Numbers of which zero bytes are a value.
+/// Types of numbers for which zero bytes are a value.
 ///
 /// # Safety
 /// They are.

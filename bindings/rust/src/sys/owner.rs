@@ -1,7 +1,7 @@
-//! Values with a view, and the owner of what it borrows: what all of them have.
+//! Values with a view, and owners of what the view borrows: the calls that all of them have.
 
-/// What each owner of what a view borrows has. The texts: what it is; an example, and how many nodes, numbers, .. that
-/// has; the words of its file.
+/// The calls of each owner of what a view borrows. The texts: its name; an example, and how many nodes, numbers, .. the
+/// example has; the words of its file.
 macro_rules! owners {
     ($kind:ident with $view:ident; $it:literal, $made:literal, $len:literal, $file:literal) => {
         impl<O: AsRef<[u64]>> $kind<O> {

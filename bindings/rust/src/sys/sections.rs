@@ -96,7 +96,7 @@ pub fn extended_size(block: &[u64], role: u64, count: usize) -> Result<usize, St
 /// role. Where items do not fill the last word, let its other bytes be 0. One proved call.
 ///
 /// Errors as of `extended_size`, and nothing is written: `NotWhole` also where a section of the block is not as it was
-/// written; `NoSection` also where the words are not as many as the items take, or `to` is not as long as that call says.
+/// written; `NoSection` also where there are more or fewer words than the items take, or `to` has another length.
 ///
 /// ```
 /// use bitm_proved::{sections, StoredError, Tree};

@@ -153,9 +153,9 @@ impl<'a> SequenceView<'a> {
             .map(|(at, len)| unsafe { slice::from_raw_parts(at, len) })
     }
 
-    /// Whether the parts are those of a sequence; and of a block whether it is as it was written, by the checksum of
-    /// each section. A file of format version 2 has no checksum of its numbers: there `check` finds only what does not
-    /// fit together, and other numbers may pass.
+    /// Whether the parts form a sequence; and of a block whether it is as it was written, by the checksum of each
+    /// section. A file of format version 2 has no checksum of its numbers: there `check` finds only what does not fit
+    /// together, and other numbers may pass.
     ///
     /// ```
     /// use bitm_proved::{EliasFano, SequenceView};

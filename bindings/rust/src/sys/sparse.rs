@@ -269,7 +269,7 @@ impl SparseBitsView<'_> {
     }
 }
 
-/// The block of `len` bits, of which those at the positions are 1 bits.
+/// The block of `len` bits with 1 bits at the positions.
 pub(crate) fn build(positions: &[u64], len: usize) -> Result<Vec<u64>, BuildError> {
     let (ones, mut words) = (positions.len(), 0);
     let too_long = BuildError::TooLong { len: ones };

@@ -48,7 +48,7 @@ fn written(status: u32) -> Result<bool, WrongTables> {
 }
 
 impl<'a> TextIndexView<'a> {
-    /// How many bits a letter takes: of bytes as many as the number of different bytes needs.
+    /// How many bits a letter takes: in an index of bytes, enough to number the different bytes.
     ///
     /// ```
     /// use bitm_proved::{words_from_bytes, TextIndexView};
@@ -81,7 +81,7 @@ impl<'a> TextIndexView<'a> {
     /// ```
     /// use bitm_proved::{words_from_bytes, TextIndexView};
     /// let block = words_from_bytes(include_bytes!("../../tests/common/sea_shells.block"))?;
-    /// assert_eq!(TextIndexView::from_words(&block)?.count_letters(&[8, 2]), Ok(3)); // of " aehlnorst" those of "se"
+    /// assert_eq!(TextIndexView::from_words(&block)?.count_letters(&[8, 2]), Ok(3)); // of " aehlnorst": s, e
     /// # Ok::<(), Box<dyn std::error::Error>>(())
     /// ```
     pub fn count_letters(&self, pattern: &[u64]) -> Result<usize, WrongTables> {
@@ -91,8 +91,8 @@ impl<'a> TextIndexView<'a> {
     }
 
     /// Writes positions at which a pattern of bytes stands, in the order of the rest of the text from there on: without
-    /// the first `from` of them, as many as there is room for; and says how many these are. Where the tables are wrong,
-    /// positions may have been written.
+    /// the first `from` of them, as many as fit; returns how many it wrote. Where the tables are wrong, positions may
+    /// have been written.
     ///
     /// ```
     /// use bitm_proved::{words_from_bytes, TextIndexView};
@@ -126,9 +126,9 @@ impl<'a> TextIndexView<'a> {
         found?.ok_or(WrongTables)
     }
 
-    /// Writes the bytes of the text from a position on, as many as there is room for; `false`, and nothing is written,
-    /// where the text has fewer. An error also where letters are numbers that may have more than 8 bits (`width`). Where
-    /// the tables are wrong, letters may have been written.
+    /// Fills `out` with the bytes of the text from a position on; `false`, and nothing is written, where the text has
+    /// fewer. An error also where letters are numbers that may have more than 8 bits (`width`). Where the tables are
+    /// wrong, letters may have been written.
     ///
     /// ```
     /// use bitm_proved::{words_from_bytes, TextIndexView};
@@ -190,7 +190,7 @@ pub(crate) fn build(text: &[u8], step: u32, progress: Progress<'_>) -> Result<Ve
     }
 }
 
-/// The status of two calls of which the second needs the first, with a call of `progress` after each.
+/// The status of two calls, the second of which needs the first, with a call of `progress` after each.
 fn in_two_steps(
     progress: &mut dyn FnMut(usize, usize),
     first: impl FnOnce() -> u32,

@@ -18,8 +18,8 @@ type Many = unsafe extern "C" fn(*const bitm_tree, *const u64, usize, *mut u64, 
 
 /// A tree in a borrowed block, whose header is right. Its other words may hold anything; `check` tests it.
 ///
-/// Nodes are numbered level by level: the root is node 0, and the children of a node follow one another, after those of
-/// the node before it.
+/// Nodes are numbered level by level: the root is node 0, and the children of a node follow one another, after the
+/// children of the node before it.
 ///
 /// ```
 /// use bitm_proved::{Tree, TreeView};

@@ -14,9 +14,9 @@ use core::ptr::addr_of;
 
 /// A trie in a borrowed block, whose header is right. Its other words may hold anything; `check` tests it.
 ///
-/// A trie is a tree in which each node but the root has a label, and the labels of the children of a node rise: a word, a
-/// list of labels, leads from the root to at most one node. Labels are bytes, or numbers of at most 63 bits, of which the
-/// calls that end in `_labels` take words. Nodes are numbered level by level: the root is node 0.
+/// A trie is a tree in which each node but the root has a label, and the labels of the children of a node ascend: a
+/// word, a list of labels, leads from the root to at most one node. Labels are bytes, or numbers of at most 63 bits;
+/// calls that end in `_labels` take words of numbers. Nodes are numbered level by level: the root is node 0.
 ///
 /// ```
 /// use bitm_proved::{Trie, TrieView};

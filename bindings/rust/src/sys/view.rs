@@ -46,10 +46,10 @@ pub struct Samples<'a> {
     pub log2: u32,
 }
 
-/// Borrowed words and tables, of which the first `bits_len` bits count, and samples, or none.
+/// Borrowed words, whose first `bits_len` bits count, with tables, and samples or none.
 ///
-/// Tables may hold anything. Answers are those of plain counting where they are those of the words, which [`check`]
-/// says; else an answer is inside all the same, or says that they are wrong. [`Rank`], [`Select`], [`Select0`] and
+/// Tables may hold anything. Where they match the words, which [`check`] says, answers are those of plain counting;
+/// else an answer is inside all the same, or says that the tables are wrong. [`Rank`], [`Select`], [`Select0`] and
 /// [`Queries`] have the queries; each is one call of the archive.
 ///
 /// [`check`]: IndexView::check
@@ -319,9 +319,9 @@ impl<'a> IndexView<'a> {
         Some(Samples { samples, starts, log2: raw.log2 })
     }
 
-    /// Whether the tables match the words, and the samples too, where there are some; and of a block whether it
-    /// is as it was written, by the checksum of each section. A file of format version 2 has no checksum of its words:
-    /// there `check` finds only what does not fit together.
+    /// Whether the tables match the words, and the samples too, where there are some; and of a block whether it is as
+    /// it was written, by the checksum of each section. A file of format version 2 has no checksum of its words: there
+    /// `check` finds only what does not fit together.
     ///
     /// ```
     /// use bitm_proved::{Index, IndexView, Queries};

@@ -60,7 +60,7 @@ pub fn set_number(words: &mut [u64], bits_len: usize, begin: usize, width: u8, v
     })
 }
 
-/// Flips those of `width` bits from `begin` on at which a number has 1 bits; `None` as of `set_number`.
+/// Of the `width` bits from `begin` on, flips the bits at which a number has 1 bits; `None` as of `set_number`.
 ///
 /// ```
 /// use bitm_proved::words;

@@ -40,7 +40,7 @@ impl TextIndex {
         Self::of_block(build(text, step, None)?, BuildError::TooLong { len: text.len() })
     }
 
-    /// Of numbers below `letters`, for each of which a word is kept.
+    /// Of numbers below `letters`; a word is kept for each letter.
     ///
     /// # Errors
     /// As of `build`; `LetterOutside` where a letter is not less than `letters`.
