@@ -78,7 +78,8 @@ export class BitVector implements Iterable<boolean> {
     /** Replaces each of the first `count` numbers of `width` bits by the lowest bits of value. RangeError where there are fewer. */
     fillFragments(width: number, value: Whole, count: Whole): this;
 
-    /** Replaces `count` bits from position begin on by those of other from otherBegin on: without a count, by all that other has
+    /** Replaces `count` bits from position begin on by the bits of other from otherBegin on: without a count, by all bits of
+     * other
      *  from there. Other may be this vector, and the two ranges may overlap. RangeError where either ends past the end. */
     setRange(begin: Whole, other: BitVector, otherBegin?: Whole, count?: Whole): this;
     /** A new vector of the bits from position begin on and before end, which has no bits where begin is not below end. A loop
@@ -216,7 +217,7 @@ export class Index implements Iterable<boolean> {
     toJSON(): never;
 }
 
-/** Bits of which few are 1 bits, and that do not change: the positions of these alone take memory. */
+/** Bits with few 1 bits, which do not change: only the positions of the 1 bits take memory. */
 export class SparseBits {
     /** The positions of the 1 bits, each greater than the one before it; and how many bits there are, below 2^53: up to the last
      *  1 bit, unless it is given. RangeError that names the first position that is not above the one before it, or not below the
@@ -249,7 +250,7 @@ export class SparseBits {
     previous(from: Whole): number | undefined;
     /** The greatest position of a 0 bit that is at most `from`; undefined where there is none. */
     previous0(from: Whole): number | undefined;
-    /** How many 1 bits there are in all: as many as positions were given. */
+    /** How many 1 bits there are in all: one for each position that was given. */
     count(): number;
     /** How many 0 bits there are in all: length without the 1 bits. */
     count0(): number;

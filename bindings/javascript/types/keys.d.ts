@@ -1,4 +1,4 @@
-// Numbers for keys: of any kind, none of which is kept, and whole numbers and strings, which are.
+// Numbers for keys: for keys of any kind, which are not kept, and for whole numbers and strings, which are kept.
 
 import type { Whole, Wholes, NumberArray, Bytes, OpenOptions, Progress } from "./common.js";
 

@@ -117,7 +117,7 @@ export function union(sequences: Iterable<EliasFano>, from?: Whole, limit?: Whol
 
 /** How a WaveletMatrix is built. */
 export interface WaveletMatrixOptions {
-    /** 1 to 64: how many bits each number is kept in; as many as the largest has unless it is given. */
+    /** 1 to 64: how many bits each number is kept in; by default the bits that the largest needs. */
     width?: number;
     /** Whether the block has quarters: it takes an eighth more, and most queries read fewer words. False unless it is given. TypeError
      *  where it is no boolean. */

@@ -16,7 +16,8 @@ export function extend(block: Bytes, sections: Iterable<readonly [Whole, Bytes]>
 /** A copy of the items of the first section with a role; undefined where the block has none. WrongTables where the bytes are no
  *  block. */
 export function section(block: Bytes, role: Whole): Items | undefined;
-/** The sections of a block in their order, those of its kind first: pairs of a role and a copy of its items. WrongTables where the
+/** The sections of a block in their order, beginning with the sections of its kind: pairs of a role and a copy of its items.
+ * WrongTables where the
  *  bytes are no block. */
 export function sections(block: Bytes): [role: number | bigint, items: Items][];
 /** Whether the block of any kind is as it was written, by going over all of it: false too where the bytes are no block. */

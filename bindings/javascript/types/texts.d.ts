@@ -31,8 +31,8 @@ export class TextIndex {
     constructor(block: never);
     /** The index of a string, as its bytes in UTF-8, or of bytes. TypeError where the string is not well formed. */
     static of(text: string | Uint8Array, options?: StepOptions): TextIndex;
-    /** The index of numbers below `letters`, for each of which 8 bytes are kept. RangeError where a number is not below it:
-     *  it names the first. A pattern is then a list of numbers too. */
+    /** The index of numbers below `letters`; it keeps 8 bytes for each letter. RangeError, which names the first one, where a
+     *  number is not below it. A pattern is then a list of numbers too. */
     static ofLetters(numbers: Wholes, letters: Whole, options?: StepOptions): TextIndex;
     /** The index in a block that toBytes(), the C library or the program `bitm text build` wrote, which is copied once. WrongTables
      *  where it was damaged, OtherKind where it holds something else. */
@@ -40,7 +40,7 @@ export class TextIndex {
 
     /** How many letters the text has: of a string, how many bytes it is in UTF-8. */
     readonly length: number;
-    /** How many bits a letter takes: of bytes as many as the number of different bytes needs. */
+    /** How many bits a letter takes: in an index of bytes, enough to number the different bytes. */
     readonly width: number;
     /** How many bytes the block of the index has: 0 after free(). */
     readonly byteLength: number;

@@ -1,4 +1,4 @@
-"""Sections of a caller's own in a block of any kind, after those of its kind: notes, samples and the like."""
+"""Sections of a caller's own in a block of any kind, after the sections of its kind: notes, samples and the like."""
 import operator
 from typing import TYPE_CHECKING, Any, Iterable, List, Mapping, Optional, SupportsIndex, Tuple, Union
 
@@ -71,9 +71,10 @@ def extend(block: "Buffer", sections: "Union[Mapping[int, Buffer], Iterable[Tupl
 
 
 def sections(block: "Buffer", /) -> List[Tuple[int, memoryview]]:
-    """The sections of a block in their order, those of its kind first: pairs of a role and of items, which are read where they lie,
-    in a view of bytes, of uint32 for the roles 7 and 8, or of uint64 for others below 65536 but 15. ValueError where header or
-    directory of the block are not right; whether the sections are as they were written is for `is_written` to say.
+    """The sections of a block in their order, beginning with the sections of its kind: pairs of a role and of items, which are
+    read where they lie, in a view of bytes, of uint32 for the roles 7 and 8, or of uint64 for others below 65536 but 15.
+    ValueError where header or directory of the block are not right; whether the sections are as they were written is for
+    `is_written` to say.
 
     >>> [role for role, _ in sections(extend(Tree([2, 0, 0]).block, {65536: b"3 nodes"}))]
     [1, 2, 3, 22, 65536]

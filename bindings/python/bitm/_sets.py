@@ -60,8 +60,8 @@ def union(sequences: Any, start: Any = 0, limit: Any = None, *, to_numpy: bool =
 
 
 def _intersection(self: Any, *others: Any) -> "_core.EliasFano":
-    """The numbers that are in this sequence and in each other one, each once, in a new one: those of `intersect`, but that
-    the shortest one is checked.
+    """The numbers that are in this sequence and in each other one, each once, in a new one, as `intersect` gives them; but the
+    shortest one is checked.
 
     >>> list(EliasFano([2, 3, 5]).intersection(EliasFano([3, 4, 5]), EliasFano([5, 5, 6])))
     [5]

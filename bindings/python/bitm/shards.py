@@ -154,7 +154,7 @@ def _write(folder: str, shards: Sequence[Part]) -> None:
 
 
 class Shards(_shard_lists.Lists):
-    """The bits of the shards of a folder, one after the other, queried as those of one `Index`.
+    """The bits of the shards of a folder, one after the other, queried as the bits of one `Index`.
 
     A folder has a manifest and one stored index a shard. A shard is mapped when a query first needs it; until then its
     file need not be there. ShardError if it is missing then, or is not the one that the manifest names. A value is pickled as its folder.
@@ -187,10 +187,10 @@ class Shards(_shard_lists.Lists):
         """Builds one shard of each source, and writes the manifest once all are stored.
 
         A source is what `Index` takes, the path of a file of raw bits, a pair of one of these and a number of bits, or a
-        callable without arguments that returns one of these where the shard is built. `map` is the builtin, an
-        executor's `map`, or that of a Dask client: it calls a function of this module with one argument for each source,
-        and both travel to its workers by pickle. FileExistsError where the folder has a manifest. Where a build fails or
-        is killed there is none, and another build in the folder writes all shards again."""
+        callable without arguments that returns one of these where the shard is built. `map` is the builtin, an executor's
+        `map`, or a Dask client's: it calls a function of this module with one argument for each source, and both travel to its
+        workers by pickle. FileExistsError where the folder has a manifest. Where a build fails or is killed there is none, and
+        another build in the folder writes all shards again."""
         path = os.path.abspath(os.fspath(folder))
         os.makedirs(path, exist_ok=True)
         if os.path.exists(os.path.join(path, MANIFEST)):
@@ -221,8 +221,8 @@ class Shards(_shard_lists.Lists):
         self._take(shards)
 
     def check(self, *, map: Mapper = builtins.map) -> None:
-        """Reads each shard whole: ShardError, which names each that is missing, is not the one of the manifest, or whose
-        tables are not those of its words."""
+        """Reads each shard whole: ShardError names each shard that is missing, is not the one of the manifest, or has tables
+        that do not match its words."""
         tasks = [(self.folder, k, it) for k, it in enumerate(self.parts)]
         found = [it.result() if hasattr(it, "result") else it for it in map(_asked, tasks)]
         if any(found):
@@ -286,8 +286,8 @@ class Shards(_shard_lists.Lists):
         raise ShardError(_says(self.folder, shard, self.parts[shard], WRONG))
 
     def _reads(self, known: ShardSet, call: Callable[..., Any], one: bool, number: int) -> Iterator[int]:
-        """The shards that a call reads: that of its position, unless it is the first there, and once this is mapped that of the
-        bit which is found."""
+        """The shards that a call reads: the shard of its position, unless the position is the first there; and once this is
+        mapped, the shard of the bit that is found."""
         end = min(number + (call is ShardSet.previous), len(self))
         if call is not ShardSet.select and end < len(self):
             shard, within = self._find(POSITIONS, end)
