@@ -230,7 +230,7 @@ class BITM_OWNER text_index : public detail::text_calls<text_index>,
                               public detail::stored_calls<text_index, detail::text_kind> {
 public:
     // Of no letters; of bytes; of numbers below `letters`, the size of the alphabet: a word is kept for each letter. A
-    // position is kept each `step` letters: the fewer, the less memory, and the longer it takes to find a position or a
+    // position is kept each `step` letters: a larger step takes less memory, and more time to find a position or a
     // part. Takes linear time, and eight bytes for each letter while it works. Fails where the step is 0, the text has
     // 2^32 - 1 letters or more, or a number is not below `letters`: with its index and item_fault::not_below.
     text_index() noexcept = default;

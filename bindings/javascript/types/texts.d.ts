@@ -17,8 +17,8 @@ export interface LocateOptions {
 
 /** How a TextIndex is built. */
 export interface StepOptions {
-    /** Each how many letters a position is kept, 32 if not given: the fewer, the less memory, and the longer locate() and slice()
-     *  take. RangeError unless it is 1 to 2^32 - 1. */
+    /** A position is kept each `step` letters, by default 32:
+     *  a larger step takes less memory, and locate() and slice() take longer. RangeError unless it is 1 to 2^32 - 1. */
     step?: Whole;
     /** Called after each of two steps: the text is ordered, and the index written. */
     progress?: Progress;

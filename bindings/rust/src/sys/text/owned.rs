@@ -23,7 +23,7 @@ pub struct TextIndex<O = Vec<u64>> {
 
 impl TextIndex {
     /// Of bytes. A letter takes as many bits as the number of different bytes needs. A position is kept each `step`
-    /// bytes, 32 say: the fewer, the less memory, and the longer it takes to find a position or a part. Takes linear time,
+    /// bytes, 32 say: a larger step takes less memory, and more time to find a position or a part. Takes linear time,
     /// and eight bytes for each of the text while it works.
     ///
     /// # Errors
