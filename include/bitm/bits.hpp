@@ -106,7 +106,7 @@ public:
         return of_positions(positions.begin(), positions.end(), size);
     }
 
-    // A copy has words of its own, and what was moved from is empty. An exchange. Nothing is assigned to a temporary.
+    // A copy has words of its own, and a moved-from value is empty. An exchange. Nothing is assigned to a temporary.
     bits(const bits &) = default;
     bits(bits &&) noexcept = default;
     bits &operator=(const bits &) & = default;

@@ -47,7 +47,7 @@ private:
     words_in words_;
 };
 
-// A block with the structure in it. A copy copies the block; what was moved from has the empty block, which all share.
+// A block with the structure in it. A copy copies the block; a moved-from value has the empty block, which all share.
 template <class Kind> class owned {
 public:
     owned() noexcept = default;

@@ -87,7 +87,7 @@ enum class errc : std::uint8_t {
     none = 0,
     bad_size = BITM_BAD_SIZE, // a size or a length is wrong
     wrong = BITM_WRONG,       // the tables do not match the words, or the parts form no sequence
-    unsorted = BITM_UNSORTED, // a number is less than the one before it, or a position or a word does not rise
+    unsorted = BITM_UNSORTED, // a number is less than the one before it, or a position or a word does not ascend
     outside = 16,             // a position past the end
     wrong_file,               // not a file of this format, or not a whole one
     no_file,                  // the system does not open, read, map or write it

@@ -178,10 +178,9 @@ public:
     // No keys; the keys of a container, of iterators that can be gone through again, or of a list. A key is text (what
     // converts to std::string_view), bytes (a container of std::byte or unsigned char one after another) or a whole
     // number of at most 64 bits. Fails where two keys are equal or have one hash, with errc::equal_keys and the indices
-    // of the first two, and where the options are not as they have to be. Takes linear time. `progress` is called after
-    // each level (there are some ten) with how many keys have a number so far, and how many there are, the
-    // last time with all; with another seed it begins anew. An exception from it ends the build. The keys must not
-    // change meanwhile.
+    // of the first two, and where an option is invalid. Takes linear time. `progress` is called after each level (there
+    // are some ten) with how many keys have a number so far, and how many there are, the last time with all; with
+    // another seed it begins anew. An exception from it ends the build. The keys must not change meanwhile.
     key_hash() noexcept = default;
     template <class Keys, class = detail::item_of<Keys>> explicit key_hash(const Keys &keys, key_options how = {})
         : key_hash(try_of(keys, how).value())

@@ -161,7 +161,7 @@ public:
 
     // Lists of ranges, into memory of the caller's, apart from the block: each writes as many numbers as there is room
     // for, returns how many these are, and fails where a range is not inside. The distinct numbers that are at least
-    // `least`, rising, each with how often it is there: so go on at the last one and 1.
+    // `least`, ascending, each with how often it is there: so go on at the last one plus 1.
     std::size_t distinct(std::uint64_t from, std::uint64_t to, std::uint64_t least, words_out numbers,
                          words_out counts) const
     {
@@ -181,7 +181,7 @@ public:
              "there is not room for one count a number");
         return written;
     }
-    // The numbers of both ranges that are at least `least`, each once, rising. In no more turns than the first range
+    // The numbers of both ranges that are at least `least`, each once, ascending. In no more turns than the first range
     // has numbers: so give the shorter one first.
     std::size_t intersect(std::uint64_t from, std::uint64_t to, std::uint64_t other_from, std::uint64_t other_to,
                           std::uint64_t least, words_out numbers) const

@@ -29,13 +29,13 @@ BITM_NAMESPACE_BEGIN
 // A shard, and a position in it or the rank of a bit there.
 using shard_location = bitm_shard_location;
 
-// How many bits, and how many 1 bits, there are before each shard, and in all. What was moved from has no shards.
+// How many bits, and how many 1 bits, there are before each shard, and in all. A moved-from value has no shards.
 class BITM_OWNER prefix_counts {
 public:
     // Of no shards.
     prefix_counts() noexcept = default;
 
-    // Of the bits and the 1 bits of each shard: fails where these are not as many, or are 2^64 or more together.
+    // Of the bits and the 1 bits of each shard: fails where these lists differ in length, or a sum is 2^64 or more.
     prefix_counts(const std::vector<std::uint64_t> &bits_of_each, const std::vector<std::uint64_t> &ones_of_each)
         : bits_(sums(bits_of_each)), ones_(sums(ones_of_each))
     {
@@ -110,7 +110,7 @@ private:
 };
 
 // Indexes of one process, one after the other: views of indexes, which have to stay, or indexes that it owns. Copies
-// share these, and what was moved from has no shards.
+// share these, and a moved-from value has no shards.
 class sharded_index {
 public:
     // Of no shards. Of views, and of indexes: counts the 1 bits of each, and fails where the shards have 2^64 bits or

@@ -5,8 +5,8 @@
 //     std::cout << names.contains("bob") << ' ' << names.contains("bo") << '\n'; // 1 0
 //     std::cout << (names[*names.find("eve")] == "eve") << '\n';             // 1
 //
-// It is a minimal perfect hash of the hashes of the strings, and the strings one after another: so what is none of them
-// has no number. The file of strings is their block, the same bytes from each language.
+// It is a minimal perfect hash of the hashes of the strings, and the strings one after another: so any other string has
+// no number. The file of strings is their block, the same bytes from each language.
 #ifndef BITM_STRINGS_HPP
 #define BITM_STRINGS_HPP
 
@@ -44,7 +44,7 @@ public:
     bitm_strings raw() const &&noexcept { return this->self().own_.raw(); }
     words_in block() const noexcept { return this->self().own_.words(); }
 
-    // The number of a string; none for what is none of the strings. And whether there is one.
+    // The number of a string; none for any other string. And whether there is one.
     maybe_position find(std::string_view string) const { return try_find(string).value(); }
     result<maybe_position> try_find(std::string_view string) const noexcept
     {

@@ -8,7 +8,7 @@
 //     const std::vector<std::uint64_t> children{2, 0, 1, 0}, letters{'a', 'b', 'e'}, ends{14};
 //     std::cout << (bitm::trie(children, letters, 8, ends) == words) << '\n';                       // 1
 //
-// A trie is a tree in which each node but the root has a label, and the labels of the children of a node rise; so a
+// A trie is a tree in which each node but the root has a label, and the labels of the children of a node ascend; so a
 // word leads from the root to at most one node. Labels are bytes, or numbers of at most 63 bits; calls that end in
 // _labels take words of numbers. A trie has the queries of a tree. Its file is its block, the same bytes from each
 // language.

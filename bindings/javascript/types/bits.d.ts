@@ -46,11 +46,13 @@ export class BitVector implements Iterable<boolean> {
     previous(from: Whole): number | undefined;
     /** The position of the last 0 bit at or before `from`, which may be past the end; undefined where there is none. */
     previous0(from: Whole): number | undefined;
-    /** Iterates over the positions of the 1 bits, rising, from `from` on or over all; it is empty where `from` is past the end. */
+    /** Iterates over the positions of the 1 bits, ascending, from `from` on or over all; it is empty where `from` is past the
+     * end. */
     ones(from?: Whole): IterableIterator<number>;
-    /** Iterates over the positions of the 0 bits, rising, from `from` on or over all; it is empty where `from` is past the end. */
+    /** Iterates over the positions of the 0 bits, ascending, from `from` on or over all; it is empty where `from` is past the
+     * end. */
     zeros(from?: Whole): IterableIterator<number>;
-    /** The positions of all 1 bits, rising, in an array of doubles. */
+    /** The positions of all 1 bits, ascending, in an array of doubles. */
     toPositions(): Float64Array;
     /** A copy of the bits as bytes, the lowest bit of each first; the last byte has 0 bits after the end. fromBytes() takes it. */
     toBytes(): Uint8Array;
@@ -197,9 +199,9 @@ export class Index implements Iterable<boolean> {
     select0List(ranks: BigUint64Array): BigUint64Array;
     select0List(ranks: Iterable<Whole>): (number | undefined)[];
 
-    /** Iterates over the positions of the 1 bits of the index from `from` on, rising: none where `from` is past the end. */
+    /** Iterates over the positions of the 1 bits of the index from `from` on, ascending: none where `from` is past the end. */
     ones(from?: Whole): IterableIterator<number>;
-    /** Iterates over the positions of the 0 bits of the index from `from` on, rising: none where `from` is past the end. */
+    /** Iterates over the positions of the 0 bits of the index from `from` on, ascending: none where `from` is past the end. */
     zeros(from?: Whole): IterableIterator<number>;
     /** Iterates over all bits of the index as booleans, from position 0 on. */
     [Symbol.iterator](): IterableIterator<boolean>;
@@ -279,9 +281,11 @@ export class SparseBits {
     select0List(ranks: NumberArray): Float64Array;
     select0List(ranks: BigUint64Array): BigUint64Array;
     select0List(ranks: Iterable<Whole>): (number | undefined)[];
-    /** Iterates over the positions of the few 1 bits, rising, from `from` on or over all: none where `from` is past the end. */
+    /** Iterates over the positions of the few 1 bits, ascending, from `from` on or over all: none where `from` is past the end.
+     * */
     ones(from?: Whole): IterableIterator<number>;
-    /** Iterates over the positions of the many 0 bits, rising, from `from` on or over all: none where `from` is past the end. */
+    /** Iterates over the positions of the many 0 bits, ascending, from `from` on or over all: none where `from` is past the
+     * end. */
     zeros(from?: Whole): IterableIterator<number>;
 
     /** Whether the block is as it was written and holds sparse bits, by going over all of it. */

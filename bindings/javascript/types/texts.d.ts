@@ -52,7 +52,7 @@ export class TextIndex {
     /** The positions at which a pattern stands, in the order of the rest of the text from there on: after the first `from` of them, at
      *  most `limit`. */
     locate(pattern: Pattern, options?: LocateOptions): number[];
-    /** All positions at which a pattern stands, rising. */
+    /** All positions at which a pattern stands, ascending. */
     findAll(pattern: Pattern): number[];
     /** The letter at a position: a byte, or a number of those that were given. RangeError past the end. */
     get(position: Whole): number | bigint;
@@ -116,7 +116,7 @@ export class Tree {
     degreeList(nodes: BigUint64Array): BigUint64Array;
     degreeList(nodes: Iterable<Whole>): (number | undefined)[];
     /** Child ks[i] of each node nodes[i], in a list of the same kind as the nodes: NaN, NO_ANSWER or undefined where there is none.
-     *  RangeError if there are not as many ks as nodes. */
+     *  RangeError if there are more or fewer ks than nodes. */
     childList(nodes: NumberArray, ks: Wholes): Float64Array;
     childList(nodes: BigUint64Array, ks: Wholes): BigUint64Array;
     childList(nodes: Iterable<Whole>, ks: Wholes): (number | undefined)[];
@@ -141,7 +141,7 @@ export interface TrieOptions {
     ends?: BitVector;
 }
 
-/** A set of words: a tree in which each node but the root has a label, and the labels of a node's children rise. A word is a
+/** A set of words: a tree in which each node but the root has a label, and the labels of a node's children ascend. A word is a
  *  string (as UTF-8), bytes, or a list of labels. */
 export class Trie {
     /** A trie of the degree of each node, level by level, and the labels of the nodes from 1 on. RangeError if these form no trie: it
@@ -180,7 +180,7 @@ export class Trie {
     isEnd(node: Whole): boolean | undefined;
     /** The child of a node that has a label; undefined where no child has it, and where there is no such node. */
     childByLabel(node: Whole, label: Whole): number | undefined;
-    /** Iterates over the children of a node, by rising labels: there are none where there is no such node. */
+    /** Iterates over the children of a node, by ascending labels: there are none where there is no such node. */
     children(node: Whole): IterableIterator<number>;
     /** How many children a node of the trie has, each with a label of its own; undefined where there is no such node. */
     degree(node: Whole): number | undefined;

@@ -27,9 +27,9 @@ def intersect(sequences: "Iterable[EliasFano]", start: SupportsIndex = 0, limit:
 
 
 def intersect(sequences: Any, start: Any = 0, limit: Any = None, *, to_numpy: bool = False) -> Any:
-    """The numbers from start on that each of the sequences has, rising and each once, the first `limit` of them: a list, or an
-    array of uint64. ValueError where there is no sequence. Two sequences of about the same length are read side by side; else
-    each number of the shortest one is looked up by cursors over the others. Other threads run meanwhile.
+    """The numbers from start on that each of the sequences has, ascending and each once, the first `limit` of them: a list, or
+    an array of uint64. ValueError where there is no sequence. Two sequences of about the same length are read side by side;
+    else each number of the shortest one is looked up by cursors over the others. Other threads run meanwhile.
 
     >>> odd, primes = EliasFano([1, 3, 5, 7, 9, 11]), EliasFano([2, 3, 5, 7, 11])
     >>> intersect([odd, primes]), intersect([odd, primes], 4, 2)
@@ -49,8 +49,8 @@ def union(sequences: "Iterable[EliasFano]", start: SupportsIndex = 0, limit: Opt
 
 
 def union(sequences: Any, start: Any = 0, limit: Any = None, *, to_numpy: bool = False) -> Any:
-    """The numbers from start on that any of the sequences has, rising and each once, the first `limit` of them: a list, or an
-    array of uint64. Two sequences are read side by side; else each number that is found moves a cursor over each sequence at
+    """The numbers from start on that any of the sequences has, ascending and each once, the first `limit` of them: a list, or
+    an array of uint64. Two sequences are read side by side; else each number that is found moves a cursor over each sequence at
     most once. Other threads run meanwhile.
 
     >>> union([EliasFano([2, 3, 5]), EliasFano([3, 4]), EliasFano([])])

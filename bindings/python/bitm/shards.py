@@ -365,11 +365,11 @@ class Shards(_shard_lists.Lists):
         return self._ask(ShardSet.previous, False, position)
 
     def ones(self, start: int = 0, stop: Optional[int] = None, *, reverse: bool = False) -> Iterator[int]:
-        """The positions of the 1 bits of a range, rising, or falling with `reverse`."""
+        """The positions of the 1 bits of a range, ascending, or descending with `reverse`."""
         return self._positions("ones", start, stop, reverse)
 
     def zeros(self, start: int = 0, stop: Optional[int] = None, *, reverse: bool = False) -> Iterator[int]:
-        """The positions of the 0 bits of a range, rising, or falling with `reverse`."""
+        """The positions of the 0 bits of a range, ascending, or descending with `reverse`."""
         return self._positions("zeros", start, stop, reverse)
 
     def _positions(self, kind: str, start: int, stop: Optional[int], reverse: bool) -> Iterator[int]:

@@ -205,7 +205,7 @@ static PyMethodDef methods[] = {
            "($type, numbers, letters, step=32, *, progress=None)",
            "The index of a list of numbers that are below `letters`, or of an array. A pattern is then such a list "
            "too, and a part of the text a list. A word is kept for each letter of the alphabet; ValueError where a "
-           "number is not below `letters`: it says which. progress is called as that of TextIndex." EXAMPLE(
+           "number is not below `letters`: it says which. progress is called as for TextIndex." EXAMPLE(
                "index = TextIndex.of_letters([1, 0, 2000, 0, 2000, 0], letters=2001)")
                THEN("index.find_all([0, 2000]), index[4:6]") PRINTS("([1, 3], [2000, 0])")),
     VALUE_METHODS("TextIndex(b'banana')"),

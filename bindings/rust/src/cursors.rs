@@ -53,8 +53,8 @@ impl<'a> Cursor<'a> {
         sure(self.checked_next_geq(value))
     }
 
-    /// The numbers that stand in the sequence of each cursor, from the cursors on: rising, each once. Panics where there
-    /// is no cursor. The shortest sequence is best first.
+    /// The numbers that stand in the sequence of each cursor, from the cursors on: ascending, each once. Panics where
+    /// there is no cursor. The shortest sequence is best first.
     ///
     /// ```
     /// use bitm_proved::{Cursor, EliasFano};

@@ -241,7 +241,7 @@ pub enum OpenError {
     /// assert!(matches!(none, Err(OpenError::System(_))));
     /// ```
     System(std::io::Error),
-    /// The file is none of this format, or of another kind.
+    /// The file is not of this format, or of another kind.
     ///
     /// ```
     /// use bitm_proved::{OpenError, StoredError};

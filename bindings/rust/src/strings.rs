@@ -4,7 +4,7 @@ use crate::sys::strings::owned::Strings;
 use crate::sys::strings::StringsView;
 
 answers! { StringsView, Strings;
-    /// The number of a string; `None` where it is none of the strings. One proved call.
+    /// The number of a string; `None` for any other string. One proved call.
     ///
     /// ```
     /// let names = bitm_proved::Strings::build(&["ada", "bob"])?;

@@ -232,7 +232,7 @@ impl<'a> TrieView<'a> {
         unsafe { self.block.find(|trie, out| bitm_tree_degree(addr_of!((*trie).tree), node, out)) }
     }
 
-    /// The children of a node, which follow one another, by rising labels; none where there is no such node.
+    /// The children of a node, which follow one another, by ascending labels; none where there is no such node.
     ///
     /// ```
     /// let trie = bitm_proved::Trie::build(&[2, 0, 1, 0], &[97, 98, 101], 8, &[14])?;

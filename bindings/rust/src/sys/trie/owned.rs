@@ -27,8 +27,8 @@ pub struct Trie<O = Vec<u64>> {
 }
 
 impl Trie {
-    /// The trie of these words, with labels of 8 bits and ends. They rise in the order of their bytes, each once, as `sort`
-    /// and `dedup` leave them; the empty word may be among them.
+    /// The trie of these words, with labels of 8 bits and ends. They ascend by their bytes, each once, as `sort` and
+    /// `dedup` leave them; the empty word may be among them.
     ///
     /// Needs memory for a copy of the words, and three numbers a node and one a word besides.
     ///
