@@ -54,9 +54,10 @@ export class TextIndex {
         this.#isOfBytes = this.#held.member("used_len") > 0;
     }
 
-    /** The index of a text: a string, as its bytes in UTF-8, or bytes in a Uint8Array. Each `step` bytes (32) a position is
-     * kept: a larger step takes less memory, and more time to find a position or a part. progress(done, total) is called after
-     * each of two steps.
+    /**
+     * The index of a text: a string, as its bytes in UTF-8, or bytes in a Uint8Array. Each `step` bytes (32) a position is kept:
+     * a larger step takes less memory, and more time to find a position or a part. progress(done, total) is called after each of
+     * two steps.
      */
     static of(text, options) {
         const settings = settingsOf(options), bytes = encoded(text, "text");

@@ -8,7 +8,7 @@ import { copyIn, copyOut, numbersOf } from "./lists.js";
 import { dispose, withRoom } from "./memory.js";
 import { childrenOf, isNode, ofNode } from "./nodes.js";
 import { answerOf, must, orNone, orThrow, place, whole, within } from "./numbers.js";
-import { encoded, ascending, withPattern } from "./patterns.js";
+import { encoded, rising, withPattern } from "./patterns.js";
 import { shows } from "./shown.js";
 
 const KIND = { name: "Trie", open: "bitm_trie_open", check: "bitm_trie_check", layout: BITM_TRIE };

@@ -112,7 +112,7 @@ export class WaveletMatrix {
         });
     }
 
-    /** The numbers that are in both of two ranges, ascending and each once. The first is best the shorter one. */
+    /** The numbers that are in both of two ranges, ascending and each once. Pass the shorter range first. */
     intersect(begin, end, otherBegin, otherEnd) {
         const ranges = [...this.#range(begin, end), ...this.#range(otherBegin, otherEnd, ["otherBegin", "otherEnd"])];
         return this.#pages((from, numbers) => answerOf("bitm_matrix_intersect", this.#held.at, ...ranges, from, numbers, PAGE),

@@ -47,10 +47,10 @@ export class BitVector implements Iterable<boolean> {
     /** The position of the last 0 bit at or before `from`, which may be past the end; undefined where there is none. */
     previous0(from: Whole): number | undefined;
     /** Iterates over the positions of the 1 bits, ascending, from `from` on or over all; it is empty where `from` is past the
-     * end. */
+     *  end. */
     ones(from?: Whole): IterableIterator<number>;
     /** Iterates over the positions of the 0 bits, ascending, from `from` on or over all; it is empty where `from` is past the
-     * end. */
+     *  end. */
     zeros(from?: Whole): IterableIterator<number>;
     /** The positions of all 1 bits, ascending, in an array of doubles. */
     toPositions(): Float64Array;
@@ -81,8 +81,8 @@ export class BitVector implements Iterable<boolean> {
     fillFragments(width: number, value: Whole, count: Whole): this;
 
     /** Replaces `count` bits from position begin on by the bits of other from otherBegin on: without a count, by all bits of
-     * other
-     *  from there. Other may be this vector, and the two ranges may overlap. RangeError where either ends past the end. */
+     *  other from there. Other may be this vector, and the two ranges may overlap. RangeError where either ends past the
+     *  end. */
     setRange(begin: Whole, other: BitVector, otherBegin?: Whole, count?: Whole): this;
     /** A new vector of the bits from position begin on and before end, which has no bits where begin is not below end. A loop
      *  has to free() it. */
@@ -281,11 +281,11 @@ export class SparseBits {
     select0List(ranks: NumberArray): Float64Array;
     select0List(ranks: BigUint64Array): BigUint64Array;
     select0List(ranks: Iterable<Whole>): (number | undefined)[];
-    /** Iterates over the positions of the few 1 bits, ascending, from `from` on or over all: none where `from` is past the end.
-     * */
+    /** Iterates over the positions of the few 1 bits, ascending, from `from` on or over all: none where `from` is past the
+     *  end. */
     ones(from?: Whole): IterableIterator<number>;
     /** Iterates over the positions of the many 0 bits, ascending, from `from` on or over all: none where `from` is past the
-     * end. */
+     *  end. */
     zeros(from?: Whole): IterableIterator<number>;
 
     /** Whether the block is as it was written and holds sparse bits, by going over all of it. */

@@ -17,8 +17,7 @@ export function extend(block: Bytes, sections: Iterable<readonly [Whole, Bytes]>
  *  block. */
 export function section(block: Bytes, role: Whole): Items | undefined;
 /** The sections of a block in their order, beginning with the sections of its kind: pairs of a role and a copy of its items.
- * WrongTables where the
- *  bytes are no block. */
+ *  WrongTables where the bytes are no block. */
 export function sections(block: Bytes): [role: number | bigint, items: Items][];
 /** Whether the block of any kind is as it was written, by going over all of it: false too where the bytes are no block. */
 export function isWritten(block: Bytes): boolean;

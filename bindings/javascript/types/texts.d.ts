@@ -17,8 +17,8 @@ export interface LocateOptions {
 
 /** How a TextIndex is built. */
 export interface StepOptions {
-    /** A position is kept each `step` letters, by default 32:
-     *  a larger step takes less memory, and locate() and slice() take longer. RangeError unless it is 1 to 2^32 - 1. */
+    /** A position is kept each `step` letters, by default 32: a larger step takes less memory, and locate() and slice() take
+     *  longer. RangeError unless it is 1 to 2^32 - 1. */
     step?: Whole;
     /** Called after each of two steps: the text is ordered, and the index written. */
     progress?: Progress;
@@ -115,8 +115,8 @@ export class Tree {
     degreeList(nodes: NumberArray): Float64Array;
     degreeList(nodes: BigUint64Array): BigUint64Array;
     degreeList(nodes: Iterable<Whole>): (number | undefined)[];
-    /** Child ks[i] of each node nodes[i], in a list of the same kind as the nodes: NaN, NO_ANSWER or undefined where there is none.
-     *  RangeError if there are more or fewer ks than nodes. */
+    /** Child ks[i] of each node nodes[i], in a list of the same kind as the nodes: NaN, NO_ANSWER or undefined where there is
+     *  none. RangeError if there are more or fewer ks than nodes. */
     childList(nodes: NumberArray, ks: Wholes): Float64Array;
     childList(nodes: BigUint64Array, ks: Wholes): BigUint64Array;
     childList(nodes: Iterable<Whole>, ks: Wholes): (number | undefined)[];
