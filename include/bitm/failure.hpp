@@ -159,8 +159,8 @@ struct failure {
     std::uint64_t at = 0;
     // How many items there are, or the other item; the size that `at` is past; the kind that was wanted.
     std::uint64_t of = 0;
-    // The argument or length that is wrong, what the items are called, or the name of the file in what load, map and
-    // save throw: in memory that stays; nullptr where nothing more is known.
+    // The wrong argument or length, the name of the items, or the name of the file in errors of load, map and save: in
+    // memory that stays; nullptr where nothing more is known.
     const char *which = nullptr;
     // The item at fault, where it is a number.
     std::uint64_t value = 0;

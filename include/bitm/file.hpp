@@ -214,8 +214,8 @@ template <class T> T of_file(result<T> made, const path_of &path)
 // Saving and loading of owners that are one block. `Self` has `check()`.
 template <class Self, class Kind> class stored_calls {
 public:
-    // The block, which is the file. An empty owner has one too, but not a tree or a trie without nodes. Of a file of
-    // version 2 that was mapped it is that file.
+    // The block, which is the file. An empty owner has one too, but not a tree or a trie without nodes. For a mapped
+    // file of version 2 it is that file.
     span<const unsigned char> bytes() const &noexcept BITM_LIFETIMEBOUND { return bytes_of(own_.words()); }
     void bytes() const && = delete;
 

@@ -181,8 +181,8 @@ public:
              "there is not room for one count a number");
         return written;
     }
-    // The numbers of both ranges that are at least `least`, each once, ascending. In no more turns than the first range
-    // has numbers: so give the shorter one first.
+    // The numbers of both ranges that are at least `least`, each once, ascending. Takes at most as many turns as the
+    // first range has numbers, so pass the shorter one first.
     std::size_t intersect(std::uint64_t from, std::uint64_t to, std::uint64_t other_from, std::uint64_t other_to,
                           std::uint64_t least, words_out numbers) const
     {

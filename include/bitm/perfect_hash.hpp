@@ -131,9 +131,9 @@ public:
 
     // Writes the `width` lowest bits of the fingerprint of each key at its number, as an array in words of the
     // caller's. By them `find` answers none for almost all that are no keys. A fingerprint is any number that you
-    // compute from a key beside its hash. Returns whether each hash has a number, for which there is room; the
-    // fingerprints of the others are written all the same. Fails where there is not one fingerprint for each hash, or
-    // `width` is above 64.
+    // compute from a key beside its hash. Returns whether each hash has a number, and its fingerprint room; the other
+    // fingerprints are written all the same. Fails where there is not one fingerprint for each hash, or `width` is
+    // above 64.
     bool set_prints(words_in hashes, words_in key_prints, words_out prints, unsigned width) const
     {
         need_apart(hashes, prints), need_apart(key_prints, prints);
@@ -142,8 +142,8 @@ public:
         if (status != BITM_WRONG) need(status, wrong_prints);
         return status == BITM_OK;
     }
-    // The number of a key, by its hash and its fingerprint; none where the fingerprint at that number is another, so a
-    // value that is no key has a number once in 2^width. Fails where there is no fingerprint at that number.
+    // The number of a key, by its hash and its fingerprint; none where the fingerprint at that number is another, so
+    // one in 2^width of the values that are no keys has a number. Fails where there is no fingerprint at that number.
     maybe_position find(words_in prints, unsigned width, std::uint64_t hash, std::uint64_t key_print) const
     {
         return try_find(prints, width, hash, key_print).value();

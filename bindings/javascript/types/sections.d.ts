@@ -5,7 +5,7 @@ import type { Bytes, Whole } from "./common.js";
 /** The first role that no kind of block has: from it on roles are yours, and their items are bytes. */
 export const OWN_ROLE: number;
 
-/** What a section holds: bytes, numbers of 32 bits for the roles 7 and 8, or of 64 bits for others below OWN_ROLE but 15. */
+/** The items of a section: bytes, numbers of 32 bits for the roles 7 and 8, or of 64 bits for others below OWN_ROLE but 15. */
 export type Items = Uint8Array | Uint32Array | BigUint64Array;
 
 /**

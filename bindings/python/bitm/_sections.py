@@ -49,12 +49,12 @@ def _extended(block: "Buffer", role: int, data: "Buffer") -> bytes:
 
 def extend(block: "Buffer", sections: "Union[Mapping[int, Buffer], Iterable[Tuple[SupportsIndex, Buffer]]]", /) -> bytes:
     """The bytes of a block with more sections after its own: `sections` maps roles to the items of each, in any buffer, or has
-    pairs of these. A role from 65536 on is yours, and its items are bytes; docs/FORMAT.md has others. What the block held it holds
-    still, and values over it step over the sections of yours.
+    pairs of these. A role from 65536 on is yours, and its items are bytes; docs/FORMAT.md has others. The block still holds the
+    same structure, and values over it step over your sections.
 
-    ValueError where there would be more than 16 sections, the bytes do not fill the items of a role, or a section of the block is
-    not as it was written: what was damaged gets no right checksum. The block is copied once for each section, while other threads
-    run.
+    ValueError where there would be more than 16 sections, the bytes do not fill the items of a role, or a section of the block
+    is not as it was written: a damaged section gets no right checksum. The block is copied once for each section, while other
+    threads run.
 
     >>> noted = extend(Tree([2, 0, 0]).block, {65536: b"3 nodes"})
     >>> len(Tree.over(noted)), bytes(section(noted, 65536))
@@ -100,8 +100,8 @@ def section(block: "Buffer", role: SupportsIndex, /) -> Optional[memoryview]:
 
 
 def is_written(block: "Buffer", /) -> bool:
-    """Whether a block of any kind is as it was written: goes over all of it, while other threads run. Whether it holds what its
-    kind says is for the `check` of that to say.
+    """Whether a block of any kind is as it was written: goes over all of it, while other threads run. Whether it holds such a
+    structure is for the `check` of its kind to say.
 
     >>> block = bytearray(Tree([2, 0, 0]).block)
     >>> is_written(block)

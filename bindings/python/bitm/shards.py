@@ -40,8 +40,8 @@ class ShardError(Exception):
 
 
 class Part(NamedTuple):
-    """What the manifest says of a shard: its file in the folder, its bits and 1 bits, a sum of its lengths, tables and
-    some words, which is looked at when the shard is mapped, and one of all words, which is looked at by `check`."""
+    """The manifest's entry of a shard: its file in the folder, its bits and 1 bits, a sum of its lengths, tables and some
+    words, which is looked at when the shard is mapped, and one of all words, which is looked at by `check`."""
 
     file: str
     bits: int

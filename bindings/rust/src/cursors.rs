@@ -38,8 +38,8 @@ impl<O> Sequence<O> {
 }
 
 impl<'a> Cursor<'a> {
-    /// Moves to the first number from here on that is at least `value`, and returns it; stays where the number here is.
-    /// `None` where each is less: it is at the end then. One proved call.
+    /// Moves to the first number from here on that is at least `value`, and returns it; stays where the number here
+    /// already is. `None` where each is less: it is at the end then. One proved call.
     ///
     /// ```
     /// let primes = bitm_proved::EliasFano::build(&[2, 3, 5, 7])?;

@@ -79,7 +79,7 @@ by_view! { KeyHash;
 }
 
 impl<O> KeyHash<O> {
-    /// The numbers of a list of keys; how many have none, which `NO_ANSWER` stands for.
+    /// The numbers of a list of keys; returns how many have none, written as `NO_ANSWER`.
     ///
     /// ```
     /// use bitm_proved::{KeyHash, NO_ANSWER};

@@ -195,8 +195,8 @@ by_view! { WaveletMatrix;
     /// ```
     pub fn get_list<'b>(&self, indices: &[usize], out: &'b mut [u64]) -> Result<&'b [u64], ListError>;
 
-    /// How many of the numbers before `indices[i]` are `numbers[i]`; of how many there is no such index, which
-    /// `NO_ANSWER` stands for.
+    /// How many of the numbers before `indices[i]` are `numbers[i]`; returns of how many there is no such index,
+    /// written as `NO_ANSWER`.
     ///
     /// ```
     /// use bitm_proved::{WaveletMatrix, NO_ANSWER};
@@ -206,8 +206,8 @@ by_view! { WaveletMatrix;
     /// ```
     pub fn rank_list(&self, numbers: &[u64], indices: &[usize], out: &mut [usize]) -> Result<usize, ListError>;
 
-    /// The index of `numbers[i]` with `ranks[i]` such numbers before it; how many there are not, which `NO_ANSWER`
-    /// stands for.
+    /// The index of `numbers[i]` with `ranks[i]` such numbers before it; returns how many do not exist, written as
+    /// `NO_ANSWER`.
     ///
     /// ```
     /// use bitm_proved::{WaveletMatrix, NO_ANSWER};

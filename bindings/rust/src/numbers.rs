@@ -149,7 +149,7 @@ by_view! { Sequence;
     /// ```
     pub fn get_list<'b>(&self, indexes: &[usize], out: &'b mut [u64]) -> Result<&'b [u64], ListError>;
 
-    /// The successors of a list of values; how many have none, which `NO_ANSWER` stands for.
+    /// The successors of a list of values; returns how many have none, written as `NO_ANSWER`.
     ///
     /// ```
     /// use bitm_proved::{EliasFano, NO_ANSWER};
@@ -159,7 +159,7 @@ by_view! { Sequence;
     /// ```
     pub fn first_at_least_list(&self, values: &[u64], out: &mut [usize]) -> Result<usize, ListError>;
 
-    /// The predecessors of a list of values; how many have none, which `NO_ANSWER` stands for.
+    /// The predecessors of a list of values; returns how many have none, written as `NO_ANSWER`.
     ///
     /// ```
     /// use bitm_proved::{EliasFano, NO_ANSWER};

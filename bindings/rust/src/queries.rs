@@ -200,7 +200,7 @@ pub trait Queries {
         self.query(|view| view.count_of(false))
     }
 
-    /// Ranks of a list of positions; how many have none, which `NO_ANSWER` stands for.
+    /// Ranks of a list of positions; returns how many have none, written as `NO_ANSWER`.
     ///
     /// ```
     /// use bitm_proved::{Index, Queries, NO_ANSWER};
@@ -224,7 +224,7 @@ pub trait Queries {
         self.query(|view| view.list(false, false, positions, out))
     }
 
-    /// Positions of the 1 bits with the ranks of a list; how many have none, which `NO_ANSWER` stands for.
+    /// Positions of the 1 bits with the ranks of a list; returns how many have none, written as `NO_ANSWER`.
     ///
     /// ```
     /// use bitm_proved::{Index, Queries, NO_ANSWER};

@@ -219,7 +219,7 @@ pub enum BuildError {
     NoMemory(NoMemory),
 }
 
-/// A list that does not ascend at an index: what its items are, the items there and before it, and how they stand.
+/// A list that does not ascend at an index: the name of its items, the items there and before it, and their relation.
 pub(super) fn falls(
     f: &mut fmt::Formatter<'_>,
     what: &str,

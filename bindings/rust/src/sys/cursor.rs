@@ -78,9 +78,9 @@ impl<'a> Cursor<'a> {
         (self.raw.index < self.raw.sequence.len).then_some(self.raw.number)
     }
 
-    /// Moves to the first number from here on that is at least `value`, and returns it; stays where the number here is.
-    /// `None` where each is less: it is at the end then. Reads 26 words where the number is near, else what three
-    /// selections read too.
+    /// Moves to the first number from here on that is at least `value`, and returns it; stays where the number here
+    /// already is. `None` where each is less: it is at the end then. Reads 26 words where the number is near, else what
+    /// three selections read too.
     ///
     /// ```
     /// let primes = bitm_proved::EliasFano::build(&[2, 3, 5, 7])?;

@@ -216,7 +216,7 @@ impl KeyHashView<'_> {
         unsafe { self.block.find(find) }
     }
 
-    /// The numbers of a list of keys; how many have none, which `NO_ANSWER` stands for.
+    /// The numbers of a list of keys; returns how many have none, written as `NO_ANSWER`.
     ///
     /// ```
     /// use bitm_proved::{KeyHash, NO_ANSWER};

@@ -267,8 +267,8 @@ impl<'a> WaveletMatrixView<'a> {
         })
     }
 
-    /// How many of the numbers before `indices[i]` are `numbers[i]`; of how many there is no such index, which
-    /// `NO_ANSWER` stands for.
+    /// How many of the numbers before `indices[i]` are `numbers[i]`; returns of how many there is no such index,
+    /// written as `NO_ANSWER`.
     ///
     /// ```
     /// use bitm_proved::{WaveletMatrix, NO_ANSWER};
@@ -281,8 +281,8 @@ impl<'a> WaveletMatrixView<'a> {
         self.list(bitm_matrix_rank_list, numbers, indices, out)
     }
 
-    /// The index of `numbers[i]` with `ranks[i]` such numbers before it; how many there are not, which `NO_ANSWER`
-    /// stands for.
+    /// The index of `numbers[i]` with `ranks[i]` such numbers before it; returns how many do not exist, written as
+    /// `NO_ANSWER`.
     ///
     /// ```
     /// use bitm_proved::{WaveletMatrix, NO_ANSWER};

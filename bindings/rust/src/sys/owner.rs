@@ -122,8 +122,8 @@ macro_rules! owners {
 }
 pub(crate) use owners;
 
-/// As `owners`, of a block that is built, and which can be copied. Where it is not said what a copy copies, and what
-/// the words of its file are, both are its block.
+/// As `owners`, of a block that is built, and which can be copied. By default a copy copies the block, and the words of
+/// the file are the block's.
 macro_rules! owners_of_blocks {
     ($kind:ident with $view:ident; $it:literal, $made:literal, $len:literal) => {
         crate::sys::owner::owners_of_blocks!(

@@ -268,7 +268,7 @@ impl<'a> SequenceView<'a> {
         })
     }
 
-    /// The successors of a list of values; how many have none, which `NO_ANSWER` stands for.
+    /// The successors of a list of values; returns how many have none, written as `NO_ANSWER`.
     ///
     /// ```
     /// use bitm_proved::{EliasFano, NO_ANSWER};
@@ -281,7 +281,7 @@ impl<'a> SequenceView<'a> {
         self.list(bitm_sequence_first_at_least_list, values, as_u64_mut(out))
     }
 
-    /// The predecessors of a list of values; how many have none, which `NO_ANSWER` stands for.
+    /// The predecessors of a list of values; returns how many have none, written as `NO_ANSWER`.
     ///
     /// ```
     /// use bitm_proved::{EliasFano, NO_ANSWER};

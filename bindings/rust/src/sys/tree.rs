@@ -158,7 +158,7 @@ impl<'a> TreeView<'a> {
         })
     }
 
-    /// The parents of a list of nodes; how many have none, which `NO_ANSWER` stands for.
+    /// The parents of a list of nodes; returns how many have none, written as `NO_ANSWER`.
     ///
     /// ```
     /// use bitm_proved::{Tree, NO_ANSWER};
@@ -171,7 +171,7 @@ impl<'a> TreeView<'a> {
         self.list(bitm_tree_parent_list, nodes, out)
     }
 
-    /// How many children each node of a list has; of how many there is none, which `NO_ANSWER` stands for.
+    /// How many children each node of a list has; returns for how many there is none, written as `NO_ANSWER`.
     ///
     /// ```
     /// use bitm_proved::{Tree, NO_ANSWER};
@@ -184,7 +184,7 @@ impl<'a> TreeView<'a> {
         self.list(bitm_tree_degree_list, nodes, out)
     }
 
-    /// Child `ks[i]` of each node `nodes[i]` of a list; how many there are not, which `NO_ANSWER` stands for.
+    /// Child `ks[i]` of each node `nodes[i]` of a list; returns how many do not exist, written as `NO_ANSWER`.
     ///
     /// ```
     /// use bitm_proved::{ListError, Tree, NO_ANSWER};
