@@ -2416,7 +2416,7 @@ BITM_MUST_USE uint32_t bitm_block_check(const uint64_t *block, size_t block_len)
  *
  * Where only m of n bits are 1 bits, the positions of the 1 bits are kept, as a monotone sequence (Okanohara and
  * Sadakane, ALENEX 2007): about 2.6 + log2(n / m) bits for each 1 bit, however many 0 bits there are. The queries and
- * their answers are the same as of an index; bitm_index_ calls are faster, and take space for each bit.
+ * their answers are the same as from an index; bitm_index_ calls are faster, and take space for each bit.
  *
  *     const uint64_t ones[4] = {3, 100, 101, 4000};
  *     uint64_t block[80], size, rank; // or a mapped file

@@ -43,7 +43,7 @@ pub(crate) struct Block<'a, P> {
 
 // SAFETY: the pointers lie in a shared slice, and no call has state.
 unsafe impl<P: Parts> Send for Block<'_, P> {}
-// SAFETY: as of `Send`.
+// SAFETY: as for `Send`.
 unsafe impl<P: Parts> Sync for Block<'_, P> {}
 
 impl<'a, P: Parts> Block<'a, P> {

@@ -30,7 +30,7 @@ pub struct Cursor<'a> {
 
 // SAFETY: the pointers come from shared slices, and a call that moves a cursor has it alone.
 unsafe impl Send for Cursor<'_> {}
-// SAFETY: as of `Send`.
+// SAFETY: as for `Send`.
 unsafe impl Sync for Cursor<'_> {}
 
 impl<'a> Cursor<'a> {

@@ -48,7 +48,7 @@ macro_rules! files {
             /// another.
             ///
             /// # Errors
-            /// `OpenError::System` where the system refuses the file, and `OpenError::Stored` as of `from_bytes`.
+            /// `OpenError::System` where the system refuses the file, and `OpenError::Stored` as for `from_bytes`.
             ///
             /// ```
             #[doc = concat!("use bitm_proved::{bytes_of, OpenError, ", stringify!($file), ", ", $imported, "};")]

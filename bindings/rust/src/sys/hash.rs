@@ -40,7 +40,7 @@ pub struct PerfectHash {
 
 // SAFETY: the pointers are those of vectors that it owns and never mutates, and no call has state.
 unsafe impl Send for PerfectHash {}
-// SAFETY: as of `Send`.
+// SAFETY: as for `Send`.
 unsafe impl Sync for PerfectHash {}
 
 /// The struct that each query takes: of memory that stays where it is.

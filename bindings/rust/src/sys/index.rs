@@ -163,7 +163,7 @@ impl Index<Vec<u64>> {
     /// that.
     ///
     /// # Errors
-    /// `OpenError::System` where the system refuses the file, and `OpenError::Stored` as of `from_words`.
+    /// `OpenError::System` where the system refuses the file, and `OpenError::Stored` as for `from_words`.
     ///
     /// ```
     /// use bitm_proved::{bytes_of, Index, OpenError, Queries, Rank};

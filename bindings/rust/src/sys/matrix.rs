@@ -84,7 +84,7 @@ impl<'a> WaveletMatrixView<'a> {
     /// ```
     #[inline]
     pub fn checked_rank(&self, number: u64, index: usize) -> Result<Option<usize>, WrongTables> {
-        // SAFETY: as of `checked_get`.
+        // SAFETY: as for `checked_get`.
         unsafe { self.block.find(|matrix, out| bitm_matrix_rank(matrix, number, index, out)) }
     }
 
@@ -97,12 +97,12 @@ impl<'a> WaveletMatrixView<'a> {
     /// ```
     #[inline]
     pub fn checked_select(&self, number: u64, rank: usize) -> Result<Option<usize>, WrongTables> {
-        // SAFETY: as of `checked_get`.
+        // SAFETY: as for `checked_get`.
         unsafe { self.block.find(|matrix, out| bitm_matrix_select(matrix, number, rank, out)) }
     }
 
     fn in_range(&self, call: InRange, range: Range<usize>, number: u64) -> Result<Option<u64>, WrongTables> {
-        // SAFETY: as of `checked_get`.
+        // SAFETY: as for `checked_get`.
         unsafe { self.block.query(|matrix, out| call(matrix, range.start, range.end, number, out)) }
     }
 
@@ -140,7 +140,7 @@ impl<'a> WaveletMatrixView<'a> {
     /// # Ok::<(), bitm_proved::BuildError>(())
     /// ```
     pub fn checked_quantile(&self, range: Range<usize>, k: usize) -> Result<Option<u64>, WrongTables> {
-        // SAFETY: as of `checked_get`.
+        // SAFETY: as for `checked_get`.
         unsafe { self.block.query(|matrix, out| bitm_matrix_quantile(matrix, range.start, range.end, k, out)) }
     }
 
@@ -214,7 +214,7 @@ impl<'a> WaveletMatrixView<'a> {
     ) -> Result<Option<usize>, ListError> {
         let (room, (from, to)) = (pairs(numbers.len(), counts.len())?, (range.start, range.end));
         let (list, of_each) = (numbers.as_mut_ptr(), as_u64_mut(counts).as_mut_ptr());
-        // SAFETY: as of `distinct`.
+        // SAFETY: as for `distinct`.
         let found = unsafe { self.block.find(|it, n| bitm_matrix_top(it, from, to, list, room, of_each, room, n)) };
         found.map_err(|_| ListError::WrongTables { wrong: room })
     }
@@ -240,7 +240,7 @@ impl<'a> WaveletMatrixView<'a> {
     ) -> Result<Option<usize>, WrongTables> {
         let (list, room) = (numbers.as_mut_ptr(), numbers.len());
         let (a, b, c, d) = (first.start, first.end, second.start, second.end);
-        // SAFETY: as of `distinct`, with one slice.
+        // SAFETY: as for `distinct`, with one slice.
         unsafe { self.block.find(|it, n| bitm_matrix_intersect(it, a, b, c, d, least, list, room, n)) }
     }
 

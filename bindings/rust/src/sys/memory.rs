@@ -125,7 +125,7 @@ pub fn bytes_of(words: &[u64]) -> &[u8] {
 /// The bytes of words.
 #[cfg(feature = "std")]
 pub(crate) fn bytes_of_mut(words: &mut [u64]) -> &mut [u8] {
-    // SAFETY: as of `bytes_of`, and any eight bytes are a number.
+    // SAFETY: as for `bytes_of`, and any eight bytes are a number.
     unsafe { slice::from_raw_parts_mut(words.as_mut_ptr().cast(), size_of_val(words)) }
 }
 

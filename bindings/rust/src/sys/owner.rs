@@ -43,7 +43,7 @@ macro_rules! owners {
             /// ```
             pub fn from_bytes(owner: O) -> Result<Self, StoredError> {
                 let held = Held::new(owner)?;
-                // SAFETY: as of `from_words`.
+                // SAFETY: as for `from_words`.
                 let view = $view::from_bytes(unsafe { held.borrowed() })?;
                 Ok($kind { view, held })
             }
@@ -55,7 +55,7 @@ macro_rules! owners {
             /// not tested: `check` does that.
             ///
             /// # Errors
-            /// `OpenError::System` where the system refuses the file, and `OpenError::Stored` as of `from_words`.
+            /// `OpenError::System` where the system refuses the file, and `OpenError::Stored` as for `from_words`.
             ///
             /// ```
             #[doc = concat!("use bitm_proved::{bytes_of, ", stringify!($kind), "};")]

@@ -95,7 +95,7 @@ pub fn extended_size(block: &[u64], role: u64, count: usize) -> Result<usize, St
 /// Writes to `to` a copy of the block with one section more, after its own: these words, which hold `count` items of a
 /// role. Where items do not fill the last word, let its other bytes be 0. One proved call.
 ///
-/// Errors as of `extended_size`, and nothing is written: `NotWhole` also where a section of the block is not as it was
+/// Errors as for `extended_size`, and nothing is written: `NotWhole` also where a section of the block is not as it was
 /// written; `NoSection` also where there are more or fewer words than the items take, or `to` has another length.
 ///
 /// ```

@@ -35,7 +35,7 @@ pub struct SequenceView<'a> {
 
 // SAFETY: the pointers come from shared slices, and no call has state.
 unsafe impl Send for SequenceView<'_> {}
-// SAFETY: as of `Send`.
+// SAFETY: as for `Send`.
 unsafe impl Sync for SequenceView<'_> {}
 
 impl<'a> SequenceView<'a> {

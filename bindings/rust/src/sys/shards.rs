@@ -205,7 +205,7 @@ pub struct ShardedIndex<'a> {
 
 // SAFETY: the pointers come from shared slices, and no call has state.
 unsafe impl Send for ShardedIndex<'_> {}
-// SAFETY: as of `Send`.
+// SAFETY: as for `Send`.
 unsafe impl Sync for ShardedIndex<'_> {}
 
 impl fmt::Debug for ShardedIndex<'_> {

@@ -85,7 +85,7 @@ impl<'a> TextIndexView<'a> {
     /// # Ok::<(), Box<dyn std::error::Error>>(())
     /// ```
     pub fn count_letters(&self, pattern: &[u64]) -> Result<usize, WrongTables> {
-        // SAFETY: as of `count`.
+        // SAFETY: as for `count`.
         let found = unsafe { self.block.find(|text, n| bitm_text_count(text, pattern.as_ptr(), pattern.len(), n)) };
         found?.ok_or(WrongTables)
     }
@@ -104,7 +104,7 @@ impl<'a> TextIndexView<'a> {
     pub fn locate(&self, pattern: &[u8], from: usize, out: &mut [usize]) -> Result<usize, WrongTables> {
         let (letters, len, room) = (pattern.as_ptr(), pattern.len(), out.len());
         let to = as_u64_mut(out).as_mut_ptr();
-        // SAFETY: as of `count`, and a mutable slice, which overlaps no other.
+        // SAFETY: as for `count`, and a mutable slice, which overlaps no other.
         let found = unsafe { self.block.find(|text, n| bitm_text_locate_bytes(text, letters, len, from, to, room, n)) };
         found?.ok_or(WrongTables)
     }
@@ -121,7 +121,7 @@ impl<'a> TextIndexView<'a> {
     pub fn locate_letters(&self, pattern: &[u64], from: usize, out: &mut [usize]) -> Result<usize, WrongTables> {
         let (letters, len, room) = (pattern.as_ptr(), pattern.len(), out.len());
         let to = as_u64_mut(out).as_mut_ptr();
-        // SAFETY: as of `locate`.
+        // SAFETY: as for `locate`.
         let found = unsafe { self.block.find(|text, n| bitm_text_locate(text, letters, len, from, to, room, n)) };
         found?.ok_or(WrongTables)
     }
@@ -153,7 +153,7 @@ impl<'a> TextIndexView<'a> {
     /// # Ok::<(), Box<dyn std::error::Error>>(())
     /// ```
     pub fn extract_letters(&self, from: usize, out: &mut [u64]) -> Result<bool, WrongTables> {
-        // SAFETY: as of `extract`.
+        // SAFETY: as for `extract`.
         written(unsafe { bitm_text_extract(self.block.parts(), from, out.as_mut_ptr(), out.len()) })
     }
 }

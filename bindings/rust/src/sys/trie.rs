@@ -132,7 +132,7 @@ impl<'a> TrieView<'a> {
     /// ```
     #[inline]
     pub fn checked_find_labels(&self, word: &[u64]) -> Result<Option<usize>, WrongTables> {
-        // SAFETY: as of `checked_find`.
+        // SAFETY: as for `checked_find`.
         unsafe { self.block.find(|trie, out| bitm_trie_find(trie, word.as_ptr(), word.len(), out)) }
     }
 
@@ -188,7 +188,7 @@ impl<'a> TrieView<'a> {
     /// ```
     #[inline]
     pub fn checked_longest_labels(&self, word: &[u64]) -> Result<(usize, usize), WrongTables> {
-        // SAFETY: as of `checked_longest`.
+        // SAFETY: as for `checked_longest`.
         longest_by(|node, n| unsafe { bitm_trie_longest(self.block.parts(), word.as_ptr(), word.len(), node, n) })
     }
 
@@ -228,7 +228,7 @@ impl<'a> TrieView<'a> {
     /// ```
     #[inline]
     pub fn checked_degree(&self, node: usize) -> Result<Option<usize>, WrongTables> {
-        // SAFETY: as of `checked_parent`.
+        // SAFETY: as for `checked_parent`.
         unsafe { self.block.find(|trie, out| bitm_tree_degree(addr_of!((*trie).tree), node, out)) }
     }
 
@@ -244,7 +244,7 @@ impl<'a> TrieView<'a> {
         if degree == 0 {
             return Ok(0..0);
         }
-        // SAFETY: as of `checked_parent`.
+        // SAFETY: as for `checked_parent`.
         let first = unsafe { self.block.find(|trie, out| bitm_tree_child(addr_of!((*trie).tree), node, 0, out)) };
         Ok(first?.map_or(0..0, |first| first..first + degree))
     }

@@ -77,7 +77,7 @@ pub struct IndexView<'a> {
 
 // SAFETY: the pointers come from shared slices, and no call has state.
 unsafe impl Send for IndexView<'_> {}
-// SAFETY: as of `Send`.
+// SAFETY: as for `Send`.
 unsafe impl Sync for IndexView<'_> {}
 
 /// No samples.

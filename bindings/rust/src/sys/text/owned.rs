@@ -78,7 +78,7 @@ impl TextIndex {
         Self::of_block(build(text, step, Some(&mut progress))?, otherwise)
     }
 
-    /// As `build_of_letters`, with calls of `progress` as of `build_with_progress`.
+    /// As `build_of_letters`, with calls of `progress` as for `build_with_progress`.
     ///
     /// # Errors
     /// As of `build_of_letters`.
