@@ -93,7 +93,7 @@ enum class errc : std::uint8_t {
     no_file,                  // the system does not open, read, map or write it
     equal_keys,               // two keys of a perfect hash have one hash
     overlap,                  // memory that is written overlaps what is read
-    no_tree,                  // the degrees are those of no tree
+    no_tree,                  // the degrees form no tree
     other_kind                // a right file of another kind
 };
 

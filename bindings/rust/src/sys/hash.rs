@@ -38,7 +38,7 @@ pub struct PerfectHash {
     sizes: Vec<u64>,
 }
 
-// SAFETY: the pointers are those of vectors that it owns and never mutates, and no call has state.
+// SAFETY: the pointers come from vectors that it owns and never mutates, and no call has state.
 unsafe impl Send for PerfectHash {}
 // SAFETY: as for `Send`.
 unsafe impl Sync for PerfectHash {}
