@@ -121,8 +121,8 @@ const sampled = new Index(bits, { sampleLog2: 9 });
 console.log(`# Node ${process.version}, ${form || (bitm.has64() ? 64 : 32)}-bit memory, ${QUERIES} queries, load ${readFileSync("/proc/loadavg", "utf8").split(" ")[0]}`);
 
 const positions = Uint32Array.from(bits.toPositions()), n = positions.length;
-const places = drawn(QUERIES, BITS, 77), ranks = drawn(QUERIES, n, 78);
-compare("rank", places, {
+const queried = drawn(QUERIES, BITS, 77), ranks = drawn(QUERIES, n, 78);
+compare("rank", queried, {
     "bitm": it => index.rank(it), "bitm list": it => index.rankList(it),
     "counted": it => plain.rank(it), "halving": it => firstAtLeast(positions, it),
 });

@@ -124,17 +124,17 @@ struct InBlock {
 };
 
 // One query after the other, and lists of them.
-Form getting(InBlock &it, const Numbers &places)
+Form getting(InBlock &it, const Numbers &indexes)
 {
     return {"get", it.by(), [&] {
-                return each(places, [&](uint64_t at) { return bitm_matrix_get(&it.matrix, at, &it.got), it.got; });
+                return each(indexes, [&](uint64_t at) { return bitm_matrix_get(&it.matrix, at, &it.got), it.got; });
             }};
 }
-Form getting_lists(InBlock &it, const Numbers &places)
+Form getting_lists(InBlock &it, const Numbers &indexes)
 {
     return {"get_list", it.by(), [&] {
                 return lists([&](size_t from) {
-                    return bitm_matrix_get_list(&it.matrix, &places[from], LIST, answers, LIST, &it.got), 0;
+                    return bitm_matrix_get_list(&it.matrix, &indexes[from], LIST, answers, LIST, &it.got), 0;
                 });
             }};
 }
@@ -184,30 +184,30 @@ void matrices(const Bench &bench, int width)
     if (bench.has_wt_int()) bench.space("space_a_number", "sdsl wt_int", sdsl::size_in_bytes(wt));
     for (const InBlock *it : {&compact, &quick}) bench.space("space_a_number", it->by(), it->words * 8.0);
 
-    const Numbers places = queries(count);
+    const Numbers indexes = queries(count);
     Numbers others(QUERIES), own(QUERIES), ranks(QUERIES);
     for (size_t i = 0; i < QUERIES; i++) {
-        others[i] = same[(places[i] + 1) % count];
-        own[i] = same[places[i]];
-        ranks[i] = wm.rank(places[i], own[i]);
+        others[i] = same[(indexes[i] + 1) % count];
+        own[i] = same[indexes[i]];
+        ranks[i] = wm.rank(indexes[i], own[i]);
     }
     bench.answer({
-        {"get", "sdsl wm_int", [&] { return each(places, [&](uint64_t at) { return wm[at]; }); }},
-        {"get", "sdsl wt_int", [&] { return each(places, [&](uint64_t at) { return wt[at]; }); }},
-        getting(compact, places),
-        getting(quick, places),
-        getting_lists(compact, places),
-        getting_lists(quick, places),
+        {"get", "sdsl wm_int", [&] { return each(indexes, [&](uint64_t at) { return wm[at]; }); }},
+        {"get", "sdsl wt_int", [&] { return each(indexes, [&](uint64_t at) { return wt[at]; }); }},
+        getting(compact, indexes),
+        getting(quick, indexes),
+        getting_lists(compact, indexes),
+        getting_lists(quick, indexes),
     });
     bench.answer({
         {"rank", "sdsl wm_int",
-         [&] { return each(others, places, [&](uint64_t it, uint64_t at) { return wm.rank(at, it); }); }},
+         [&] { return each(others, indexes, [&](uint64_t it, uint64_t at) { return wm.rank(at, it); }); }},
         {"rank", "sdsl wt_int",
-         [&] { return each(others, places, [&](uint64_t it, uint64_t at) { return wt.rank(at, it); }); }},
-        asking("rank", compact, bitm_matrix_rank, others, places),
-        asking("rank", quick, bitm_matrix_rank, others, places),
-        asking_lists("rank_list", compact, bitm_matrix_rank_list, others, places),
-        asking_lists("rank_list", quick, bitm_matrix_rank_list, others, places),
+         [&] { return each(others, indexes, [&](uint64_t it, uint64_t at) { return wt.rank(at, it); }); }},
+        asking("rank", compact, bitm_matrix_rank, others, indexes),
+        asking("rank", quick, bitm_matrix_rank, others, indexes),
+        asking_lists("rank_list", compact, bitm_matrix_rank_list, others, indexes),
+        asking_lists("rank_list", quick, bitm_matrix_rank_list, others, indexes),
     });
     bench.answer({
         {"select", "sdsl wm_int",
@@ -252,16 +252,16 @@ void sequences(const Bench &bench)
 
     const sdsl::select_support_sd<> select(&set);
     const sdsl::rank_support_sd<> rank(&set);
-    const Numbers places = queries(count), values = queries(last);
+    const Numbers indexes = queries(count), values = queries(last);
     bitm_list_counts counts{};
     bench.answer({
-        {"get", "sdsl", [&] { return each(places, [&](uint64_t at) { return select(at + 1); }); }},
+        {"get", "sdsl", [&] { return each(indexes, [&](uint64_t at) { return select(at + 1); }); }},
         {"get", "C",
-         [&] { return each(places, [&](uint64_t at) { return bitm_sequence_get(&sequence, at, &got), got; }); }},
+         [&] { return each(indexes, [&](uint64_t at) { return bitm_sequence_get(&sequence, at, &got), got; }); }},
         {"get_list", "C",
          [&] {
              return lists([&](size_t from) {
-                 return bitm_sequence_get_list(&sequence, &places[from], LIST, answers, LIST, &got), 0;
+                 return bitm_sequence_get_list(&sequence, &indexes[from], LIST, answers, LIST, &got), 0;
              });
          }},
     });

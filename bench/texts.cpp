@@ -105,10 +105,10 @@ template <class Asked, class Query> uint64_t each(const Asked &asked, Query quer
     return sum;
 }
 
-template <class Places> uint64_t sum_of(const Places &places)
+template <class Positions> uint64_t sum_of(const Positions &positions)
 {
     uint64_t sum = 0;
-    for (uint64_t it : places) sum += it;
+    for (uint64_t it : positions) sum += it;
     return sum;
 }
 
@@ -146,9 +146,9 @@ struct Here {
     uint64_t locate(const std::string &pattern) const
     {
         uint64_t written = 0;
-        std::vector<uint64_t> places(count(pattern));
-        bitm_text_locate_bytes(&text, bytes(pattern), pattern.size(), 0, places.data(), places.size(), &written);
-        return sum_of(places);
+        std::vector<uint64_t> positions(count(pattern));
+        bitm_text_locate_bytes(&text, bytes(pattern), pattern.size(), 0, positions.data(), positions.size(), &written);
+        return sum_of(positions);
     }
     uint64_t extract(uint64_t from) const
     {
@@ -180,8 +180,8 @@ void find(const Turns &turns, const std::string &text, const Indexes &by)
 {
     const Patterns asked = patterns(text, 16, LOCATED);
     const Shifted letters = all_shifted(asked);
-    const uint64_t places = each(asked, [&](const auto &it) { return by.here.count(it); });
-    turns.take(turns.rounds, places, true,
+    const uint64_t positions = each(asked, [&](const auto &it) { return by.here.count(it); });
+    turns.take(turns.rounds, positions, true,
                {{"locate", HUFFMAN, [&] { return each(asked, [&](const auto &it) { return by.huffman.locate(it); }); }},
                 {"locate", EVEN, [&] { return each(letters, [&](const auto &it) { return by.even.locate(it); }); }},
                 {"locate", "C", [&] { return each(asked, [&](const auto &it) { return by.here.locate(it); }); }}});

@@ -22,7 +22,7 @@
  * it.
  *
  * LENGTHS. words_len, upper_len, lower_len, samples_len, .. count the items of that pointer; bits_len counts bits, and
- * is at most 64 * words_len. What lies past the first bits_len bits is neither counted nor found nor changed.
+ * is at most 64 * words_len. Bits past the first bits_len are neither counted nor found nor changed.
  *
  * ERRORS. Unless its comment says otherwise, a call that does not return BITM_OK writes nothing. Each call names the
  * statuses that it may return, and its section the statuses of all its calls.
@@ -157,8 +157,8 @@ static inline const char *bitm_status_text(uint32_t status)
     }
 }
 
-/* In a list of answers: there is no such position, bit or number; the tables do not match the words. No position, and
- * no rank where the tables are right, is one of these. */
+/* Codes in a list of answers: there is no such position, bit or number; the tables do not match the words. No position
+ * is one of these codes, and no rank where the tables match. */
 #define BITM_NO_ANSWER UINT64_MAX
 #define BITM_WRONG_TABLES (UINT64_MAX - 1)
 
@@ -199,7 +199,7 @@ static inline size_t bitm_hints_len(size_t ones, size_t words_len)
 }
 
 /* How many words the hints take of words_len words of a matrix, whose number of 1 bits its block does not know ahead:
- * as many as bitm_hints_len says at most. 0 if words_len is 2^26 or more.
+ * the most that bitm_hints_len returns. 0 if words_len is 2^26 or more.
  *
  *     if (bitm_hints_room(40) != 11 || bitm_hints_room((size_t)1 << 26) != 0) return 1; */
 static inline size_t bitm_hints_room(size_t words_len)
@@ -316,8 +316,8 @@ BITM_MUST_USE uint32_t bitm_bits_next(const uint64_t *words, size_t words_len, u
 BITM_MUST_USE uint32_t bitm_bits_previous(const uint64_t *words, size_t words_len, uint64_t bits_len, bool one,
                                           uint64_t from, uint64_t *out);
 
-/* Writes the positions of the 1 bits, or 0 bits, from position `from` on, in increasing order, until out is full or
- * there are no more, and to written how many; the rest of out stays as it was.
+/* Writes the positions of the 1 bits, or 0 bits, from position `from` on, ascending, until out is full or there are no
+ * more, and to written how many; the rest of out stays as it was.
  *
  *     const uint64_t words[2] = {0x5a, 1}; // the bits 1, 3, 4, 6 and 64
  *     uint64_t found[8], written;
@@ -942,7 +942,7 @@ BITM_MUST_USE uint32_t bitm_cursor_start(struct bitm_cursor *cursor);
 BITM_MUST_USE uint32_t bitm_cursor_next(struct bitm_cursor *cursor, uint64_t at_least, uint64_t *out);
 
 /* Writes the numbers from `from` on that stand in each of the sequences, or in any of them, from the cursors on:
- * rising, each once, until none is left or out is full, and to written how many; the rest of out stays as it was. If
+ * ascending, each once, until none is left or out is full, and to written how many; the rest of out stays as it was. If
  * out is full, a call with one more than its last number for `from` goes on. BITM_WRONG if a sequence has a wrong
  * length, and then no cursor moves and out stays; or if the parts of a sequence turn out wrong as they are read, and
  * then out may have some of the numbers, and cursors may have moved: BITM_OK says that no move was BITM_WRONG.
@@ -1055,9 +1055,9 @@ BITM_MUST_USE uint32_t bitm_hash_get_list(const struct bitm_hash *hash, const ui
 /* Writes the fingerprint of each key at its number: number k of the fingerprints, of width bits each, is the lowest
  * bits of the fingerprint of the key with number k. By it bitm_hash_find answers BITM_NONE for almost all that are no
  * keys. A fingerprint is any number that you compute from the key beside its hash. Over right tables and sizes, as
- * bitm_hash_get says, a number of several keys gets the fingerprint of the last of them, a number of none keeps its
- * own, and BITM_WRONG says that a key has no number, or its number no place among the words; the others are written.
- * Over other tables the same holds by some number that a look-up of each key may answer. BITM_BAD_SIZE, and nothing is
+ * bitm_hash_get says, a number of several keys gets the fingerprint of the last of them, a number of no key keeps its
+ * own, and BITM_WRONG says that a key has no number, or its fingerprint no room in the words; the others are written.
+ * Over other tables the same holds for some number that a look-up of each key may answer. BITM_BAD_SIZE, and nothing is
  * written, as bitm_hash_get, if prints_len is 2^58 or more, width is above 64, or key_prints_len is not key_hashes_len.
  *
  *     const uint64_t words[1] = {0x4802}, upper[1] = {0}, lower[1] = {0xc0180300000000}, sizes[1] = {1};
@@ -1109,7 +1109,7 @@ BITM_MUST_USE uint32_t bitm_hash_find_list(const struct bitm_hash *hash, const u
  *
  * A dictionary takes a hash without seeds. The block of a hash can have seeds: see bitm_hash_block_build_seeded.
  *
- *   - errors: as of a hash without seeds; BITM_BAD_SIZE also if seeds_len is neither 0 nor words_len.
+ *   - errors: as for a hash without seeds; BITM_BAD_SIZE also if seeds_len is neither 0 nor words_len.
  *   - reads: for each level a query reads one seed too (evident from the code).
  *   - overlap: memory that a call writes overlaps nothing else that it is passed. */
 struct bitm_seeded_hash {
@@ -1205,8 +1205,8 @@ BITM_MUST_USE uint32_t bitm_hash_find_list_seeded(const struct bitm_seeded_hash 
  *         bitm_stored_open_index(file, s.size / 8, &index) || bitm_index_rank(&index, true, 100, &rank) ||
  *         rank != 5) return 1;
  *
- * What stands between the parts, at most 63 bytes each, is not written; in zeroed memory the same bits give the same
- * bytes. A part can be built in its place too. A header says nothing of the contents of the parts: bitm_index_check,
+ * The bytes between two parts, at most 63, are not written; in zeroed memory the same bits give the same bytes. A part
+ * can be built in its place too. A header says nothing of the contents of the parts: bitm_index_check,
  * bitm_index_check_samples and bitm_sequence_check do.
  *
  *   - errors: each call names its statuses; an error writes nothing.
@@ -1259,8 +1259,8 @@ BITM_MUST_USE uint32_t bitm_stored_index_room(uint64_t bits_len, uint32_t ones_l
 /* Copies the first bits_len bits of words to an index in the caller's memory, 0 bits after them; writes its tables, the
  * samples of 1 bits and of 0 bits, each with a log2 of 7 to 31, or 0 and none, and to out the header of such a file.
  * The samples of 0 bits begin at the first multiple of 16 after the others. BITM_BAD_SIZE if words has fewer bits, to,
- * upper, lower, starts or starts0 is not as long as bitm_stored_index_room says, samples has not room for the greatest
- * number of each kind, or for other log2. Reads the words twice (evident from the code).
+ * upper, lower, starts or starts0 is not as long as bitm_stored_index_room says, samples has no room for the greatest
+ * number of each kind, or a log2 is neither 0 nor 7 to 31. Reads the words twice (evident from the code).
  *
  *     const uint64_t words[2] = {0x5a, 1};
  *     uint64_t to[2], upper[1], lower[1];
@@ -1431,14 +1431,15 @@ BITM_MUST_USE static inline uint32_t bitm_stored_open_index(const uint64_t *file
  *
  *     const uint64_t bits_of[2] = {1000, 700}, ones_of[2] = {480, 351};
  *     uint64_t bits[3], ones[3];
- *     struct bitm_shard_place place;
+ *     struct bitm_shard_location location;
  *     if (bitm_prefix_sums(bits_of, 2, bits, 3) || bitm_prefix_sums(ones_of, 2, ones, 3)) return 1;
  *     struct bitm_prefixes counts = {.bits = bits, .bits_len = 3, .ones = ones, .ones_len = 3};
- *     if (bitm_shards_find(&counts, BITM_ONES, 500, &place) || place.shard != 1 || place.within != 20) return 1;
+ *     if (bitm_shards_find(&counts, BITM_ONES, 500, &location) ||
+ *         location.shard != 1 || location.within != 20) return 1;
  *
- * The position of that bit is bits[place.shard] + its position in the shard; the rank of a position is
- * ones[place.shard] + its rank in the shard. Both, and that place.within is a rank (a position) which the shard has,
- * are proved for any number of shards, empty ones too, and fewer than 2^64 bits, where the counts match the shards.
+ * The position of that bit is bits[location.shard] + its position in the shard; the rank of a position is
+ * ones[location.shard] + its rank in the shard. Both, and that the shard has this position or rank, are proved for
+ * any number of shards, empty ones too, and fewer than 2^64 bits, where the counts match the shards.
  *
  *   - errors: BITM_BAD_SIZE if a length in the struct is not right. A query returns BITM_WRONG only where counts or
  *     tables turn out to be wrong. An error writes nothing but room.
@@ -1460,7 +1461,7 @@ struct bitm_prefixes {
 };
 
 /* A shard, and a position in it or the rank of a bit there. */
-struct bitm_shard_place {
+struct bitm_shard_location {
     size_t shard;
     uint64_t within;
 };
@@ -1519,11 +1520,12 @@ BITM_MUST_USE uint32_t bitm_prefix_sums_check(const uint64_t *numbers, size_t nu
  *
  *     const uint64_t bits[3] = {0, 1000, 1700}, ones[3] = {0, 480, 831}; // of two shards, of 1000 and of 700 bits
  *     const struct bitm_prefixes counts = {bits, 3, ones, 3};
- *     struct bitm_shard_place place;
- *     if (bitm_shards_find(&counts, BITM_POSITIONS, 1600, &place) || place.shard != 1 || place.within != 600 ||
- *         bitm_shards_find(&counts, BITM_ONES, 831, &place) != BITM_NONE) return 1; */
+ *     struct bitm_shard_location location;
+ *     if (bitm_shards_find(&counts, BITM_POSITIONS, 1600, &location) ||
+ *         location.shard != 1 || location.within != 600 ||
+ *         bitm_shards_find(&counts, BITM_ONES, 831, &location) != BITM_NONE) return 1; */
 BITM_MUST_USE uint32_t bitm_shards_find(const struct bitm_prefixes *counts, uint32_t kind, uint64_t number,
-                                        struct bitm_shard_place *out);
+                                        struct bitm_shard_location *out);
 
 /* bitm_index_rank and bitm_index_select of the joined bits: one search among the counts, and one query of a shard.
  * BITM_NONE exactly if position is above the number of all bits that the counts claim, or rank is not below the number
@@ -1741,11 +1743,11 @@ BITM_MUST_USE uint32_t bitm_tree_child_list(const struct bitm_tree *tree, const 
 
 /* ---- tries: sets of words, each in one block of memory
  *
- * A trie is a tree in which each node but the root has a label, and the labels of the children of a node rise. A word,
- * a list of labels, leads from the root to at most one node. Labels are numbers of `width` bits each, 1 to 63: bytes,
- * say. Ends are a bit for each node, lowest bit first, which says whether a word ends there; a trie may have none. A
- * node takes about 2.6 bits, its label and its end. labels[0] is the label of node 1, since the root has none. The
- * calls of a tree take trie.tree: parents, children by their number, degrees.
+ * A trie is a tree in which each node but the root has a label, and the labels of the children of a node ascend. A
+ * word, a list of labels, leads from the root to at most one node. Labels are numbers of `width` bits each, 1 to 63:
+ * bytes, say. Ends are a bit for each node, lowest bit first, which says whether a word ends there; a trie may have
+ * none. A node takes about 2.6 bits, its label and its end. labels[0] is the label of node 1, since the root has none.
+ * The calls of a tree take trie.tree: parents, children by their number, degrees.
  *
  *     const uint64_t degrees[4] = {2, 0, 1, 0}, labels[3] = {'a', 'b', 'e'}, ends[1] = {14}; // a, b and be
  *     uint64_t block[88], size, node;                                                        // or a mapped file
@@ -1803,8 +1805,8 @@ BITM_MUST_USE uint32_t bitm_trie_size(size_t nodes, uint32_t width, bool has_end
  * copied as they are. BITM_BAD_SIZE if bitm_trie_size does not take degrees_len and width, labels_len is not
  * degrees_len - 1 (0 if there are no degrees), ends_len is neither of these, or block_len is not what bitm_trie_size
  * says; else BITM_WRONG if the degrees form no tree (bitm_tree_build), a label has more than `width` bits, or the
- * labels of the children of a node do not rise. Allocates nothing, and needs no other memory. Three passes over degrees
- * and labels, four over the block, and a selection for each hint (evident from the code).
+ * labels of the children of a node do not ascend. Allocates nothing, and needs no other memory. Three passes over
+ * degrees and labels, four over the block, and a selection for each hint (evident from the code).
  *
  *     const uint64_t degrees[4] = {2, 0, 1, 0}, labels[3] = {'a', 'b', 'e'}, falling[3] = {'b', 'a', 'e'};
  *     const uint64_t ends[1] = {14}; // nodes 1, 2 and 3: a, b and be
@@ -1817,11 +1819,11 @@ BITM_MUST_USE uint32_t bitm_trie_build(const uint64_t *degrees, size_t degrees_l
 
 /* How many nodes the trie of sorted words has, whose labels are bytes: the root, and one for each byte of a word after
  * the bytes in which it begins like the word before it. The words stand one after another in bytes: starts says where
- * each begins, and at last where the last one ends. They rise by their bytes, as in a dictionary: a word stands before
- * a longer one that begins with it, and no word stands twice; the empty word may be one. BITM_BAD_SIZE exactly if there
- * are no starts, one is less than the one before it, or the last one is more than bytes_len; else BITM_UNSORTED exactly
- * if a word does not stand after the one before it. Three passes over the starts, and two over the bytes (evident from
- * the code).
+ * each begins, and at last where the last one ends. They ascend by their bytes, as in a dictionary: a word stands
+ * before a longer one that begins with it, and no word stands twice; the empty word may be one. BITM_BAD_SIZE exactly
+ * if there are no starts, one is less than the one before it, or the last one is more than bytes_len; else
+ * BITM_UNSORTED exactly if a word does not stand after the one before it. Three passes over the starts, and two over
+ * the bytes (evident from the code).
  *
  *     const uint8_t *const bytes = (const uint8_t *)"aabeb";
  *     const uint64_t starts[4] = {0, 1, 4, 5}; // a, abe and b
@@ -1844,7 +1846,7 @@ BITM_MUST_USE uint32_t bitm_trie_unsorted_word(const uint8_t *bytes, size_t byte
 /* Writes the block of the trie of sorted words, which are given as to bitm_trie_nodes_of_words, with labels of 8 bits
  * and ends: bitm_trie_find_bytes of a word finds a node, and bitm_trie_is_end says that a word ends there, exactly if
  * it is one of them. Let n be the number of nodes: as bitm_trie_nodes_of_words counts them, also where words do not
- * rise. BITM_BAD_SIZE if bitm_trie_nodes_of_words returns it, if scratch_len is not 3 n - 2 + ceil(n / 64), or if
+ * ascend. BITM_BAD_SIZE if bitm_trie_nodes_of_words returns it, if scratch_len is not 3 n - 2 + ceil(n / 64), or if
  * bitm_trie_size(n, 8, true, ..) does not give block_len; else BITM_UNSORTED if a word does not stand after the one
  * before it. Scratch is overwritten, whatever the status. Allocates nothing. Five passes over the starts, four over the
  * bytes, and the passes of bitm_trie_build (evident from the code).
@@ -1864,8 +1866,8 @@ BITM_MUST_USE uint32_t bitm_trie_build_words(const uint8_t *bytes, size_t bytes_
  *
  * bitm_trie_check says whether a block is as it was written and holds a trie: BITM_OK, or BITM_WRONG as above, if a
  * checksum does not match its words, if words, tables and hints form no tree, or if the labels of the children of a
- * node do not rise. So a block in which one word was changed is refused. Four passes over the words of the block, and a
- * selection by the tables for each hint (evident from the code).
+ * node do not ascend. So a block in which one word was changed is refused. Four passes over the words of the block, and
+ * a selection by the tables for each hint (evident from the code).
  *
  *     const uint64_t degrees[4] = {2, 0, 1, 0}, labels[3] = {'a', 'b', 'e'}, ends[1] = {14}; // a, b and be
  *     uint64_t block[88]; // bitm_trie_size(4, 8, true, ..) says 88
@@ -1903,9 +1905,9 @@ BITM_MUST_USE uint32_t bitm_trie_is_end(const struct bitm_trie *trie, size_t nod
  *         bitm_trie_child(&trie, 0, 'e', &node) != BITM_NONE) return 1; */
 BITM_MUST_USE uint32_t bitm_trie_child(const struct bitm_trie *trie, size_t node, uint64_t label, uint64_t *out);
 
-/* The node to which a word leads from the root, label by label: the root for an empty one. Whether a word of the set
- * ends there, bitm_trie_is_end says. A call over bytes takes each byte as a label. BITM_NONE exactly if the word leads
- * to no node. Each reads for each label of the word at most what bitm_trie_child reads.
+/* The node to which a word leads from the root, label by label: the root for an empty one. bitm_trie_is_end says
+ * whether a word of the set ends there. A call over bytes takes each byte as a label. BITM_NONE exactly if the word
+ * leads to no node. Each reads for each label of the word at most what bitm_trie_child reads.
  *
  *     const uint64_t degrees[4] = {2, 0, 1, 0}, labels[3] = {'a', 'b', 'e'}, ends[1] = {14}, be[2] = {'b', 'e'};
  *     uint64_t block[88], node; // bitm_trie_size(4, 8, true, ..) says 88
@@ -2188,12 +2190,12 @@ BITM_MUST_USE uint32_t bitm_matrix_next_value(const struct bitm_matrix *matrix, 
 BITM_MUST_USE uint32_t bitm_matrix_previous_value(const struct bitm_matrix *matrix, size_t start, size_t end,
                                                   uint64_t bound, uint64_t *out);
 
-/* The distinct numbers of a range that are at least `from`, rising, each in numbers and how often the range has it in
- * counts, until these are full or there are no more; *written is how many these are. So go on at the last number and 1.
- * BITM_NONE exactly if there is no such range; BITM_BAD_SIZE also if counts_len is not numbers_len. Whatever the block
- * holds, the numbers rise from `from` on, a count is at least 1 and at most end - start, and the items after them stay
- * as they were; only where BITM_WRONG is returned, items may have been written. Reads what bitm_matrix_count_less
- * reads, and the same for each number that is written (evident from the code).
+/* The distinct numbers of a range that are at least `from`, ascending, each in numbers and how often the range has it
+ * in counts, until these are full or there are no more; *written is how many these are. Go on at the last number plus
+ * 1. BITM_NONE exactly if there is no such range; BITM_BAD_SIZE also if counts_len is not numbers_len. Whatever the
+ * block holds, the numbers ascend from `from` on, a count is at least 1 and at most end - start, and the items after
+ * them stay as they were; only where BITM_WRONG is returned, items may have been written. Reads what
+ * bitm_matrix_count_less reads, and the same for each number that is written (evident from the code).
  *
  *     const uint64_t list[6] = {3, 1, 4, 1, 5, 1};
  *     uint64_t room[12], block[80], kinds[4], times[4], written; // bitm_matrix_size says 80
@@ -2206,7 +2208,7 @@ BITM_MUST_USE uint32_t bitm_matrix_distinct(const struct bitm_matrix *matrix, si
                                             uint64_t *written);
 
 /* The most frequent numbers of a range: the most frequent first, and of equally frequent ones the least, until numbers
- * is full or there are no more; *written is how many these are. Statuses and what is promised of any block as
+ * is full or there are no more; *written is how many these are. Statuses and promises over any block are as of
  * bitm_matrix_distinct, but for the order. For each distinct number of the range, and at most for each of its numbers
  * whatever the block holds, reads what bitm_matrix_count_less reads. The numbers are kept in a heap: with room for k of
  * them each takes at most log2(k) steps, and at most 2 * log2(k) to be sorted in the end (evident from the code).
@@ -2220,11 +2222,11 @@ BITM_MUST_USE uint32_t bitm_matrix_distinct(const struct bitm_matrix *matrix, si
 BITM_MUST_USE uint32_t bitm_matrix_top(const struct bitm_matrix *matrix, size_t start, size_t end, uint64_t *numbers,
                                        size_t numbers_len, uint64_t *counts, size_t counts_len, uint64_t *written);
 
-/* The numbers that are in both ranges and at least `from`, each once, rising, until numbers is full or there are no
- * more; *written is how many these are. So go on at the last number and 1. BITM_NONE exactly if there is no such range.
- * Whatever the block holds, the numbers rise from `from` on, and the items after them stay as they were; only where
+/* The numbers that are in both ranges and at least `from`, each once, ascending, until numbers is full or there are no
+ * more; *written is how many these are. Go on at the last number plus 1. BITM_NONE exactly if there is no such range.
+ * Whatever the block holds, the numbers ascend from `from` on, and the items after them stay as they were; only where
  * BITM_WRONG is returned, items may have been written. Makes at most first_end - first_start queries as
- * bitm_matrix_next_value of either range, whatever the block holds (evident from the code): so give the shorter range
+ * bitm_matrix_next_value of either range, whatever the block holds (evident from the code), so pass the shorter range
  * first.
  *
  *     const uint64_t list[6] = {3, 1, 4, 1, 5, 1};
@@ -2414,7 +2416,7 @@ BITM_MUST_USE uint32_t bitm_block_check(const uint64_t *block, size_t block_len)
  *
  * Where only m of n bits are 1 bits, the positions of the 1 bits are kept, as a monotone sequence (Okanohara and
  * Sadakane, ALENEX 2007): about 2.6 + log2(n / m) bits for each 1 bit, however many 0 bits there are. The queries and
- * their answers are the same as of an index; bitm_index_ calls are faster, and take space for each bit.
+ * their answers are the same as from an index; bitm_index_ calls are faster, and take space for each bit.
  *
  *     const uint64_t ones[4] = {3, 100, 101, 4000};
  *     uint64_t block[80], size, rank; // or a mapped file
@@ -2580,7 +2582,7 @@ struct bitm_dictionary {
     struct bitm_hash hash; /* of the sums of each key and the seed */
     const uint64_t *keys;  /* in the order of their numbers: hash.keys of them */
     size_t keys_len;
-    uint64_t seed;         /* what is added to each key */
+    uint64_t seed;         /* is added to each key */
     uint64_t reserved[2];  /* 0: not read */
 };
 
@@ -2708,7 +2710,7 @@ BITM_MUST_USE uint32_t bitm_hash_block_check(const uint64_t *block, size_t block
 BITM_MUST_USE uint32_t bitm_hash_block_size_seeded(size_t words, size_t levels, uint64_t *out);
 
 /* Writes the block of the hash whose levels have these words, seeds and sizes, as bitm_hash_build_seeded writes them.
- * BITM_BAD_SIZE also if seeds_len is not words_len. All else is as of bitm_hash_block_build.
+ * BITM_BAD_SIZE also if seeds_len is not words_len. All else is as bitm_hash_block_build says.
  *
  *     const uint64_t words[1] = {0x8000840000000000}, sizes[1] = {1}; // by bitm_hash_build_seeded of three hashes
  *     const uint8_t seeds[1] = {0};
@@ -2765,10 +2767,10 @@ BITM_MUST_USE uint32_t bitm_hash_block_check_seeded(const uint64_t *block, size_
 /* ---- strings: in one block of memory
  *
  * A dictionary of strings of bytes is the block of a minimal perfect hash of their hashes, and the strings themselves,
- * one after another in the order of their numbers: so a string that is none of these has no number. The hash of a
- * string is SipHash-1-3 with a seed of 64 bits as its key, so that whether two strings have one hash depends on the
- * whole seed. Who knows the seed can search for such strings: where others choose the strings, draw the seed at random
- * and keep it to yourself. Strings are passed one after another, with where each of them ends:
+ * one after another in the order of their numbers: so any other string has no number. The hash of a string is
+ * SipHash-1-3 with a seed of 64 bits as its key, so that whether two strings have one hash depends on the whole seed.
+ * Anyone who knows the seed can search for strings with one hash: where others choose the strings, draw the seed at
+ * random and keep it to yourself. Strings are passed one after another, with where each of them ends:
  *
  *     const uint8_t *const bytes = (const uint8_t *)"adabobeve";
  *     const uint64_t ends[3] = {3, 6, 9}, seed = 7; // take another seed if hashes are left or build refuses
@@ -2970,13 +2972,13 @@ BITM_MUST_USE uint32_t bitm_strings_get(const struct bitm_strings *strings, size
  *     bitm_text_check passes it, and it did not change afterwards, the answers agree with one text, and no query
  *     returns BITM_WRONG. Hints of its matrices do not matter. */
 struct bitm_text {
-    struct bitm_matrix letters; /* the letters of the text, in another order */
-    struct bitm_matrix marks;   /* which of their places are sampled */
-    const uint64_t *starts;     /* where the suffixes that begin with each letter start, in their order */
+    struct bitm_matrix letters; /* the letter before each suffix, row by row: rows are the suffixes in their order */
+    struct bitm_matrix marks;   /* for each row, whether its position is sampled */
+    const uint64_t *starts;     /* for each letter the row of the first suffix that begins with it */
     size_t starts_len;
-    const uint64_t *samples; /* positions, and places in that order */
+    const uint64_t *samples; /* positions, and the rows of positions */
     size_t samples_len;
-    size_t first;         /* where the whole text stands in that order */
+    size_t first;         /* the row of the whole text */
     uint64_t step;        /* a position is sampled each step letters */
     const uint64_t *used; /* which bytes letters stand for, 256 bits; no words where letters are numbers */
     size_t used_len;

@@ -19,7 +19,7 @@ struct bitm_hash { struct bitm_index index; const uint64_t *sizes; size_t sizes_
 struct bitm_span { uint64_t at; uint64_t len; };
 struct bitm_stored { uint64_t mark; uint64_t kind; uint64_t len; uint64_t width; uint64_t size; uint64_t ones_log2; uint64_t zeros_log2; struct bitm_span words; struct bitm_span upper; struct bitm_span lower; struct bitm_span low; struct bitm_span starts; struct bitm_span starts0; struct bitm_span samples; struct bitm_span samples0; uint64_t checksum; };
 struct bitm_prefixes { const uint64_t *bits; size_t bits_len; const uint64_t *ones; size_t ones_len; };
-struct bitm_shard_place { size_t shard; uint64_t within; };
+struct bitm_shard_location { size_t shard; uint64_t within; };
 struct bitm_shards { struct bitm_prefixes counts; const struct bitm_index *shards; size_t shards_len; uint64_t reserved[2]; };
 uint32_t bitm_version(void);
 size_t bitm_bits_words_len(uint64_t bits_len);
@@ -97,7 +97,7 @@ uint32_t bitm_stored_sequence(uint64_t len, const struct bitm_sequence_lens *len
 uint32_t bitm_stored_read(const uint64_t *file, size_t file_len, struct bitm_stored *out);
 uint32_t bitm_prefix_sums(const uint64_t *numbers, size_t numbers_len, uint64_t *out, size_t out_len);
 uint32_t bitm_prefix_sums_check(const uint64_t *numbers, size_t numbers_len, const uint64_t *sums, size_t sums_len);
-uint32_t bitm_shards_find(const struct bitm_prefixes *counts, uint32_t kind, uint64_t number, struct bitm_shard_place *out);
+uint32_t bitm_shards_find(const struct bitm_prefixes *counts, uint32_t kind, uint64_t number, struct bitm_shard_location *out);
 uint32_t bitm_shards_rank(const struct bitm_shards *shards, bool one, uint64_t position, uint64_t *out);
 uint32_t bitm_shards_select(const struct bitm_shards *shards, bool one, uint64_t rank, uint64_t *out);
 uint32_t bitm_shards_next(const struct bitm_shards *shards, bool one, uint64_t from, uint64_t *out);

@@ -152,7 +152,7 @@ static void hash_that_overlaps(void)
     MUST(status == BITM_BAD_SIZE || (status == BITM_OK && left <= n && levels <= sizes && used <= room));
 }
 
-/* The lists of counters and of sorted numbers are one in some turns: each place that is read back is a number then. */
+/* The lists of counters and of sorted numbers are one in some turns: each index that is read back is a number then. */
 static void seeded_hash_that_overlaps(void)
 {
     const size_t n = draw() % 40, room = 1 + draw() % 60, sizes = draw() % 20;

@@ -205,7 +205,7 @@ static void lengths(void)
     MUST(bitm_cursors_union(NULL, 0, 0, out, 2, &one) == BITM_OK && one == 0);
 }
 
-/* A wrong length at each place, where no call of its cursor is needed: no room, or a list before it that has ended. */
+/* A wrong length at each index, where no call of its cursor is needed: no room, or a list before it that has ended. */
 static void length_at_each_place(void)
 {
     for (size_t at = 0; at < 3; at++) {
@@ -232,7 +232,7 @@ static struct bitm_cursor up_to_3(void)
     return (struct bitm_cursor){.sequence = sequence, .index = 0, .position = 64, .number = 3};
 }
 
-/* Such a cursor at each place among two over 1 to 9: a merge is BITM_OK as long as no cursor that it moves is wrong. */
+/* Such a cursor at each index among two over 1 to 9: a merge is BITM_OK as long as no cursor that it moves is wrong. */
 static void wrong_at_each_place(void)
 {
     for (size_t turn = 0; turn < 24; turn++) {

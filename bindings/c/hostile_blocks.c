@@ -122,12 +122,12 @@ static bool sparse_opens(const uint64_t *block, size_t words)
 static void sparse_queried(uint64_t at, uint64_t other)
 {
     const bool one = other & 1;
-    const uint64_t place = other % (sparse.bits_len + 2);
-    QUERY(place < sparse.bits_len && out <= 1, bitm_sparse_get, &sparse, place);
-    QUERY(place <= sparse.bits_len && out <= place, bitm_sparse_rank, &sparse, one, place);
+    const uint64_t position = other % (sparse.bits_len + 2);
+    QUERY(position < sparse.bits_len && out <= 1, bitm_sparse_get, &sparse, position);
+    QUERY(position <= sparse.bits_len && out <= position, bitm_sparse_rank, &sparse, one, position);
     QUERY(out < sparse.bits_len, bitm_sparse_select, &sparse, one, at);
-    QUERY(place <= out && out < sparse.bits_len, bitm_sparse_next, &sparse, one, place);
-    QUERY(out <= place && out < sparse.bits_len, bitm_sparse_previous, &sparse, one, place);
+    QUERY(position <= out && out < sparse.bits_len, bitm_sparse_next, &sparse, one, position);
+    QUERY(out <= position && out < sparse.bits_len, bitm_sparse_previous, &sparse, one, position);
 }
 
 /* ---- a tree */

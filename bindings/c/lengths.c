@@ -146,11 +146,11 @@ static void drawn_numbers(void)
 static void drawn_shards(void)
 {
     uint64_t out;
-    struct bitm_shard_place place;
+    struct bitm_shard_location location;
     struct bitm_index none[4] = {{0}, {0}, {0}, {0}};
     const size_t counts = draw() % 5;
     const struct bitm_prefixes both = {.bits = zeros, .bits_len = counts, .ones = zeros, .ones_len = near_to(counts)};
-    MUST(agrees(bitm_shards_find(&both, BITM_ONES, 0, &place), bitm_prefixes_fault(&both), " bits_len ones_len "));
+    MUST(agrees(bitm_shards_find(&both, BITM_ONES, 0, &location), bitm_prefixes_fault(&both), " bits_len ones_len "));
     const struct bitm_shards shards = {.counts = both, .shards = none, .shards_len = near_to(counts ? counts - 1 : 0)};
     MUST(agrees(bitm_shards_rank(&shards, true, 0, &out), bitm_shards_fault(&shards),
                 " bits_len ones_len shards_len "));

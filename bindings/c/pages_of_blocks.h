@@ -131,11 +131,11 @@ static void build_a_text(uint64_t *one)
 
 /* The index of a text that is one letter again and again, so that the order of its suffixes is known: the shorter ones
  * are first. The words of its letters take 32 pages, those of its marks 8, and the starts and the samples 16 and more.
- * A count ranks at two ends, at one place of each level: a page for each, where those of the marks would be 8 more; a
- * part is of one place, and positions also take a page or two of the marks. */
+ * A count ranks at two ends, at one position of each level: a page for each, where those of the marks would be
+ * 8 more; a part is of one position, and positions also take a page or two of the marks. */
 static void query_a_text(uint64_t *one)
 {
-    enum { WIDTH = 4, STEP = 8, STARTS = 1 << 13, COUNT = 2 * WIDTH, PART = COUNT + 2, PLACES = COUNT + 5 };
+    enum { WIDTH = 4, STEP = 8, STARTS = 1 << 13, COUNT = 2 * WIDTH, PART = COUNT + 2, POSITIONS = COUNT + 5 };
     const size_t len = WORDS / 2 - STEP, sampled = len / STEP + 1;
     uint64_t *numbers = placed(OF_LOW, 8 * (len + 1)), *scratch = placed(OF_OUT, 16 * (len + 1));
     struct bitm_text *text = placed(OF_STARTS, sizeof *text);
@@ -163,9 +163,9 @@ static void query_a_text(uint64_t *one)
         TOUCHES(COUNT, 1, 0, bitm_text_count(text, pattern, LIST, one));
         MUST(*one == len - LIST + 1);
         TOUCHES(COUNT, 1, 0, bitm_text_count_bytes(text, as_bytes, LIST, one));
-        TOUCHES(PLACES, 1, 0, bitm_text_locate(text, pattern, LIST, from, out, LIST, one));
+        TOUCHES(POSITIONS, 1, 0, bitm_text_locate(text, pattern, LIST, from, out, LIST, one));
         MUST(*one == LIST && out[0] == len - LIST - from);
-        TOUCHES(PLACES, 1, 0, bitm_text_locate_bytes(text, as_bytes, LIST, from, out, LIST, one));
+        TOUCHES(POSITIONS, 1, 0, bitm_text_locate_bytes(text, as_bytes, LIST, from, out, LIST, one));
         TOUCHES(PART, 1, 0, bitm_text_extract(text, from, out, LIST));
         TOUCHES(PART, 1, 0, bitm_text_extract_bytes(text, from, bytes, LIST));
     }

@@ -1,7 +1,7 @@
 /* The index of a text, built here, beside one scan of the text. Patterns of several lengths are drawn, half of them
- * from the text and half with another letter at one place. One scan for each length counts all patterns of that length,
- * as `grep -o` would if matches could overlap; the index has to count the same. Of a few patterns it has to answer all
- * positions: each has the pattern, and none comes twice.
+ * from the text and half with another letter at one position. One scan for each length counts all patterns of that
+ * length, as `grep -o` would if matches could overlap; the index has to count the same. Of a few patterns it has to
+ * answer all positions: each has the pattern, and none comes twice.
  *
  *     scanned PATTERNS file TEXT [BLOCK]   of a file; its block is that in the other file, of `bitm text build`
  *     scanned PATTERNS four N              of 2^N drawn letters a, c, g and t, with long repetitions
@@ -15,7 +15,7 @@
 #include <sys/stat.h>
 #include <unistd.h>
 
-enum { LOCATED = 2000, MOST_PLACES = 4096, FACTOR = 0x2F0B4C47, STEP = 32, MOST_CHECKED = 1 << 28 };
+enum { LOCATED = 2000, MOST_POSITIONS = 4096, FACTOR = 0x2F0B4C47, STEP = 32, MOST_CHECKED = 1 << 28 };
 
 struct mapped {
     const unsigned char *bytes;
@@ -112,19 +112,19 @@ static int compare(const void *one, const void *other)
 static void locate(struct mapped text, const struct bitm_text *index, const unsigned char *letters, size_t len,
                    uint64_t count)
 {
-    static uint64_t places[MOST_PLACES];
+    static uint64_t positions[MOST_POSITIONS];
     uint64_t done = 0, written = 0;
     do {
         const uint64_t room = count - done < 1000 ? count - done : 1000;
-        MUST(bitm_text_locate_bytes(index, letters, len, done, places + done, room, &written) == BITM_OK &&
+        MUST(bitm_text_locate_bytes(index, letters, len, done, positions + done, room, &written) == BITM_OK &&
              written == room);
         done += written;
     } while (done < count);
-    MUST(bitm_text_locate_bytes(index, letters, len, done, places, 0, &written) == BITM_OK && written == 0);
-    qsort(places, count, sizeof *places, compare);
+    MUST(bitm_text_locate_bytes(index, letters, len, done, positions, 0, &written) == BITM_OK && written == 0);
+    qsort(positions, count, sizeof *positions, compare);
     for (uint64_t i = 0; i < count; i++) {
-        MUST(places[i] <= text.len - len && memcmp(text.bytes + places[i], letters, len) == 0);
-        MUST(i == 0 || places[i - 1] < places[i]);
+        MUST(positions[i] <= text.len - len && memcmp(text.bytes + positions[i], letters, len) == 0);
+        MUST(i == 0 || positions[i - 1] < positions[i]);
     }
 }
 
@@ -212,7 +212,7 @@ int main(int argc, char **argv)
             const unsigned char *letters = of.letters + of.all[i].start;
             MUST(bitm_text_count_bytes(&index, letters, of.len, &out) == BITM_OK && out == of.all[i].count);
             asked++, found += out > 0;
-            if (out > 0 && out <= MOST_PLACES && i % (1 + of.count / (LOCATED / LENS)) == 0)
+            if (out > 0 && out <= MOST_POSITIONS && i % (1 + of.count / (LOCATED / LENS)) == 0)
                 locate(text, &index, letters, of.len, out), located++;
         }
         free(of.letters), free(of.all), free(of.slots);

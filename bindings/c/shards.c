@@ -35,11 +35,11 @@ static struct bitm_shards drawn(size_t count)
     return shards;
 }
 
-/* The place of a number of a kind, by going over the shards. */
-static void compare_place(const struct bitm_shards *shards, uint32_t kind, uint64_t number)
+/* The location of a number of a kind, by going over the shards. */
+static void compare_location(const struct bitm_shards *shards, uint32_t kind, uint64_t number)
 {
     uint64_t left = number;
-    struct bitm_shard_place at = {UNTOUCHED, UNTOUCHED};
+    struct bitm_shard_location at = {UNTOUCHED, UNTOUCHED};
     const uint32_t status = bitm_shards_find(&shards->counts, kind, number, &at);
     for (size_t k = 0; k < shards->shards_len; k++) {
         const uint64_t has = kind == BITM_POSITIONS ? bits_of[k] : kind == BITM_ONES ? ones_of[k] : bits_of[k] - ones_of[k];
@@ -106,11 +106,11 @@ static void compare_all(const struct bitm_shards *shards)
             MUST(bitm_shards_rank(shards, one, i, &got) == BITM_OK && got == count[one]);
             compare_near(shards, one, i);
         }
-        compare_place(shards, BITM_POSITIONS, i);
+        compare_location(shards, BITM_POSITIONS, i);
         if (i == joined_len) break;
         const int bit = joined[i];
         MUST(bitm_shards_select(shards, bit, count[bit], &got) == BITM_OK && got == i);
-        compare_place(shards, bit ? BITM_ONES : BITM_ZEROS, count[bit]++);
+        compare_location(shards, bit ? BITM_ONES : BITM_ZEROS, count[bit]++);
     }
     got = UNTOUCHED;
     for (int one = 0; one < 2; one++) {
@@ -118,7 +118,7 @@ static void compare_all(const struct bitm_shards *shards)
         MUST(bitm_shards_rank(shards, one, UINT64_MAX, &got) == BITM_NONE);
         MUST(bitm_shards_select(shards, one, count[one], &got) == BITM_NONE);
         MUST(bitm_shards_select(shards, one, UINT64_MAX, &got) == BITM_NONE);
-        compare_place(shards, one ? BITM_ONES : BITM_ZEROS, count[one]);
+        compare_location(shards, one ? BITM_ONES : BITM_ZEROS, count[one]);
         compare_near(shards, one, joined_len + 1);
         compare_near(shards, one, UINT64_MAX);
     }
@@ -141,7 +141,7 @@ static void wrong_list(const struct bitm_shards *shards, size_t out_len)
 static void wrong_lengths(struct bitm_shards shards)
 {
     uint64_t got = UNTOUCHED;
-    struct bitm_shard_place at = {UNTOUCHED, UNTOUCHED};
+    struct bitm_shard_location at = {UNTOUCHED, UNTOUCHED};
     MUST(bitm_shards_find(&shards.counts, 3, 0, &at) == BITM_BAD_SIZE);
     MUST(bitm_shards_find(&shards.counts, UINT32_MAX, 0, &at) == BITM_BAD_SIZE);
     shards.shards_len++;
@@ -192,10 +192,10 @@ static uint64_t claimed_before(uint32_t kind, size_t shard)
     return kind == BITM_ONES ? ones[shard] : bits[shard];
 }
 
-/* A place by counts that may hold anything: one where they claim the number to be, none, or that they are wrong. */
-static void spoilt_place(const struct bitm_shards *shards, uint32_t kind, uint64_t number)
+/* A location by counts that may hold anything: one where they claim the number to be, none, or that they are wrong. */
+static void spoilt_location(const struct bitm_shards *shards, uint32_t kind, uint64_t number)
 {
-    struct bitm_shard_place at = {UNTOUCHED, UNTOUCHED};
+    struct bitm_shard_location at = {UNTOUCHED, UNTOUCHED};
     const uint64_t all = claimed_before(kind, shards->shards_len), first = claimed_before(kind, 0);
     const uint32_t status = bitm_shards_find(&shards->counts, kind, number, &at);
     if (status == BITM_OK)
@@ -206,11 +206,11 @@ static void spoilt_place(const struct bitm_shards *shards, uint32_t kind, uint64
     MUST((status == BITM_NONE) == (all <= number) && (status != BITM_WRONG || number < first));
 }
 
-/* Counts that claim a bit before the first shard: its place and its queries are wrong, and nothing is written. */
+/* Counts that claim a bit before the first shard: its location and its queries are wrong, and nothing is written. */
 static void wrong_first(const struct bitm_shards *shards)
 {
     uint64_t got = UNTOUCHED;
-    struct bitm_shard_place at = {UNTOUCHED, UNTOUCHED};
+    struct bitm_shard_location at = {UNTOUCHED, UNTOUCHED};
     bits[0] = ones[0] = 1;
     if (bits[shards->shards_len] > 0 && shards->shards_len > 0)
         MUST(bitm_shards_find(&shards->counts, BITM_POSITIONS, 0, &at) == BITM_WRONG &&
@@ -246,7 +246,7 @@ static void spoilt(const struct bitm_shards *shards)
         MUST(previous == BITM_OK ? got <= number && got < claimed : previous == BITM_NONE || previous == BITM_WRONG);
         spoilt_lists(shards, one);
         for (uint32_t kind = BITM_ZEROS; kind <= BITM_POSITIONS; kind++)
-            spoilt_place(shards, kind, draw() % 2 ? number : draw() % 4);
+            spoilt_location(shards, kind, draw() % 2 ? number : draw() % 4);
         list[at] = was;
     }
 }

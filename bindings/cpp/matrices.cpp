@@ -119,15 +119,16 @@ template <class M> static void same(const M &m, const Words &plain)
     Words asked{0, 1, ~u64{}};
     for (u64 i = 0; i < std::min<u64>(n, 6); i++) asked.push_back(plain[draw() % n]), asked.push_back(asked.back() + 1);
     for (const u64 number : asked) {
-        Words places;
+        Words indexes;
         for (u64 i = 0; i < n; i++)
-            if (plain[i] == number) places.push_back(i);
-        MUST(m.count(number) == places.size() && m.contains(number) == !places.empty());
-        for (u64 rank = 0; rank < std::min<u64>(places.size(), 20); rank++)
-            MUST(m.select(number, rank) == places[rank]);
-        MUST(!m.select(number, places.size()) && !m.try_select(number, ~u64{}).value());
+            if (plain[i] == number) indexes.push_back(i);
+        MUST(m.count(number) == indexes.size() && m.contains(number) == !indexes.empty());
+        for (u64 rank = 0; rank < std::min<u64>(indexes.size(), 20); rank++)
+            MUST(m.select(number, rank) == indexes[rank]);
+        MUST(!m.select(number, indexes.size()) && !m.try_select(number, ~u64{}).value());
         const u64 a = draw() % (n + 1), b = a + draw() % (n - a + 1);
-        MUST(m.rank(number, a) == static_cast<u64>(std::lower_bound(places.begin(), places.end(), a) - places.begin()));
+        MUST(m.rank(number, a) ==
+             static_cast<u64>(std::lower_bound(indexes.begin(), indexes.end(), a) - indexes.begin()));
         range(m, plain, a, b, number), range(m, plain, 0, n, number), range(m, plain, a, a, number);
         lists_of_ranges(m, plain, a, b), lists_of_ranges(m, plain, 0, n);
     }

@@ -30,10 +30,10 @@ static void near(const bitm::sharded_index &all, const std::vector<bool> &joined
 // Lists of more than one part, with some past the end, beside counting.
 static void lists(const bitm::sharded_index &all, const std::vector<bool> &joined)
 {
-    std::vector<std::uint64_t> before[2], places[2], queries((std::size_t{1} << 17) + 5), out(queries.size());
+    std::vector<std::uint64_t> before[2], positions[2], queries((std::size_t{1} << 17) + 5), out(queries.size());
     for (std::size_t i = 0; i <= joined.size(); i++) {
-        for (const bool bit : {false, true}) before[bit].push_back(places[bit].size());
-        if (i < joined.size()) places[joined[i]].push_back(i);
+        for (const bool bit : {false, true}) before[bit].push_back(positions[bit].size());
+        if (i < joined.size()) positions[joined[i]].push_back(i);
     }
     for (std::size_t i = 0; i < queries.size(); i++) queries[i] = i * 7919 % (joined.size() + 3);
     for (const bool bit : {false, true}) {
@@ -45,7 +45,7 @@ static void lists(const bitm::sharded_index &all, const std::vector<bool> &joine
         bit ? all.rank(queries, out) : all.rank0(queries, out);
         MUST(wanted(before[bit]));
         bit ? all.select(queries, out) : all.select0(queries, out);
-        MUST(wanted(places[bit]));
+        MUST(wanted(positions[bit]));
     }
 }
 

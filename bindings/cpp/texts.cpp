@@ -11,7 +11,7 @@ using View = bitm::text_index_view;
 static const std::string verse = "she sells sea shells on the sea shore";
 
 // The positions at which a pattern stands in a text, in the order of the rest of the text from there on.
-static Words places(const std::string &text, const std::string &pattern)
+static Words positions(const std::string &text, const std::string &pattern)
 {
     Words found;
     for (std::size_t at = 0; at <= text.size(); at++)
@@ -20,22 +20,22 @@ static Words places(const std::string &text, const std::string &pattern)
     return found;
 }
 
-// The letters of a pattern in the index of a text: of bytes their places among those that the text uses.
+// The letters of a pattern in the index of a text: of bytes their indexes among those that the text uses.
 template <class T> static Words letters_of(const T &t, const std::string &text, const std::string &pattern)
 {
     const std::set<unsigned char> used(text.begin(), text.end());
     Words letters;
     for (const char it : pattern) {
         const auto byte = static_cast<unsigned char>(it);
-        const auto place = static_cast<u64>(std::distance(used.begin(), used.find(byte)));
-        letters.push_back(t.raw().used_len == 0 ? byte : used.count(byte) ? place : 256);
+        const auto index = static_cast<u64>(std::distance(used.begin(), used.find(byte)));
+        letters.push_back(t.raw().used_len == 0 ? byte : used.count(byte) ? index : 256);
     }
     return letters;
 }
 
 template <class T> static void one_pattern(const T &t, const std::string &text, const std::string &pattern)
 {
-    const Words wanted = places(text, pattern), letters = letters_of(t, text, pattern);
+    const Words wanted = positions(text, pattern), letters = letters_of(t, text, pattern);
     MUST(t.count(pattern) == wanted.size() && t.try_count(pattern).value() == wanted.size());
     MUST(t.count_letters(letters) == wanted.size() && t.try_count_letters(letters).value() == wanted.size());
     for (const u64 from : {u64{0}, u64{1}, u64{wanted.size()}, ~u64{}}) {

@@ -83,16 +83,16 @@ template <class Tree> static void same(const Tree &t, const Words &degrees)
     for (u64 node = 0; node < degrees.size(); node++) {
         const Words &children = plain.children[node];
         const auto siblings = node ? plain.children[plain.parents[node]] : Words();
-        const u64 place = node ? plain.ranks[node] : 0;
+        const u64 rank = node ? plain.ranks[node] : 0;
         MUST(t.parent(node) == (node ? maybe_position(plain.parents[node]) : std::nullopt));
         MUST(t.degree(node) == degrees[node] && t.is_leaf(node) == children.empty());
-        MUST(node ? t.child_rank(node).value() == place : !t.child_rank(node));
+        MUST(node ? t.child_rank(node).value() == rank : !t.child_rank(node));
         const bitm::node_range found = t.children(node);
         MUST(found.size() == children.size() &&
              std::equal(found.begin(), found.end(), children.begin(), children.end()));
         for (u64 k = 0; k < children.size() + 2; k++) MUST(t.child(node, k) == at(children, k));
-        MUST(t.next_sibling(node) == (node ? at(siblings, place + 1) : std::nullopt));
-        MUST(t.previous_sibling(node) == (place ? at(siblings, place - 1) : std::nullopt));
+        MUST(t.next_sibling(node) == (node ? at(siblings, rank + 1) : std::nullopt));
+        MUST(t.previous_sibling(node) == (rank ? at(siblings, rank - 1) : std::nullopt));
         without_throwing(t, node);
     }
     for (const u64 node : {u64{degrees.size()}, u64{1} << 63, ~u64{}}) nowhere(t, node), without_throwing(t, node);

@@ -84,7 +84,7 @@ def drawn_text(length):
 
 
 def test_program_over_10_mb(home, alone, within_a_minute):
-    """`bitm`, as the README lays it, counts each place of a pattern, those that overlap too."""
+    """`bitm`, as the README lays it, counts each position of a pattern, those that overlap too."""
     needs("make", "cc")
     readme, text = Pasted(home, alone), drawn_text(10_000_000)
     alone(readme.line("make install"), home / "vokhuliza")
@@ -92,8 +92,8 @@ def test_program_over_10_mb(home, alone, within_a_minute):
     bitm = home / ".local/bin/bitm"
     alone(f"{bitm} text build < book.txt > book.block", readme.work)
     for pattern in ("abc", "ss", text[5_000_000:5_000_030].decode().partition("\n")[0]):
-        places = len(re.findall(f"(?={re.escape(pattern)})".encode(), text))
-        assert alone(f"{bitm} text count '{pattern}' book.block", readme.work) == f"{places}\n"
+        count = len(re.findall(f"(?={re.escape(pattern)})".encode(), text))
+        assert alone(f"{bitm} text count '{pattern}' book.block", readme.work) == f"{count}\n"
 
 
 def test_cargo_by_git(home, alone):

@@ -180,14 +180,14 @@ def of_answers(listed, single):
             yield "too many", f"writes one of {it.name} too many", f"if (ok && {counted} < {it.len}) {it.at}[{counted}] ^= 1;"
 
 
-def of_places_outside(listed, single):
+def of_items_outside(listed, single):
     for it in single:
-        for place, side in (("1", "behind"), ("-1", "before")):
-            yield "writes outside", f"writes {side} {it.name}", f"if (ok) flip({it.name} + {place});"
+        for offset, side in (("1", "behind"), ("-1", "before")):
+            yield "writes outside", f"writes {side} {it.name}", f"if (ok) flip({it.name} + {offset});"
     for it in listed:
-        for place, side in ((it.len, "behind"), ("-1", "before")):
+        for offset, side in ((it.len, "behind"), ("-1", "before")):
             what, how = ("reads", "look") if it.is_const else ("writes", "flip")
-            yield f"{what} outside", f"{what} {side} {it.name}", f"if (ok && {it.len} > 0) {how}({it.at} + {place});"
+            yield f"{what} outside", f"{what} {side} {it.name}", f"if (ok && {it.len} > 0) {how}({it.at} + {offset});"
 
 
 def faults_of(call, statuses, parts):
@@ -203,13 +203,13 @@ def faults_of(call, statuses, parts):
         kept = [] if status in by_name(SPOILS).get(call.name, "") else listed
         yield from of_kept_outputs(STATUSES[status], kept, single)
     yield from of_answers(listed, single)
-    for place, side in zip(BESIDE.get(call.name, ()), ("before", "behind")):
-        at = f"({place}) / 64 {'-' if side == 'before' else '+'} 1"
-        if place:
+    for offset, side in zip(BESIDE.get(call.name, ()), ("before", "behind")):
+        at = f"({offset}) / 64 {'-' if side == 'before' else '+'} 1"
+        if offset:
             yield "too many", f"spoils the word {side}", f"if (ok && {at} < words_len) words[{at}] ^= 1;"
-    yield from of_places_outside(listed, single)
+    yield from of_items_outside(listed, single)
     if outside and call.name.endswith("_list"):
-        yield ("hostile answer", "a place outside for BITM_WRONG_TABLES",
+        yield ("hostile answer", "a position outside for BITM_WRONG_TABLES",
                f"for (size_t i = 0; ok && i < out_len; i++) if (out[i] == BITM_WRONG_TABLES) out[i] = {outside};")
     elif outside:
         yield "hostile answer", "an answer outside for BITM_WRONG", f"if (result == BITM_WRONG) *out = {outside}, result = BITM_OK;"

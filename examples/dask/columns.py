@@ -43,7 +43,7 @@ class Column:
     def __len__(self):
         return self.before[-1]
 
-    def place(self, item):
+    def location(self, item):
         """The shard of an item, and the item in it."""
         shard = self.before.last_at_most(item)
         return shard, item - self.before[shard]
@@ -61,7 +61,7 @@ class Column:
         return answers
 
     def items(self, client, queries):
-        shards = numpy.array([self.place(it)[0] for it in queries.tolist()])
+        shards = numpy.array([self.location(it)[0] for it in queries.tolist()])
         starts = numpy.array([self.before[it] for it in shards.tolist()])
         return self.grouped(client, shards, items_of, queries - starts)
 

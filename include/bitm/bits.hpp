@@ -26,7 +26,7 @@ template <class T> struct is_text
 } // namespace detail
 
 // Bits that it owns, in words aligned to 64 bytes. Moves are cheap and leave an empty one. Views, ranges and iterators
-// are valid until the size or the capacity changes, as those of a std::vector.
+// are valid until the size or the capacity changes, as in a std::vector.
 class BITM_OWNER bits : public detail::bits_calls<bits> {
 public:
     // The types of a container.
@@ -58,8 +58,8 @@ public:
         std::uint64_t at_;
     };
 
-    // None; `size` equal ones, where a size is neither a bool nor a fraction; those of a list or of iterators; a copy
-    // of a view, or of all bits of words.
+    // No bits; `size` equal bits, where a size is neither a bool nor a fraction; the bits of a list or of iterators; a
+    // copy of a view, or of all bits of words.
     bits() noexcept = default;
     explicit bits(std::uint64_t size, bool value = false) { resize(size, value); }
     template <class Other, std::enable_if_t<detail::no_size<Other>::value, int> = 0>
@@ -106,7 +106,7 @@ public:
         return of_positions(positions.begin(), positions.end(), size);
     }
 
-    // A copy has words of its own, and what was moved from is empty. An exchange. Nothing is assigned to a temporary.
+    // A copy has words of its own, and a moved-from value is empty. An exchange. Nothing is assigned to a temporary.
     bits(const bits &) = default;
     bits(bits &&) noexcept = default;
     bits &operator=(const bits &) & = default;
@@ -149,7 +149,7 @@ public:
         return bitm_set_bit_at(own_.data(), at, value), *this;
     }
     bits &reset(std::uint64_t at) & { return set(at, false); }
-    // Sets a bit: what it was before.
+    // Sets a bit, and returns its old value.
     bool test_set(std::uint64_t at, bool value = true)
     {
         const bool before = test(at);
@@ -391,7 +391,7 @@ private:
 };
 
 BITM_NAMESPACE_END
-// Equal bits have equal hashes, those of a view too.
+// Equal bits have equal hashes, in a view too.
 template <> struct std::hash<bitm::bits> {
     std::size_t operator()(const bitm::bits &of) const { return bitm::detail::hash_of(of.view()); }
 };

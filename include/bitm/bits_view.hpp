@@ -252,7 +252,7 @@ public:
     maybe_position previous_one(std::uint64_t from) const { return near(bitm_bits_previous, true, from); }
     maybe_position previous_zero(std::uint64_t from) const { return near(bitm_bits_previous, false, from); }
 
-    // Writes the positions of the 1 bits, or 0 bits, from a position on until `out` is full: how many were written.
+    // Writes the positions of the 1 bits, or 0 bits, from a position on until `out` is full; returns how many it wrote.
     std::size_t ones(std::uint64_t from, words_out out) const { return written(true, from, out); }
     std::size_t zeros(std::uint64_t from, words_out out) const { return written(false, from, out); }
     // Calls `each` with the position of each 1 bit, from a position on, in order: the fastest walk.

@@ -18,7 +18,7 @@ BITM_NAMESPACE_BEGIN
 
 namespace detail {
 
-// How many words a structure in a block has, by the first words of its header: 0 where they are not those of a block.
+// How many words a structure in a block has, by the first words of its header: 0 where these begin no block.
 constexpr std::size_t block_head = 3;
 constexpr std::uint64_t block_mark = 0x046261746D746962;     // "bitmtab" and the version
 constexpr std::uint64_t old_block_mark = 0x036261746D746962; // version 3, which is read but not written
@@ -47,8 +47,7 @@ private:
     words_in words_;
 };
 
-// A block with the structure in it: a copy copies the block, and what was moved from has that of nothing, which all
-// share.
+// A block with the structure in it. A copy copies the block; a moved-from value has the empty block, which all share.
 template <class Kind> class owned {
 public:
     owned() noexcept = default;
@@ -135,7 +134,7 @@ inline kind kind_of_version2(const std::uint64_t *file, std::size_t words, bitm_
     return header.kind == BITM_STORED_INDEX ? kind::index : kind::sequence;
 }
 
-// Why a file in which `found` stands is not one of the kind that is wanted: it is damaged where that is what it holds.
+// Why a file with the kind `found` is refused where `wanted` is expected: it is damaged where the two are equal.
 inline failure not_of(kind wanted, kind found) noexcept
 {
     if (found == wanted || found == kind::unknown) return {errc::wrong_file};
@@ -242,7 +241,7 @@ public:
     {
         return !(a == b);
     }
-    // What it is: the name of the owner, and how many items it has.
+    // As text: the name of the owner, and how many items it has.
     template <class Char, class Traits>
     friend std::basic_ostream<Char, Traits> &operator<<(std::basic_ostream<Char, Traits> &to, const block_calls &of)
     {

@@ -25,13 +25,13 @@ using maybe_position = std::optional<std::uint64_t>;
 
 // In lists of answers: there is no such position.
 inline constexpr std::uint64_t no_answer = BITM_NO_ANSWER;
-// In lists of answers: the tables are not those of the words.
+// In lists of answers: the tables do not match the words.
 inline constexpr std::uint64_t wrong_answer = BITM_WRONG_TABLES;
 
 // Whether the library that is linked is one for programs that were compiled with these headers.
 inline bool version_fits() noexcept { return bitm_version_fits(); }
 
-// A value, or the error because of which there is none. Converts to std::expected where there is one.
+// A value, or the error that prevented it. Converts to std::expected where there is one.
 template <class T> class [[nodiscard]] result {
 public:
     // A value; or an error.
@@ -83,8 +83,8 @@ namespace detail {
 {
     fail({errc::outside, at, of, which});
 }
-// The number of `len` bits from `begin` on, a fragment, or the bits from one position on and before another, of which
-// an argument is past the end.
+// The number of `len` bits from `begin` on, a fragment, or the bits from one position on and before another, where an
+// argument is past the end.
 [[noreturn]] BITM_COLD inline void outside_number(std::uint64_t begin, std::uint32_t len, std::uint64_t size)
 {
     if (len > 64) outside(len, 64, "the number of bits");

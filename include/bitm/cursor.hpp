@@ -133,10 +133,11 @@ template <class Call, class Each> void each_merged(Call call, span<cursor> lists
 
 } // namespace detail
 
-// Writes the numbers from a value on that stand in the sequence of each cursor, from the cursors on: rising, each once,
-// until `out` is full or there are no more: how many. If it is full, a call with one more than its last number goes on.
-// Each cursor moves at most once for each number of the first sequence, and once more, so the shortest is best first.
-// Fails where there is no cursor, where `out` overlaps cursors or parts, and where parts are noticed to be wrong.
+// Writes the numbers from a value on that stand in the sequence of each cursor, from the cursors on: ascending, each
+// once, until `out` is full or there are no more: how many. If it is full, a call with one more than its last number
+// goes on. Each cursor moves at most once for each number of the first sequence, and once more, so the shortest is best
+// first. Fails where there is no cursor, where `out` overlaps cursors or parts, and where parts are noticed to be
+// wrong.
 inline result<std::size_t> try_intersect(span<cursor> lists, std::uint64_t from, words_out out) noexcept
 {
     return detail::merged(bitm_cursors_intersect, lists, from, out);

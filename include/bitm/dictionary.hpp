@@ -63,8 +63,8 @@ public:
 // A dictionary whose block is in memory of the caller's, who keeps it: a mapped file, say.
 class BITM_POINTER dictionary_view : public detail::dictionary_calls<dictionary_view> {
 public:
-    // Of no keys; of the block that begins the words: fails where it is none of a dictionary, or not all of it.
-    // Of an owner take `view()`, of which compilers warn when it outlives its owner, and not `in(x.block())`.
+    // Of no keys; of the block that begins the words: fails where they begin with no whole block of a dictionary.
+    // For an owner, call `view()`, not `in(x.block())`: only then compilers warn if the view outlives its owner.
     dictionary_view() noexcept = default;
     static result<dictionary_view> try_in(detail::kept<const std::uint64_t> file BITM_LIFETIMEBOUND) noexcept
     {

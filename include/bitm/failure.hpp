@@ -86,14 +86,14 @@ BITM_NAMESPACE_BEGIN
 enum class errc : std::uint8_t {
     none = 0,
     bad_size = BITM_BAD_SIZE, // a size or a length is wrong
-    wrong = BITM_WRONG,       // the tables are not those of the words, the parts not those of a sequence
-    unsorted = BITM_UNSORTED, // a number is less than the one before it, or a position or a word does not rise
+    wrong = BITM_WRONG,       // the tables do not match the words, or the parts form no sequence
+    unsorted = BITM_UNSORTED, // a number is less than the one before it, or a position or a word does not ascend
     outside = 16,             // a position past the end
     wrong_file,               // not a file of this format, or not a whole one
     no_file,                  // the system does not open, read, map or write it
     equal_keys,               // two keys of a perfect hash have one hash
     overlap,                  // memory that is written overlaps what is read
-    no_tree,                  // the degrees are those of no tree
+    no_tree,                  // the degrees form no tree
     other_kind                // a right file of another kind
 };
 
@@ -159,8 +159,8 @@ struct failure {
     std::uint64_t at = 0;
     // How many items there are, or the other item; the size that `at` is past; the kind that was wanted.
     std::uint64_t of = 0;
-    // The argument or length that is wrong, what the items are called, or the name of the file in what load, map and
-    // save throw: in memory that stays; nullptr where nothing more is known.
+    // The wrong argument or length, the name of the items, or the name of the file in errors of load, map and save: in
+    // memory that stays; nullptr where nothing more is known.
     const char *which = nullptr;
     // The item at fault, where it is a number.
     std::uint64_t value = 0;
@@ -175,7 +175,7 @@ struct failure {
         switch (code) {
         case errc::none: return "bitm: no error";
         case errc::bad_size: return "bitm: a size or a length is wrong";
-        case errc::wrong: return "bitm: the tables are not those of the words";
+        case errc::wrong: return "bitm: the tables do not match the words";
         case errc::unsorted: return "bitm: a number is less than the one before it";
         case errc::outside: return "bitm: a position past the end";
         case errc::wrong_file: return "bitm: not a file of this format, or not a whole one";
@@ -238,7 +238,7 @@ inline std::string message(const failure &why)
 
 struct wrong_tables : std::runtime_error {
     // With the text of `errc::wrong`.
-    wrong_tables() : std::runtime_error("bitm: the tables are not those of the words") {}
+    wrong_tables() : std::runtime_error("bitm: the tables do not match the words") {}
 };
 struct wrong_file : std::runtime_error {
     using std::runtime_error::runtime_error;

@@ -34,8 +34,8 @@ enum class verify : bool { no, yes };
 
 namespace detail {
 
-// A path as the system takes it, of a std::string, a std::filesystem::path or a literal. A null pointer is an empty one,
-// of which there is no file.
+// A path as the system takes it, of a std::string, a std::filesystem::path or a literal. A null pointer is the empty
+// path, which names no file.
 class path_of {
 public:
     path_of(const char *path) noexcept : path_(path ? path : "") {}
@@ -171,8 +171,8 @@ inline result<bool> written(path_of path, const void *data, std::size_t bytes) n
     return true;
 }
 
-// The words of a stream from where it stands, as many as `needed` says of those that were read. Their header is not
-// checked before all is read, so memory grows with the bytes that arrive.
+// The words of a stream from where it stands: `needed` says by the words that were read how many there should be.
+// Their header is not checked before all is read, so memory grows with the bytes that arrive.
 template <class Char, class Traits, class Needed>
 result<block> streamed(std::basic_istream<Char, Traits> &from, Needed &&needed)
 {
@@ -214,8 +214,8 @@ template <class T> T of_file(result<T> made, const path_of &path)
 // Saving and loading of owners that are one block. `Self` has `check()`.
 template <class Self, class Kind> class stored_calls {
 public:
-    // The block, which is the file: of an owner of nothing too, but for trees and tries, which have none of no nodes.
-    // Of a file of version 2 that was mapped it is that file.
+    // The block, which is the file. An empty owner has one too, but not a tree or a trie without nodes. For a mapped
+    // file of version 2 it is that file.
     span<const unsigned char> bytes() const &noexcept BITM_LIFETIMEBOUND { return bytes_of(own_.words()); }
     void bytes() const && = delete;
 
@@ -273,7 +273,7 @@ public:
         return try_load(from, how).value();
     }
 
-    // An exchange. (A copy has a block of its own; what was moved from is empty.)
+    // An exchange. (A copy has a block of its own; a moved-from value is empty.)
     void swap(Self &other) noexcept { own_.swap(other.own_); }
     friend void swap(Self &a, Self &b) noexcept { a.swap(b); }
 

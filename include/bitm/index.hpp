@@ -10,7 +10,7 @@
 //     const bitm::rank_index_view v = mapped.view();             // of a temporary it does not compile
 //     std::cout << v.select0(1).value() << ' ' << answers[2] << '\n'; // 2 4
 //
-// Answers over tables that are not those of the words (of a wrong file) are safe: bitm.h says how. Where wrong tables
+// Answers over tables that do not match the words (of a wrong file) are safe: bitm.h says how. Where wrong tables
 // are noticed, the call fails by bitm::wrong_tables; the `try_` calls return a bitm::result instead.
 #ifndef BITM_INDEX_HPP
 #define BITM_INDEX_HPP
@@ -101,8 +101,8 @@ public:
     void select(words_in ranks, words_out out) const { list(bitm_index_select_list, true, ranks, out); }
     void select0(words_in ranks, words_out out) const { list(bitm_index_select_list, false, ranks, out); }
 
-    // Whether the block is as it was written, and its tables are those of the words; of an index that is not in a block
-    // (a view of a struct of C, a file of version 2), whether tables and samples are those of the words.
+    // Whether the block is as it was written, and its tables match the words; of an index that is not in a block
+    // (a view of a struct of C, a file of version 2), whether tables and samples match the words.
     bool check() const noexcept { return index_kind::check(self().own_.found()); }
 
     // Equal bits; tables and samples are not compared.
@@ -178,8 +178,8 @@ public:
     {
         if (const char *const fault = bitm_index_fault(&raw)) fail(detail::bad_size(fault));
     }
-    // The index in the words of a block, or of a file of version 2, that was mapped or read. Of an index of yours take
-    // `view()`, of which compilers warn when it outlives its owner, and not `in(x.block())`, of which they don't.
+    // The index in the words of a block, or of a file of version 2, that was mapped or read. For an index of yours,
+    // call `view()`, not `in(x.block())`: only then compilers warn if the view outlives its owner.
     static result<rank_index_view> try_in(detail::kept<const std::uint64_t> file BITM_LIFETIMEBOUND) noexcept
     {
         const auto found = detail::index_kind::in(file.data(), file.size());

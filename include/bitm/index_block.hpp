@@ -22,7 +22,7 @@ struct sampling {
 namespace detail {
 
 // The samples of a kind are a section of the block after its own three, and the next section has their log2, and how
-// many of them there are before each upper block, as words of which the bytes are counted.
+// many of them there are before each upper block, as words; its count is in bytes.
 struct samples_roles {
     std::uint64_t samples, starts;
 };
@@ -117,7 +117,7 @@ struct index_kind : stored_kind<index_kind, bitm_index, bitm_index_block_open> {
         const bitm_index &raw = old.raw();
         return index_block({raw.words, raw.words_len}, raw.bits_len, {raw.ones.log2, raw.zeros.log2});
     }
-    // Whether a block is as it was written; of an index that is in none, whether tables and samples are those of the
+    // Whether a block is as it was written; of an index that is in none, whether tables and samples match the
     // words.
     static bool check(const in_block<index_kind> &of) noexcept
     {

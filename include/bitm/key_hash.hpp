@@ -57,7 +57,7 @@ inline std::uint32_t open_keys(const std::uint64_t *block, std::size_t words, ke
     parts->prints = {prints.words + 1, prints.words_len - 1};
     parts->has_seeds = has_seeds;
     if (prints.count != 8 * std::uint64_t{prints.words_len} || parts->width > 64) return BITM_WRONG;
-    // no more keys than bits, so those of the fingerprints are far below 2^64
+    // no more keys than bits, so the bits of all fingerprints are far fewer than 2^64
     if (plain.index.words_len > std::size_t{1} << 50 || plain.keys > 64 * plain.index.words_len) return BITM_WRONG;
     return parts->prints.size() == bitm_bits_words_len(plain.keys * parts->width) ? BITM_OK : BITM_WRONG;
 }
@@ -108,7 +108,7 @@ public:
     bitm_seeded_hash raw() const &&noexcept { return parts().hash; }
     words_in block() const noexcept { return this->self().own_.words(); }
 
-    // The number of a key, below size(); none where it is that of no key, but for one in 2^bits() of them.
+    // The number of a key, below size(); none for what is no key, but for one in 2^bits() of these.
     template <class Key> maybe_position operator()(const Key &key) const { return try_number(key).value(); }
     template <class Key> result<maybe_position> try_number(const Key &key) const
     {
@@ -151,9 +151,9 @@ private:
 // A hash of keys whose block is in memory of the caller's, who keeps it: a mapped file, say.
 class BITM_POINTER key_hash_view : public detail::key_calls<key_hash_view> {
 public:
-    // Of no keys; of the block that begins the words: fails where it is none of a hash of keys, or not all of it. The
+    // Of no keys; of the block that begins the words: fails where they begin with no whole block of a hash of keys. The
     // block of a hash without the fingerprints of its keys is one of another kind (errc::other_kind).
-    // Of an owner take `view()`, of which compilers warn when it outlives its owner, and not `in(x.block())`.
+    // For an owner, call `view()`, not `in(x.block())`: only then compilers warn if the view outlives its owner.
     key_hash_view() noexcept = default;
     static result<key_hash_view> try_in(detail::kept<const std::uint64_t> file BITM_LIFETIMEBOUND) noexcept
     {
@@ -175,13 +175,12 @@ private:
 class BITM_OWNER key_hash : public detail::key_calls<key_hash>,
                             public detail::stored_calls<key_hash, detail::key_kind> {
 public:
-    // No keys; those of a container, of iterators that can be gone through again, or a list. A key is text (what
+    // No keys; the keys of a container, of iterators that can be gone through again, or of a list. A key is text (what
     // converts to std::string_view), bytes (a container of std::byte or unsigned char one after another) or a whole
     // number of at most 64 bits. Fails where two keys are equal or have one hash, with errc::equal_keys and the indices
-    // of the first two, and where the options are not as they have to be. Takes linear time. `progress` is called after
-    // each level, of which there are some ten, with how many keys have a number so far, and how many there are, the
-    // last time with all; with another seed it begins anew. What it throws ends the build. The keys have to stay as
-    // they are meanwhile.
+    // of the first two, and where an option is invalid. Takes linear time. `progress` is called after each level (there
+    // are some ten) with how many keys have a number so far, and how many there are, the last time with all; with
+    // another seed it begins anew. An exception from it ends the build. The keys must not change meanwhile.
     key_hash() noexcept = default;
     template <class Keys, class = detail::item_of<Keys>> explicit key_hash(const Keys &keys, key_options how = {})
         : key_hash(try_of(keys, how).value())

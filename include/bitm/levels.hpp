@@ -64,7 +64,7 @@ public:
     {
         if (hashes.size()) std::memcpy(own_.data(), hashes.data(), 8 * hashes.size());
     }
-    // The words of the first level, of which each other one has at most as many.
+    // The words of the first level: no other level has more.
     static std::size_t first_of(words_in hashes, const level_way &how) noexcept
     {
         return bitm_hash_level_len(hashes.size(), how.percent);
@@ -104,7 +104,7 @@ public:
                 {seeds_of(seeds_), seeds_.size() ? static_cast<std::size_t>(used_) : 0},
                 {sizes_.data(), static_cast<std::size_t>(levels_)}};
     }
-    // The first two of these hashes that are equal, of which the hashes without a number are some.
+    // The first two equal ones of these hashes: equal hashes have no number.
     failure equal_of(words_in hashes) noexcept
     {
         std::uint64_t *const first = own_.data(), *const last = first + left_;

@@ -161,7 +161,7 @@ public:
 
     // Lists of ranges, into memory of the caller's, apart from the block: each writes as many numbers as there is room
     // for, returns how many these are, and fails where a range is not inside. The distinct numbers that are at least
-    // `least`, rising, each with how often it is there: so go on at the last one and 1.
+    // `least`, ascending, each with how often it is there: so go on at the last one plus 1.
     std::size_t distinct(std::uint64_t from, std::uint64_t to, std::uint64_t least, words_out numbers,
                          words_out counts) const
     {
@@ -181,8 +181,8 @@ public:
              "there is not room for one count a number");
         return written;
     }
-    // The numbers of both ranges that are at least `least`, each once, rising. In no more turns than the first range
-    // has numbers: so give the shorter one first.
+    // The numbers of both ranges that are at least `least`, each once, ascending. Takes at most as many turns as the
+    // first range has numbers, so pass the shorter one first.
     std::size_t intersect(std::uint64_t from, std::uint64_t to, std::uint64_t other_from, std::uint64_t other_to,
                           std::uint64_t least, words_out numbers) const
     {
@@ -243,8 +243,8 @@ public:
     using const_iterator = matrix_iterator;
     using iterator = matrix_iterator;
 
-    // Of no numbers; of the block that begins the words: fails where it is none of a matrix, or not all of it.
-    // Of an owner take `view()`, of which compilers warn when it outlives its owner, and not `in(x.block())`.
+    // Of no numbers; of the block that begins the words: fails where they begin with no whole block of a matrix.
+    // For an owner, call `view()`, not `in(x.block())`: only then compilers warn if the view outlives its owner.
     wavelet_matrix_view() noexcept = default;
     static result<wavelet_matrix_view> try_in(detail::kept<const std::uint64_t> file BITM_LIFETIMEBOUND) noexcept
     {
@@ -278,8 +278,8 @@ public:
     using const_iterator = matrix_iterator;
     using iterator = matrix_iterator;
 
-    // No numbers; those of words, a list or iterators, of `width` bits at most, or 0 for as many as the largest one
-    // has: fails where one has more, with errc::bad_size, its index and item_fault::too_wide. With quarters the block
+    // No numbers; the numbers of words, a list or iterators, of `width` bits at most, or 0 for the width of the largest
+    // one: fails where one has more, with errc::bad_size, its index and item_fault::too_wide. With quarters the block
     // takes an eighth more, and most queries read fewer words; with hints it takes a quarter of the numbers' bits more,
     // and `select` reads fewer words (evident from the code).
     wavelet_matrix() noexcept = default;
@@ -313,7 +313,7 @@ public:
     }
 
     // The same matrix, built level by level: `progress` is called after each of its `width` levels with how many are
-    // done, and how many there are. What it throws ends the build.
+    // done, and how many there are. An exception from it ends the build.
     template <class Progress, detail::if_progress<Progress> = 0>
     wavelet_matrix(words_in numbers, std::uint32_t width, quarters kept, hints led, Progress &&progress)
         : wavelet_matrix(try_of(numbers, width, kept, led, progress).value())

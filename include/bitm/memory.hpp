@@ -28,7 +28,7 @@ public:
     using element_type = T;
     using value_type = std::remove_cv_t<T>;
 
-    // No items; those from an address on; those of a container, which has to stay as long as the span.
+    // No items; the items from an address on; the items of a container, which has to outlive the span.
     constexpr span() noexcept = default;
     constexpr span(T *data, std::size_t size) noexcept : data_(data), size_(size) {}
     template <class Held,
@@ -89,7 +89,7 @@ template <class Call, class... Before> void answer_list(Call call, words_in quer
     need_list(status, counts);
 }
 
-// The status of the items at a list of indices, of `of` items, of which the first `written` were written: fails at the
+// The status of a list of indices among `of` items, after the items of the first `written` were written: fails at the
 // next index as a call of that index alone does.
 inline void need_items(std::uint32_t status, words_in indices, std::uint64_t written, std::uint64_t of)
 {

@@ -77,8 +77,8 @@ struct hash_kind : block_kind<hash_kind, hash_parts, open_hash> {
         if (!all) return failure{errc::wrong};
         return all;
     }
-    // Whether a block is as it was written and holds a hash; of a file of version 2, whether the tables are those of
-    // the words, and there are as many 1 bits as keys.
+    // Whether a block is as it was written and holds a hash; of a file of version 2, whether the tables match
+    // the words, and there is a 1 bit for each key.
     static bool check(const in_block<hash_kind> &of) noexcept
     {
         if (is_block(of.words())) return checked(bitm_hash_block_check, of.words());
@@ -113,7 +113,7 @@ struct plain_calls {
 // The queries of a hash: `Self` has `raw()`, which is as the `Calls` of C take it.
 template <class Self, class Calls> class hash_queries {
 public:
-    // The number of a hash, below size(); none where it is that of no key (most others get some number).
+    // The number of a hash, below size(); none for some hashes of no key (most of these get some number).
     maybe_position operator()(std::uint64_t hash) const
     {
         std::uint64_t out = 0;
@@ -131,9 +131,9 @@ public:
 
     // Writes the `width` lowest bits of the fingerprint of each key at its number, as an array in words of the
     // caller's. By them `find` answers none for almost all that are no keys. A fingerprint is any number that you
-    // compute from a key beside its hash. Returns whether each hash has a number, for which there is room; the
-    // fingerprints of the others are written all the same. Fails where there is not one fingerprint for each hash, or
-    // `width` is above 64.
+    // compute from a key beside its hash. Returns whether each hash has a number, and its fingerprint room; the other
+    // fingerprints are written all the same. Fails where there is not one fingerprint for each hash, or `width` is
+    // above 64.
     bool set_prints(words_in hashes, words_in key_prints, words_out prints, unsigned width) const
     {
         need_apart(hashes, prints), need_apart(key_prints, prints);
@@ -142,8 +142,8 @@ public:
         if (status != BITM_WRONG) need(status, wrong_prints);
         return status == BITM_OK;
     }
-    // The number of a key, by its hash and its fingerprint; none where the fingerprint at that number is another, so a
-    // value that is no key has a number once in 2^width. Fails where there is no fingerprint at that number.
+    // The number of a key, by its hash and its fingerprint; none where the fingerprint at that number is another, so
+    // one in 2^width of the values that are no keys has a number. Fails where there is no fingerprint at that number.
     maybe_position find(words_in prints, unsigned width, std::uint64_t hash, std::uint64_t key_print) const
     {
         return try_find(prints, width, hash, key_print).value();
@@ -188,9 +188,9 @@ public:
     // Of no keys.
     perfect_hash() noexcept = default;
     // `percent` bits of a level for 100 keys: 100 takes least memory, 200 less time. Fails where two hashes are equal,
-    // with errc::equal_keys and the indices of the first two. `progress` is called after each level, of which there are
-    // some ten, with how many keys have a number so far, and how many there are, the last time with all; what it throws
-    // ends the build. The hashes have to stay as they are meanwhile.
+    // with errc::equal_keys and the indices of the first two. `progress` is called after each level (there are some
+    // ten) with how many keys have a number so far, and how many there are, the last time with all; an exception
+    // from it ends the build. The hashes must not change meanwhile.
     explicit perfect_hash(words_in hashes, unsigned percent = 100) : perfect_hash(try_of(hashes, percent).value()) {}
     template <class Progress, detail::if_progress<Progress> = 0>
     perfect_hash(words_in hashes, unsigned percent, Progress &&progress)
@@ -220,7 +220,7 @@ public:
     std::uint64_t size() const noexcept { return raw().keys; }
     bool empty() const noexcept { return size() == 0; }
     // Whether the block is as it was written and holds a hash; of a file of version 2 that was mapped, whether its
-    // tables are those of its words.
+    // tables match its words.
     bool check() const noexcept { return detail::hash_kind::check(own_.found()); }
     // The sizes of the levels; the block, or the file of version 2 that was mapped; and the hash as C takes it: a copy
     // of that struct points at what the hash does, and keeps it no longer. Deleted for temporaries.
@@ -237,7 +237,7 @@ public:
         return detail::same_words(a.own_.words(), b.own_.words());
     }
     friend bool operator!=(const perfect_hash &a, const perfect_hash &b) noexcept { return !(a == b); }
-    // What it is: `perfect_hash(keys=3)`.
+    // As text: `perfect_hash(keys=3)`.
     template <class Char, class Traits>
     friend std::basic_ostream<Char, Traits> &operator<<(std::basic_ostream<Char, Traits> &to, const perfect_hash &of)
     {

@@ -1,4 +1,4 @@
-// Sections of one's own in a block of any kind, after those of its kind: notes, samples and the like.
+// Sections of one's own in a block of any kind, after the sections of its kind: notes, samples and the like.
 //
 //     const bitm::tree of_four{2, 0, 1, 0};
 //     const std::uint64_t note[1] = {0x7365646f6e2034};                        // "4 nodes", seven bytes
@@ -68,7 +68,7 @@ inline std::size_t extended_size(words_in block, std::uint64_t role, std::uint64
 }
 
 // Writes to `to` a copy of the block with one section more, which has these words. Fails where a section of the block
-// is not as it was written, the words are not as many as the items take, or `to` is not as long as extended_size says.
+// is not as it was written, there are more or fewer words than the items take, or `to` is not of extended_size words.
 inline void extend(words_in block, std::uint64_t role, std::uint64_t count, words_in words, words_out to)
 {
     detail::need_apart(block, to), detail::need_apart(words, to);

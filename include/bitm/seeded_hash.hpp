@@ -9,7 +9,7 @@
 //     const bitm::seeded_hash_view same = bitm::seeded_hash_view::in(numbers.block());
 //     std::cout << (same(hash("one")) == numbers(hash("one"))) << '\n'; // 1
 //
-// No key is kept, so a value that is no key may get a number too, that of some key. The file of such a hash is its
+// No key is kept, so a value that is no key may get the number of some key. The file of such a hash is its
 // block, the same bytes from C, C++ and Rust. A block of a hash without seeds is refused.
 #ifndef BITM_SEEDED_HASH_HPP
 #define BITM_SEEDED_HASH_HPP
@@ -70,8 +70,8 @@ public:
 // A hash with seeds whose block is in memory of the caller's, who keeps it: a mapped file, say.
 class BITM_POINTER seeded_hash_view : public detail::seeded_calls<seeded_hash_view> {
 public:
-    // Of no keys; of the block that begins the words: fails where it is none of a hash with seeds, or not all of it.
-    // Of an owner take `view()`, of which compilers warn when it outlives its owner, and not `in(x.block())`.
+    // Of no keys; of the block that begins the words: fails where they begin with no whole block of a hash with seeds.
+    // For an owner, call `view()`, not `in(x.block())`: only then compilers warn if the view outlives its owner.
     seeded_hash_view() noexcept = default;
     static result<seeded_hash_view> try_in(detail::kept<const std::uint64_t> file BITM_LIFETIMEBOUND) noexcept
     {
@@ -100,7 +100,7 @@ public:
     // with errc::equal_keys and the indices of the first two. `percent` bits of a level for 100 keys: 100 takes least
     // memory, 200 less time. Of the first `tries` seeds, at most 256, each word gets the one by which most of its
     // hashes fall on a bit alone: more take less memory, and more time to build. The block keeps `seed`, which is
-    // yours. `progress` is called as that of a perfect_hash.
+    // yours. `progress` is called as for a perfect_hash.
     seeded_hash() noexcept = default;
     explicit seeded_hash(words_in hashes, unsigned percent = 100, unsigned tries = 64, std::uint64_t seed = 0)
         : seeded_hash(try_of(hashes, percent, tries, seed).value())

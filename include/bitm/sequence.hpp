@@ -22,7 +22,7 @@ public:
     using const_iterator = sequence_iterator;
     using iterator = sequence_iterator;
 
-    // No numbers; or those of words, a list or iterators: fails where one is less than the one before it.
+    // No numbers; or the numbers of words, a list or iterators: fails where one is less than the one before it.
     sequence() noexcept = default;
     explicit sequence(words_in numbers) : sequence(try_of(numbers).value()) {}
     sequence(std::initializer_list<std::uint64_t> numbers) : sequence(words_in(numbers.begin(), numbers.size())) {}

@@ -262,7 +262,7 @@ public:
     }
 
     // Whether the block is as it was written and holds a sequence: looks at all of it, three times. Of a sequence that
-    // is not in a block (a view of a struct of C, a file of version 2), whether its parts are those of some sequence.
+    // is not in a block (a view of a struct of C, a file of version 2), whether its parts form some sequence.
     bool check() const noexcept
     {
         return is_block(block()) ? checked(bitm_sequence_block_check, block()) : bitm_sequence_check(&raw()) == BITM_OK;
@@ -315,8 +315,8 @@ public:
     using iterator = sequence_iterator;
 
     // Of no numbers; of parts: fails where their lengths do not fit together; in the words of a block, or of a file of
-    // version 2, that was mapped or read. Of a sequence of yours take `view()`, of which compilers warn when it
-    // outlives its owner, and not `in(x.block())`, of which they don't.
+    // version 2, that was mapped or read. For a sequence of yours, call `view()`,
+    // not `in(x.block())`: only then compilers warn if the view outlives its owner.
     sequence_view() noexcept = default;
     explicit sequence_view(const bitm_sequence &raw) : own_(raw, {})
     {

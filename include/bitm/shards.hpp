@@ -13,8 +13,8 @@
 //     const bitm::sharded_index owner(std::move(shards));        // the indexes are its own
 //     std::cout << owner.count() << '\n';                        // 2
 //
-// Where the counts are those of the shards, and each shard's tables those of its words, the answers are those of
-// counting.
+// Where the counts match the shards, and each shard's tables match its words, the answers are those of counting in the
+// joined bits.
 #ifndef BITM_SHARDS_HPP
 #define BITM_SHARDS_HPP
 
@@ -27,15 +27,15 @@
 BITM_NAMESPACE_BEGIN
 
 // A shard, and a position in it or the rank of a bit there.
-using shard_place = bitm_shard_place;
+using shard_location = bitm_shard_location;
 
-// How many bits, and how many 1 bits, there are before each shard, and in all. What was moved from has no shards.
+// How many bits, and how many 1 bits, there are before each shard, and in all. A moved-from value has no shards.
 class BITM_OWNER prefix_counts {
 public:
     // Of no shards.
     prefix_counts() noexcept = default;
 
-    // Of the bits and the 1 bits of each shard: fails where these are not as many, or are 2^64 or more together.
+    // Of the bits and the 1 bits of each shard: fails where these lists differ in length, or a sum is 2^64 or more.
     prefix_counts(const std::vector<std::uint64_t> &bits_of_each, const std::vector<std::uint64_t> &ones_of_each)
         : bits_(sums(bits_of_each)), ones_(sums(ones_of_each))
     {
@@ -66,9 +66,9 @@ public:
     void ones_before() const && = delete;
 
     // The shard that holds a position, or the 1 bit, or 0 bit, with a rank; none where there is none.
-    std::optional<shard_place> find(std::uint64_t position) const { return placed(BITM_POSITIONS, position); }
-    std::optional<shard_place> find_one(std::uint64_t rank) const { return placed(BITM_ONES, rank); }
-    std::optional<shard_place> find_zero(std::uint64_t rank) const { return placed(BITM_ZEROS, rank); }
+    std::optional<shard_location> find(std::uint64_t position) const { return located(BITM_POSITIONS, position); }
+    std::optional<shard_location> find_one(std::uint64_t rank) const { return located(BITM_ONES, rank); }
+    std::optional<shard_location> find_zero(std::uint64_t rank) const { return located(BITM_ZEROS, rank); }
 
     // All of it as C takes it. Deleted for temporaries.
     bitm_prefixes raw() const &noexcept BITM_LIFETIMEBOUND
@@ -79,7 +79,7 @@ public:
     void raw() const && = delete;
 
 private:
-    // The sums: of no shards that of nothing.
+    // The sums; of no shards a single 0.
     static words_in all(const std::vector<std::uint64_t> &sums) noexcept
     {
         static constexpr std::uint64_t nothing[1] = {0};
@@ -92,9 +92,9 @@ private:
             fail({errc::bad_size});
         return made;
     }
-    std::optional<shard_place> placed(std::uint32_t kind, std::uint64_t number) const
+    std::optional<shard_location> located(std::uint32_t kind, std::uint64_t number) const
     {
-        shard_place out{};
+        shard_location out{};
         const bitm_prefixes counts = raw();
         switch (bitm_shards_find(&counts, kind, number, &out)) {
         case BITM_OK:
@@ -110,7 +110,7 @@ private:
 };
 
 // Indexes of one process, one after the other: views of indexes, which have to stay, or indexes that it owns. Copies
-// share these, and what was moved from has no shards.
+// share these, and a moved-from value has no shards.
 class sharded_index {
 public:
     // Of no shards. Of views, and of indexes: counts the 1 bits of each, and fails where the shards have 2^64 bits or
@@ -151,7 +151,7 @@ public:
     std::uint64_t rank(std::uint64_t position) const { return counted(true, position); }
     std::uint64_t rank0(std::uint64_t position) const { return counted(false, position); }
 
-    // What it is: `sharded_index(bits=300, ones=2, shards=2)`.
+    // As text: `sharded_index(bits=300, ones=2, shards=2)`.
     template <class Char, class Traits>
     friend std::basic_ostream<Char, Traits> &operator<<(std::basic_ostream<Char, Traits> &to, const sharded_index &of)
     {
@@ -161,20 +161,20 @@ public:
     }
 
     // The position, in the joined bits, of the 1 bit, or 0 bit, with a rank; none where there is none.
-    maybe_position select(std::uint64_t rank) const { return placed(bitm_shards_select, true, rank); }
-    maybe_position select0(std::uint64_t rank) const { return placed(bitm_shards_select, false, rank); }
+    maybe_position select(std::uint64_t rank) const { return located(bitm_shards_select, true, rank); }
+    maybe_position select0(std::uint64_t rank) const { return located(bitm_shards_select, false, rank); }
 
     // The position of the first 1 bit, or 0 bit, of the joined bits at or after a position; of the last one at or
     // before it, which may be past the end. None where there is none.
-    maybe_position next_one(std::uint64_t from) const { return placed(bitm_shards_next, true, from); }
-    maybe_position next_zero(std::uint64_t from) const { return placed(bitm_shards_next, false, from); }
-    maybe_position previous_one(std::uint64_t from) const { return placed(bitm_shards_previous, true, from); }
-    maybe_position previous_zero(std::uint64_t from) const { return placed(bitm_shards_previous, false, from); }
+    maybe_position next_one(std::uint64_t from) const { return located(bitm_shards_next, true, from); }
+    maybe_position next_zero(std::uint64_t from) const { return located(bitm_shards_next, false, from); }
+    maybe_position previous_one(std::uint64_t from) const { return located(bitm_shards_previous, true, from); }
+    maybe_position previous_zero(std::uint64_t from) const { return located(bitm_shards_previous, false, from); }
 
     // Lists, into memory of the caller's as long as the queries: out[i] answers queries[i], or is bitm::no_answer (also
     // for the rank of a position past the end). Queries are grouped by shard. Where tables are noticed to be wrong,
     // the call fails once all is answered, and those answers are bitm::wrong_answer. Takes memory for three
-    // numbers a query, of which there are 2^17 at a time, and one a shard.
+    // numbers a query, with at most 2^17 queries at a time, and one a shard.
     void rank(words_in positions, words_out out) const { list(bitm_shards_rank_list, true, positions, out); }
     void rank0(words_in positions, words_out out) const { list(bitm_shards_rank_list, false, positions, out); }
     void select(words_in ranks, words_out out) const { list(bitm_shards_select_list, true, ranks, out); }
@@ -217,7 +217,7 @@ private:
             fail({errc::wrong});
         }
     }
-    template <class Call> maybe_position placed(Call call, bool one, std::uint64_t number) const
+    template <class Call> maybe_position located(Call call, bool one, std::uint64_t number) const
     {
         std::uint64_t out = 0;
         const bitm_shards shards = raw();

@@ -127,8 +127,8 @@ private:
 // Sparse bits whose block is in memory of the caller's, who keeps it: a mapped file, say.
 class BITM_POINTER sparse_bits_view : public detail::sparse_calls<sparse_bits_view> {
 public:
-    // Of no bits; of the block that begins the words: fails where it is none of sparse bits, or not all of it.
-    // Of an owner take `view()`, of which compilers warn when it outlives its owner, and not `in(x.block())`.
+    // Of no bits; of the block that begins the words: fails where they begin with no whole block of sparse bits.
+    // For an owner, call `view()`, not `in(x.block())`: only then compilers warn if the view outlives its owner.
     sparse_bits_view() noexcept = default;
     static result<sparse_bits_view> try_in(detail::kept<const std::uint64_t> file BITM_LIFETIMEBOUND) noexcept
     {
@@ -156,7 +156,7 @@ private:
 class BITM_OWNER sparse_bits : public detail::sparse_calls<sparse_bits>,
                                public detail::stored_calls<sparse_bits, detail::sparse_kind> {
 public:
-    // No bits; `size` bits of which those at the positions are 1 bits, words or a list: fails where a position is not
+    // No bits; `size` bits with 1 bits at these positions, given as words or a list: fails where a position is not
     // above the one before it (errc::unsorted), or not below `size` (errc::outside), with its index.
     sparse_bits() noexcept = default;
     sparse_bits(words_in positions, std::uint64_t size) : sparse_bits(try_of(positions, size).value()) {}

@@ -5,8 +5,8 @@
 //     std::cout << names.contains("bob") << ' ' << names.contains("bo") << '\n'; // 1 0
 //     std::cout << (names[*names.find("eve")] == "eve") << '\n';             // 1
 //
-// It is a minimal perfect hash of the hashes of the strings, and the strings one after another: so what is none of them
-// has no number. The file of strings is their block, the same bytes from each language.
+// It is a minimal perfect hash of the hashes of the strings, and the strings one after another: so any other string has
+// no number. The file of strings is their block, the same bytes from each language.
 #ifndef BITM_STRINGS_HPP
 #define BITM_STRINGS_HPP
 
@@ -44,7 +44,7 @@ public:
     bitm_strings raw() const &&noexcept { return this->self().own_.raw(); }
     words_in block() const noexcept { return this->self().own_.words(); }
 
-    // The number of a string; none for what is none of the strings. And whether there is one.
+    // The number of a string; none for any other string. And whether there is one.
     maybe_position find(std::string_view string) const { return try_find(string).value(); }
     result<maybe_position> try_find(std::string_view string) const noexcept
     {
@@ -73,8 +73,8 @@ public:
 // Strings whose block is in memory of the caller's, who keeps it: a mapped file, say.
 class BITM_POINTER strings_view : public detail::strings_calls<strings_view> {
 public:
-    // Of none; of the block that begins the words: fails where it is none of strings, or not all of it.
-    // Of an owner take `view()`, of which compilers warn when it outlives its owner, and not `in(x.block())`.
+    // Of no strings; of the block that begins the words: fails where they begin with no whole block of strings.
+    // For an owner, call `view()`, not `in(x.block())`: only then compilers warn if the view outlives its owner.
     strings_view() noexcept = default;
     static result<strings_view> try_in(detail::kept<const std::uint64_t> file BITM_LIFETIMEBOUND) noexcept
     {
@@ -96,8 +96,8 @@ private:
 class BITM_OWNER strings : public detail::strings_calls<strings>,
                            public detail::stored_calls<strings, detail::strings_kind> {
 public:
-    // None; those of iterators, which are gone through once, or a list: fails where one comes twice, or, which another
-    // seed mends, two have one hash, with errc::equal_keys and the indices of the first two.
+    // No strings; the strings of iterators, which are gone through once, or of a list: fails where one comes twice, or
+    // two have one hash (try another seed), with errc::equal_keys and the indices of the first two.
     // `percent` bits of a level for 100 strings: 100 takes least memory, 200 less time.
     strings() noexcept = default;
     template <class It> strings(It first, It last, unsigned percent = 100, std::uint64_t seed = 0)

@@ -6,9 +6,9 @@
 //     std::cout << banana.count("ana") << ' ' << banana.locate("ana", where) << ' ' << where[0] << '\n'; // 2 2 3
 //     std::cout << banana.size() << ' ' << (banana.text(1, 3) == "ana") << '\n';                         // 6 1
 //
-// A pattern is counted in a time that does not depend on how long the text is; occurrences may overlap, and an empty
-// pattern stands at each position, the end too. The text itself is not needed. Letters are bytes, or numbers, of which
-// the calls that end in _letters take patterns; in the index of bytes a letter is the place of a byte among those used.
+// The time to count a pattern does not depend on how long the text is; occurrences may overlap, and an empty pattern
+// stands at each position, the end too. The text itself is not needed. Letters are bytes or numbers. Calls that end in
+// _letters take patterns of numbers: in an index of bytes a letter is the number of a byte among the bytes that occur.
 #ifndef BITM_TEXT_HPP
 #define BITM_TEXT_HPP
 
@@ -91,7 +91,7 @@ struct letters_in {
     failure unfit() const noexcept { return not_below(text, letters, errc::bad_size, "letter"); }
 };
 
-// The ways to build an index: at once, or in two steps after each of which `progress` is called.
+// The ways to build an index: at once, or in two steps, each followed by a call of `progress`.
 struct at_once {
     template <class Text>
     std::uint32_t operator()(const Text &text, std::uint32_t step, halves room, words_out to) const noexcept
@@ -160,8 +160,8 @@ public:
         return written;
     }
 
-    // `count` letters from a position on, as a string where they are bytes; into memory of the caller's, as many as it
-    // has room for. Fails where the text has fewer, and for a string where letters may have more than 8 bits.
+    // `count` letters from a position on, as a string where they are bytes; or as many as fit into the caller's memory.
+    // Fails where the text has fewer, and for a string where letters may have more than 8 bits.
     std::string text(std::uint64_t from, std::size_t count) const { return try_text(from, count).value(); }
     result<std::string> try_text(std::uint64_t from, std::size_t count) const
     {
@@ -202,8 +202,8 @@ public:
 // The index of a text whose block is in memory of the caller's, who keeps it: a mapped file, say.
 class BITM_POINTER text_index_view : public detail::text_calls<text_index_view> {
 public:
-    // Of no letters; of the block that begins the words: fails where it is none of a text, or not all of it.
-    // Of an owner take `view()`, of which compilers warn when it outlives its owner, and not `in(x.block())`.
+    // Of no letters; of the block that begins the words: fails where they begin with no whole block of a text.
+    // For an owner, call `view()`, not `in(x.block())`: only then compilers warn if the view outlives its owner.
     text_index_view() noexcept = default;
     static result<text_index_view> try_in(detail::kept<const std::uint64_t> file BITM_LIFETIMEBOUND) noexcept
     {
@@ -229,8 +229,8 @@ private:
 class BITM_OWNER text_index : public detail::text_calls<text_index>,
                               public detail::stored_calls<text_index, detail::text_kind> {
 public:
-    // Of no letters; of bytes; of numbers below `letters`, the size of the alphabet, of each of which a word is kept. A
-    // position is kept each `step` letters: the fewer, the less memory, and the longer it takes to find a position or a
+    // Of no letters; of bytes; of numbers below `letters`, the size of the alphabet: a word is kept for each letter. A
+    // position is kept each `step` letters: a larger step takes less memory, and more time to find a position or a
     // part. Takes linear time, and eight bytes for each letter while it works. Fails where the step is 0, the text has
     // 2^32 - 1 letters or more, or a number is not below `letters`: with its index and item_fault::not_below.
     text_index() noexcept = default;
@@ -249,7 +249,7 @@ public:
     }
 
     // The same index, built in two steps: `progress` is called with 1 and 2 once the text's suffixes are sorted, and
-    // with 2 and 2 at the end. What it throws ends the build. The text has to stay as it is meanwhile.
+    // with 2 and 2 at the end. An exception from it ends the build. The text must not change meanwhile.
     template <class Progress, detail::if_progress<Progress> = 0>
     text_index(std::string_view text, std::uint32_t step, Progress &&progress)
         : text_index(try_of(text, step, progress).value())

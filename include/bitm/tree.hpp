@@ -4,9 +4,9 @@
 //     std::cout << t.parent(3).value() << ' ' << t.degree(0).value() << ' ' << t.child(2, 0).value() << '\n'; // 2 2 3
 //     for (const std::uint64_t child : t.children(0)) std::cout << child << ' ';                              // 1 2
 //
-// Nodes are numbered level by level: the root is node 0, and the children of a node follow one another, after those of
-// the node before it. A tree takes about 2.6 bits a node. The file of a tree is its block, the same bytes from each
-// language.
+// Nodes are numbered level by level: the root is node 0, and the children of a node follow one another, after the
+// children of the node before it. A tree takes about 2.6 bits a node. The file of a tree is its block, the same bytes
+// from each language.
 #ifndef BITM_TREE_HPP
 #define BITM_TREE_HPP
 
@@ -184,8 +184,8 @@ public:
 // A tree whose block is in memory of the caller's, who keeps it: a mapped file, say.
 class BITM_POINTER tree_view : public detail::tree_calls<tree_view> {
 public:
-    // Of no nodes; of the block that begins the words: fails where it is none of a tree, or not all of it.
-    // Of an owner take `view()`, of which compilers warn when it outlives its owner, and not `in(x.block())`.
+    // Of no nodes; of the block that begins the words: fails where they begin with no whole block of a tree.
+    // For an owner, call `view()`, not `in(x.block())`: only then compilers warn if the view outlives its owner.
     tree_view() noexcept = default;
     static result<tree_view> try_in(detail::kept<const std::uint64_t> file BITM_LIFETIMEBOUND) noexcept
     {
@@ -206,7 +206,7 @@ private:
 // A tree that owns its block, made from how many children each node has.
 class BITM_OWNER tree : public detail::tree_calls<tree>, public detail::stored_calls<tree, detail::tree_kind> {
 public:
-    // Of no nodes; of the degrees of the nodes, as words, a list or iterators: fails where they are those of no tree.
+    // Of no nodes; of the degrees of the nodes, as words, a list or iterators: fails where they form no tree.
     tree() noexcept = default;
     explicit tree(words_in degrees) : tree(try_of(degrees).value()) {}
     tree(std::initializer_list<std::uint64_t> degrees) : tree(words_in(degrees.begin(), degrees.size())) {}

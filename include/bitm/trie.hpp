@@ -8,9 +8,9 @@
 //     const std::vector<std::uint64_t> children{2, 0, 1, 0}, letters{'a', 'b', 'e'}, ends{14};
 //     std::cout << (bitm::trie(children, letters, 8, ends) == words) << '\n';                       // 1
 //
-// A trie is a tree in which each node but the root has a label, and the labels of the children of a node rise; so a
-// word leads from the root to at most one node. Labels are bytes, or numbers of at most 63 bits, of which the calls
-// that end in _labels take words. A trie has the queries of a tree. Its file is its block, the same bytes from each
+// A trie is a tree in which each node but the root has a label, and the labels of the children of a node ascend; so a
+// word leads from the root to at most one node. Labels are bytes, or numbers of at most 63 bits; calls that end in
+// _labels take words of numbers. A trie has the queries of a tree. Its file is its block, the same bytes from each
 // language.
 #ifndef BITM_TRIE_HPP
 #define BITM_TRIE_HPP
@@ -168,8 +168,8 @@ private:
 // A trie whose block is in memory of the caller's, who keeps it: a mapped file, say.
 class BITM_POINTER trie_view : public detail::trie_calls<trie_view> {
 public:
-    // Of no nodes; of the block that begins the words: fails where it is none of a trie, or not all of it.
-    // Of an owner take `view()`, of which compilers warn when it outlives its owner, and not `in(x.block())`.
+    // Of no nodes; of the block that begins the words: fails where they begin with no whole block of a trie.
+    // For an owner, call `view()`, not `in(x.block())`: only then compilers warn if the view outlives its owner.
     trie_view() noexcept = default;
     static result<trie_view> try_in(detail::kept<const std::uint64_t> file BITM_LIFETIMEBOUND) noexcept
     {
@@ -191,9 +191,9 @@ private:
 // 1 on.
 class BITM_OWNER trie : public detail::trie_calls<trie>, public detail::stored_calls<trie, detail::trie_kind> {
 public:
-    // Of no nodes; of the degrees of the nodes, the labels of those from 1 on, of `width` bits each, 1 to 63, and,
-    // lowest first, a bit for each node that says whether a word ends there, or none. Fails where the degrees are those
-    // of no tree, or the labels of the children of a node do not rise.
+    // Of no nodes; of the degrees of the nodes, the labels of nodes 1 and up, of `width` bits each, 1 to 63, and,
+    // lowest first, a bit for each node that says whether a word ends there, or no such bits. Fails where the degrees
+    // form no tree, or the labels of the children of a node do not ascend.
     trie() noexcept = default;
     trie(words_in degrees, words_in labels, std::uint32_t width, words_in ends = {})
         : trie(try_of(degrees, labels, width, ends).value())
@@ -215,10 +215,9 @@ public:
     }
 
     // Of words, with labels of 8 bits and ends: iterators, a container or a list of what converts to std::string_view,
-    // each read once. They have to rise in the order of their bytes, each once, as those of a std::set<std::string> do;
-    // the empty one may be among them. Fails with errc::unsorted, `at` the first word that does not stand after the one
-    // before it, and item_fault::not_after. Needs memory for a copy of the words, and three numbers a node and one a
-    // word besides.
+    // each read once. They have to ascend by their bytes, each once, as in a std::set<std::string>; the empty word
+    // may be among them. Fails with errc::unsorted, `at` the first word that does not stand after the one before it,
+    // and item_fault::not_after. Needs memory for a copy of the words, and three numbers a node and one a word besides.
     template <class It> static trie of_words(It first, It last) { return try_of_words(first, last).value(); }
     template <class Words, class = detail::item_as_word<Words>> static trie of_words(const Words &words)
     {
@@ -280,7 +279,7 @@ private:
         if (status != BITM_OK) return {errc::unsorted};
         return {errc::unsorted, at, starts.size() - 1, "word", 0, 0, item_fault::not_after};
     }
-    // Why parts of right lengths are those of no trie: the first node, or the first label, that does not fit.
+    // Why parts of right lengths form no trie: the first node, or the first label, that does not fit.
     static failure no_trie(words_in degrees, words_in labels, std::uint32_t width) noexcept
     {
         const failure node = detail::misfit(degrees);
@@ -288,7 +287,7 @@ private:
         const failure wide = detail::too_wide(labels, width, errc::no_tree, "label");
         return wide.item != item_fault::none ? wide : falling_label(degrees, labels);
     }
-    // The first label that is not above the label of the child before it; the degrees are those of a tree.
+    // The first label that is not above the label of the child before it; the degrees form a tree.
     static failure falling_label(words_in degrees, words_in labels) noexcept
     {
         const std::uint64_t *child = labels.data();

@@ -87,10 +87,10 @@ fn index<S: SelectForRank101111, S0: Select0ForRank101111>(by: &str, log2: u32, 
     let start = used();
     let (index, ones) = RankSelect101111::<S, S0, _>::build(words);
     print("build_a_word", by, log2, used() - start, words.len(), ones);
-    let (places, of_ones) = (queries(64 * words.len()), queries(ones));
+    let (positions, of_ones) = (queries(64 * words.len()), queries(ones));
     let of_zeros = queries(64 * words.len() - ones);
-    row("rank", by, log2, rounds, &places, |i| index.try_rank(i));
-    chained("rank_chained", by, log2, rounds, &places, |i| index.try_rank(i));
+    row("rank", by, log2, rounds, &positions, |i| index.try_rank(i));
+    chained("rank_chained", by, log2, rounds, &positions, |i| index.try_rank(i));
     row("select", by, log2, rounds, &of_ones, |r| index.try_select(r));
     chained("select_chained", by, log2, rounds, &of_ones, |r| index.try_select(r));
     row("select0", by, log2, rounds, &of_zeros, |r| index.try_select0(r));
@@ -107,8 +107,8 @@ fn main() {
     let start = used();
     let (simple, ones) = ArrayWithRankSimple::build(words.clone());
     print("build_a_word", "original simple", log2, used() - start, words.len(), ones as usize);
-    let places = queries(64 * words.len());
-    row("rank", "original simple", log2, rounds, &places, |i| simple.try_rank(i));
+    let positions = queries(64 * words.len());
+    row("rank", "original simple", log2, rounds, &positions, |i| simple.try_rank(i));
     index::<BinaryRankSearch, BinaryRankSearch>("original binary", log2, rounds, &words);
     index::<CombinedSampling, CombinedSampling>("original sampled", log2, rounds, &words);
 }

@@ -130,8 +130,8 @@ export function countMerged(name, sequences) {
     return sum;
 }
 
-/** The numbers from `from` on that each of the sequences has, rising and each once, the first `limit` of them. RangeError where
- *  there is no sequence. */
+/** The numbers from `from` on that each of the sequences has, ascending and each once, the first `limit` of them. RangeError
+ *  where there is no sequence. */
 export function intersect(sequences, from = 0, limit = undefined) {
     const all = allOf(sequences);
     if (all.length === 0) throw new RangeError("bitm: sequences is an empty list: what all of no sequences have is every number");

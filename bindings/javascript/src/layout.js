@@ -181,7 +181,7 @@ export const BITM_PREFIXES = {
     ones: 16,
     ones_len: 24,
 };
-export const BITM_SHARD_PLACE = {
+export const BITM_SHARD_LOCATION = {
     sizeof: 16,
     shard: 0,
     within: 8,

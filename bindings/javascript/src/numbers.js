@@ -6,9 +6,9 @@ import { BAD_ARGUMENT, STATUS } from "./layout.js";
 
 const MOST = 2n ** 64n - 1n;
 
-/** Tables that are not those of the words, as in a damaged file that was opened with `check: false`. */
+/** Tables that do not match the words, as in a damaged file that was opened with `check: false`. */
 export class WrongTables extends Error {
-    constructor(message = "bitm: the tables are not those of the words") {
+    constructor(message = "bitm: the tables do not match the words") {
         super(message);
         this.name = "WrongTables";
     }

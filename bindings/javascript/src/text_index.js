@@ -56,8 +56,8 @@ export class TextIndex {
 
     /**
      * The index of a text: a string, as its bytes in UTF-8, or bytes in a Uint8Array. Each `step` bytes (32) a position is kept:
-     * the fewer, the less memory, and the longer it takes to find a position or a part. progress(done, total) is called after
-     * each of two steps.
+     * a larger step takes less memory, and more time to find a position or a part. progress(done, total) is called after each of
+     * two steps.
      */
     static of(text, options) {
         const settings = settingsOf(options), bytes = encoded(text, "text");

@@ -15,7 +15,7 @@ const KIND = { name: "Trie", open: "bitm_trie_open", check: "bitm_trie_check", l
 const FIND = { numbers: "bitm_trie_find", bytes: "bitm_trie_find_bytes" };
 const LONGEST = { numbers: "bitm_trie_longest", bytes: "bitm_trie_longest_bytes" };
 
-/** A set of words: a tree in which each node but the root has a label, and the labels of a node's children rise. */
+/** A set of words: a tree in which each node but the root has a label, and the labels of a node's children ascend. */
 export class Trie {
     #held;
     #length;
@@ -145,7 +145,7 @@ export class Trie {
     /** How many children a node has; undefined where there is no such node. */
     degree(node) { return ofNode("bitm_tree_degree", this.#held.at, node); }
 
-    /** The children of a node, by rising labels. */
+    /** The children of a node, by ascending labels. */
     children(node) { return childrenOf(this.#held, node); }
 
     /** Whether the block is as it was written and holds a trie, by going over all of it. */

@@ -97,7 +97,7 @@ export class WaveletMatrix {
 
     #range(begin, end, names = undefined) { return rangeOf(begin, end, this.#length, names); }
 
-    /** The distinct numbers of a range, rising, each as `[number, count]`: how often the range has it. */
+    /** The distinct numbers of a range, ascending, each as `[number, count]`: how often the range has it. */
     distinct(begin = 0, end = this.#length) {
         const range = this.#range(begin, end);
         return this.#pages((from, numbers, counts) => answerOf("bitm_matrix_distinct", this.#held.at, ...range, from, numbers, PAGE, counts, PAGE), paired);
@@ -112,7 +112,7 @@ export class WaveletMatrix {
         });
     }
 
-    /** The numbers that are in both of two ranges, rising and each once. The first is best the shorter one. */
+    /** The numbers that are in both of two ranges, ascending and each once. Pass the shorter range first. */
     intersect(begin, end, otherBegin, otherEnd) {
         const ranges = [...this.#range(begin, end), ...this.#range(otherBegin, otherEnd, ["otherBegin", "otherEnd"])];
         return this.#pages((from, numbers) => answerOf("bitm_matrix_intersect", this.#held.at, ...ranges, from, numbers, PAGE),

@@ -35,7 +35,7 @@ function ofTextBuilt(ofBytes) {
     return { text: slot(86), text_len: n, letters: r() % 7 ? 4 : 3, step, scratch: slot(87), scratch_len, block: slot(88), block_len };
 }
 
-/** The same with the order of its suffixes in the scratch, of which two may have changed places. */
+/** The same with the order of its suffixes in the scratch, of which two may be exchanged. */
 function ofTextOrdered(ofBytes) {
     const given = ofTextBuilt(ofBytes), [at, n, scratch, room] = [given.text, given.text_len, given.scratch, given.scratch_len].map(BigInt);
     if (ofBytes) library.bitm_text_order_bytes(at, n, scratch, room);

@@ -89,7 +89,7 @@ test("hashes over spoilt parts, with seeds and without", () => {
     }
 });
 
-/** What no spoilt table may change: a place is inside and has the bit; an index of a sequence is inside. */
+/** What no spoilt table may change: a position is inside and has the bit; an index of a sequence is inside. */
 function holds(it, n, bits, k) {
     if (it instanceof Index) {
         const one = answer(() => it.select(k % 300)), zero = answer(() => it.select0(k % 500)), next = answer(() => it.next(k % n));

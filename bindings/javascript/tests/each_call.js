@@ -46,8 +46,8 @@ function through(got) {
 function callOf(it) {
     const [call] = it.key.split("("), [holder, member] = call.includes(".") ? call.split(".") : [undefined, call];
     if (holder in OPTIONS) return value => through(OPTIONS[holder]({ [it.name]: value }));
-    const siblings = all.filter(other => other.key.startsWith(`${call}(`)), place = siblings.indexOf(it), isFlip = call === "BitVector.flip";
-    const before = siblings.slice(isFlip ? 1 : 0, place), after = siblings.slice(place + 1).filter(other => !other.isOptional && (!isFlip || place > 0));
+    const siblings = all.filter(other => other.key.startsWith(`${call}(`)), index = siblings.indexOf(it), isFlip = call === "BitVector.flip";
+    const before = siblings.slice(isFlip ? 1 : 0, index), after = siblings.slice(index + 1).filter(other => !other.isOptional && (!isFlip || index > 0));
     const given = value => [...before.map(goodOf), value, ...after.map(goodOf)];
     if (!holder) return value => through(bitm[member](...given(value)));
     if (member === "constructor") return value => new bitm[holder](...given(value));

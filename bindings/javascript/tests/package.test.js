@@ -127,7 +127,7 @@ test("the line for JavaScript in the README of the repository, and its program, 
 const USE = `import { BitVector, Cursor, Dictionary, Index, EliasFano, SparseBits, PerfectHash, Strings, Trie, WaveletMatrix, TextIndex, intersect, open, union, NO_ANSWER, WrongTables } from "bitm";
 import { OWN_ROLE, extend, isWritten, section, sections } from "bitm";
 const index: Index = new Index(BitVector.fromPositions([1, 2n, 3], 10), { sampleLog2: 9 });
-const rank: number = index.rank(4), place: number | undefined = index.select(2n);
+const rank: number = index.rank(4), position: number | undefined = index.select(2n);
 const doubles: Float64Array = index.rankList(Uint32Array.of(1)), wide: BigUint64Array = index.selectList(BigUint64Array.of(1n));
 const list: (number | undefined)[] = index.selectList([1, 2]), all: number[] = [...index.ones()];
 const numbers = new EliasFano(new Set([1, 2])), least: number | bigint | undefined = numbers.successor(1);
@@ -138,7 +138,7 @@ const key: number | undefined = new PerfectHash(["a", 1, 1n]).get("a");
 const matrix = new WaveletMatrix([3, 1n], { width: 9 }), median: number | bigint | undefined = matrix.quantile(1, 0, 2n), often: number = matrix.rank(3);
 const before: Float64Array = matrix.rankList(Uint32Array.of(3), [1]), found: (number | undefined)[] = WaveletMatrix.open(matrix.toBytes()).selectList([3], [0]);
 const sparse = new SparseBits([3, 100n], 2n ** 40n), near: number | undefined = sparse.next0(3), bits: boolean[] = sparse.getList([3]);
-const text: TextIndex = TextIndex.open(new Uint8Array(0)), places: number[] = text.locate("she", { from: 1, limit: 2n }), part: Uint8Array | (number | bigint)[] = text.slice(1, 2);
+const text: TextIndex = TextIndex.open(new Uint8Array(0)), positions: number[] = text.locate("she", { from: 1, limit: 2n }), part: Uint8Array | (number | bigint)[] = text.slice(1, 2);
 const made: TextIndex[] = [TextIndex.of("she"), TextIndex.of(new Uint8Array(1), { step: 3n }), TextIndex.ofLetters(new Set([1n]), 2, {})];
 const cursor: Cursor = numbers.cursor(), there: number | bigint | undefined = cursor.nextGeq(2n), rest: (number | bigint)[] = [...cursor, ...intersect([numbers]), ...union(new Set([numbers]), 1n, 2)];
 const words = new Dictionary([4, 9n], { percent: 150, seed: 3n }), which: number | undefined = words.get(4n), many: (number | undefined)[] = words.getList([4]), key9: number | bigint | undefined = words.keyOf(1);
@@ -158,8 +158,8 @@ const kinds: [number | bigint, number][] = matrix.distinct(0, 2n), often3 = new 
 void [kinds, often3.get(3), shared];
 void [node, deepest, label, ends, letters, ...trie.children(0)];
 void [there, rest, which, many, key9, Dictionary.open(words.toBytes(), { check: false }).has(4), numbers.union(numbers).length];
-void [median, often, before, found, near, bits, places, part, text.has([1n, 2]), made];
-void [rank, place, doubles, wide, list, all, least, flags, bytes, key, NO_ANSWER === 1n, WrongTables];
+void [median, often, before, found, near, bits, positions, part, text.has([1n, 2]), made];
+void [rank, position, doubles, wide, list, all, least, flags, bytes, key, NO_ANSWER === 1n, WrongTables];
 `;
 const WRONG = ["index.rank('1')", "index.rank()", "const x: number = index.select(1)", "const x: number = numbers.at(0)", "new EliasFano('12')",
     "new Index([1, 2])", "index.selectList([1]).byteLength", "open('name')", "new PerfectHash([{}])", "index.set(1)", "matrix.select(1)", "const y: number = matrix.get(0)", "TextIndex.of([1])",

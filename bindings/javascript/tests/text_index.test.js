@@ -9,7 +9,7 @@ const VERSE = "she sells sea shells on the sea shore", BLOCK = new Uint8Array(re
 const tally = new Tally(), bytesOf = it => new TextEncoder().encode(it);
 
 /** The positions at which a pattern stands, in the order of the text; and in that of the rest of the text from there on. */
-function places(pattern, verse = VERSE) {
+function positions(pattern, verse = VERSE) {
     const found = [];
     for (let at = 0; at + pattern.length <= verse.length; at++) if (verse.startsWith(pattern, at)) found.push(at);
     const rest = at => verse.slice(at);
@@ -23,7 +23,7 @@ test("answers are those of a plain search", () => {
     const parts = ["", "shop", "\0", "ÿ", `${VERSE}!`, VERSE];
     for (let from = 0; from < VERSE.length; from++) for (const n of [1, 2, 3, 5, 9]) parts.push(VERSE.slice(from, from + n));
     for (const part of parts) {
-        const [found, inOrder] = places(part);
+        const [found, inOrder] = positions(part);
         for (const pattern of [[...bytesOf(part)], Uint32Array.from(bytesOf(part)), Array.from(bytesOf(part), BigInt)]) {
             tally.same(numbers.count(pattern), found.length, () => `count of ${part} as numbers`);
             tally.list(numbers.locate(pattern), inOrder, `locate ${part} as numbers`);
@@ -61,8 +61,8 @@ test("what is built", () => {
         assert.ok(it.check());
         assert.equal(it.text(), verse);
         for (const part of ["", "a", "ab", "z!", verse, verse.slice(from), verse.slice(from, from + 2)]) {
-            tally.list(it.findAll(part), places(part, verse)[0], `findAll ${part} in ${verse}`);
-            tally.list(it.locate(part), places(part, verse)[1], `locate ${part} in ${verse}`);
+            tally.list(it.findAll(part), positions(part, verse)[0], `findAll ${part} in ${verse}`);
+            tally.list(it.locate(part), positions(part, verse)[1], `locate ${part} in ${verse}`);
         }
         it.free();
     }

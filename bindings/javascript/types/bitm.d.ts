@@ -17,9 +17,9 @@ export const NO_ANSWER: bigint;
 /** The version of the package, such as "0.3.0". */
 export const VERSION: string;
 
-/** The tables are not those of the bits, or the file is none: it was damaged. */
+/** The tables do not match the bits, or the bytes are no file of this format: it was damaged. */
 export class WrongTables extends Error {}
-/** A file that is right but holds another structure than the class that opens it: the message names what it holds. */
+/** A right file that holds another structure than the class that opens it: the message names this structure. */
 export class OtherKind extends WrongTables {}
 
 /**

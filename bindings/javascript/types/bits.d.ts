@@ -46,11 +46,13 @@ export class BitVector implements Iterable<boolean> {
     previous(from: Whole): number | undefined;
     /** The position of the last 0 bit at or before `from`, which may be past the end; undefined where there is none. */
     previous0(from: Whole): number | undefined;
-    /** Iterates over the positions of the 1 bits, rising, from `from` on or over all; it is empty where `from` is past the end. */
+    /** Iterates over the positions of the 1 bits, ascending, from `from` on or over all; it is empty where `from` is past the
+     *  end. */
     ones(from?: Whole): IterableIterator<number>;
-    /** Iterates over the positions of the 0 bits, rising, from `from` on or over all; it is empty where `from` is past the end. */
+    /** Iterates over the positions of the 0 bits, ascending, from `from` on or over all; it is empty where `from` is past the
+     *  end. */
     zeros(from?: Whole): IterableIterator<number>;
-    /** The positions of all 1 bits, rising, in an array of doubles. */
+    /** The positions of all 1 bits, ascending, in an array of doubles. */
     toPositions(): Float64Array;
     /** A copy of the bits as bytes, the lowest bit of each first; the last byte has 0 bits after the end. fromBytes() takes it. */
     toBytes(): Uint8Array;
@@ -78,8 +80,9 @@ export class BitVector implements Iterable<boolean> {
     /** Replaces each of the first `count` numbers of `width` bits by the lowest bits of value. RangeError where there are fewer. */
     fillFragments(width: number, value: Whole, count: Whole): this;
 
-    /** Replaces `count` bits from position begin on by those of other from otherBegin on: without a count, by all that other has
-     *  from there. Other may be this vector, and the two ranges may overlap. RangeError where either ends past the end. */
+    /** Replaces `count` bits from position begin on by the bits of other from otherBegin on: without a count, by all bits of
+     *  other from there. Other may be this vector, and the two ranges may overlap. RangeError where either ends past the
+     *  end. */
     setRange(begin: Whole, other: BitVector, otherBegin?: Whole, count?: Whole): this;
     /** A new vector of the bits from position begin on and before end, which has no bits where begin is not below end. A loop
      *  has to free() it. */
@@ -196,9 +199,9 @@ export class Index implements Iterable<boolean> {
     select0List(ranks: BigUint64Array): BigUint64Array;
     select0List(ranks: Iterable<Whole>): (number | undefined)[];
 
-    /** Iterates over the positions of the 1 bits of the index from `from` on, rising: none where `from` is past the end. */
+    /** Iterates over the positions of the 1 bits of the index from `from` on, ascending: none where `from` is past the end. */
     ones(from?: Whole): IterableIterator<number>;
-    /** Iterates over the positions of the 0 bits of the index from `from` on, rising: none where `from` is past the end. */
+    /** Iterates over the positions of the 0 bits of the index from `from` on, ascending: none where `from` is past the end. */
     zeros(from?: Whole): IterableIterator<number>;
     /** Iterates over all bits of the index as booleans, from position 0 on. */
     [Symbol.iterator](): IterableIterator<boolean>;
@@ -216,7 +219,7 @@ export class Index implements Iterable<boolean> {
     toJSON(): never;
 }
 
-/** Bits of which few are 1 bits, and that do not change: the positions of these alone take memory. */
+/** Bits with few 1 bits, which do not change: only the positions of the 1 bits take memory. */
 export class SparseBits {
     /** The positions of the 1 bits, each greater than the one before it; and how many bits there are, below 2^53: up to the last
      *  1 bit, unless it is given. RangeError that names the first position that is not above the one before it, or not below the
@@ -249,7 +252,7 @@ export class SparseBits {
     previous(from: Whole): number | undefined;
     /** The greatest position of a 0 bit that is at most `from`; undefined where there is none. */
     previous0(from: Whole): number | undefined;
-    /** How many 1 bits there are in all: as many as positions were given. */
+    /** How many 1 bits there are in all: one for each position that was given. */
     count(): number;
     /** How many 0 bits there are in all: length without the 1 bits. */
     count0(): number;
@@ -278,9 +281,11 @@ export class SparseBits {
     select0List(ranks: NumberArray): Float64Array;
     select0List(ranks: BigUint64Array): BigUint64Array;
     select0List(ranks: Iterable<Whole>): (number | undefined)[];
-    /** Iterates over the positions of the few 1 bits, rising, from `from` on or over all: none where `from` is past the end. */
+    /** Iterates over the positions of the few 1 bits, ascending, from `from` on or over all: none where `from` is past the
+     *  end. */
     ones(from?: Whole): IterableIterator<number>;
-    /** Iterates over the positions of the many 0 bits, rising, from `from` on or over all: none where `from` is past the end. */
+    /** Iterates over the positions of the many 0 bits, ascending, from `from` on or over all: none where `from` is past the
+     *  end. */
     zeros(from?: Whole): IterableIterator<number>;
 
     /** Whether the block is as it was written and holds sparse bits, by going over all of it. */

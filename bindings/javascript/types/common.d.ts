@@ -23,7 +23,7 @@ export type Bytes = ArrayBuffer | SharedArrayBuffer | ArrayBufferView;
  */
 export type Progress = (done: number, total: number) => void;
 
-/** How a block is opened. Options are an object's own properties: what it inherits is not looked at. TypeError where they are no
+/** How a block is opened. Options are an object's own properties: inherited ones are ignored. TypeError where they are no
  *  object. */
 export interface OpenOptions {
     /** Whether to look at all bytes, and throw WrongTables where they are not as they were written: true if not given. TypeError where

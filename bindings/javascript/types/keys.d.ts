@@ -1,4 +1,4 @@
-// Numbers for keys: of any kind, none of which is kept, and whole numbers and strings, which are.
+// Numbers for keys: for keys of any kind, which are not kept, and for whole numbers and strings, which are kept.
 
 import type { Whole, Wholes, NumberArray, Bytes, OpenOptions, Progress } from "./common.js";
 
@@ -82,7 +82,7 @@ export class Dictionary implements Iterable<number | bigint> {
     readonly byteLength: number;
     /** What is added to each key to hash it: a BigInt from 2^53 on. */
     readonly seed: number | bigint;
-    /** The number of a key, below length; undefined for what is none of the keys. */
+    /** The number of a key, below length; undefined for any other number. */
     get(key: Whole): number | undefined;
     /** Whether a number is one of the keys. */
     has(key: Whole): boolean;
@@ -144,7 +144,7 @@ export class Strings implements Iterable<Uint8Array> {
     readonly byteLength: number;
     /** The seed by which the strings are hashed: a number below 2^53, else a BigInt. */
     readonly seed: number | bigint;
-    /** The number of a string or of bytes, below length; undefined for what is none of the strings. */
+    /** The number of a string or of bytes, below length; undefined for any other. */
     find(string: StringOrBytes): number | undefined;
     /** Whether a string, or bytes, is one of the strings. */
     has(string: StringOrBytes): boolean;

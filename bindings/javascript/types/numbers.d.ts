@@ -108,16 +108,16 @@ export class Cursor implements IterableIterator<number | bigint> {
     toJSON(): never;
 }
 
-/** The numbers from `from` on that each of the sequences has, rising and each once: the first `limit` of them, or all. RangeError
- *  where there is no sequence. */
+/** The numbers from `from` on that each of the sequences has, ascending and each once: the first `limit` of them, or all.
+ *  RangeError where there is no sequence. */
 export function intersect(sequences: Iterable<EliasFano>, from?: Whole, limit?: Whole): (number | bigint)[];
-/** The numbers from `from` on that any of the sequences has, rising and each once: the first `limit` of them, or all. Of no sequences
- *  there are none. */
+/** The numbers from `from` on that any of the sequences has, ascending and each once: the first `limit` of them, or all. Of no
+ *  sequences there are none. */
 export function union(sequences: Iterable<EliasFano>, from?: Whole, limit?: Whole): (number | bigint)[];
 
 /** How a WaveletMatrix is built. */
 export interface WaveletMatrixOptions {
-    /** 1 to 64: how many bits each number is kept in; as many as the largest has unless it is given. */
+    /** 1 to 64: how many bits each number is kept in; by default the bits that the largest needs. */
     width?: number;
     /** Whether the block has quarters: it takes an eighth more, and most queries read fewer words. False unless it is given. TypeError
      *  where it is no boolean. */
@@ -161,13 +161,14 @@ export class WaveletMatrix implements Iterable<number | bigint> {
     /** The greatest of the numbers from index begin on and before end, or of all, that is less than bound; undefined where there is
      *  none. */
     previousValue(bound: Whole, begin?: Whole, end?: Whole): number | bigint | undefined;
-    /** The different numbers from index begin on and before end, or of all, rising, each in a pair with how often it is there. */
+    /** The different numbers from index begin on and before end, or of all, ascending, each in a pair with how often it is
+     *  there. */
     distinct(begin?: Whole, end?: Whole): [number: number | bigint, count: number][];
     /** The k most frequent numbers from index begin on and before end, or of all, each in a pair with how often it is there: the most
      *  frequent first, of equally frequent ones the least. There are fewer where there are no k different ones. */
     top(k: Whole, begin?: Whole, end?: Whole): [number: number | bigint, count: number][];
-    /** The numbers that stand both from index begin on and before end, and from otherBegin on and before otherEnd: rising, each once.
-     *  The first range is best the shorter one. */
+    /** The numbers that stand both from index begin on and before end, and from otherBegin on and before otherEnd: ascending,
+     *  each once. Pass the shorter range first. */
     intersect(begin: Whole, end: Whole, otherBegin: Whole, otherEnd: Whole): (number | bigint)[];
 
     /** The number at each index of a list, in a list of the same kind as the indices. RangeError names the index that is not below
@@ -175,13 +176,13 @@ export class WaveletMatrix implements Iterable<number | bigint> {
     getList(indices: NumberArray): Float64Array;
     getList(indices: BigUint64Array): BigUint64Array;
     getList(indices: Iterable<Whole>): (number | bigint)[];
-    /** The rank() of each numbers[i] before indices[i], in a list of the same kind as the numbers. RangeError if an index is above
-     *  length, or there are not as many indices as numbers. */
+    /** The rank() of each numbers[i] before indices[i], in a list of the same kind as the numbers. RangeError if an index is
+     *  above length, or there are more or fewer indices than numbers. */
     rankList(numbers: NumberArray, indices: Wholes): Float64Array;
     rankList(numbers: BigUint64Array, indices: Wholes): BigUint64Array;
     rankList(numbers: Iterable<Whole>, indices: Wholes): number[];
-    /** The select() of each numbers[i] with ranks[i]: NaN in a Float64Array, NO_ANSWER in a BigUint64Array or undefined in an array
-     *  where there is none. RangeError if there are not as many ranks as numbers. */
+    /** The select() of each numbers[i] with ranks[i]: NaN in a Float64Array, NO_ANSWER in a BigUint64Array or undefined in an
+     *  array where there is none. RangeError if there are more or fewer ranks than numbers. */
     selectList(numbers: NumberArray, ranks: Wholes): Float64Array;
     selectList(numbers: BigUint64Array, ranks: Wholes): BigUint64Array;
     selectList(numbers: Iterable<Whole>, ranks: Wholes): (number | undefined)[];

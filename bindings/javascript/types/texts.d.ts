@@ -17,8 +17,8 @@ export interface LocateOptions {
 
 /** How a TextIndex is built. */
 export interface StepOptions {
-    /** Each how many letters a position is kept, 32 if not given: the fewer, the less memory, and the longer locate() and slice()
-     *  take. RangeError unless it is 1 to 2^32 - 1. */
+    /** A position is kept each `step` letters, by default 32: a larger step takes less memory, and locate() and slice() take
+     *  longer. RangeError unless it is 1 to 2^32 - 1. */
     step?: Whole;
     /** Called after each of two steps: the text is ordered, and the index written. */
     progress?: Progress;
@@ -31,8 +31,8 @@ export class TextIndex {
     constructor(block: never);
     /** The index of a string, as its bytes in UTF-8, or of bytes. TypeError where the string is not well formed. */
     static of(text: string | Uint8Array, options?: StepOptions): TextIndex;
-    /** The index of numbers below `letters`, for each of which 8 bytes are kept. RangeError where a number is not below it:
-     *  it names the first. A pattern is then a list of numbers too. */
+    /** The index of numbers below `letters`; it keeps 8 bytes for each letter. RangeError, which names the first one, where a
+     *  number is not below it. A pattern is then a list of numbers too. */
     static ofLetters(numbers: Wholes, letters: Whole, options?: StepOptions): TextIndex;
     /** The index in a block that toBytes(), the C library or the program `bitm text build` wrote, which is copied once. WrongTables
      *  where it was damaged, OtherKind where it holds something else. */
@@ -40,7 +40,7 @@ export class TextIndex {
 
     /** How many letters the text has: of a string, how many bytes it is in UTF-8. */
     readonly length: number;
-    /** How many bits a letter takes: of bytes as many as the number of different bytes needs. */
+    /** How many bits a letter takes: in an index of bytes, enough to number the different bytes. */
     readonly width: number;
     /** How many bytes the block of the index has: 0 after free(). */
     readonly byteLength: number;
@@ -52,7 +52,7 @@ export class TextIndex {
     /** The positions at which a pattern stands, in the order of the rest of the text from there on: after the first `from` of them, at
      *  most `limit`. */
     locate(pattern: Pattern, options?: LocateOptions): number[];
-    /** All positions at which a pattern stands, rising. */
+    /** All positions at which a pattern stands, ascending. */
     findAll(pattern: Pattern): number[];
     /** The letter at a position: a byte, or a number of those that were given. RangeError past the end. */
     get(position: Whole): number | bigint;
@@ -115,8 +115,8 @@ export class Tree {
     degreeList(nodes: NumberArray): Float64Array;
     degreeList(nodes: BigUint64Array): BigUint64Array;
     degreeList(nodes: Iterable<Whole>): (number | undefined)[];
-    /** Child ks[i] of each node nodes[i], in a list of the same kind as the nodes: NaN, NO_ANSWER or undefined where there is none.
-     *  RangeError if there are not as many ks as nodes. */
+    /** Child ks[i] of each node nodes[i], in a list of the same kind as the nodes: NaN, NO_ANSWER or undefined where there is
+     *  none. RangeError if there are more or fewer ks than nodes. */
     childList(nodes: NumberArray, ks: Wholes): Float64Array;
     childList(nodes: BigUint64Array, ks: Wholes): BigUint64Array;
     childList(nodes: Iterable<Whole>, ks: Wholes): (number | undefined)[];
@@ -141,7 +141,7 @@ export interface TrieOptions {
     ends?: BitVector;
 }
 
-/** A set of words: a tree in which each node but the root has a label, and the labels of a node's children rise. A word is a
+/** A set of words: a tree in which each node but the root has a label, and the labels of a node's children ascend. A word is a
  *  string (as UTF-8), bytes, or a list of labels. */
 export class Trie {
     /** A trie of the degree of each node, level by level, and the labels of the nodes from 1 on. RangeError if these form no trie: it
@@ -180,7 +180,7 @@ export class Trie {
     isEnd(node: Whole): boolean | undefined;
     /** The child of a node that has a label; undefined where no child has it, and where there is no such node. */
     childByLabel(node: Whole, label: Whole): number | undefined;
-    /** Iterates over the children of a node, by rising labels: there are none where there is no such node. */
+    /** Iterates over the children of a node, by ascending labels: there are none where there is no such node. */
     children(node: Whole): IterableIterator<number>;
     /** How many children a node of the trie has, each with a label of its own; undefined where there is no such node. */
     degree(node: Whole): number | undefined;

@@ -10,8 +10,8 @@ indexes of texts, minimal perfect hashes, dictionaries of numbers and strings, t
 >>> primes.first_at_least(8), primes[4]
 (4, 11)
 
-The answers are those of the C library, where they are proved to be plain counting. What this package adds (checks of
-arguments, Python's conventions) is tested.
+The answers come from the C library, where they are proved to be plain counting. The additions of this package (checks of
+arguments, Python's conventions) are tested.
 """
 from collections import abc as _abc
 from typing import List as _List

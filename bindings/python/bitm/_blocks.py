@@ -140,7 +140,7 @@ def complete() -> None:
     for kind, what, made, _, query, answer in BLOCKS + PARTS:
         name = kind.__name__
         setattr(kind, "open", classmethod(method(kind, "open", _open, f"""{what} in a file, which is mapped and read where it lies, as
-    `load` does. OtherKind where the file holds another structure; ValueError and OSError as of `load`.
+    `load` does. OtherKind where the file holds another structure; ValueError and OSError as for `load`.
 
     >>> {made}.save("file")
     >>> with {name}.open("file") as it:

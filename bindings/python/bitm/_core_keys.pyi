@@ -1,4 +1,4 @@
-# Numbers for keys: of any kind, none of which is kept, and whole numbers and strings, which are.
+# Numbers for keys: for keys of any kind, which are not kept, and for whole numbers and strings, which are kept.
 from collections.abc import Iterable, Iterator
 from typing import Any, Literal, SupportsIndex, overload
 

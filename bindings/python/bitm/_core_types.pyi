@@ -10,7 +10,7 @@ from typing_extensions import Self
 
 _Bits = Union[Buffer, Iterable[object], str]
 _Numbers = Union[Buffer, Iterable[SupportsIndex]]
-# What is answered by a list; an array of NumPy, which is none of these, by an array. Where NumPy is not installed its
+# Arguments that are answered by a list; an array of NumPy, which is none of these, is answered by an array. Where NumPy is not installed its
 # names are unknown here, and only they.
 _Plain = Union[Sequence[SupportsIndex], AbstractSet[SupportsIndex], Iterator[SupportsIndex]]
 _Array = NDArray[numpy.integer[Any]]

@@ -14,7 +14,7 @@ from . import _core
 PathLike = Union[str, bytes, "os.PathLike[str]", "os.PathLike[bytes]"]
 Stored = Union["_core.Index", "_core.EliasFano", "_core.SparseBits", "_core.PerfectHash", "_core.Dictionary", "_core.Strings", "_core.Tree",
                "_core.Trie", "_core.WaveletMatrix", "_core.TextIndex"]
-HEADER = 192  # bytes, in version 2; those of a block are fewer
+HEADER = 192  # bytes, in version 2; the header of a block has fewer
 
 
 def _into(write: Callable[[Any], Any], block: Any) -> None:
@@ -25,7 +25,7 @@ def _into(write: Callable[[Any], Any], block: Any) -> None:
 
 
 def _written(write: Callable[[Any], Any], data: Any) -> int:
-    """How many bytes a call of `write` took: all where it does not say, unless it is that of a file which does not wait."""
+    """How many bytes a call of `write` took: all where it does not say, unless the file does not wait."""
     count = write(data)
     if count is None and not isinstance(getattr(write, "__self__", None), io.RawIOBase):
         return int(data.nbytes)

@@ -1,5 +1,5 @@
-"""What is not a hot path: pickles, and NumPy where the caller has it. NumPy is imported only by calls that answer in
-arrays: those of that name, and those that are passed an array."""
+"""What is not a hot path: pickles, and NumPy where the caller has it. NumPy is imported only by calls that answer in arrays:
+calls with that name, and calls that are passed an array."""
 import array
 import hashlib
 import itertools
@@ -99,8 +99,8 @@ def sequence_to_numpy(self: Any, dtype: Any = None, copy: Optional[bool] = None)
 
 
 def index_over(cls: Any, words: Any, upper: Any, lower: Any, length: Any = None) -> Any:
-    """An index over tables that exist already, in buffers that it holds. ValueError where they are not as long as those of
-    the words; their contents are not looked at: call `check`.
+    """An index over tables that exist already, in buffers that it holds. ValueError where they have not the lengths that the
+    words need; their contents are not looked at: call `check`.
 
     >>> words = b"\x5a" * 8
     >>> upper, lower, _ = tables_of(words)

@@ -1,4 +1,4 @@
-"""Sections of a caller's own in a block of any kind, after those of its kind: notes, samples and the like."""
+"""Sections of a caller's own in a block of any kind, after the sections of its kind: notes, samples and the like."""
 import operator
 from typing import TYPE_CHECKING, Any, Iterable, List, Mapping, Optional, SupportsIndex, Tuple, Union
 
@@ -49,12 +49,12 @@ def _extended(block: "Buffer", role: int, data: "Buffer") -> bytes:
 
 def extend(block: "Buffer", sections: "Union[Mapping[int, Buffer], Iterable[Tuple[SupportsIndex, Buffer]]]", /) -> bytes:
     """The bytes of a block with more sections after its own: `sections` maps roles to the items of each, in any buffer, or has
-    pairs of these. A role from 65536 on is yours, and its items are bytes; docs/FORMAT.md has others. What the block held it holds
-    still, and values over it step over the sections of yours.
+    pairs of these. A role from 65536 on is yours, and its items are bytes; docs/FORMAT.md has others. The block still holds the
+    same structure, and values over it step over your sections.
 
-    ValueError where there would be more than 16 sections, the bytes do not fill the items of a role, or a section of the block is
-    not as it was written: what was damaged gets no right checksum. The block is copied once for each section, while other threads
-    run.
+    ValueError where there would be more than 16 sections, the bytes do not fill the items of a role, or a section of the block
+    is not as it was written: a damaged section gets no right checksum. The block is copied once for each section, while other
+    threads run.
 
     >>> noted = extend(Tree([2, 0, 0]).block, {65536: b"3 nodes"})
     >>> len(Tree.over(noted)), bytes(section(noted, 65536))
@@ -71,9 +71,10 @@ def extend(block: "Buffer", sections: "Union[Mapping[int, Buffer], Iterable[Tupl
 
 
 def sections(block: "Buffer", /) -> List[Tuple[int, memoryview]]:
-    """The sections of a block in their order, those of its kind first: pairs of a role and of items, which are read where they lie,
-    in a view of bytes, of uint32 for the roles 7 and 8, or of uint64 for others below 65536 but 15. ValueError where header or
-    directory of the block are not right; whether the sections are as they were written is for `is_written` to say.
+    """The sections of a block in their order, beginning with the sections of its kind: pairs of a role and of items, which are
+    read where they lie, in a view of bytes, of uint32 for the roles 7 and 8, or of uint64 for others below 65536 but 15.
+    ValueError where header or directory of the block are not right; whether the sections are as they were written is for
+    `is_written` to say.
 
     >>> [role for role, _ in sections(extend(Tree([2, 0, 0]).block, {65536: b"3 nodes"}))]
     [1, 2, 3, 22, 65536]
@@ -99,8 +100,8 @@ def section(block: "Buffer", role: SupportsIndex, /) -> Optional[memoryview]:
 
 
 def is_written(block: "Buffer", /) -> bool:
-    """Whether a block of any kind is as it was written: goes over all of it, while other threads run. Whether it holds what its
-    kind says is for the `check` of that to say.
+    """Whether a block of any kind is as it was written: goes over all of it, while other threads run. Whether it holds such a
+    structure is for the `check` of its kind to say.
 
     >>> block = bytearray(Tree([2, 0, 0]).block)
     >>> is_written(block)

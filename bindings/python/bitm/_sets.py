@@ -27,9 +27,9 @@ def intersect(sequences: "Iterable[EliasFano]", start: SupportsIndex = 0, limit:
 
 
 def intersect(sequences: Any, start: Any = 0, limit: Any = None, *, to_numpy: bool = False) -> Any:
-    """The numbers from start on that each of the sequences has, rising and each once, the first `limit` of them: a list, or an
-    array of uint64. ValueError where there is no sequence. Two sequences of about the same length are read side by side; else
-    each number of the shortest one is looked up by cursors over the others. Other threads run meanwhile.
+    """The numbers from start on that each of the sequences has, ascending and each once, the first `limit` of them: a list, or
+    an array of uint64. ValueError where there is no sequence. Two sequences of about the same length are read side by side;
+    else each number of the shortest one is looked up by cursors over the others. Other threads run meanwhile.
 
     >>> odd, primes = EliasFano([1, 3, 5, 7, 9, 11]), EliasFano([2, 3, 5, 7, 11])
     >>> intersect([odd, primes]), intersect([odd, primes], 4, 2)
@@ -49,8 +49,8 @@ def union(sequences: "Iterable[EliasFano]", start: SupportsIndex = 0, limit: Opt
 
 
 def union(sequences: Any, start: Any = 0, limit: Any = None, *, to_numpy: bool = False) -> Any:
-    """The numbers from start on that any of the sequences has, rising and each once, the first `limit` of them: a list, or an
-    array of uint64. Two sequences are read side by side; else each number that is found moves a cursor over each sequence at
+    """The numbers from start on that any of the sequences has, ascending and each once, the first `limit` of them: a list, or
+    an array of uint64. Two sequences are read side by side; else each number that is found moves a cursor over each sequence at
     most once. Other threads run meanwhile.
 
     >>> union([EliasFano([2, 3, 5]), EliasFano([3, 4]), EliasFano([])])
@@ -60,15 +60,15 @@ def union(sequences: Any, start: Any = 0, limit: Any = None, *, to_numpy: bool =
 
 
 def _intersection(self: Any, *others: Any) -> "_core.EliasFano":
-    """The numbers that are in this sequence and in each other one, each once, in a new one: those of `intersect`, but that
-    the shortest one is checked.
+    """The numbers that are in this sequence and in each other one, each once, in a new one, as `intersect` gives them; but the
+    shortest one is checked.
 
     >>> list(EliasFano([2, 3, 5]).intersection(EliasFano([3, 4, 5]), EliasFano([5, 5, 6])))
     [5]
     """
     window = _core.cursors_merged(True, (self, *others), 0, None)
     if not min((self, *others), key=len).check():
-        raise _core.WrongTables("the parts are not those of a sequence")
+        raise _core.WrongTables("the parts form no sequence")
     return _core.EliasFano(window)
 
 

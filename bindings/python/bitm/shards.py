@@ -18,7 +18,7 @@ from ._core import BitVector, Index, ShardSet, WrongTables, parts
 from ._shard_lists import POSITIONS
 
 MANIFEST, FORMAT, VERSION = "shards.json", "bitm shards", 1
-OTHER, WRONG = "it is not the one that the manifest names", "its tables are not those of its words"
+OTHER, WRONG = "it is not the one that the manifest names", "its tables do not match its words"
 PathLike = Union[str, "os.PathLike[str]"]
 Mapper = Callable[..., Iterable[Any]]
 Answer = TypeVar("Answer")
@@ -40,8 +40,8 @@ class ShardError(Exception):
 
 
 class Part(NamedTuple):
-    """What the manifest says of a shard: its file in the folder, its bits and 1 bits, a sum of its lengths, tables and
-    some words, which is looked at when the shard is mapped, and one of all words, which is looked at by `check`."""
+    """The manifest's entry of a shard: its file in the folder, its bits and 1 bits, a sum of its lengths, tables and some
+    words, which is looked at when the shard is mapped, and one of all words, which is looked at by `check`."""
 
     file: str
     bits: int
@@ -154,7 +154,7 @@ def _write(folder: str, shards: Sequence[Part]) -> None:
 
 
 class Shards(_shard_lists.Lists):
-    """The bits of the shards of a folder, one after the other, queried as those of one `Index`.
+    """The bits of the shards of a folder, one after the other, queried as the bits of one `Index`.
 
     A folder has a manifest and one stored index a shard. A shard is mapped when a query first needs it; until then its
     file need not be there. ShardError if it is missing then, or is not the one that the manifest names. A value is pickled as its folder.
@@ -187,19 +187,19 @@ class Shards(_shard_lists.Lists):
         """Builds one shard of each source, and writes the manifest once all are stored.
 
         A source is what `Index` takes, the path of a file of raw bits, a pair of one of these and a number of bits, or a
-        callable without arguments that returns one of these where the shard is built. `map` is the builtin, an
-        executor's `map`, or that of a Dask client: it calls a function of this module with one argument for each source,
-        and both travel to its workers by pickle. FileExistsError where the folder has a manifest. Where a build fails or
-        is killed there is none, and another build in the folder writes all shards again."""
-        place = os.path.abspath(os.fspath(folder))
-        os.makedirs(place, exist_ok=True)
-        if os.path.exists(os.path.join(place, MANIFEST)):
-            raise FileExistsError(f"{place} has shards already")
+        callable without arguments that returns one of these where the shard is built. `map` is the builtin, an executor's
+        `map`, or a Dask client's: it calls a function of this module with one argument for each source, and both travel to its
+        workers by pickle. FileExistsError where the folder has a manifest. Where a build fails or is killed there is none, and
+        another build in the folder writes all shards again."""
+        path = os.path.abspath(os.fspath(folder))
+        os.makedirs(path, exist_ok=True)
+        if os.path.exists(os.path.join(path, MANIFEST)):
+            raise FileExistsError(f"{path} has shards already")
         token = secrets.token_hex(8)
-        tasks = [(place, f"shard-{k:06d}.bitm", it, sample_log2, token) for k, it in enumerate(sources)]
+        tasks = [(path, f"shard-{k:06d}.bitm", it, sample_log2, token) for k, it in enumerate(sources)]
         made = [it.result() if hasattr(it, "result") else it for it in map(build_shard, tasks)]
-        _write(place, [Part(*it) for it in made])
-        return cls(place)
+        _write(path, [Part(*it) for it in made])
+        return cls(path)
 
     def append(self, source: object, *, sample_log2: Optional[int] = None) -> None:
         """Adds a shard after the last."""
@@ -221,8 +221,8 @@ class Shards(_shard_lists.Lists):
         self._take(shards)
 
     def check(self, *, map: Mapper = builtins.map) -> None:
-        """Reads each shard whole: ShardError, which names each that is missing, is not the one of the manifest, or whose
-        tables are not those of its words."""
+        """Reads each shard whole: ShardError names each shard that is missing, is not the one of the manifest, or has tables
+        that do not match its words."""
         tasks = [(self.folder, k, it) for k, it in enumerate(self.parts)]
         found = [it.result() if hasattr(it, "result") else it for it in map(_asked, tasks)]
         if any(found):
@@ -265,7 +265,7 @@ class Shards(_shard_lists.Lists):
 
     def _find(self, kind: int, number: int) -> Tuple[int, int]:
         """Which shard holds a position, or the bit with a rank, and the number in it, where there is one: a proved call."""
-        found = self._set.place(kind, number)
+        found = self._set.find(kind, number)
         if found is None:
             raise IndexError(f"number {number}, which the shards do not have")
         return found
@@ -286,8 +286,8 @@ class Shards(_shard_lists.Lists):
         raise ShardError(_says(self.folder, shard, self.parts[shard], WRONG))
 
     def _reads(self, known: ShardSet, call: Callable[..., Any], one: bool, number: int) -> Iterator[int]:
-        """The shards that a call reads: that of its position, unless it is the first there, and once this is mapped that of the
-        bit which is found."""
+        """The shards that a call reads: the shard of its position, unless the position is the first there; and once this is
+        mapped, the shard of the bit that is found."""
         end = min(number + (call is ShardSet.previous), len(self))
         if call is not ShardSet.select and end < len(self):
             shard, within = self._find(POSITIONS, end)
@@ -365,11 +365,11 @@ class Shards(_shard_lists.Lists):
         return self._ask(ShardSet.previous, False, position)
 
     def ones(self, start: int = 0, stop: Optional[int] = None, *, reverse: bool = False) -> Iterator[int]:
-        """The positions of the 1 bits of a range, rising, or falling with `reverse`."""
+        """The positions of the 1 bits of a range, ascending, or descending with `reverse`."""
         return self._positions("ones", start, stop, reverse)
 
     def zeros(self, start: int = 0, stop: Optional[int] = None, *, reverse: bool = False) -> Iterator[int]:
-        """The positions of the 0 bits of a range, rising, or falling with `reverse`."""
+        """The positions of the 0 bits of a range, ascending, or descending with `reverse`."""
         return self._positions("zeros", start, stop, reverse)
 
     def _positions(self, kind: str, start: int, stop: Optional[int], reverse: bool) -> Iterator[int]:

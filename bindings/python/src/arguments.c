@@ -145,6 +145,6 @@ PyObject *past_end(uint64_t position, uint64_t len)
 
 PyObject *wrong(void)
 {
-    PyErr_SetString(WrongTables, "the tables are not those of the words, or the parts not those of a sequence");
+    PyErr_SetString(WrongTables, "the tables do not match the words, or the parts form no sequence");
     return NULL;
 }

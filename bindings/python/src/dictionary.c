@@ -206,7 +206,7 @@ static PyGetSetDef attributes[] = {
     "Numbers, each with a number of its own below how many there are, in one block of memory: a minimal\n"             \
     "perfect hash and the keys, so that a number that is no key has none.\n\n"                                         \
     "A key takes about 67 bits. percent is how many bits the levels have for each 100 keys. progress is\n"             \
-    "called as that of a PerfectHash. ValueError where keys are equal: it says which." EXAMPLE(                        \
+    "called as for a PerfectHash. ValueError where keys are equal: it says which." EXAMPLE(                            \
         "squares = Dictionary([4, 9, 49])")                                                                            \
         THEN("49 in squares, 50 in squares, sorted(squares[key] for key in squares)")                                  \
             PRINTS("(True, False, [0, 1, 2])")

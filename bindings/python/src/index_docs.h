@@ -9,7 +9,7 @@
     "Samples of each 2**sample_log2 bits (7 to 31) make selections faster.\n\n"                                        \
     "The tables take some 3 % of the bits' memory (Zhou, Andersen and Kaminsky, SEA 2013). Building reads\n"           \
     "each word once. ValueError where there are fewer bits than length, TypeError for a buffer of other\n"             \
-    "items. A query of a closed index raises ValueError, and over tables that are not those of the bits\n"             \
+    "items. A query of a closed index raises ValueError, and over tables that do not match the bits\n"                 \
     "WrongTables."                                                                                                     \
     EXAMPLE("index = Index(BitVector.from_bits('0101101'))") THEN("index.rank(4), index.select(2)")                    \
     PRINTS("(2, 4)")
@@ -58,14 +58,14 @@
     "How many 1 bits there are, or with 0 how many 0 bits. Costs a rank." EXAMPLE(                                     \
         "Index(BitVector.from_bits('0101101')).count()") PRINTS("4")
 #define INDEX_ONES                                                                                                     \
-    "The positions of the 1 bits in a range, rising or falling." EXAMPLE("list(Index(BitVector.from_bits('0101101'))." \
-                                                                         "ones(2))") PRINTS("[3, 4, 6]")               \
+    "The positions of the 1 bits in a range, ascending or descending." EXAMPLE(                                        \
+        "list(Index(BitVector.from_bits('0101101')).ones(2))") PRINTS("[3, 4, 6]")                                     \
         EXAMPLE("list(Index(BitVector.from_bits('0101101')).ones(0, 5, reverse=True))") PRINTS("[4, 3, 1]")
 #define INDEX_ZEROS                                                                                                    \
-    "The positions of the 0 bits in a range, rising or falling." EXAMPLE(                                              \
+    "The positions of the 0 bits in a range, ascending or descending." EXAMPLE(                                        \
         "list(Index(BitVector.from_bits('0101101')).zeros())") PRINTS("[0, 2, 5]")
 #define INDEX_CHECK                                                                                                    \
-    "Whether the tables, and the samples, are those of the bits; of a block that was loaded also whether it is as it " \
+    "Whether the tables, and the samples, match the bits; of a block that was loaded also whether it is as it "        \
     "was written. Reads all of it. Of a file of format version 2 it finds only what does not fit." EXAMPLE(            \
         "words = bytearray(800)") THEN("index = Index(words)") THEN("words[3] = 1") THEN("index.check()")              \
         PRINTS("False")

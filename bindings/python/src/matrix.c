@@ -320,15 +320,15 @@ static PyMethodDef methods[] = {
           "no "
           "such range." OF(".previous_value(4, 1, 5)") PRINTS("1")),
     NAMED(distinct, "($self, start=0, stop=None)",
-          "The distinct numbers of a range, rising, each with how often it is there. IndexError where there is no such "
-          "range." OF(".distinct(1, 5)") PRINTS("[(1, 2), (4, 1), (5, 1)]")),
+          "The distinct numbers of a range, ascending, each with how often it is there. IndexError where there is no "
+          "such range." OF(".distinct(1, 5)") PRINTS("[(1, 2), (4, 1), (5, 1)]")),
     NAMED(
         top, "($self, k, start=0, stop=None)",
         "The k most frequent numbers of a range, or all, each with how often it is there: the most frequent first, and "
         "of equally frequent ones the least. IndexError where there is no such range." OF(".top(2)")
             PRINTS("[(1, 3), (3, 1)]")),
     NAMED(intersect, "($self, start, stop, other_start, other_stop)",
-          "The numbers that are in both ranges, each once, rising. IndexError where there is no such range." OF(
+          "The numbers that are in both ranges, each once, ascending. IndexError where there is no such range." OF(
               ".intersect(0, 3, 3, 6)") PRINTS("[1]")),
     NAMED(get_list, "($self, queries)",
           "The numbers at many indices, in their manner." OF(".get_list([4, 0])") PRINTS("[5, 3]")),
@@ -357,7 +357,7 @@ static PyGetSetDef attributes[] = {
     "WaveletMatrix(numbers, *, width=None, quarters=False, hints=False, progress=None)\n--\n\n"                        \
     "A list of numbers in any order, in one block of memory of about 1.03 * width bits a number: where\n"              \
     "and how often a number is there, and which numbers of a range are the least.\n\n"                                 \
-    "width is how many bits each has at most: those of the largest one, where it is not given. With\n"                 \
+    "width is how many bits each has at most: by default the bits that the largest needs. With\n"                      \
     "quarters the block takes an eighth more, and most queries read fewer words. With hints it takes a\n"              \
     "quarter of the numbers' bits more, and select reads fewer words. ValueError where a number has more\n"            \
     "bits than width: it says which.\n\n"                                                                              \

@@ -9,10 +9,9 @@
     THEN("try:") MORE(line) ELSE("except " name " as error:") MORE("print(error)") PRINTS(text)
 
 #define WRONG_TABLES                                                                                                   \
-    "The tables are not those of the words, or the parts are not those of a sequence." EXAMPLE(                        \
+    "The tables do not match the words, or the parts form no sequence." EXAMPLE(                                       \
         "index = Index.over(bytes(8), b'\\xff' * 8, b'\\xff' * 8)")                                                    \
-        RAISES("WrongTables", "index.rank(64)",                                                                        \
-               "the tables are not those of the words, or the parts not those of a sequence")
+        RAISES("WrongTables", "index.rank(64)", "the tables do not match the words, or the parts form no sequence")
 #define OTHER_KIND                                                                                                     \
     "A file, or a block, is right but holds another structure than the class that opens it." EXAMPLE(                  \
         "Tree([1, 0]).save('tree')")                                                                                   \

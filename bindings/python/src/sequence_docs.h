@@ -9,9 +9,8 @@
     "predecessors.\n\n"                                                                                                \
     "The numbers may be a buffer of whole numbers of any width, or an iterable. ValueError where one is\n"             \
     "less than the one before it: it says which. A query of a closed sequence raises ValueError, and over\n"           \
-    "parts that are not those of a sequence (of a damaged file) WrongTables."                                          \
-    EXAMPLE("primes = EliasFano([2, 3, 5, 7, 11, 13])") THEN("primes[4], primes[1:3], 7 in primes")                    \
-    PRINTS("(11, [3, 5], True)")
+    "parts that form no sequence (of a damaged file) WrongTables." EXAMPLE("primes = EliasFano([2, 3, 5, 7, 11, 13])") \
+        THEN("primes[4], primes[1:3], 7 in primes") PRINTS("(11, [3, 5], True)")
 
 #define SEQUENCE_FIRST_AT_LEAST                                                                                        \
     "Successor: the least index whose number is at least value, or None. Costs a selection or two, and a read for "    \
@@ -36,8 +35,8 @@
     "Whether each of many values is in the sequence: an array of bools for an array of NumPy, else a list." EXAMPLE(   \
         "EliasFano([2, 3, 5, 7, 11]).contains_list([6, 7])") PRINTS("[False, True]")
 #define SEQUENCE_ITEMS                                                                                                 \
-    "The numbers in a range of indexes, rising or falling: an iterator with seek and next_geq, or next_leq." EXAMPLE(  \
-        "list(EliasFano([2, 3, 5, 7, 11]).items(1, 4, reverse=True))") PRINTS("[7, 5, 3]")
+    "The numbers in a range of indexes, ascending or descending: an iterator with seek and next_geq, or "              \
+    "next_leq." EXAMPLE("list(EliasFano([2, 3, 5, 7, 11]).items(1, 4, reverse=True))") PRINTS("[7, 5, 3]")
 #define SEQUENCE_FROM_VALUE                                                                                            \
     "The numbers from the first that is at least value on; or backwards from the last that is at most value. An "      \
     "iterator with seek and next_geq, or next_leq." EXAMPLE("list(EliasFano([2, 3, 5, 7, 11]).from_value(4))")         \
@@ -69,10 +68,9 @@
     "A position in an EliasFano, made by its cursor(): at a number, or at the end. It moves forward only,\n"           \
     "and past equal numbers at once. As an iterator it gives the number where it stands, and moves on to\n"            \
     "the next greater one.\n\n"                                                                                        \
-    "ValueError once the sequence is closed or made anew, WrongTables over parts that are not those of a\n"            \
-    "sequence."                                                                                                        \
-    EXAMPLE("cursor = EliasFano([2, 3, 3, 7, 11]).cursor()")                                                           \
-    THEN("cursor.next_geq(3), next(cursor), list(cursor)") PRINTS("(3, 3, [7, 11])")
+    "ValueError once the sequence is closed or made anew, WrongTables over parts that form no\n"                       \
+    "sequence." EXAMPLE("cursor = EliasFano([2, 3, 3, 7, 11]).cursor()")                                               \
+        THEN("cursor.next_geq(3), next(cursor), list(cursor)") PRINTS("(3, 3, [7, 11])")
 #define CURSOR_NEXT_GEQ                                                                                                \
     "Moves to the first number from here on that is at least value, and returns it; stays where the number here is. "  \
     "None where each is less: the cursor is at the end then. A number that is near costs 25 words, another one three " \

@@ -121,17 +121,17 @@ static PyObject *set_previous(PyObject *self, PyObject *const *args, Py_ssize_t 
 }
 
 /* The shard of a position or of the bit with a rank, and the position or rank there; None where there is none. */
-static PyObject *set_place(PyObject *self, PyObject *args)
+static PyObject *set_find(PyObject *self, PyObject *args)
 {
-    struct bitm_shard_place place = {0, 0};
+    struct bitm_shard_location location = {0, 0};
     unsigned kind;
     PyObject *given;
     uint64_t asked;
-    if (!PyArg_ParseTuple(args, "IO:place", &kind, &given) || number(given, "a position or rank", &asked))
+    if (!PyArg_ParseTuple(args, "IO:find", &kind, &given) || number(given, "a position or rank", &asked))
         return NULL;
-    const uint32_t status = bitm_shards_find(&((ShardSet *)self)->shards.counts, kind, asked, &place);
+    const uint32_t status = bitm_shards_find(&((ShardSet *)self)->shards.counts, kind, asked, &location);
     if (status == BITM_OK)
-        return Py_BuildValue("nK", (Py_ssize_t)place.shard, (unsigned long long)place.within);
+        return Py_BuildValue("nK", (Py_ssize_t)location.shard, (unsigned long long)location.within);
     return status == BITM_NONE ? Py_NewRef(Py_None) : wrong();
 }
 
@@ -141,7 +141,7 @@ static PyMethodDef methods[] = {
     METHOD("select", set_select, METH_FASTCALL, "($self, one, rank, /)", "A selection."),
     METHOD("next", set_next, METH_FASTCALL, "($self, one, position, /)", "The next bit."),
     METHOD("previous", set_previous, METH_FASTCALL, "($self, one, position, /)", "The previous bit."),
-    METHOD("place", set_place, METH_VARARGS, "($self, kind, number, /)", "Which shard."),
+    METHOD("find", set_find, METH_VARARGS, "($self, kind, number, /)", "Which shard."),
     METHOD("needed", set_needed, METH_VARARGS, "($self, kind, queries, /)",
            "Shards that a list reads, and that are not put."),
     METHOD("rank_list", set_rank_list, METH_FASTCALL, "($self, one, queries, /)", "Ranks."),

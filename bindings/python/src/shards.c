@@ -12,10 +12,10 @@ static uint32_t mark_each(const struct bitm_prefixes *counts, uint32_t kind, con
         const size_t most = queries->len - at < BLOCK ? queries->len - at : BLOCK,
                      found = integers_load(queries, at, most, in);
         for (size_t i = 0; i < found; i++) {
-            struct bitm_shard_place place = {0, 0};
-            const uint32_t status = bitm_shards_find(counts, kind, in[i], &place);
+            struct bitm_shard_location location = {0, 0};
+            const uint32_t status = bitm_shards_find(counts, kind, in[i], &location);
             if (status == BITM_OK)
-                marks[place.shard] = 1;
+                marks[location.shard] = 1;
             else if (status != BITM_NONE)
                 return BITM_WRONG;
         }

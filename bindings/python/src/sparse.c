@@ -229,11 +229,11 @@ static PyGetSetDef attributes[] = {
 
 #define SPARSE_DOC                                                                                                     \
     "SparseBits(positions, length=None)\n--\n\n"                                                                       \
-    "Bits of which few are 1 bits, in one block of memory: the positions of the 1 bits, each greater than\n"           \
+    "Bits with few 1 bits, in one block of memory: the positions of the 1 bits, each greater than\n"                   \
     "the one before it, and how many bits there are: up to the last 1 bit, where it is not given.\n\n"                 \
     "A 1 bit takes about 2.6 + log2(n / m) bits where there are m among n. ValueError where a position is\n"           \
     "not above the one before it, or not below the length: it says which.\n\n"                                         \
-    "The queries are those of an Index." EXAMPLE("bits = SparseBits([3, 100, 101, 4000], 5000)")                       \
+    "It has the queries of an Index." EXAMPLE("bits = SparseBits([3, 100, 101, 4000], 5000)")                          \
         THEN("bits[100], bits.rank(101), bits.select0(3), len(bits)") PRINTS("(True, 2, 4, 5000)")
 
 static PyType_Slot slots[] = {VALUE_SLOTS(SPARSE_DOC, sparse_init, methods, attributes, sparse_repr),

@@ -353,11 +353,11 @@ static PyGetSetDef attributes[] = {
 #define STRINGS_DOC                                                                                                    \
     "Strings(strings, *, percent=100, seed=None, progress=None)\n--\n\n"                                               \
     "Strings, each with a number of its own below how many there are, in one block of memory: a minimal\n"             \
-    "perfect hash and the strings, so that what is none of them has no number.\n\n"                                    \
+    "perfect hash and the strings, so that any other string has no number.\n\n"                                        \
     "A string is bytes, or a str as its UTF-8, and comes back as bytes; it takes these and about 67 bits.\n\n"         \
     "percent is how many bits the levels have for each 100 strings; seed is the key of their hashes,\n"                \
     "SipHash-1-3: where it is not given 0, or 1 if that gives two strings one hash. progress is called as\n"           \
-    "that of a PerfectHash. ValueError where strings are equal: it says which." EXAMPLE(                               \
+    "for a PerfectHash. ValueError where strings are equal: it says which." EXAMPLE(                                   \
         "names = Strings(['ada', 'bob', 'eve'])")                                                                      \
         THEN("'bob' in names, 'bo' in names, names[names.find('eve')], len(names)") PRINTS("(True, False, b'eve', 3)")
 

@@ -205,7 +205,7 @@ static PyMethodDef methods[] = {
            "($type, numbers, letters, step=32, *, progress=None)",
            "The index of a list of numbers that are below `letters`, or of an array. A pattern is then such a list "
            "too, and a part of the text a list. A word is kept for each letter of the alphabet; ValueError where a "
-           "number is not below `letters`: it says which. progress is called as that of TextIndex." EXAMPLE(
+           "number is not below `letters`: it says which. progress is called as for TextIndex." EXAMPLE(
                "index = TextIndex.of_letters([1, 0, 2000, 0, 2000, 0], letters=2001)")
                THEN("index.find_all([0, 2000]), index[4:6]") PRINTS("([1, 3], [2000, 0])")),
     VALUE_METHODS("TextIndex(b'banana')"),
@@ -221,11 +221,11 @@ static PyGetSetDef attributes[] = {
 
 #define TEXT_DOC                                                                                                       \
     "TextIndex(text, step=32, *, progress=None)\n--\n\n"                                                               \
-    "The index of a text, a str or bytes, by which a pattern is counted in a time that does not depend\n"              \
-    "on the text's length. The text is not needed any more: `index[from:to]` is a part of it.\n\n"                     \
-    "A str is taken as its UTF-8: positions, lengths and parts are those of bytes, and a part is bytes.\n"             \
+    "The index of a text, a str or bytes. The time to count a pattern in it does not depend on the text's\n"           \
+    "length. The text is not needed any more: `index[from:to]` is a part of it.\n\n"                                   \
+    "A str is taken as its UTF-8: positions and lengths count bytes, and a part is bytes.\n"                           \
     "A str with a lone surrogate has no UTF-8: UnicodeEncodeError.\n\n"                                                \
-    "Each `step` bytes a position is kept: the fewer, the less memory, and the longer it takes to find a\n"            \
+    "A position is kept each `step` bytes: a larger step takes less memory, and more time to find a\n"                 \
     "position or a part.\n\n"                                                                                          \
     "Building takes linear time, and eight bytes for each of the text while it works. progress(done,\n"                \
     "total) is called after each of its two steps, which are long: (1, 2) and (2, 2).\n\n"                             \

@@ -147,7 +147,7 @@ static int grown(Memory *it, const uint8_t *bytes, size_t bytes_len, const uint6
     return refuse(status == BITM_UNSORTED ? "the words do not rise" : "the starts are those of no words");
 }
 
-/* trie_of_sorted(class, bytes, starts): a trie of words that rise, one after another in bytes, and where each begins
+/* trie_of_sorted(class, bytes, starts): a trie of ascending words, one after another in bytes, and where each begins
  * and the last one ends. */
 PyObject *trie_of_sorted(PyObject *module, PyObject *args)
 {
@@ -306,7 +306,7 @@ static PyMethodDef methods[] = {
           "The parent of a node; None at the root and where there is no such node." OF(".parent(3)") PRINTS("2")),
     PLAIN(degree, "How many children a node has; None where there is no such node." OF(".degree(0)") PRINTS("2")),
     PLAIN(children,
-          "The children of a node, by rising labels, as a range, for they follow one another; empty where there "
+          "The children of a node, by ascending labels, as a range, for they follow one another; empty where there "
           "is no such node." OF(".children(0)") PRINTS("range(1, 3)")),
     METHOD("check", trie_check, METH_NOARGS, "($self, /)",
            "Whether the block is as it was written and holds a trie: looks at all of it." OF(".check()")
@@ -325,9 +325,9 @@ static PyGetSetDef attributes[] = {
 #define TRIE_DOC                                                                                                       \
     "Trie(degrees, labels, width=8, ends=None)\n--\n\n"                                                                \
     "A trie in one block of memory: a tree, from the degree of each node, in which each node but the root\n"           \
-    "has a label, and the labels of the children of a node rise, so that a word leads to at most one\n"                \
+    "has a label, and the labels of the children of a node ascend, so that a word leads to at most one\n"              \
     "node.\n\n"                                                                                                        \
-    "`labels` has those of the nodes from 1 on, bytes or numbers of `width` bits each, 1 to 63; `ends`, a\n"           \
+    "`labels` has the labels of nodes 1 and up, bytes or numbers of `width` bits each, 1 to 63; `ends`, a\n"           \
     "BitVector or words, has a bit for each node that says whether a word ends there, or is None.\n\n"                 \
     "Words are bytes, a str as UTF-8, or lists of labels. `word in trie` says whether it leads to a node\n"            \
     "at which a word ends: never where there are no ends.\n\n"                                                         \

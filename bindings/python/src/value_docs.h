@@ -15,7 +15,7 @@
     "2**bits is taken for a key.\n\n"                                                                                  \
     "percent bits are tried for each 100 keys at each level: 100 takes least memory, 200 less time. The\n"             \
     "same keys and seed give the same numbers; without a seed it is 0, or 1 where the hashes of two keys\n"            \
-    "are equal by 0. ValueError where keys are equal: it says which. hash='blake2b' is that of files of\n"             \
+    "are equal by 0. ValueError where keys are equal: it says which. hash='blake2b' is the hash of files of\n"         \
     "version 0.2.0.\n\n"                                                                                               \
     "With tries, 1 to 256, each word has the best of that many seeds: with 64 a key takes 2.3 bits beside\n"           \
     "its fingerprint, for 2.8 without. All is in one block of memory then, which is also its file.\n\n"                \

@@ -53,11 +53,11 @@
     "The position of the last 0 bit at or before a position, which may be past the end, or None. Reads each word on "  \
     "the way." EXAMPLE("BitVector.from_bits('0101101').previous_zero(100)") PRINTS("5")
 #define VECTOR_ONES                                                                                                    \
-    "The positions of the 1 bits in a range, rising, or falling. They are looked up some at a time: a change of the "  \
-    "vector is seen a little later." EXAMPLE("list(BitVector.from_bits('0101101').ones(2, reverse=True))")             \
+    "The positions of the 1 bits in a range, ascending, or descending. They are looked up some at a time: a change "   \
+    "of the vector is seen a little later." EXAMPLE("list(BitVector.from_bits('0101101').ones(2, reverse=True))")      \
         PRINTS("[6, 4, 3]")
 #define VECTOR_ZEROS                                                                                                   \
-    "The positions of the 0 bits in a range, rising, or falling, as ones." EXAMPLE(                                    \
+    "The positions of the 0 bits in a range, ascending, or descending, as ones." EXAMPLE(                              \
         "list(BitVector.from_bits('0101101').zeros(0, 5))") PRINTS("[0, 2]")
 #define VECTOR_ANY "Whether there is a 1 bit." EXAMPLE("BitVector(7).any()") PRINTS("False")
 #define VECTOR_ALL "Whether there is no 0 bit." EXAMPLE("BitVector.from_bits('111').all()") PRINTS("True")

@@ -19,8 +19,8 @@ def read(folder, mapped):
     assert index.check() and sequence.check(), folder
     assert list(index) == BITS and list(sequence) == NUMBERS, folder
     for kind, select in ((True, index.select_list), (False, index.select0_list)):
-        places = [i for i, bit in enumerate(BITS) if bit == kind]
-        assert select(range(len(places) + 1)) == [*places, None], folder
+        positions = [i for i, bit in enumerate(BITS) if bit == kind]
+        assert select(range(len(positions) + 1)) == [*positions, None], folder
 
 
 if __name__ == "__main__":

@@ -186,8 +186,8 @@ def test_wrong_tables():
         for rank in range(0, 9000, 37):
             for call in (index.select, index.select0, lambda it: index.select_list([it])[0]):
                 try:
-                    place = call(rank)
-                    assert place is None or index[place] == (call != index.select0)
+                    position = call(rank)
+                    assert position is None or index[position] == (call != index.select0)
                 except WrongTables:
                     refused += 1
             try:

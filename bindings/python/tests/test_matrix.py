@@ -32,9 +32,9 @@ def as_plain_lists(matrix, plain):
     ends = sorted({0, n, *(draw.randrange(n + 1) for _ in range(8))})
     assert len(matrix) == n and list(matrix) == plain and matrix[:] == plain and matrix[::-3] == plain[::-3] and matrix.check()
     for number in asked:
-        places = [i for i, it in enumerate(plain) if it == number]
-        assert matrix.count(number) == len(places) and (number in matrix) is bool(places)
-        assert [matrix.select(number, rank) for rank in range(len(places) + 1)] == [*places, None]
+        indexes = [i for i, it in enumerate(plain) if it == number]
+        assert matrix.count(number) == len(indexes) and (number in matrix) is bool(indexes)
+        assert [matrix.select(number, rank) for rank in range(len(indexes) + 1)] == [*indexes, None]
         for end in ends:
             assert matrix.rank(number, end) == plain[:end].count(number)
     for start in ends:

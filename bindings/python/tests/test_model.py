@@ -154,22 +154,22 @@ def test_index(bits, log2, data):
     cut = data.draw(st.integers(0, len(bits)))
     index = bitm.Index(bitm.BitVector.from_bits(bits), cut, sample_log2=log2)
     bits = bits[:cut]
-    places = [[i for i, bit in enumerate(bits) if bit == kind] for kind in (0, 1)]
+    positions = [[i for i, bit in enumerate(bits) if bit == kind] for kind in (0, 1)]
     asked = list(range(len(bits) + 1))
-    ranks = [[bisect.bisect_left(places[kind], i) for i in asked] for kind in (0, 1)]
+    ranks = [[bisect.bisect_left(positions[kind], i) for i in asked] for kind in (0, 1)]
     assert ([index.rank(i) for i in asked], [index.rank0(i) for i in asked]) == (ranks[1], ranks[0])
     assert (index.rank_list(asked), index.rank0_list(asked)) == (ranks[1], ranks[0])
     for kind, one, many in ((1, index.select, index.select_list), (0, index.select0, index.select0_list)):
-        wanted = [places[kind][i] if i < len(places[kind]) else None for i in asked]
+        wanted = [positions[kind][i] if i < len(positions[kind]) else None for i in asked]
         assert [one(i) for i in asked] == wanted == many(asked)
         assert many(asked, missing=7) == [7 if it is None else it for it in wanted]
     for kind, following, before in ((1, index.next_one, index.previous_one), (0, index.next_zero, index.previous_zero)):
         for i in asked[:80]:
-            assert following(i) == next((at for at in places[kind] if at >= i), None)
-            assert before(i) == next((at for at in reversed(places[kind]) if at <= i), None)
+            assert following(i) == next((at for at in positions[kind] if at >= i), None)
+            assert before(i) == next((at for at in reversed(positions[kind]) if at <= i), None)
     start, stop = data.draw(st.integers(0, len(bits) + 2)), data.draw(st.integers(0, len(bits) + 2))
     for kind, walk in ((1, index.ones), (0, index.zeros)):
-        wanted = [at for at in places[kind] if start <= at < stop]
+        wanted = [at for at in positions[kind] if start <= at < stop]
         assert (list(walk(start, stop)), list(walk(start, stop, reverse=True))) == (wanted, wanted[::-1])
     assert index.check() and list(index) == [bool(it) for it in bits] and list(index[::-2]) == [bool(it) for it in bits[::-2]]
     again = pickle.loads(pickle.dumps(index, 5))
@@ -202,8 +202,8 @@ def test_buffers_of_every_kind(kind, step, values, offset):
         return
     found = index.rank_list(view)
     assert found.dtype == numpy.uint64 and found.tolist() == [index.rank(it) for it in values]
-    places = index.select_list(view)
-    assert places.tolist() == [index.select(it) for it in values]
+    positions = index.select_list(view)
+    assert positions.tolist() == [index.select(it) for it in values]
     assert index.select_list(view, missing=2**64 - 1).tolist() == [2**64 - 1 if (at := index.select(it)) is None else at for it in values]
     if any(index.select(it) is None for it in values):
         with pytest.raises(IndexError):
@@ -239,9 +239,9 @@ def test_sequence(numbers, data):
         assert (sequence.rank(value), value in sequence, sequence.count(value)) == (at, value in numbers, numbers.count(value))
         assert list(sequence.from_value(value)) == numbers[at:]
         seeks(sequence, numbers, value, data.draw(st.integers(0, 5)))
-    places = data.draw(st.lists(st.integers(0, len(numbers) - 1), max_size=20)) if numbers else []
+    indexes = data.draw(st.lists(st.integers(0, len(numbers) - 1), max_size=20)) if numbers else []
     for kind in (list, iter, lambda it: numpy.array(it, "u2"), lambda it: array.array("q", it)):
-        assert list(sequence.get_list(kind(places))) == [numbers[it] for it in places]
+        assert list(sequence.get_list(kind(indexes))) == [numbers[it] for it in indexes]
     values = [*numbers[:20], 0, 2**64 - 1]
     assert sequence.first_at_least_list(values) == [sequence.first_at_least(it) for it in values]
     assert sequence.last_at_most_list(values) == [sequence.last_at_most(it) for it in values]

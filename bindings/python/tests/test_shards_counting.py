@@ -105,14 +105,14 @@ def test_counts_and_indexes_that_do_not_fit_are_refused():
             made.put(shard, value)
     made.put(0, index)
     made.put(0, bitm.Index(b"\xff"))  # the first one stays
-    assert made.rank(0, 3) == 3 and made.needed(2, [0, 1]) == [] and made.place(2, 3) is None
+    assert made.rank(0, 3) == 3 and made.needed(2, [0, 1]) == [] and made.find(2, 3) is None
     for bits, ones in [([], []), ([0, 3], [0]), ([0], []), ([7, 3], [0, 0])]:
         other = ShardSet(array.array("Q", bits), array.array("Q", ones))
         for call in (lambda: other.rank(1, 2), lambda: other.rank_list(1, [2])):
             with pytest.raises((bitm.WrongTables, IndexError)):
                 call()
         with contextlib.suppress(bitm.WrongTables):
-            assert other.needed(2, [2]) == [] and other.place(2, 2) is None
+            assert other.needed(2, [2]) == [] and other.find(2, 2) is None
     for bad in ([1], (numbers,), (b"1", b"1"), ([0, 3], [0, 0])):
         with pytest.raises(TypeError):
             ShardSet(*bad)

@@ -108,7 +108,7 @@ def test_a_manifest_of_an_index_with_wrong_tables_is_found_by_check(tmp_path):
     manifest = json.loads((tmp_path / "shards.json").read_text())
     manifest["shards"][1]["words"] = bitm.shards.words_sum_of(bitm.load(path))
     (tmp_path / "shards.json").write_text(json.dumps(manifest))
-    with pytest.raises(ShardError, match="shard 1 .* its tables are not those of its words"):
+    with pytest.raises(ShardError, match="shard 1 .* its tables do not match its words"):
         Shards(tmp_path).check()
 
 

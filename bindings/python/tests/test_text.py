@@ -24,13 +24,13 @@ def numbered(text, **how):
     return TextIndex.over(as_bytes(of_text(text, **how)))
 
 
-def places(text, pattern):
+def positions(text, pattern):
     """The positions at which the pattern stands, the end too where it is empty."""
     return [at for at in range(len(text) - len(pattern) + 1) if text[at : at + len(pattern)] == pattern]
 
 
 def as_plain(index, text, pattern):
-    found = places(text, pattern)
+    found = positions(text, pattern)
     in_order = sorted(found, key=lambda at: text[at:])
     assert index.count(pattern) == len(found) and (pattern in index) is bool(found)
     assert index.find_all(pattern) == found and index.locate(pattern) == in_order

@@ -68,7 +68,7 @@ macro_rules! answers {
 }
 pub(crate) use answers;
 
-/// Calls of an owner that are those of its view.
+/// Calls that an owner passes on to its view.
 macro_rules! by_view {
     ($kind:ident; $(
         $(#[$attribute:meta])*

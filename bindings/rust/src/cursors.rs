@@ -38,8 +38,8 @@ impl<O> Sequence<O> {
 }
 
 impl<'a> Cursor<'a> {
-    /// Moves to the first number from here on that is at least `value`, and returns it; stays where the number here is.
-    /// `None` where each is less: it is at the end then. One proved call.
+    /// Moves to the first number from here on that is at least `value`, and returns it; stays where the number here
+    /// already is. `None` where each is less: it is at the end then. One proved call.
     ///
     /// ```
     /// let primes = bitm_proved::EliasFano::build(&[2, 3, 5, 7])?;
@@ -53,8 +53,8 @@ impl<'a> Cursor<'a> {
         sure(self.checked_next_geq(value))
     }
 
-    /// The numbers that stand in the sequence of each cursor, from the cursors on: rising, each once. Panics where there
-    /// is no cursor. The shortest sequence is best first.
+    /// The numbers that stand in the sequence of each cursor, from the cursors on: ascending, each once. Panics where
+    /// there is no cursor. The shortest sequence is best first.
     ///
     /// ```
     /// use bitm_proved::{Cursor, EliasFano};

@@ -86,7 +86,7 @@ pub trait CombinedSamplingDensity: Copy {
     fn divide(index: usize, density: Self::SamplingDensity) -> usize {
         index >> Self::items_per_sample_log2(density)
     }
-    /// Whether an item is in the second half of those of its sample. Tested, not proved.
+    /// Whether an item is in the second half of the items of its sample. Tested, not proved.
     ///
     /// ```
     /// use bitm_proved::{CombinedSamplingDensity, ConstCombinedSamplingDensity};

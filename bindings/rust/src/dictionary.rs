@@ -42,7 +42,7 @@ by_view! { Dictionary;
     /// ```
     pub fn is_empty(&self) -> bool;
 
-    /// The words of the block, which are those of a file of this dictionary.
+    /// The words of the block, which is also the file of this dictionary.
     ///
     /// ```
     /// use bitm_proved::Dictionary;
@@ -77,7 +77,7 @@ by_view! { Dictionary;
     /// ```
     pub fn check(&self) -> bool;
 
-    /// The numbers of a list of keys; how many of them are none, for which `NO_ANSWER` stands.
+    /// The numbers of a list of keys; returns how many of them are no keys, written as `NO_ANSWER`.
     ///
     /// ```
     /// use bitm_proved::{Dictionary, NO_ANSWER};

@@ -35,7 +35,7 @@ impl fmt::Display for NoMemory {
 
 impl Error for NoMemory {}
 
-/// The tables are not those of the words, or the parts not those of a sequence, a hash, a tree or a trie.
+/// The tables do not match the words, or the parts form no sequence, hash, tree or trie.
 ///
 /// ```
 /// use bitm_proved::{IndexView, Queries, WrongTables};
@@ -49,7 +49,7 @@ pub struct WrongTables;
 
 impl fmt::Display for WrongTables {
     fn fmt(&self, f: &mut fmt::Formatter<'_>) -> fmt::Result {
-        f.write_str("the tables are not those of the words")
+        f.write_str("the tables do not match the words")
     }
 }
 
@@ -99,14 +99,14 @@ pub enum StoredError {
         /// What was opened.
         wanted: Kind,
     },
-    /// A part is not as long as that of the words.
+    /// A part is not as long as the words need.
     ///
     /// ```
     /// use bitm_proved::{Index, Queries, StoredError};
     /// assert_eq!(Index::build([7u64]).to_stored(65).err(), Some(StoredError::WrongLength)); // 65 bits of 64
     /// ```
     WrongLength,
-    /// The tables are not those of the words, or the parts not those of a sequence: they are not stored.
+    /// The tables do not match the words, or the parts form no sequence: they are not stored.
     ///
     /// ```
     /// use bitm_proved::{IndexView, StoredError};
@@ -115,7 +115,7 @@ pub enum StoredError {
     /// # Ok::<(), bitm_proved::WrongTables>(())
     /// ```
     WrongTables,
-    /// A block has 16 sections already, or a length does not fit: that of the items of a section, or of the block with it.
+    /// A block has 16 sections already, or a length does not fit: of the items of a section, or of the block with it.
     ///
     /// ```
     /// use bitm_proved::{sections, StoredError, Tree};
@@ -195,7 +195,7 @@ pub enum ListError {
         /// How many the second has.
         second: usize,
     },
-    /// The tables are not those of the words; `WRONG_TABLES` stands for the answers that it shows in. A list of the
+    /// The tables do not match the words; `WRONG_TABLES` stands for the answers that it shows in. A list of the
     /// numbers at indices stops at the first of these.
     ///
     /// ```
@@ -241,7 +241,7 @@ pub enum OpenError {
     /// assert!(matches!(none, Err(OpenError::System(_))));
     /// ```
     System(std::io::Error),
-    /// The file is none of this format, or of another kind.
+    /// The file is not of this format, or of another kind.
     ///
     /// ```
     /// use bitm_proved::{OpenError, StoredError};

@@ -90,7 +90,7 @@ pub(crate) fn init(words: &mut [u64], begin: usize, value: u64, width: u8) -> Op
     change(words, begin, width, (mask, value & mask), add)
 }
 
-/// Negates the bits at the 1 bits of a number, of which no bit is masked.
+/// Negates the bits at the 1 bits of a number, whose bits are not masked.
 #[inline(always)]
 pub(crate) fn flip(words: &mut [u64], begin: usize, value: u64, width: u8) -> Option<()> {
     let negate = |word, _, value| word ^ value;

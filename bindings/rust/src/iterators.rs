@@ -126,7 +126,7 @@ impl<'a, const B: bool> BitBIterator<'a, B> {
         }
     }
 
-    /// The next of the last word, of which the other end has taken some.
+    /// The next bit of the last word, from which the other end has taken some.
     #[cold]
     fn next_of_last(&mut self) -> Option<usize> {
         if self.last == 0 {
@@ -137,7 +137,7 @@ impl<'a, const B: bool> BitBIterator<'a, B> {
         Some(self.last_at + bit)
     }
 
-    /// The last of the first word, of which the other end has taken some.
+    /// The last bit of the first word, from which the other end has taken some.
     #[cold]
     fn last_of_first(&mut self) -> Option<usize> {
         if self.first == 0 {

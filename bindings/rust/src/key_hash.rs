@@ -35,7 +35,7 @@ by_view! { KeyHash;
     /// ```
     pub fn is_empty(&self) -> bool;
 
-    /// The words of the block, which are those of a file of this hash.
+    /// The words of the block, which is also the file of this hash.
     ///
     /// ```
     /// use bitm_proved::KeyHash;
@@ -79,7 +79,7 @@ by_view! { KeyHash;
 }
 
 impl<O> KeyHash<O> {
-    /// The numbers of a list of keys; how many have none, which `NO_ANSWER` stands for.
+    /// The numbers of a list of keys; returns how many have none, written as `NO_ANSWER`.
     ///
     /// ```
     /// use bitm_proved::{KeyHash, NO_ANSWER};

@@ -120,7 +120,7 @@ pub struct KeyOptions {
     /// ```
     pub tries: Option<u16>,
     /// The seed by which keys are hashed; by default the first of 1, 2, 3 and 4 that gives no two keys one hash. Python
-    /// starts with 0, so by `Some(0)` the block is that of Python's `PerfectHash(keys)`.
+    /// starts with 0, so with `Some(0)` the block equals the one of Python's `PerfectHash(keys)`.
     ///
     /// ```
     /// use bitm_proved::{KeyHash, KeyOptions};

@@ -122,7 +122,7 @@ by_view! { WaveletMatrix;
     /// ```
     pub fn width(&self) -> u32;
 
-    /// The words of the block, which are those of a file of this list.
+    /// The words of the block, which is also the file of this list.
     ///
     /// ```
     /// use bitm_proved::WaveletMatrix;
@@ -140,9 +140,9 @@ by_view! { WaveletMatrix;
     /// ```
     pub fn check(&self) -> bool;
 
-    /// Writes the distinct numbers of a range that are at least `least`, rising, and how often each is there: as many as
-    /// there is room for; and says how many these are. So go on at the last one and 1. `None` exactly where there is no
-    /// such range. Where the tables are wrong, items may have been written.
+    /// Writes the distinct numbers of a range that are at least `least`, ascending, and how often each is there, as
+    /// many as fit; returns how many it wrote. Go on at the last one plus 1. `None` exactly where there is no such
+    /// range. Where the tables are wrong, items may have been written.
     ///
     /// ```
     /// let made = bitm_proved::WaveletMatrix::build(&[3, 1, 4, 1, 5, 1])?;
@@ -156,8 +156,8 @@ by_view! { WaveletMatrix;
     ) -> Result<Option<usize>, ListError>;
 
     /// Writes the most frequent numbers of a range, the most frequent first and of equally frequent ones the least, and
-    /// how often each is there: as many as there is room for, or all; and says how many these are. `None` exactly where
-    /// there is no such range. Where the tables are wrong, items may have been written.
+    /// how often each is there, as many as fit; returns how many it wrote. `None` exactly where there is no such range.
+    /// Where the tables are wrong, items may have been written.
     ///
     /// ```
     /// let made = bitm_proved::WaveletMatrix::build(&[3, 1, 4, 1, 5, 1])?;
@@ -170,9 +170,9 @@ by_view! { WaveletMatrix;
         &self, range: Range<usize>, numbers: &mut [u64], counts: &mut [usize]
     ) -> Result<Option<usize>, ListError>;
 
-    /// Writes the numbers that are in both ranges and at least `least`, each once, rising: as many as there is room for;
-    /// and says how many these are. So go on at the last one and 1. `None` exactly where there is no such range. In no
-    /// more turns than the first range has numbers: so give the shorter one first. Where the tables are wrong, numbers
+    /// Writes the numbers that are in both ranges and at least `least`, each once, ascending, as many as fit; returns
+    /// how many it wrote. Go on at the last one plus 1. `None` exactly where there is no such range. Takes at most as
+    /// many turns as the first range has numbers, so give the shorter one first. Where the tables are wrong, numbers
     /// may have been written.
     ///
     /// ```
@@ -195,8 +195,8 @@ by_view! { WaveletMatrix;
     /// ```
     pub fn get_list<'b>(&self, indices: &[usize], out: &'b mut [u64]) -> Result<&'b [u64], ListError>;
 
-    /// How many of the numbers before `indices[i]` are `numbers[i]`; of how many there is no such index, which
-    /// `NO_ANSWER` stands for.
+    /// How many of the numbers before `indices[i]` are `numbers[i]`; returns of how many there is no such index,
+    /// written as `NO_ANSWER`.
     ///
     /// ```
     /// use bitm_proved::{WaveletMatrix, NO_ANSWER};
@@ -206,8 +206,8 @@ by_view! { WaveletMatrix;
     /// ```
     pub fn rank_list(&self, numbers: &[u64], indices: &[usize], out: &mut [usize]) -> Result<usize, ListError>;
 
-    /// The index of `numbers[i]` with `ranks[i]` such numbers before it; how many there are not, which `NO_ANSWER`
-    /// stands for.
+    /// The index of `numbers[i]` with `ranks[i]` such numbers before it; returns how many do not exist, written as
+    /// `NO_ANSWER`.
     ///
     /// ```
     /// use bitm_proved::{WaveletMatrix, NO_ANSWER};

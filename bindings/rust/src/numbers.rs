@@ -128,9 +128,9 @@ by_view! { Sequence;
     /// ```
     pub fn is_empty(&self) -> bool;
 
-    /// Whether the parts are those of a sequence; and of a block whether it is as it was written, by the checksum of
-    /// each section. A file of format version 2 has no checksum of its numbers: there `check` finds only what does not
-    /// fit together, and other numbers may pass.
+    /// Whether the parts form a sequence; and of a block whether it is as it was written, by the checksum of each
+    /// section. A file of format version 2 has no checksum of its numbers: there `check` finds only what does not fit
+    /// together, and other numbers may pass.
     ///
     /// ```
     /// use bitm_proved::{EliasFano, Sequence};
@@ -149,7 +149,7 @@ by_view! { Sequence;
     /// ```
     pub fn get_list<'b>(&self, indexes: &[usize], out: &'b mut [u64]) -> Result<&'b [u64], ListError>;
 
-    /// The successors of a list of values; how many have none, which `NO_ANSWER` stands for.
+    /// The successors of a list of values; returns how many have none, written as `NO_ANSWER`.
     ///
     /// ```
     /// use bitm_proved::{EliasFano, NO_ANSWER};
@@ -159,7 +159,7 @@ by_view! { Sequence;
     /// ```
     pub fn first_at_least_list(&self, values: &[u64], out: &mut [usize]) -> Result<usize, ListError>;
 
-    /// The predecessors of a list of values; how many have none, which `NO_ANSWER` stands for.
+    /// The predecessors of a list of values; returns how many have none, written as `NO_ANSWER`.
     ///
     /// ```
     /// use bitm_proved::{EliasFano, NO_ANSWER};

@@ -17,7 +17,7 @@ use core::ops::Range;
 /// ```
 pub const NO_ANSWER: usize = usize::MAX;
 
-/// In a list of answers: the tables are not those of the words.
+/// In a list of answers: the tables do not match the words.
 ///
 /// ```
 /// use bitm_proved::{IndexView, ListError, Queries, WRONG_TABLES};
@@ -31,7 +31,7 @@ pub const WRONG_TABLES: usize = usize::MAX - 1;
 /// The queries of every index beside rank and selection. Each is one proved call; iterators go over the words
 /// alone, and are tested, not proved.
 ///
-/// A `checked_` form returns an error where the tables turn out not to be those of the words; the others panic then.
+/// A `checked_` form returns an error where the tables turn out not to match the words; the others panic then.
 ///
 /// ```
 /// use bitm_proved::{Index, Queries};
@@ -200,7 +200,7 @@ pub trait Queries {
         self.query(|view| view.count_of(false))
     }
 
-    /// Ranks of a list of positions; how many have none, which `NO_ANSWER` stands for.
+    /// Ranks of a list of positions; returns how many have none, written as `NO_ANSWER`.
     ///
     /// ```
     /// use bitm_proved::{Index, Queries, NO_ANSWER};
@@ -224,7 +224,7 @@ pub trait Queries {
         self.query(|view| view.list(false, false, positions, out))
     }
 
-    /// Positions of the 1 bits with the ranks of a list; how many have none, which `NO_ANSWER` stands for.
+    /// Positions of the 1 bits with the ranks of a list; returns how many have none, written as `NO_ANSWER`.
     ///
     /// ```
     /// use bitm_proved::{Index, Queries, NO_ANSWER};
@@ -340,8 +340,8 @@ pub trait Queries {
     /// samples of fewer bits are built anew.
     ///
     /// # Errors
-    /// `WrongLength` where there are fewer bits, `WrongTables` where all bits are stored and the tables are not those
-    /// of the words, and `NoMemory` where memory is refused.
+    /// `WrongLength` where there are fewer bits, `WrongTables` where all bits are stored and the tables do not match
+    /// the words, and `NoMemory` where memory is refused.
     ///
     /// ```
     /// use bitm_proved::{Index, Queries, Rank, StoredError};

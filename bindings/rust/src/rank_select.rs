@@ -25,8 +25,8 @@ use core::ops::Deref;
 /// [`view`]: crate::Queries::view
 ///
 /// Words and tables may be written: then an answer is inside all the same, or there is none, or a panic says that the
-/// tables are not those of the words. The bit vector has to deref to the same words each time, as vectors and slices
-/// do; else the same holds.
+/// tables do not match the words. The same holds of a bit vector that does not deref to the same words each time, as
+/// vectors and slices do.
 pub struct RankSelect101111<Select = BinaryRankSearch, Select0 = BinaryRankSearch, BV = Box<[u64]>> {
     /// The words.
     ///
@@ -42,7 +42,7 @@ pub struct RankSelect101111<Select = BinaryRankSearch, Select0 = BinaryRankSearc
     /// assert_eq!(*bits.l1ranks, [0]); // one block, before which there are no bits
     /// ```
     pub l1ranks: Box<[usize]>,
-    /// For each lower block of 2048 bits: the 1 bits before it in its upper block, and those of its basic blocks.
+    /// For each lower block of 2048 bits: the 1 bits before it in its upper block, and the 1 bits of its basic blocks.
     ///
     /// ```
     /// let (bits, _) = bitm_proved::ArrayWithRank101111::build(vec![7; 40].into_boxed_slice());
@@ -234,7 +234,7 @@ impl<S: SelectForRank101111, S0: Select0ForRank101111, BV: Deref<Target = [u64]>
     }
 }
 
-/// Rank alone. Its answers are those of the original's structure of this name; its tables are those of the index.
+/// Rank alone. It answers as the original's structure of this name, from the tables of the index.
 ///
 /// ```
 /// use bitm_proved::RankSimple;

@@ -48,7 +48,7 @@ by_view! { SeededHash;
     /// ```
     pub fn is_empty(&self) -> bool;
 
-    /// The words of the block, which are those of a file of this hash.
+    /// The words of the block, which is also the file of this hash.
     ///
     /// ```
     /// use bitm_proved::SeededHash;
@@ -74,7 +74,7 @@ by_view! { SeededHash;
     /// ```
     pub fn check(&self) -> bool;
 
-    /// The numbers of a list of hashes; how many have none, which `NO_ANSWER` stands for.
+    /// The numbers of a list of hashes; returns how many have none, written as `NO_ANSWER`.
     ///
     /// ```
     /// let (numbers, mut out) = (bitm_proved::SeededHash::build(vec![5])?, [9]);
@@ -100,8 +100,8 @@ by_view! { SeededHash;
         width: u32,
     ) -> Result<bool, ListError>;
 
-    /// The numbers of a list of keys, by their hashes and fingerprints; how many have none, which `NO_ANSWER` stands for.
-    /// It panics where `width` is above 64.
+    /// The numbers of a list of keys, by their hashes and fingerprints; returns how many have none, written as
+    /// `NO_ANSWER`. It panics where `width` is above 64.
     ///
     /// ```
     /// use bitm_proved::{SeededHash, NO_ANSWER};

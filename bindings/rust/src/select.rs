@@ -26,7 +26,7 @@ use core::fmt;
 /// assert_eq!((bits.select(2), bits.select_support().0), (3, 3));
 /// ```
 pub trait SelectForRank101111 {
-    /// The support for the words, of which `total_rank` bits are 1.
+    /// The support for the words, which have `total_rank` 1 bits.
     ///
     /// ```
     /// use bitm_proved::{ArrayWithRank101111, CombinedSampling, SelectForRank101111};
@@ -77,7 +77,7 @@ pub trait SelectForRank101111 {
     }
 }
 
-/// Selection of 0 bits in words with their two tables, which are those of the 1 bits.
+/// Selection of 0 bits in words with their two tables, which count the 1 bits.
 ///
 /// ```
 /// use bitm_proved::{BinaryRankSearch, Select0ForRank101111};
@@ -85,7 +85,7 @@ pub trait SelectForRank101111 {
 /// assert_eq!(finds.select0(&[0b1011], &[0], &[0x00C0_1803_0000_0000], 1), Some(4));
 /// ```
 pub trait Select0ForRank101111 {
-    /// The support for the words, of which `total_rank` bits are 1.
+    /// The support for the words, which have `total_rank` 1 bits.
     ///
     /// ```
     /// use bitm_proved::{ArrayWithRank101111, CombinedSampling, Select0ForRank101111};

@@ -126,7 +126,7 @@ by_view! { SparseBits;
     /// ```
     pub fn is_empty(&self) -> bool;
 
-    /// The words of the block, which are those of a file of these bits.
+    /// The words of the block, which is also the file of these bits.
     ///
     /// ```
     /// use bitm_proved::SparseBits;
@@ -153,7 +153,7 @@ by_view! { SparseBits;
     /// ```
     pub fn check(&self) -> bool;
 
-    /// The bits at a list of positions, as 0 and 1; how many of these are past the end, for which `NO_ANSWER` stands.
+    /// The bits at a list of positions, as 0 and 1; returns how many of these are past the end, written as `NO_ANSWER`.
     ///
     /// ```
     /// use bitm_proved::{SparseBits, NO_ANSWER};
@@ -163,8 +163,8 @@ by_view! { SparseBits;
     /// ```
     pub fn get_list(&self, positions: &[usize], out: &mut [usize]) -> Result<usize, ListError>;
 
-    /// How many 1 bits there are before each of a list of positions; how many of these are past the end, for which
-    /// `NO_ANSWER` stands.
+    /// How many 1 bits there are before each of a list of positions; returns how many of these are past the end,
+    /// written as `NO_ANSWER`.
     ///
     /// ```
     /// use bitm_proved::{SparseBits, NO_ANSWER};
@@ -184,7 +184,7 @@ by_view! { SparseBits;
     /// ```
     pub fn rank0_list(&self, positions: &[usize], out: &mut [usize]) -> Result<usize, ListError>;
 
-    /// The position of the 1 bit with each of a list of ranks; how many there are not, for which `NO_ANSWER` stands.
+    /// The position of the 1 bit with each of a list of ranks; returns how many do not exist, written as `NO_ANSWER`.
     ///
     /// ```
     /// use bitm_proved::{SparseBits, NO_ANSWER};

@@ -4,7 +4,7 @@ use crate::sys::strings::owned::Strings;
 use crate::sys::strings::StringsView;
 
 answers! { StringsView, Strings;
-    /// The number of a string; `None` where it is none of the strings. One proved call.
+    /// The number of a string; `None` for any other string. One proved call.
     ///
     /// ```
     /// let names = bitm_proved::Strings::build(&["ada", "bob"])?;
@@ -50,7 +50,7 @@ by_view! { Strings;
     /// ```
     pub fn is_empty(&self) -> bool;
 
-    /// The words of the block, which are those of a file of these strings.
+    /// The words of the block, which is also the file of these strings.
     ///
     /// ```
     /// use bitm_proved::Strings;

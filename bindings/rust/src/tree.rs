@@ -100,7 +100,7 @@ by_view! { Tree;
     /// ```
     pub fn is_empty(&self) -> bool;
 
-    /// The words of the block, which are those of a file of this tree.
+    /// The words of the block, which is also the file of this tree.
     ///
     /// ```
     /// use bitm_proved::Tree;
@@ -118,7 +118,7 @@ by_view! { Tree;
     /// ```
     pub fn check(&self) -> bool;
 
-    /// The parents of a list of nodes; how many have none, which `NO_ANSWER` stands for.
+    /// The parents of a list of nodes; returns how many have none, written as `NO_ANSWER`.
     ///
     /// ```
     /// use bitm_proved::{Tree, NO_ANSWER};
@@ -128,7 +128,7 @@ by_view! { Tree;
     /// ```
     pub fn parent_list(&self, nodes: &[usize], out: &mut [usize]) -> Result<usize, ListError>;
 
-    /// How many children each node of a list has; of how many there is none, which `NO_ANSWER` stands for.
+    /// How many children each node of a list has; returns for how many there is none, written as `NO_ANSWER`.
     ///
     /// ```
     /// use bitm_proved::{Tree, NO_ANSWER};
@@ -138,7 +138,7 @@ by_view! { Tree;
     /// ```
     pub fn degree_list(&self, nodes: &[usize], out: &mut [usize]) -> Result<usize, ListError>;
 
-    /// Child `ks[i]` of each node `nodes[i]` of a list; how many there are not, which `NO_ANSWER` stands for.
+    /// Child `ks[i]` of each node `nodes[i]` of a list; returns how many do not exist, written as `NO_ANSWER`.
     ///
     /// ```
     /// use bitm_proved::{Tree, NO_ANSWER};

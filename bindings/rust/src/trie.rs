@@ -107,7 +107,8 @@ answers! { TrieView, Trie;
     /// ```
     pub fn degree(&self, node: usize) -> Option<usize> = checked_degree;
 
-    /// The children of a node, which follow one another, by rising labels; none where there is no such node. Two proved calls.
+    /// The children of a node, which follow one another, by ascending labels; none where there is no such node. Two
+    /// proved calls.
     ///
     /// ```
     /// let trie = bitm_proved::Trie::build(&[2, 0, 1, 0], &[97, 98, 101], 8, &[14])?;
@@ -150,7 +151,7 @@ by_view! { Trie;
     /// ```
     pub fn has_ends(&self) -> bool;
 
-    /// The words of the block, which are those of a file of this trie.
+    /// The words of the block, which is also the file of this trie.
     ///
     /// ```
     /// use bitm_proved::Trie;

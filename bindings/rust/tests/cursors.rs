@@ -103,7 +103,7 @@ fn parts_of_no_sequence_end_or_are_refused() {
     let zeros = [0u64];
     let none = SequenceView::new(3, 0, [&[], &zeros, &zeros, &zeros]).expect("the lengths fit");
     assert_eq!(Cursor::new(&none).err(), Some(WrongTables));
-    assert_eq!(common::says(move || assert_eq!(none.cursor().next(), None)), "the tables are not those of the words");
+    assert_eq!(common::says(move || assert_eq!(none.cursor().next(), None)), "the tables do not match the words");
     let mut random = Random(23);
     for _ in 0..300 {
         let made = EliasFano::build(&numbers(&mut random, 50)).expect("sorted");

@@ -79,14 +79,14 @@ fn as_a_plain_list(numbers: &WaveletMatrixView<'_>, plain: &[u64], random: &mut 
     let mut asked = vec![0, 1, u64::MAX];
     asked.extend((0..len.min(6)).map(|_| plain[random.below(len)]));
     for number in asked {
-        let places: Vec<usize> = (0..len).filter(|i| plain[*i] == number).collect();
-        assert_eq!((numbers.count(number), numbers.contains(number)), (places.len(), !places.is_empty()));
-        for rank in (0..places.len().min(20)).chain([places.len(), usize::MAX]) {
-            assert_eq!(numbers.select(number, rank), places.get(rank).copied());
+        let indexes: Vec<usize> = (0..len).filter(|i| plain[*i] == number).collect();
+        assert_eq!((numbers.count(number), numbers.contains(number)), (indexes.len(), !indexes.is_empty()));
+        for rank in (0..indexes.len().min(20)).chain([indexes.len(), usize::MAX]) {
+            assert_eq!(numbers.select(number, rank), indexes.get(rank).copied());
         }
         let from = random.below(len + 1);
         let to = from + random.below(len - from + 1);
-        assert_eq!(numbers.rank(number, to), Some(places.partition_point(|it| *it < to)));
+        assert_eq!(numbers.rank(number, to), Some(indexes.partition_point(|it| *it < to)));
         for part in [(from, to), (0, len), (from, from)] {
             range(numbers, plain, part, number);
             lists_of_ranges(numbers, plain, part, random);

@@ -79,14 +79,14 @@ fn errors_are_errors_and_say_the_numbers() {
         texts,
         [
             "memory for 80 bytes was refused",
-            "the tables are not those of the words",
+            "the tables do not match the words",
             "a length is too great: 9",
             "number 3 (4) is less than number 2 (9)",
             "the hash 5 is there more than once",
             "memory for 80 bytes was refused",
             "the bytes do not begin at a multiple of 8",
             "there is room for 6 answers to 7 queries",
-            "the tables are not those of the words: 5 answers show it",
+            "the tables do not match the words: 5 answers show it",
         ]
     );
     fn fails() -> Result<usize, Box<dyn Error>> {
@@ -182,7 +182,7 @@ fn panics_name_the_callers_line() {
 fn tables_that_a_user_wrote_are_noticed() {
     let mut index = ArrayWithRank101111::build(vec![0b1011; 100].into_boxed_slice()).0;
     index.l2ranks = Box::new([]);
-    let wrong = "the tables are not those of the words";
+    let wrong = "the tables do not match the words";
     let index = Arc::new(index);
     for call in [ArrayWithRank101111::try_rank, ArrayWithRank101111::try_select, Select0::try_select0] {
         let index = index.clone();

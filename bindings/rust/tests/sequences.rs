@@ -141,5 +141,5 @@ fn what_is_not_sorted_or_not_a_sequence_is_refused() {
     assert_ne!(none.checked_contains(0), Ok(true)); // no number has the high bits of 0
     assert!(SequenceView::new(3, 7, [&[], &zeros, &zeros, &zeros]).is_err());
     let says = common::says(move || assert_eq!(none.iter().next(), None));
-    assert_eq!(says, "the tables are not those of the words");
+    assert_eq!(says, "the tables do not match the words");
 }

@@ -1,6 +1,6 @@
 //! Shards as one index of the joined bits, beside plain counting; which shard holds what; counts that are wrong.
 mod common;
-use bitm_proved::{build_tables, table_lens, BuildError, IndexView, ListError, Place, PrefixCounts, ShardedIndex};
+use bitm_proved::{build_tables, table_lens, BuildError, IndexView, ListError, Location, PrefixCounts, ShardedIndex};
 use common::{bits_of, Random};
 
 /// Words with their tables, of which the first bits count.
@@ -41,7 +41,7 @@ fn shards_are_counted_as_one() {
                 assert_eq!(all.rank(at), Ok(Some(ranks[1])));
                 assert_eq!(all.rank0(at), Ok(Some(ranks[0])));
                 assert_eq!(if bit { all.select(ranks[1]) } else { all.select0(ranks[0]) }, Ok(Some(at)));
-                assert_eq!(all.counts().find(at), Some(Place { shard: k, within: i as u64 }));
+                assert_eq!(all.counts().find(at), Some(Location { shard: k, within: i as u64 }));
                 let of = if bit { all.counts().find_one(ranks[1]) } else { all.counts().find_zero(ranks[0]) };
                 assert_eq!(of.map(|it| it.shard), Some(k));
                 ranks[one] += 1;
@@ -90,9 +90,10 @@ fn lists_are_counted_in_the_joined_bits() {
     let queries: Vec<u64> = (0..(1 << 17) + 9).map(|_| random.below(bits.len() + 3) as u64).collect();
     let mut out = vec![0; queries.len()];
     for one in [true, false] {
-        let places: Vec<u64> = (0..bits.len()).filter(|at| bits[*at] == one).map(|at| at as u64).collect();
-        let ranks: Vec<u64> = (0..=bits.len()).map(|at| places.partition_point(|it| *it < at as u64) as u64).collect();
-        for (selects, of) in [(false, ranks), (true, places)] {
+        let positions: Vec<u64> = (0..bits.len()).filter(|at| bits[*at] == one).map(|at| at as u64).collect();
+        let rank_at = |at: usize| positions.partition_point(|it| *it < at as u64) as u64;
+        let ranks: Vec<u64> = (0..=bits.len()).map(rank_at).collect();
+        for (selects, of) in [(false, ranks), (true, positions)] {
             let missing = match (selects, one) {
                 (false, true) => all.rank_list(&queries, &mut out),
                 (false, false) => all.rank0_list(&queries, &mut out),
@@ -124,7 +125,7 @@ fn more_1_bits_than_bits_are_refused_in_any_shard() {
     assert_eq!(PrefixCounts::new(&[10, 0, 10], &[10, 1, 0]), Err(BuildError::MoreOnes { shard: 1 }));
     assert_eq!(PrefixCounts::new(&[10, 10], &[10, 11]), Err(BuildError::MoreOnes { shard: 1 }));
     let full = PrefixCounts::new(&[10, 10], &[10, 10]).unwrap();
-    assert_eq!((full.find_one(19), full.find_zero(0)), (Some(Place { shard: 1, within: 9 }), None));
+    assert_eq!((full.find_one(19), full.find_zero(0)), (Some(Location { shard: 1, within: 9 }), None));
 }
 
 #[test]

@@ -11,22 +11,22 @@ fn block() -> Vec<u64> {
 }
 
 /// The positions at which a pattern stands, in the order of the rest of the text from there on.
-fn places(text: &[u8], pattern: &[u8]) -> Vec<usize> {
+fn positions(text: &[u8], pattern: &[u8]) -> Vec<usize> {
     let mut found: Vec<usize> = (0..=text.len()).filter(|&at| text[at..].starts_with(pattern)).collect();
     found.sort_by_key(|&at| &text[at..]);
     found
 }
 
-/// The letters of a part in the index of bytes: their places among those that the text uses, or one that is none.
+/// The letters of a part in the index of bytes: their indexes among those that the text uses, or one that is none.
 fn letters_of(text: &[u8], part: &[u8]) -> Vec<u64> {
     let mut used = text.to_vec();
     used.sort();
     used.dedup();
-    part.iter().map(|it| used.binary_search(it).map_or(256, |place| place as u64)).collect()
+    part.iter().map(|it| used.binary_search(it).map_or(256, |index| index as u64)).collect()
 }
 
 fn pattern_as_plain(text: &TextIndexView, verse: &[u8], pattern: &[u8]) {
-    let (wanted, letters) = (places(verse, pattern), letters_of(verse, pattern));
+    let (wanted, letters) = (positions(verse, pattern), letters_of(verse, pattern));
     assert_eq!((text.count(pattern), text.count_letters(&letters)), (Ok(wanted.len()), Ok(wanted.len())));
     for from in [0, 1, wanted.len(), usize::MAX] {
         let left = wanted.get(from..).unwrap_or(&[]);

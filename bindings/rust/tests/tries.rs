@@ -279,5 +279,5 @@ fn a_query_of_a_spoilt_block_panics_and_says_why() {
     let trie = Trie::from_words(block).expect("the header is right");
     let found = (0..4).map(|node| trie.view().checked_parent(node)).position(|it| it.is_err());
     let node = found.expect("some query sees it");
-    assert_eq!(says(move || assert_eq!(trie.parent(node), None)), "the tables are not those of the words");
+    assert_eq!(says(move || assert_eq!(trie.parent(node), None)), "the tables do not match the words");
 }

@@ -209,7 +209,8 @@ macro_rules! numbers {
             }
             old
         }
-        /// Copies a range where a closure says so of the old number and that of `src`. Tested, not proved.
+        /// Copies the numbers of a range where a closure, given the old number and the one of `src`, says so. Tested,
+        /// not proved.
         ///
         /// ```
         /// use bitm_proved::BitAccess;

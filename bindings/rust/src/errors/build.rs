@@ -83,7 +83,7 @@ pub enum BuildError {
         /// Two of the keys.
         pair: EqualPair,
     },
-    /// The degrees are those of no tree.
+    /// The degrees form no tree.
     ///
     /// ```
     /// use bitm_proved::{BuildError, Tree};
@@ -95,7 +95,7 @@ pub enum BuildError {
         /// where there are no degrees.
         node: Option<usize>,
     },
-    /// The degrees are those of no tree, or the labels, their width or the ends none for it.
+    /// The degrees form no tree, or the labels, their width or the ends do not fit the tree.
     ///
     /// ```
     /// use bitm_proved::{BuildError, Trie, TrieFault};
@@ -200,7 +200,7 @@ pub enum BuildError {
     /// assert_eq!(PrefixCounts::new(&[u64::MAX, 1], &[0, 0]), Err(BuildError::TooManyBits));
     /// ```
     TooManyBits,
-    /// The tables of a shard are not those of its words.
+    /// The tables of a shard do not match its words.
     ///
     /// ```
     /// use bitm_proved::{BuildError, IndexView, ShardedIndex};
@@ -219,7 +219,7 @@ pub enum BuildError {
     NoMemory(NoMemory),
 }
 
-/// A list that does not rise at an index: what its items are, the items there and before it, and how they stand.
+/// A list that does not ascend at an index: the name of its items, the items there and before it, and their relation.
 pub(super) fn falls(
     f: &mut fmt::Formatter<'_>,
     what: &str,
@@ -230,7 +230,7 @@ pub(super) fn falls(
     write!(f, "{what} {index} ({item}) is {how} {what} {} ({before})", index.saturating_sub(1))
 }
 
-/// Why degrees are those of no tree.
+/// Why degrees form no tree.
 pub(super) fn no_tree(f: &mut fmt::Formatter<'_>, node: Option<usize>) -> fmt::Result {
     match node {
         Some(node) => {

@@ -79,7 +79,7 @@ impl fmt::Display for EqualPair {
     }
 }
 
-/// Why degrees, labels, a width and ends are those of no trie. Items are counted from 0.
+/// Why degrees, labels, a width and ends form no trie. Items are counted from 0.
 ///
 /// ```
 /// use bitm_proved::Trie;
@@ -113,7 +113,7 @@ pub enum TrieFault {
         /// How many nodes.
         nodes: usize,
     },
-    /// The ends have words, and not as many as a bit for each node takes.
+    /// The ends have words, but more or fewer than a bit for each node takes.
     ///
     /// ```
     /// use bitm_proved::{BuildError, Trie, TrieFault};
@@ -126,7 +126,7 @@ pub enum TrieFault {
         /// How many nodes there are.
         nodes: usize,
     },
-    /// The degrees are those of no tree.
+    /// The degrees form no tree.
     ///
     /// ```
     /// use bitm_proved::{BuildError, Trie, TrieFault};

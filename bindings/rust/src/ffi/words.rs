@@ -209,7 +209,7 @@ pub struct bitm_prefixes {
 }
 #[repr(C)]
 #[derive(Copy, Clone)]
-pub struct bitm_shard_place {
+pub struct bitm_shard_location {
     pub shard: usize,
     pub within: u64,
 }
@@ -224,7 +224,8 @@ pub struct bitm_shards {
 extern "C" {
     pub fn bitm_prefix_sums(numbers: *const u64, numbers_len: usize, out: *mut u64, out_len: usize) -> u32;
     pub fn bitm_prefix_sums_check(numbers: *const u64, numbers_len: usize, sums: *const u64, sums_len: usize) -> u32;
-    pub fn bitm_shards_find(counts: *const bitm_prefixes, kind: u32, number: u64, out: *mut bitm_shard_place) -> u32;
+    pub fn bitm_shards_find(counts: *const bitm_prefixes, kind: u32, number: u64, out: *mut bitm_shard_location)
+        -> u32;
     pub fn bitm_shards_rank(shards: *const bitm_shards, one: bool, position: u64, out: *mut u64) -> u32;
     pub fn bitm_shards_select(shards: *const bitm_shards, one: bool, rank: u64, out: *mut u64) -> u32;
     pub fn bitm_shards_next(shards: *const bitm_shards, one: bool, from: u64, out: *mut u64) -> u32;

@@ -43,7 +43,7 @@ pub(crate) struct Block<'a, P> {
 
 // SAFETY: the pointers lie in a shared slice, and no call has state.
 unsafe impl<P: Parts> Send for Block<'_, P> {}
-// SAFETY: as of `Send`.
+// SAFETY: as for `Send`.
 unsafe impl<P: Parts> Sync for Block<'_, P> {}
 
 impl<'a, P: Parts> Block<'a, P> {
@@ -164,7 +164,7 @@ macro_rules! views {
                 Self::from_words(words_of(bytes).ok_or(StoredError::Misaligned)?)
             }
 
-            #[doc = concat!("The words of the block, which are those of a file of ", $of, ".")]
+            #[doc = concat!("The words of the block, which is also the file of ", $of, ".")]
             ///
             /// ```
             #[doc = concat!("use bitm_proved::", stringify!($view), ";")]

@@ -126,7 +126,7 @@ pub fn bytes_get57(bytes: &[u8], first_bit: usize) -> Option<u64> {
     (status == BITM_OK).then_some(out)
 }
 
-/// Adds 1 bits to the window of a bit, as of `bytes_get57`. Proved.
+/// Adds 1 bits to the window of a bit, as for `bytes_get57`. Proved.
 ///
 /// ```
 /// let mut bytes = [0; 8];
@@ -139,7 +139,7 @@ pub fn bytes_init57(bytes: &mut [u8], first_bit: usize, value: u64) -> Option<()
     (status == BITM_OK).then_some(())
 }
 
-/// First clears the bits of a mask in the window of a bit, as of `bytes_get57`, then adds 1 bits. Proved.
+/// First clears the bits of a mask in the window of a bit, as for `bytes_get57`, then adds 1 bits. Proved.
 ///
 /// ```
 /// let mut bytes = [255; 8];
@@ -165,7 +165,7 @@ pub fn bytes_get25(bytes: &[u8], first_bit: usize) -> Option<u32> {
     (status == BITM_OK).then_some(out)
 }
 
-/// Adds 1 bits to the window of a bit, as of `bytes_get25`. Proved.
+/// Adds 1 bits to the window of a bit, as for `bytes_get25`. Proved.
 ///
 /// ```
 /// let mut bytes = [0; 8];
@@ -178,7 +178,7 @@ pub fn bytes_init25(bytes: &mut [u8], first_bit: usize, value: u32) -> Option<()
     (status == BITM_OK).then_some(())
 }
 
-/// First clears the bits of a mask in the window of a bit, as of `bytes_get25`, then adds 1 bits. Proved.
+/// First clears the bits of a mask in the window of a bit, as for `bytes_get25`, then adds 1 bits. Proved.
 ///
 /// ```
 /// let mut bytes = [255; 8];

@@ -28,9 +28,9 @@ pub struct Cursor<'a> {
     borrows: PhantomData<&'a [u64]>,
 }
 
-// SAFETY: the pointers are those of shared slices, and a call that moves a cursor has it alone.
+// SAFETY: the pointers come from shared slices, and a call that moves a cursor has it alone.
 unsafe impl Send for Cursor<'_> {}
-// SAFETY: as of `Send`.
+// SAFETY: as for `Send`.
 unsafe impl Sync for Cursor<'_> {}
 
 impl<'a> Cursor<'a> {
@@ -78,9 +78,9 @@ impl<'a> Cursor<'a> {
         (self.raw.index < self.raw.sequence.len).then_some(self.raw.number)
     }
 
-    /// Moves to the first number from here on that is at least `value`, and returns it; stays where the number here is.
-    /// `None` where each is less: it is at the end then. Reads 26 words where the number is near, else what three
-    /// selections read too.
+    /// Moves to the first number from here on that is at least `value`, and returns it; stays where the number here
+    /// already is. `None` where each is less: it is at the end then. Reads 26 words where the number is near, else what
+    /// three selections read too.
     ///
     /// ```
     /// let primes = bitm_proved::EliasFano::build(&[2, 3, 5, 7])?;
@@ -100,10 +100,10 @@ impl<'a> Cursor<'a> {
         self.raw.index = self.raw.sequence.len;
     }
 
-    /// The numbers from `from` on that stand in each of the sequences, from the cursors on: rising, each once, as many
-    /// as there are and as there is room for. Where there is no more room, a call with one more than the last number
-    /// goes on. Each cursor moves at most once for each number of the first sequence, and once more, so the shortest is
-    /// best first. Panics where there is no cursor.
+    /// The numbers from `from` on that stand in each of the sequences, from the cursors on: ascending, each once, as
+    /// many as fit. Where there is no more room, a call with one more than the last number goes on. Each cursor moves
+    /// at most once for each number of the first sequence, and once more, so pass the shortest first. Panics where
+    /// there is no cursor.
     ///
     /// ```
     /// use bitm_proved::{Cursor, EliasFano};

@@ -93,7 +93,7 @@ impl<'a> DictionaryView<'a> {
         Ok(self.checked_find(key)?.is_some())
     }
 
-    /// The numbers of a list of keys; how many of them are none, for which `NO_ANSWER` stands.
+    /// The numbers of a list of keys; returns how many of them are no keys, written as `NO_ANSWER`.
     ///
     /// ```
     /// use bitm_proved::{Dictionary, NO_ANSWER};

@@ -14,8 +14,8 @@ use crate::sys::tree::owned::Tree;
 use crate::sys::trie::owned::Trie;
 use std::path::Path;
 
-/// A value over a file that is mapped. The texts: what it is; what `read` is called of; the words of such a file; what
-/// is so of it, with what that has to import.
+/// A value over a file that is mapped. The texts: its name; the type whose `read` is called; the words of such a file;
+/// an assertion about it, with the imports that this needs.
 macro_rules! files {
     ($file:ident: $kind:ident; $it:literal, $read:literal, $words:literal, $right:literal, $imported:literal) => {
         #[doc = concat!($it, " over a file that is mapped: one value has the file and answers.")]
@@ -48,7 +48,7 @@ macro_rules! files {
             /// another.
             ///
             /// # Errors
-            /// `OpenError::System` where the system refuses the file, and `OpenError::Stored` as of `from_bytes`.
+            /// `OpenError::System` where the system refuses the file, and `OpenError::Stored` as for `from_bytes`.
             ///
             /// ```
             #[doc = concat!("use bitm_proved::{bytes_of, OpenError, ", stringify!($file), ", ", $imported, "};")]

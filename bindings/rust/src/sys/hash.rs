@@ -38,9 +38,9 @@ pub struct PerfectHash {
     sizes: Vec<u64>,
 }
 
-// SAFETY: the pointers are those of vectors that it owns and never mutates, and no call has state.
+// SAFETY: the pointers come from vectors that it owns and never mutates, and no call has state.
 unsafe impl Send for PerfectHash {}
-// SAFETY: as of `Send`.
+// SAFETY: as for `Send`.
 unsafe impl Sync for PerfectHash {}
 
 /// The struct that each query takes: of memory that stays where it is.
@@ -111,7 +111,7 @@ impl PerfectHash {
         Ok(PerfectHash { raw, words, tables, sizes })
     }
 
-    /// The hash as C takes it, whose pointers are those of vectors of this value.
+    /// The hash as C takes it, with pointers into vectors of this value.
     pub(crate) fn raw(&self) -> &bitm_hash {
         &self.raw
     }

@@ -1,7 +1,7 @@
 //! Huge pages, which are requested for large arrays on Linux: a query then waits less for the tables of the pages.
 use core::ffi::{c_int, c_long, c_void};
 
-/// From how many bytes on: two huge pages of x86-64, of which at least one lies whole inside.
+/// From how many bytes on: two huge pages of x86-64, so that at least one lies whole inside.
 const LEAST: usize = 4 << 20;
 const MADV_HUGEPAGE: c_int = 14;
 const _SC_PAGESIZE: c_int = 30;

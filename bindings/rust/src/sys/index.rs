@@ -10,7 +10,7 @@ use core::{fmt, mem};
 
 /// An index and the owner of its words: a vector, a box, an `Arc`, a mapped file, or any other `AsRef<[u64]>`.
 ///
-/// The queries are those of [`Rank`](crate::Rank), [`Select`](crate::Select), [`Select0`](crate::Select0) and
+/// It has the queries of [`Rank`](crate::Rank), [`Select`](crate::Select), [`Select0`](crate::Select0) and
 /// [`Queries`](crate::Queries).
 ///
 /// ```
@@ -163,7 +163,7 @@ impl Index<Vec<u64>> {
     /// that.
     ///
     /// # Errors
-    /// `OpenError::System` where the system refuses the file, and `OpenError::Stored` as of `from_words`.
+    /// `OpenError::System` where the system refuses the file, and `OpenError::Stored` as for `from_words`.
     ///
     /// ```
     /// use bitm_proved::{bytes_of, Index, OpenError, Queries, Rank};
@@ -208,9 +208,9 @@ impl<O> Index<O> {
         self.held.into_owner()
     }
 
-    /// Whether tables and samples are those of the words; and of a block whether it is as it was written, by the
-    /// checksum of each section. A file of format version 2 has no checksum of its words: there `check` finds only what
-    /// does not fit together.
+    /// Whether tables and samples match the words; and of a block whether it is as it was written, by the checksum of
+    /// each section. A file of format version 2 has no checksum of its words: there `check` finds only what does not
+    /// fit together.
     ///
     /// ```
     /// use bitm_proved::{Index, Queries};

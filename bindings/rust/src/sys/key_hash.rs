@@ -86,7 +86,7 @@ fn parts_by(call: impl FnOnce(*mut KeyParts) -> bool) -> Option<KeyParts> {
     call(parts.as_mut_ptr()).then(|| unsafe { parts.assume_init() })
 }
 
-/// Whether a block is that of a hash of keys.
+/// Whether a block holds a hash of keys.
 pub(crate) fn is_of_keys(block: &[u64]) -> bool {
     // SAFETY: a slice, and room for the parts.
     parts_by(|parts| unsafe { open(block.as_ptr(), block.len(), parts) == OK }).is_some()
@@ -216,7 +216,7 @@ impl KeyHashView<'_> {
         unsafe { self.block.find(find) }
     }
 
-    /// The numbers of a list of keys; how many have none, which `NO_ANSWER` stands for.
+    /// The numbers of a list of keys; returns how many have none, written as `NO_ANSWER`.
     ///
     /// ```
     /// use bitm_proved::{KeyHash, NO_ANSWER};
@@ -255,7 +255,7 @@ impl KeyHashView<'_> {
         let KeyParts { hash, prints, prints_len, width, .. } = self.block.parts();
         let (of, own) = (hashes[..len].as_ptr(), key_prints[..len].as_ptr());
         query_list(len, out, |to, room, counts| {
-            // SAFETY: a hash and fingerprints in the borrowed block, slices of which the mutable one overlaps no other,
+            // SAFETY: a hash and fingerprints in the borrowed block, slices, the mutable one apart from the others,
             // and room for the counts.
             unsafe {
                 bitm_hash_find_list_seeded(hash, *prints, *prints_len, *width, of, len, own, len, to, room, counts)

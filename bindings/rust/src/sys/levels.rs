@@ -41,8 +41,8 @@ impl Levels {
         Ok(Levels { words, seeds, sizes, again, sorted, percent, tries, levels: 0, used: 0, left: 0 })
     }
 
-    /// Those of the hashes, which are put into another order; with the best of that many seeds for each word, or
-    /// without. Where hashes are equal, the first of the list are then those that have no number, sorted.
+    /// The levels of the hashes, which are put into another order; with the best of that many seeds for each word, or
+    /// without seeds. Where hashes are equal, the list then begins with the hashes that have no number, sorted.
     pub(crate) fn of(
         hashes: &mut [u64],
         percent: u32,

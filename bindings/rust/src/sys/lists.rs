@@ -1,9 +1,9 @@
-//! Lists of queries, each of which one call of the archive answers.
+//! Lists of queries: one call of the archive answers a list.
 use crate::errors::ListError;
 use crate::ffi::words::bitm_list_counts;
 use crate::sys::{NONE, OK, WRONG};
 
-/// Makes a list of queries, with one answer each; how many have none, for which `NO_ANSWER` stands. The call gets a
+/// Makes a list of queries, with one answer each; returns how many have none, written as `NO_ANSWER`. The call gets a
 /// pointer to the answers, how many there is room for, and a pointer to the counts.
 pub(crate) fn query_list(
     queries: usize,

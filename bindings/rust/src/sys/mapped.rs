@@ -38,7 +38,7 @@ pub struct Mapped {
 
 // SAFETY: the memory is read alone, and belongs to the value.
 unsafe impl Send for Mapped {}
-// SAFETY: as of `Send`.
+// SAFETY: as for `Send`.
 unsafe impl Sync for Mapped {}
 
 impl Mapped {

@@ -84,7 +84,7 @@ impl<'a> WaveletMatrixView<'a> {
     /// ```
     #[inline]
     pub fn checked_rank(&self, number: u64, index: usize) -> Result<Option<usize>, WrongTables> {
-        // SAFETY: as of `checked_get`.
+        // SAFETY: as for `checked_get`.
         unsafe { self.block.find(|matrix, out| bitm_matrix_rank(matrix, number, index, out)) }
     }
 
@@ -97,12 +97,12 @@ impl<'a> WaveletMatrixView<'a> {
     /// ```
     #[inline]
     pub fn checked_select(&self, number: u64, rank: usize) -> Result<Option<usize>, WrongTables> {
-        // SAFETY: as of `checked_get`.
+        // SAFETY: as for `checked_get`.
         unsafe { self.block.find(|matrix, out| bitm_matrix_select(matrix, number, rank, out)) }
     }
 
     fn in_range(&self, call: InRange, range: Range<usize>, number: u64) -> Result<Option<u64>, WrongTables> {
-        // SAFETY: as of `checked_get`.
+        // SAFETY: as for `checked_get`.
         unsafe { self.block.query(|matrix, out| call(matrix, range.start, range.end, number, out)) }
     }
 
@@ -140,7 +140,7 @@ impl<'a> WaveletMatrixView<'a> {
     /// # Ok::<(), bitm_proved::BuildError>(())
     /// ```
     pub fn checked_quantile(&self, range: Range<usize>, k: usize) -> Result<Option<u64>, WrongTables> {
-        // SAFETY: as of `checked_get`.
+        // SAFETY: as for `checked_get`.
         unsafe { self.block.query(|matrix, out| bitm_matrix_quantile(matrix, range.start, range.end, k, out)) }
     }
 
@@ -168,9 +168,9 @@ impl<'a> WaveletMatrixView<'a> {
         self.in_range(bitm_matrix_previous_value, range, bound)
     }
 
-    /// Writes the distinct numbers of a range that are at least `least`, rising, and how often each is there: as many as
-    /// there is room for; and says how many these are. So go on at the last one and 1. `None` exactly where there is no
-    /// such range. Where the tables are wrong, items may have been written.
+    /// Writes the distinct numbers of a range that are at least `least`, ascending, and how often each is there, as
+    /// many as fit; returns how many it wrote. Go on at the last one plus 1. `None` exactly where there is no such
+    /// range. Where the tables are wrong, items may have been written.
     ///
     /// ```
     /// let made = bitm_proved::WaveletMatrix::build(&[3, 1, 4, 1, 5, 1])?;
@@ -196,8 +196,8 @@ impl<'a> WaveletMatrixView<'a> {
     }
 
     /// Writes the most frequent numbers of a range, the most frequent first and of equally frequent ones the least, and
-    /// how often each is there: as many as there is room for, or all; and says how many these are. `None` exactly where
-    /// there is no such range. Where the tables are wrong, items may have been written.
+    /// how often each is there, as many as fit; returns how many it wrote. `None` exactly where there is no such range.
+    /// Where the tables are wrong, items may have been written.
     ///
     /// ```
     /// let made = bitm_proved::WaveletMatrix::build(&[3, 1, 4, 1, 5, 1])?;
@@ -214,14 +214,14 @@ impl<'a> WaveletMatrixView<'a> {
     ) -> Result<Option<usize>, ListError> {
         let (room, (from, to)) = (pairs(numbers.len(), counts.len())?, (range.start, range.end));
         let (list, of_each) = (numbers.as_mut_ptr(), as_u64_mut(counts).as_mut_ptr());
-        // SAFETY: as of `distinct`.
+        // SAFETY: as for `distinct`.
         let found = unsafe { self.block.find(|it, n| bitm_matrix_top(it, from, to, list, room, of_each, room, n)) };
         found.map_err(|_| ListError::WrongTables { wrong: room })
     }
 
-    /// Writes the numbers that are in both ranges and at least `least`, each once, rising: as many as there is room for;
-    /// and says how many these are. So go on at the last one and 1. `None` exactly where there is no such range. In no
-    /// more turns than the first range has numbers: so give the shorter one first. Where the tables are wrong, numbers
+    /// Writes the numbers that are in both ranges and at least `least`, each once, ascending, as many as fit; returns
+    /// how many it wrote. Go on at the last one plus 1. `None` exactly where there is no such range. Takes at most as
+    /// many turns as the first range has numbers, so give the shorter one first. Where the tables are wrong, numbers
     /// may have been written.
     ///
     /// ```
@@ -240,7 +240,7 @@ impl<'a> WaveletMatrixView<'a> {
     ) -> Result<Option<usize>, WrongTables> {
         let (list, room) = (numbers.as_mut_ptr(), numbers.len());
         let (a, b, c, d) = (first.start, first.end, second.start, second.end);
-        // SAFETY: as of `distinct`, with one slice.
+        // SAFETY: as for `distinct`, with one slice.
         unsafe { self.block.find(|it, n| bitm_matrix_intersect(it, a, b, c, d, least, list, room, n)) }
     }
 
@@ -267,8 +267,8 @@ impl<'a> WaveletMatrixView<'a> {
         })
     }
 
-    /// How many of the numbers before `indices[i]` are `numbers[i]`; of how many there is no such index, which
-    /// `NO_ANSWER` stands for.
+    /// How many of the numbers before `indices[i]` are `numbers[i]`; returns of how many there is no such index,
+    /// written as `NO_ANSWER`.
     ///
     /// ```
     /// use bitm_proved::{WaveletMatrix, NO_ANSWER};
@@ -281,8 +281,8 @@ impl<'a> WaveletMatrixView<'a> {
         self.list(bitm_matrix_rank_list, numbers, indices, out)
     }
 
-    /// The index of `numbers[i]` with `ranks[i]` such numbers before it; how many there are not, which `NO_ANSWER`
-    /// stands for.
+    /// The index of `numbers[i]` with `ranks[i]` such numbers before it; returns how many do not exist, written as
+    /// `NO_ANSWER`.
     ///
     /// ```
     /// use bitm_proved::{WaveletMatrix, NO_ANSWER};
@@ -344,7 +344,7 @@ fn too_wide(numbers: &[u64], width: u32) -> BuildError {
     }
 }
 
-/// Writes the block of numbers, of which none has more bits than the width, with a scratch of twice as many.
+/// Writes the block of numbers of at most `width` bits, with a scratch of twice as many numbers.
 fn level_by_level(
     numbers: &[u64],
     (width, With { quarters, hints }): (u32, With),

@@ -8,7 +8,7 @@ use core::slice;
 // The tables are of numbers of 64 bits for the archive, and of `usize` in the original's interface.
 const _: () = assert!(size_of::<usize>() == 8, "the archive is for 64-bit processors");
 
-/// Numbers of which zero bytes are a value.
+/// Types of numbers for which zero bytes are a value.
 ///
 /// # Safety
 /// They are.
@@ -125,7 +125,7 @@ pub fn bytes_of(words: &[u64]) -> &[u8] {
 /// The bytes of words.
 #[cfg(feature = "std")]
 pub(crate) fn bytes_of_mut(words: &mut [u64]) -> &mut [u8] {
-    // SAFETY: as of `bytes_of`, and any eight bytes are a number.
+    // SAFETY: as for `bytes_of`, and any eight bytes are a number.
     unsafe { slice::from_raw_parts_mut(words.as_mut_ptr().cast(), size_of_val(words)) }
 }
 

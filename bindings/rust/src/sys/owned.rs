@@ -34,7 +34,7 @@ pub struct Sequence<O = Vec<u64>> {
 pub type EliasFano = Sequence<Vec<u64>>;
 
 impl EliasFano {
-    /// The sequence of the numbers, each of which is at least the one before it.
+    /// The sequence of the numbers; each has to be at least the one before it.
     ///
     /// # Errors
     /// `NotSorted` where a number is less than the one before it, `TooLong` where there are 2^56 numbers or more, and

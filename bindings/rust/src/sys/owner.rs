@@ -1,7 +1,7 @@
-//! Values with a view, and the owner of what it borrows: what all of them have.
+//! Values with a view, and owners of what the view borrows: the calls that all of them have.
 
-/// What each owner of what a view borrows has. The texts: what it is; an example, and how many nodes, numbers, .. that
-/// has; the words of its file.
+/// The calls of each owner of what a view borrows. The texts: its name; an example, and how many nodes, numbers, .. the
+/// example has; the words of its file.
 macro_rules! owners {
     ($kind:ident with $view:ident; $it:literal, $made:literal, $len:literal, $file:literal) => {
         impl<O: AsRef<[u64]>> $kind<O> {
@@ -43,7 +43,7 @@ macro_rules! owners {
             /// ```
             pub fn from_bytes(owner: O) -> Result<Self, StoredError> {
                 let held = Held::new(owner)?;
-                // SAFETY: as of `from_words`.
+                // SAFETY: as for `from_words`.
                 let view = $view::from_bytes(unsafe { held.borrowed() })?;
                 Ok($kind { view, held })
             }
@@ -55,7 +55,7 @@ macro_rules! owners {
             /// not tested: `check` does that.
             ///
             /// # Errors
-            /// `OpenError::System` where the system refuses the file, and `OpenError::Stored` as of `from_words`.
+            /// `OpenError::System` where the system refuses the file, and `OpenError::Stored` as for `from_words`.
             ///
             /// ```
             #[doc = concat!("use bitm_proved::{bytes_of, ", stringify!($kind), "};")]
@@ -122,8 +122,8 @@ macro_rules! owners {
 }
 pub(crate) use owners;
 
-/// As `owners`, of a block that is built, and which can be copied. Where it is not said what a copy copies, and what
-/// the words of its file are, both are its block.
+/// As `owners`, of a block that is built, and which can be copied. By default a copy copies the block, and the words of
+/// the file are the block's.
 macro_rules! owners_of_blocks {
     ($kind:ident with $view:ident; $it:literal, $made:literal, $len:literal) => {
         crate::sys::owner::owners_of_blocks!(

@@ -95,8 +95,8 @@ pub fn extended_size(block: &[u64], role: u64, count: usize) -> Result<usize, St
 /// Writes to `to` a copy of the block with one section more, after its own: these words, which hold `count` items of a
 /// role. Where items do not fill the last word, let its other bytes be 0. One proved call.
 ///
-/// Errors as of `extended_size`, and nothing is written: `NotWhole` also where a section of the block is not as it was
-/// written; `NoSection` also where the words are not as many as the items take, or `to` is not as long as that call says.
+/// Errors as for `extended_size`, and nothing is written: `NotWhole` also where a section of the block is not as it was
+/// written; `NoSection` also where there are more or fewer words than the items take, or `to` has another length.
 ///
 /// ```
 /// use bitm_proved::{sections, StoredError, Tree};
@@ -110,7 +110,7 @@ pub fn extended_size(block: &[u64], role: u64, count: usize) -> Result<usize, St
 /// ```
 pub fn extend(block: &[u64], role: u64, count: usize, words: &[u64], to: &mut [u64]) -> Result<(), StoredError> {
     let (from, len, own, own_len) = (block.as_ptr(), block.len(), words.as_ptr(), words.len());
-    // SAFETY: three slices, of which the mutable one overlaps no other.
+    // SAFETY: three slices; the mutable one overlaps no other.
     match unsafe { bitm_block_extend(from, len, role, count as u64, own, own_len, to.as_mut_ptr(), to.len()) } {
         OK => Ok(()),
         status => Err(refused(status)),

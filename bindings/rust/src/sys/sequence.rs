@@ -33,9 +33,9 @@ pub struct SequenceView<'a> {
     block: Option<&'a [u64]>,
 }
 
-// SAFETY: the pointers are those of shared slices, and no call has state.
+// SAFETY: the pointers come from shared slices, and no call has state.
 unsafe impl Send for SequenceView<'_> {}
-// SAFETY: as of `Send`.
+// SAFETY: as for `Send`.
 unsafe impl Sync for SequenceView<'_> {}
 
 impl<'a> SequenceView<'a> {
@@ -153,9 +153,9 @@ impl<'a> SequenceView<'a> {
             .map(|(at, len)| unsafe { slice::from_raw_parts(at, len) })
     }
 
-    /// Whether the parts are those of a sequence; and of a block whether it is as it was written, by the checksum of
-    /// each section. A file of format version 2 has no checksum of its numbers: there `check` finds only what does not
-    /// fit together, and other numbers may pass.
+    /// Whether the parts form a sequence; and of a block whether it is as it was written, by the checksum of each
+    /// section. A file of format version 2 has no checksum of its numbers: there `check` finds only what does not fit
+    /// together, and other numbers may pass.
     ///
     /// ```
     /// use bitm_proved::{EliasFano, SequenceView};
@@ -268,7 +268,7 @@ impl<'a> SequenceView<'a> {
         })
     }
 
-    /// The successors of a list of values; how many have none, which `NO_ANSWER` stands for.
+    /// The successors of a list of values; returns how many have none, written as `NO_ANSWER`.
     ///
     /// ```
     /// use bitm_proved::{EliasFano, NO_ANSWER};
@@ -281,7 +281,7 @@ impl<'a> SequenceView<'a> {
         self.list(bitm_sequence_first_at_least_list, values, as_u64_mut(out))
     }
 
-    /// The predecessors of a list of values; how many have none, which `NO_ANSWER` stands for.
+    /// The predecessors of a list of values; returns how many have none, written as `NO_ANSWER`.
     ///
     /// ```
     /// use bitm_proved::{EliasFano, NO_ANSWER};

@@ -13,15 +13,15 @@ mod lists;
 /// A shard, and a position in it or the rank of a bit there.
 ///
 /// ```
-/// use bitm_proved::{Place, PrefixCounts};
+/// use bitm_proved::{Location, PrefixCounts};
 /// let counts = PrefixCounts::new(&[10, 0, 7], &[4, 0, 2])?;
-/// let place = counts.find(12).unwrap();
-/// assert_eq!(place, Place { shard: 2, within: 2 });
-/// assert_eq!(counts.bits_before()[place.shard] + place.within, 12);
+/// let location = counts.find(12).unwrap();
+/// assert_eq!(location, Location { shard: 2, within: 2 });
+/// assert_eq!(counts.bits_before()[location.shard] + location.within, 12);
 /// # Ok::<(), bitm_proved::BuildError>(())
 /// ```
 #[derive(Clone, Copy, PartialEq, Eq, Debug)]
-pub struct Place {
+pub struct Location {
     /// The shard.
     ///
     /// ```
@@ -43,15 +43,15 @@ pub struct Place {
 /// How many bits, and how many 1 bits, there are before each shard: which shard holds a position, or the bit with a rank,
 /// is answered by these alone, wherever the shards lie.
 ///
-/// The position of a bit is `bits_before()[place.shard]` and its position in the shard; the rank of a position likewise is
-/// `ones_before()[place.shard]` and the rank in the shard.
+/// The position of a bit is `bits_before()[location.shard]` plus its position in the shard; the rank of a position is
+/// `ones_before()[location.shard]` plus its rank in the shard.
 ///
 /// ```
-/// use bitm_proved::{Place, PrefixCounts};
+/// use bitm_proved::{Location, PrefixCounts};
 /// let counts = PrefixCounts::new(&[1000, 0, 700], &[480, 0, 351])?;
-/// assert_eq!(counts.find(1005), Some(Place { shard: 2, within: 5 }));
-/// assert_eq!(counts.find_one(480), Some(Place { shard: 2, within: 0 }));
-/// assert_eq!((counts.find_zero(519), counts.find_one(831)), (Some(Place { shard: 0, within: 519 }), None));
+/// assert_eq!(counts.find(1005), Some(Location { shard: 2, within: 5 }));
+/// assert_eq!(counts.find_one(480), Some(Location { shard: 2, within: 0 }));
+/// assert_eq!((counts.find_zero(519), counts.find_one(831)), (Some(Location { shard: 0, within: 519 }), None));
 /// assert_eq!((counts.bits_before(), counts.ones_before()), (&[0, 1000, 1000, 1700][..], &[0, 480, 480, 831][..]));
 /// # Ok::<(), bitm_proved::BuildError>(())
 /// ```
@@ -130,11 +130,11 @@ impl PrefixCounts {
         }
     }
 
-    fn place(&self, kind: u32, number: u64) -> Option<Place> {
-        let mut out = bitm_shard_place { shard: 0, within: 0 };
-        // SAFETY: the counts borrow two vectors, and there is room for one place.
+    fn location(&self, kind: u32, number: u64) -> Option<Location> {
+        let mut out = bitm_shard_location { shard: 0, within: 0 };
+        // SAFETY: the counts borrow two vectors, and there is room for one location.
         match unsafe { bitm_shards_find(&self.raw(), kind, number, &mut out) } {
-            OK => Some(Place { shard: out.shard, within: out.within }),
+            OK => Some(Location { shard: out.shard, within: out.within }),
             NONE => None,
             status => unreachable!("status {status} of counts that begin with 0 and are as many"),
         }
@@ -143,44 +143,44 @@ impl PrefixCounts {
     /// The shard that holds a position of the joined bits; `None` past the end.
     ///
     /// ```
-    /// use bitm_proved::{Place, PrefixCounts};
+    /// use bitm_proved::{Location, PrefixCounts};
     /// let counts = PrefixCounts::new(&[10, 0, 7], &[4, 0, 2])?;
-    /// assert_eq!(counts.find(9), Some(Place { shard: 0, within: 9 }));
-    /// assert_eq!(counts.find(10), Some(Place { shard: 2, within: 0 }));
+    /// assert_eq!(counts.find(9), Some(Location { shard: 0, within: 9 }));
+    /// assert_eq!(counts.find(10), Some(Location { shard: 2, within: 0 }));
     /// assert_eq!(counts.find(17), None);
     /// # Ok::<(), bitm_proved::BuildError>(())
     /// ```
-    pub fn find(&self, position: u64) -> Option<Place> {
-        self.place(BITM_POSITIONS, position)
+    pub fn find(&self, position: u64) -> Option<Location> {
+        self.location(BITM_POSITIONS, position)
     }
 
     /// The shard that holds the 1 bit with a rank; `None` where there is none.
     ///
     /// ```
-    /// use bitm_proved::{Place, PrefixCounts};
+    /// use bitm_proved::{Location, PrefixCounts};
     /// let counts = PrefixCounts::new(&[10, 0, 7], &[4, 0, 2])?;
-    /// assert_eq!(counts.find_one(3), Some(Place { shard: 0, within: 3 }));
-    /// assert_eq!(counts.find_one(5), Some(Place { shard: 2, within: 1 }));
+    /// assert_eq!(counts.find_one(3), Some(Location { shard: 0, within: 3 }));
+    /// assert_eq!(counts.find_one(5), Some(Location { shard: 2, within: 1 }));
     /// assert_eq!(counts.find_one(6), None);
     /// # Ok::<(), bitm_proved::BuildError>(())
     /// ```
-    pub fn find_one(&self, rank: u64) -> Option<Place> {
-        self.place(BITM_ONES, rank)
+    pub fn find_one(&self, rank: u64) -> Option<Location> {
+        self.location(BITM_ONES, rank)
     }
 
     /// The shard that holds the 0 bit with a rank; `None` where there is none.
     ///
     /// ```
-    /// use bitm_proved::{Place, PrefixCounts};
+    /// use bitm_proved::{Location, PrefixCounts};
     /// let counts = PrefixCounts::new(&[10, 0, 7], &[4, 0, 2])?;
     /// // Of 0 bits the shards have 6, none and 5.
-    /// assert_eq!(counts.find_zero(5), Some(Place { shard: 0, within: 5 }));
-    /// assert_eq!(counts.find_zero(6), Some(Place { shard: 2, within: 0 }));
+    /// assert_eq!(counts.find_zero(5), Some(Location { shard: 0, within: 5 }));
+    /// assert_eq!(counts.find_zero(6), Some(Location { shard: 2, within: 0 }));
     /// assert_eq!(counts.find_zero(11), None);
     /// # Ok::<(), bitm_proved::BuildError>(())
     /// ```
-    pub fn find_zero(&self, rank: u64) -> Option<Place> {
-        self.place(BITM_ZEROS, rank)
+    pub fn find_zero(&self, rank: u64) -> Option<Location> {
+        self.location(BITM_ZEROS, rank)
     }
 }
 
@@ -203,9 +203,9 @@ pub struct ShardedIndex<'a> {
     borrows: PhantomData<&'a [u64]>,
 }
 
-// SAFETY: the pointers are those of shared slices, and no call has state.
+// SAFETY: the pointers come from shared slices, and no call has state.
 unsafe impl Send for ShardedIndex<'_> {}
-// SAFETY: as of `Send`.
+// SAFETY: as for `Send`.
 unsafe impl Sync for ShardedIndex<'_> {}
 
 impl fmt::Debug for ShardedIndex<'_> {

@@ -189,7 +189,7 @@ impl<'a> SparseBitsView<'a> {
         self.call(bitm_sparse_previous, false, from)
     }
 
-    /// The bits at a list of positions, as 0 and 1; how many of these are past the end, for which `NO_ANSWER` stands.
+    /// The bits at a list of positions, as 0 and 1; returns how many of these are past the end, written as `NO_ANSWER`.
     ///
     /// ```
     /// use bitm_proved::{SparseBits, NO_ANSWER};
@@ -213,8 +213,8 @@ impl<'a> SparseBitsView<'a> {
         })
     }
 
-    /// How many 1 bits there are before each of a list of positions; how many of these are past the end, for which
-    /// `NO_ANSWER` stands.
+    /// How many 1 bits there are before each of a list of positions; returns how many of these are past the end,
+    /// written as `NO_ANSWER`.
     ///
     /// ```
     /// use bitm_proved::{SparseBits, NO_ANSWER};
@@ -238,7 +238,7 @@ impl<'a> SparseBitsView<'a> {
         self.list(bitm_sparse_rank_list, false, positions, out)
     }
 
-    /// The position of the 1 bit with each of a list of ranks; how many there are not, for which `NO_ANSWER` stands.
+    /// The position of the 1 bit with each of a list of ranks; returns how many do not exist, written as `NO_ANSWER`.
     ///
     /// ```
     /// use bitm_proved::{SparseBits, NO_ANSWER};
@@ -269,7 +269,7 @@ impl SparseBitsView<'_> {
     }
 }
 
-/// The block of `len` bits, of which those at the positions are 1 bits.
+/// The block of `len` bits with 1 bits at the positions.
 pub(crate) fn build(positions: &[u64], len: usize) -> Result<Vec<u64>, BuildError> {
     let (ones, mut words) = (positions.len(), 0);
     let too_long = BuildError::TooLong { len: ones };

@@ -136,7 +136,7 @@ impl<'a> IndexView<'a> {
     /// that block; else tables and samples are built anew.
     ///
     /// # Errors
-    /// `WrongTables` where the tables are not those of the words; `NoMemory` where memory is refused.
+    /// `WrongTables` where the tables do not match the words; `NoMemory` where memory is refused.
     ///
     /// ```
     /// use bitm_proved::{ArrayWithRank101111, IndexView, Queries, Select};
@@ -220,7 +220,7 @@ impl<'a> SequenceView<'a> {
     /// the numbers are read, in eight bytes each, and built anew.
     ///
     /// # Errors
-    /// `WrongTables` where the parts are not those of a sequence; `NoMemory` where memory is refused.
+    /// `WrongTables` where the parts form no sequence; `NoMemory` where memory is refused.
     ///
     /// ```
     /// use bitm_proved::{EliasFano, SequenceView};

@@ -54,7 +54,7 @@ impl<'a> StringsView<'a> {
         self.block.parts().seed
     }
 
-    /// The number of a string; `None` where it is none of the strings.
+    /// The number of a string; `None` for any other string.
     ///
     /// ```
     /// let names = bitm_proved::Strings::build(&["ada"])?;

@@ -15,7 +15,7 @@ use core::fmt;
 ///
 /// `TextIndex` and `bitm text build` make such a block. A pattern is counted in a time that does not depend on how long
 /// the text is; occurrences may overlap, and an empty pattern stands at each position, the end too. Calls over letters are
-/// for texts of numbers; in the index of bytes a letter is the place of a byte among those that the text uses. Each call
+/// for texts of numbers; in an index of bytes a letter is the number of a byte among those that the text uses. Each call
 /// is one proved call.
 ///
 /// ```
@@ -48,7 +48,7 @@ fn written(status: u32) -> Result<bool, WrongTables> {
 }
 
 impl<'a> TextIndexView<'a> {
-    /// How many bits a letter takes: of bytes as many as the number of different bytes needs.
+    /// How many bits a letter takes: in an index of bytes, enough to number the different bytes.
     ///
     /// ```
     /// use bitm_proved::{words_from_bytes, TextIndexView};
@@ -81,18 +81,18 @@ impl<'a> TextIndexView<'a> {
     /// ```
     /// use bitm_proved::{words_from_bytes, TextIndexView};
     /// let block = words_from_bytes(include_bytes!("../../tests/common/sea_shells.block"))?;
-    /// assert_eq!(TextIndexView::from_words(&block)?.count_letters(&[8, 2]), Ok(3)); // of " aehlnorst" those of "se"
+    /// assert_eq!(TextIndexView::from_words(&block)?.count_letters(&[8, 2]), Ok(3)); // of " aehlnorst": s, e
     /// # Ok::<(), Box<dyn std::error::Error>>(())
     /// ```
     pub fn count_letters(&self, pattern: &[u64]) -> Result<usize, WrongTables> {
-        // SAFETY: as of `count`.
+        // SAFETY: as for `count`.
         let found = unsafe { self.block.find(|text, n| bitm_text_count(text, pattern.as_ptr(), pattern.len(), n)) };
         found?.ok_or(WrongTables)
     }
 
     /// Writes positions at which a pattern of bytes stands, in the order of the rest of the text from there on: without
-    /// the first `from` of them, as many as there is room for; and says how many these are. Where the tables are wrong,
-    /// positions may have been written.
+    /// the first `from` of them, as many as fit; returns how many it wrote. Where the tables are wrong, positions may
+    /// have been written.
     ///
     /// ```
     /// use bitm_proved::{words_from_bytes, TextIndexView};
@@ -104,7 +104,7 @@ impl<'a> TextIndexView<'a> {
     pub fn locate(&self, pattern: &[u8], from: usize, out: &mut [usize]) -> Result<usize, WrongTables> {
         let (letters, len, room) = (pattern.as_ptr(), pattern.len(), out.len());
         let to = as_u64_mut(out).as_mut_ptr();
-        // SAFETY: as of `count`, and a mutable slice, which overlaps no other.
+        // SAFETY: as for `count`, and a mutable slice, which overlaps no other.
         let found = unsafe { self.block.find(|text, n| bitm_text_locate_bytes(text, letters, len, from, to, room, n)) };
         found?.ok_or(WrongTables)
     }
@@ -121,14 +121,14 @@ impl<'a> TextIndexView<'a> {
     pub fn locate_letters(&self, pattern: &[u64], from: usize, out: &mut [usize]) -> Result<usize, WrongTables> {
         let (letters, len, room) = (pattern.as_ptr(), pattern.len(), out.len());
         let to = as_u64_mut(out).as_mut_ptr();
-        // SAFETY: as of `locate`.
+        // SAFETY: as for `locate`.
         let found = unsafe { self.block.find(|text, n| bitm_text_locate(text, letters, len, from, to, room, n)) };
         found?.ok_or(WrongTables)
     }
 
-    /// Writes the bytes of the text from a position on, as many as there is room for; `false`, and nothing is written,
-    /// where the text has fewer. An error also where letters are numbers that may have more than 8 bits (`width`). Where
-    /// the tables are wrong, letters may have been written.
+    /// Fills `out` with the bytes of the text from a position on; `false`, and nothing is written, where the text has
+    /// fewer. An error also where letters are numbers that may have more than 8 bits (`width`). Where the tables are
+    /// wrong, letters may have been written.
     ///
     /// ```
     /// use bitm_proved::{words_from_bytes, TextIndexView};
@@ -153,7 +153,7 @@ impl<'a> TextIndexView<'a> {
     /// # Ok::<(), Box<dyn std::error::Error>>(())
     /// ```
     pub fn extract_letters(&self, from: usize, out: &mut [u64]) -> Result<bool, WrongTables> {
-        // SAFETY: as of `extract`.
+        // SAFETY: as for `extract`.
         written(unsafe { bitm_text_extract(self.block.parts(), from, out.as_mut_ptr(), out.len()) })
     }
 }
@@ -190,7 +190,7 @@ pub(crate) fn build(text: &[u8], step: u32, progress: Progress<'_>) -> Result<Ve
     }
 }
 
-/// The status of two calls of which the second needs the first, with a call of `progress` after each.
+/// The status of two calls, the second of which needs the first, with a call of `progress` after each.
 fn in_two_steps(
     progress: &mut dyn FnMut(usize, usize),
     first: impl FnOnce() -> u32,

@@ -18,8 +18,8 @@ type Many = unsafe extern "C" fn(*const bitm_tree, *const u64, usize, *mut u64, 
 
 /// A tree in a borrowed block, whose header is right. Its other words may hold anything; `check` tests it.
 ///
-/// Nodes are numbered level by level: the root is node 0, and the children of a node follow one another, after those of
-/// the node before it.
+/// Nodes are numbered level by level: the root is node 0, and the children of a node follow one another, after the
+/// children of the node before it.
 ///
 /// ```
 /// use bitm_proved::{Tree, TreeView};
@@ -158,7 +158,7 @@ impl<'a> TreeView<'a> {
         })
     }
 
-    /// The parents of a list of nodes; how many have none, which `NO_ANSWER` stands for.
+    /// The parents of a list of nodes; returns how many have none, written as `NO_ANSWER`.
     ///
     /// ```
     /// use bitm_proved::{Tree, NO_ANSWER};
@@ -171,7 +171,7 @@ impl<'a> TreeView<'a> {
         self.list(bitm_tree_parent_list, nodes, out)
     }
 
-    /// How many children each node of a list has; of how many there is none, which `NO_ANSWER` stands for.
+    /// How many children each node of a list has; returns for how many there is none, written as `NO_ANSWER`.
     ///
     /// ```
     /// use bitm_proved::{Tree, NO_ANSWER};
@@ -184,7 +184,7 @@ impl<'a> TreeView<'a> {
         self.list(bitm_tree_degree_list, nodes, out)
     }
 
-    /// Child `ks[i]` of each node `nodes[i]` of a list; how many there are not, which `NO_ANSWER` stands for.
+    /// Child `ks[i]` of each node `nodes[i]` of a list; returns how many do not exist, written as `NO_ANSWER`.
     ///
     /// ```
     /// use bitm_proved::{ListError, Tree, NO_ANSWER};

@@ -14,9 +14,9 @@ use core::ptr::addr_of;
 
 /// A trie in a borrowed block, whose header is right. Its other words may hold anything; `check` tests it.
 ///
-/// A trie is a tree in which each node but the root has a label, and the labels of the children of a node rise: a word, a
-/// list of labels, leads from the root to at most one node. Labels are bytes, or numbers of at most 63 bits, of which the
-/// calls that end in `_labels` take words. Nodes are numbered level by level: the root is node 0.
+/// A trie is a tree in which each node but the root has a label, and the labels of the children of a node ascend: a
+/// word, a list of labels, leads from the root to at most one node. Labels are bytes, or numbers of at most 63 bits;
+/// calls that end in `_labels` take words of numbers. Nodes are numbered level by level: the root is node 0.
 ///
 /// ```
 /// use bitm_proved::{Trie, TrieView};
@@ -132,7 +132,7 @@ impl<'a> TrieView<'a> {
     /// ```
     #[inline]
     pub fn checked_find_labels(&self, word: &[u64]) -> Result<Option<usize>, WrongTables> {
-        // SAFETY: as of `checked_find`.
+        // SAFETY: as for `checked_find`.
         unsafe { self.block.find(|trie, out| bitm_trie_find(trie, word.as_ptr(), word.len(), out)) }
     }
 
@@ -188,7 +188,7 @@ impl<'a> TrieView<'a> {
     /// ```
     #[inline]
     pub fn checked_longest_labels(&self, word: &[u64]) -> Result<(usize, usize), WrongTables> {
-        // SAFETY: as of `checked_longest`.
+        // SAFETY: as for `checked_longest`.
         longest_by(|node, n| unsafe { bitm_trie_longest(self.block.parts(), word.as_ptr(), word.len(), node, n) })
     }
 
@@ -228,11 +228,11 @@ impl<'a> TrieView<'a> {
     /// ```
     #[inline]
     pub fn checked_degree(&self, node: usize) -> Result<Option<usize>, WrongTables> {
-        // SAFETY: as of `checked_parent`.
+        // SAFETY: as for `checked_parent`.
         unsafe { self.block.find(|trie, out| bitm_tree_degree(addr_of!((*trie).tree), node, out)) }
     }
 
-    /// The children of a node, which follow one another, by rising labels; none where there is no such node.
+    /// The children of a node, which follow one another, by ascending labels; none where there is no such node.
     ///
     /// ```
     /// let trie = bitm_proved::Trie::build(&[2, 0, 1, 0], &[97, 98, 101], 8, &[14])?;
@@ -244,7 +244,7 @@ impl<'a> TrieView<'a> {
         if degree == 0 {
             return Ok(0..0);
         }
-        // SAFETY: as of `checked_parent`.
+        // SAFETY: as for `checked_parent`.
         let first = unsafe { self.block.find(|trie, out| bitm_tree_child(addr_of!((*trie).tree), node, 0, out)) };
         Ok(first?.map_or(0..0, |first| first..first + degree))
     }

@@ -46,10 +46,10 @@ pub struct Samples<'a> {
     pub log2: u32,
 }
 
-/// Borrowed words and tables, of which the first `bits_len` bits count, and samples, or none.
+/// Borrowed words, whose first `bits_len` bits count, with tables, and samples or none.
 ///
-/// Tables may hold anything. Answers are those of plain counting where they are those of the words, which [`check`]
-/// says; else an answer is inside all the same, or says that they are wrong. [`Rank`], [`Select`], [`Select0`] and
+/// Tables may hold anything. Where they match the words, which [`check`] says, answers are those of plain counting;
+/// else an answer is inside all the same, or says that the tables are wrong. [`Rank`], [`Select`], [`Select0`] and
 /// [`Queries`] have the queries; each is one call of the archive.
 ///
 /// [`check`]: IndexView::check
@@ -75,9 +75,9 @@ pub struct IndexView<'a> {
     block: Option<&'a [u64]>,
 }
 
-// SAFETY: the pointers are those of shared slices, and no call has state.
+// SAFETY: the pointers come from shared slices, and no call has state.
 unsafe impl Send for IndexView<'_> {}
-// SAFETY: as of `Send`.
+// SAFETY: as for `Send`.
 unsafe impl Sync for IndexView<'_> {}
 
 /// No samples.
@@ -319,9 +319,9 @@ impl<'a> IndexView<'a> {
         Some(Samples { samples, starts, log2: raw.log2 })
     }
 
-    /// Whether the tables are those of the words, and the samples too, where there are some; and of a block whether it
-    /// is as it was written, by the checksum of each section. A file of format version 2 has no checksum of its words:
-    /// there `check` finds only what does not fit together.
+    /// Whether the tables match the words, and the samples too, where there are some; and of a block whether it is as
+    /// it was written, by the checksum of each section. A file of format version 2 has no checksum of its words: there
+    /// `check` finds only what does not fit together.
     ///
     /// ```
     /// use bitm_proved::{Index, IndexView, Queries};
@@ -340,13 +340,13 @@ impl<'a> IndexView<'a> {
         right && self.check_samples(true) && self.check_samples(false)
     }
 
-    /// Whether the tables are those of the words.
+    /// Whether the tables match the words.
     pub(crate) fn has_tables(&self) -> bool {
         // SAFETY: a view, which borrows its slices.
         unsafe { bitm_index_check(&self.raw) == OK }
     }
 
-    /// Whether there are no samples, or those that `build_samples` writes where the tables are those of the words.
+    /// Whether there are no samples, or those that `build_samples` writes where the tables match the words.
     fn check_samples(&self, one: bool) -> bool {
         // SAFETY: a view, which borrows its slices.
         self.samples(one).is_none() || unsafe { bitm_index_check_samples(&self.raw, one) } == OK

@@ -60,7 +60,7 @@ pub fn set_number(words: &mut [u64], bits_len: usize, begin: usize, width: u8, v
     })
 }
 
-/// Flips those of `width` bits from `begin` on at which a number has 1 bits; `None` as of `set_number`.
+/// Of the `width` bits from `begin` on, flips the bits at which a number has 1 bits; `None` as for `set_number`.
 ///
 /// ```
 /// use bitm_proved::words;
@@ -75,7 +75,7 @@ pub fn xor_number(words: &mut [u64], bits_len: usize, begin: usize, width: u8, v
     })
 }
 
-/// Replaces number `index` of an array of numbers of `width` bits; `None` as of `set_number`.
+/// Replaces number `index` of an array of numbers of `width` bits; `None` as for `set_number`.
 ///
 /// ```
 /// use bitm_proved::words;
@@ -90,7 +90,7 @@ pub fn set_fragment(words: &mut [u64], bits_len: usize, index: usize, width: u8,
     })
 }
 
-/// Swaps two numbers of an array of numbers of `width` bits; `None` as of `set_number`.
+/// Swaps two numbers of an array of numbers of `width` bits; `None` as for `set_number`.
 ///
 /// ```
 /// use bitm_proved::words;
@@ -105,7 +105,7 @@ pub fn swap_fragments(words: &mut [u64], bits_len: usize, first: usize, second: 
     })
 }
 
-/// Replaces each of the first `count` numbers of an array of numbers of `width` bits; `None` as of `set_number`.
+/// Replaces each of the first `count` numbers of an array of numbers of `width` bits; `None` as for `set_number`.
 ///
 /// ```
 /// use bitm_proved::words;
@@ -147,7 +147,7 @@ pub fn fill_range(words: &mut [u64], bits_len: usize, from: usize, to: usize, va
     })
 }
 
-/// Flips the bits from `from` on and before `to`; `None` as of `fill_range`.
+/// Flips the bits from `from` on and before `to`; `None` as for `fill_range`.
 ///
 /// ```
 /// let mut bits = [0b1010];
@@ -197,7 +197,7 @@ combines! {
     and, bitm_bits_and
 }
 combines! {
-    /// Adds the 1 bits of the other words; `None` as of `and`.
+    /// Adds the 1 bits of the other words; `None` as for `and`.
     ///
     /// ```
     /// let mut bits = [0b1100];
@@ -206,7 +206,7 @@ combines! {
     or, bitm_bits_or
 }
 combines! {
-    /// Flips the bits at the 1 bits of the other words; `None` as of `and`.
+    /// Flips the bits at the 1 bits of the other words; `None` as for `and`.
     ///
     /// ```
     /// let mut bits = [0b1100];
@@ -215,7 +215,7 @@ combines! {
     xor, bitm_bits_xor
 }
 combines! {
-    /// Clears the bits at the 1 bits of the other words; `None` as of `and`.
+    /// Clears the bits at the 1 bits of the other words; `None` as for `and`.
     ///
     /// ```
     /// let mut bits = [0b1100];

@@ -27,7 +27,7 @@ macro_rules! hash_queries {
                 Ok(found?.map(|it| it as usize))
             }
 
-            /// The numbers of a list of hashes; how many have none, which `NO_ANSWER` stands for.
+            /// The numbers of a list of hashes; returns how many have none, written as `NO_ANSWER`.
             ///
             /// ```
             #[doc = concat!("use bitm_proved::{ListError, ", $built, "};")]
@@ -47,10 +47,10 @@ macro_rules! hash_queries {
                 })
             }
 
-            /// Writes the `width` lowest bits of the fingerprint of each key at its number, as an array in words of yours.
-            /// By them `find` answers `None` for almost all that are no keys. A fingerprint is any number that you compute
-            /// from a key beside its hash. Whether each hash has a number, for which there is room: the fingerprints of the
-            /// others are written all the same.
+            /// Writes the `width` lowest bits of the fingerprint of each key at its number, as an array in words of
+            /// yours. By them `find` answers `None` for almost all that are no keys. A fingerprint is any number that
+            /// you compute from a key beside its hash. Returns whether each hash has a number, and its fingerprint
+            /// room; the other fingerprints are written all the same.
             ///
             /// It panics where `width` is above 64.
             ///
@@ -76,7 +76,7 @@ macro_rules! hash_queries {
                 let pairs = $crate::sys::lists::pairs(hashes.len(), key_prints.len())?;
                 let ($it, to, room) = (self, prints.as_mut_ptr(), prints.len());
                 let (of, own) = (hashes.as_ptr(), key_prints.as_ptr());
-                // SAFETY: borrowed slices, of which the mutable one overlaps no other.
+                // SAFETY: borrowed slices; the mutable one overlaps no other.
                 let status = unsafe { $set($raw, of, pairs, own, pairs, to, room, width) };
                 Ok(status == $crate::sys::OK)
             }
@@ -108,8 +108,8 @@ macro_rules! hash_queries {
                 Ok(found?.map(|it| it as usize))
             }
 
-            /// The numbers of a list of keys, by their hashes and fingerprints; how many have none, which `NO_ANSWER`
-            /// stands for.
+            /// The numbers of a list of keys, by their hashes and fingerprints; returns how many have none, written as
+            /// `NO_ANSWER`.
             ///
             /// It panics where `width` is above 64.
             ///
@@ -134,7 +134,7 @@ macro_rules! hash_queries {
                 let ($it, at, len) = (self, prints.as_ptr(), prints.len());
                 let (of, own) = (hashes.as_ptr(), key_prints.as_ptr());
                 $crate::sys::lists::query_list(pairs, $crate::sys::memory::as_u64_mut(out), |to, room, counts| {
-                    // SAFETY: borrowed slices, of which the mutable one overlaps no other, and room for the counts.
+                    // SAFETY: borrowed slices; the mutable one overlaps no other, and room for the counts.
                     unsafe { $find_list($raw, at, len, width, of, pairs, own, pairs, to, room, counts) }
                 })
             }

@@ -73,7 +73,7 @@ fn with_prints(block: &[u64], hashes: &[u64], prints: &[u64], width: u32) -> Res
     words[0] = width.into();
     let ((of, own, len), (to, room)) =
         ((hashes.as_ptr(), prints.as_ptr(), hashes.len()), (words[1..].as_mut_ptr(), words.len() - 1));
-    // SAFETY: a hash in the borrowed block, and slices of which the mutable one overlaps no other.
+    // SAFETY: a hash in the borrowed block, and slices, the mutable one apart from the others.
     match unsafe { bitm_hash_set_prints_seeded(&hash, of, len, own, len, to, room, width) } {
         OK => sections::extended(block, ROLE, 8 * words.len(), &words).map_err(|why| match why {
             StoredError::NoMemory(why) => BuildError::NoMemory(why),

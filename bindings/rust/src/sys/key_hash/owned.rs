@@ -13,9 +13,9 @@ use core::fmt;
 /// A minimal perfect hash of keys, and the owner of its block: a number of its own below n for each of n keys, which
 /// are text, bytes or whole numbers, in 2.8 bits a key beside its fingerprint.
 ///
-/// The keys are hashed by SipHash-1-3, and not kept. By fingerprints what is no key has a number once in 2^`bits` only.
-/// The block is the file of the hash, the same in each language: over it `PerfectHash` of Python and JavaScript and
-/// `key_hash` of C++ find the same numbers. A hash whose keys you hash yourself is a
+/// The keys are hashed by SipHash-1-3, and not kept. By fingerprints only one in 2^`bits` of the values that are no
+/// keys has a number. The block is the file of the hash, the same in each language: over it `PerfectHash` of Python and
+/// JavaScript and `key_hash` of C++ find the same numbers. A hash whose keys you hash yourself is a
 /// [`PerfectHash`](crate::PerfectHash) or a [`SeededHash`](crate::SeededHash).
 ///
 /// ```

@@ -12,8 +12,7 @@ use core::fmt;
 /// key, where [`PerfectHash`](crate::PerfectHash) takes 2.8. Building takes more time.
 ///
 /// A key is its hash of 64 bits, by a function of yours; equal hashes are refused. No key is kept, so a hash that is
-/// none of these may get a number too, that of some key. The block is the file of the hash, the same from C, C++ and
-/// Rust.
+/// none of these may get the number of some key. The block is the file of the hash, the same from C, C++ and Rust.
 ///
 /// ```
 /// use bitm_proved::SeededHash;

@@ -47,9 +47,9 @@ impl ShardedIndex<'_> {
         list_answer(OK, all, queries.len(), queries.len())
     }
 
-    /// Ranks of a list of positions of the joined bits; how many have none, which `NO_ANSWER` stands for. Takes memory
-    /// for three numbers a query, of at most 2^17 at a time, and one a shard; where it is refused, the answers are the
-    /// same and take longer.
+    /// Ranks of a list of positions of the joined bits; returns how many have none, written as `NO_ANSWER`. Takes
+    /// memory for three numbers a query, of at most 2^17 at a time, and one a shard; where it is refused, the answers
+    /// are the same and take longer.
     ///
     /// ```
     /// use bitm_proved::{Index, Queries, ShardedIndex, NO_ANSWER};
@@ -79,8 +79,8 @@ impl ShardedIndex<'_> {
         self.list(bitm_shards_rank_list, false, positions, out)
     }
 
-    /// Positions, in the joined bits, of the 1 bits with the ranks of a list; how many have none, which `NO_ANSWER` stands
-    /// for. As `rank_list`.
+    /// Positions, in the joined bits, of the 1 bits with the ranks of a list; returns how many have none, written as
+    /// `NO_ANSWER`. As `rank_list`.
     ///
     /// ```
     /// use bitm_proved::{Index, Queries, ShardedIndex, NO_ANSWER};

@@ -7,11 +7,10 @@ use crate::sys::sparse::{build, SparseBitsView};
 use alloc::vec::Vec;
 use core::fmt;
 
-/// Bits of which few are 1 bits, and the owner of their block: about 2.6 + log2(n / m) bits for each of m 1 bits among
-/// n bits.
+/// Bits with few 1 bits, and the owner of their block: about 2.6 + log2(n / m) bits for each of m 1 bits among n bits.
 ///
-/// The positions of the 1 bits are kept as a monotone sequence; the queries are those of an index. The block is the file
-/// of the bits, the same in each language.
+/// The positions of the 1 bits are kept as a monotone sequence; the queries are the ones of an index. The block is the
+/// file of the bits, the same in each language.
 ///
 /// ```
 /// use bitm_proved::SparseBits;
@@ -26,7 +25,7 @@ pub struct SparseBits<O = Vec<u64>> {
 }
 
 impl SparseBits {
-    /// Of `len` bits, of which those at the positions are 1 bits: each is greater than the one before it, and less than
+    /// Of `len` bits with 1 bits at the positions: each position is greater than the one before it, and less than
     /// `len`.
     ///
     /// # Errors

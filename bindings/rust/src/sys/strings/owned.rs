@@ -10,7 +10,7 @@ use core::fmt;
 /// Strings of bytes with a number each, and the owner of their block: a minimal perfect hash of their hashes, and the
 /// strings.
 ///
-/// Each string has a number of its own below how many there are; what is none of them has none. The hash of a string is
+/// Each string has a number of its own below how many there are; any other string has none. The hash of a string is
 /// SipHash-1-3 with a seed as its key. The block is the file of the strings, the same in each language.
 ///
 /// ```

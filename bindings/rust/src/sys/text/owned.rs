@@ -23,7 +23,7 @@ pub struct TextIndex<O = Vec<u64>> {
 
 impl TextIndex {
     /// Of bytes. A letter takes as many bits as the number of different bytes needs. A position is kept each `step`
-    /// bytes, 32 say: the fewer, the less memory, and the longer it takes to find a position or a part. Takes linear time,
+    /// bytes, 32 say: a larger step takes less memory, and more time to find a position or a part. Takes linear time,
     /// and eight bytes for each of the text while it works.
     ///
     /// # Errors
@@ -40,7 +40,7 @@ impl TextIndex {
         Self::of_block(build(text, step, None)?, BuildError::TooLong { len: text.len() })
     }
 
-    /// Of numbers below `letters`, for each of which a word is kept.
+    /// Of numbers below `letters`; a word is kept for each letter.
     ///
     /// # Errors
     /// As of `build`; `LetterOutside` where a letter is not less than `letters`.
@@ -78,7 +78,7 @@ impl TextIndex {
         Self::of_block(build(text, step, Some(&mut progress))?, otherwise)
     }
 
-    /// As `build_of_letters`, with calls of `progress` as of `build_with_progress`.
+    /// As `build_of_letters`, with calls of `progress` as for `build_with_progress`.
     ///
     /// # Errors
     /// As of `build_of_letters`.

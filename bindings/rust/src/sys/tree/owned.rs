@@ -9,8 +9,8 @@ use core::fmt;
 
 /// A tree (LOUDS) and the owner of its block, in about 2.6 bits a node.
 ///
-/// Nodes are numbered level by level: the root is node 0, and the children of a node follow one another, after those of
-/// the node before it. The block is the file of the tree, the same in each language.
+/// Nodes are numbered level by level: the root is node 0, and the children of a node follow one another, after the
+/// children of the node before it. The block is the file of the tree, the same in each language.
 ///
 /// ```
 /// use bitm_proved::Tree;

@@ -9,9 +9,9 @@ use core::fmt;
 
 /// A trie, a set of words, and the owner of its block.
 ///
-/// A trie is a tree in which each node but the root has a label, and the labels of the children of a node rise: a word, a
-/// list of labels, leads from the root to at most one node. Labels are bytes, or numbers of at most 63 bits, of which the
-/// calls that end in `_labels` take words. The block is the file of the trie, the same in each language.
+/// A trie is a tree in which each node but the root has a label, and the labels of the children of a node ascend: a
+/// word, a list of labels, leads from the root to at most one node. Labels are bytes, or numbers of at most 63 bits;
+/// calls that end in `_labels` take words of numbers. The block is the file of the trie, the same in each language.
 ///
 /// ```
 /// use bitm_proved::Trie;
@@ -27,8 +27,8 @@ pub struct Trie<O = Vec<u64>> {
 }
 
 impl Trie {
-    /// The trie of these words, with labels of 8 bits and ends. They rise in the order of their bytes, each once, as `sort`
-    /// and `dedup` leave them; the empty word may be among them.
+    /// The trie of these words, with labels of 8 bits and ends. They ascend by their bytes, each once, as `sort` and
+    /// `dedup` leave them; the empty word may be among them.
     ///
     /// Needs memory for a copy of the words, and three numbers a node and one a word besides.
     ///
@@ -54,9 +54,9 @@ impl Trie {
     /// are a bit for each node, lowest first, which says whether a word ends there; or no words.
     ///
     /// # Errors
-    /// `NotATrie` exactly where the degrees are those of no tree (`Tree::build`), there is not one label for each node but
-    /// the root, a label has more bits than the width, those of the children of a node do not rise, or the width or the
-    /// number of ends is another. `NoMemory` where memory is refused.
+    /// `NotATrie` exactly where the degrees form no tree (`Tree::build`), there is not one label for each node but the
+    /// root, a label has more bits than the width, the labels of the children of a node do not ascend, or the width or
+    /// the number of ends is wrong. `NoMemory` where memory is refused.
     ///
     /// ```
     /// use bitm_proved::{BuildError, Trie, TrieFault};
