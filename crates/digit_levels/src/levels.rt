@@ -23,8 +23,8 @@ pub fn height_for(width: u8) -> u8
 }
 
 /// Whether lines, tables and counts of lesser digits have the lengths that `len` numbers of `width` bits need: for each
-/// level the lengths that `digits` has for so many digits, one level after another, and four counts. Numbers have 1 to
-/// 64 bits, and the lines are fewer than 2^58 words.
+/// level the lengths that `digits` has for the given number of digits, one level after another, and four counts.
+/// Numbers have 1 to 64 bits, and the lines are fewer than 2^58 words.
 ///
 /// ```
 /// have_level_sizes(&[0; 16], &[0; 8], &[0; 8], 223, 3);   // true
