@@ -1,0 +1,9 @@
+pub mod BackLemmas
+pub mod DealLemmas
+pub mod KeptLemmas
+pub mod LevelLemmas
+pub mod QueryLemmas
+pub mod ReadsLemmas
+pub mod SelectLemmas
+pub mod WalkLemmas
+pub mod WriteLemmas
