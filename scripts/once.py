@@ -24,6 +24,10 @@ LEFT = {
     ("louds", "degree_on"): "its clause has two selections, and no words between them",
     ("perfect_hash", "number_by"): "of another structure than number_on of hash_buckets: levels with a bit for each key",
     ("text_index", "longer_on"): "for the check, where the letters are a matrix, and nothing else is known",
+} | {
+    ("digit_levels", name): "of another structure: levels of digits, where bodies of levels_view read levels of bits"
+    for name in ("back_on", "first_position_on", "get_on", "last_position_on", "next_on", "rank_on", "select_on", "step_on",
+                 "stretch_on")
 }
 SHARED = {
     "a block of a kind": "CanHold IsBlockOf IsSoundBlock StandsIn AreParts HasLengths parts_of sections_of",
