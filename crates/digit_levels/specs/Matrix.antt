@@ -36,8 +36,8 @@ level_lists m d =
     digit_lists (slice_range m.lines (d * level_words m.len) (d * level_words m.len + level_words m.len))
     (slice_range m.tables (d * level_numbers m.len) (d * level_numbers m.len + level_numbers m.len)) m.len
 
--- there are so many words as `len` numbers of `width` bits need, 1 to 64, and lines of fewer than 2^58 words; they may
--- hold anything
+-- lines, tables and counts have the lengths for `len` numbers of `width` bits, 1 to 64, and the lines fewer than 2^58
+-- words; they may hold anything
 pub record HasLevelSizes (m : DigitMatrix) : Type 0 where
   pub some : 1 ≤ m.width
   pub most : m.width ≤ 64

@@ -49,7 +49,7 @@ pub followed-fits : (m : DigitMatrix) (i d p n e : ℕ) → d < 32 → IsFollowe
 followed-fits m i d p n e less f few =
     omega (arith, digits-fit n e d f.small few, pow-le-pow_right {n = 2} (omega arith) (let most : 2 * (d + 1) ≤ 64 = omega arith in most))
 
--- two positions of a level, inside; in levels of numbers those of number v from the indices 0 and e on
+-- two positions of a level, inside; in levels of numbers, where number v stands from the indices 0 and e on
 pub record AreOnTheWay (m : DigitMatrix) (v e d first last : ℕ) : Type 0 where
   pub first_inside : first ≤ m.len
   pub last_inside : last ≤ m.len
